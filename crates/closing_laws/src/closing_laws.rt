@@ -13,7 +13,6 @@ pub fn closers_have_heard_all()
 
 /// Whoever was decided and isn't counted any more at its node is forgotten by its coordinator; and whoever
 /// was committed there and is forgotten is done.
-#[tactic(auto, using(crate::proofs::counted::OrForgotten::uncounted_are_forgotten, crate::proofs::counted::ForgottenAreDone::forgotten_are_done))]
 pub fn ended_ones_are_done()
     ensures uncounted { UncountedAreForgotten }
     ensures forgotten { ForgottenAreDone }

@@ -13,7 +13,8 @@ use Rattle.dih_node.specs.Dih.{dih_row, dih_table}
 use Rattle.dih_node.specs.Orders.{commit_if, commit_row, committed, install_row, prepare_row, prepared_if}
 use Rattle.dih_node.specs.State.{DihState}
 use Rattle.dih_node.specs.Verify.{reported}
-use Rattle.dih_node.proofs.Walk.{IsEnded, ReportOutcomes, dih_outcomes, reported_outcomes, was_counted, was_held, was_unknown}
+use Rattle.dih_node.proofs.Walk.{IsEnded, ReportOutcomes, dih_outcomes, reported_outcomes, was_counted, was_held}
+use Rattle.dih_node.proofs.Walk.{was_unknown}
 
 -- it gives this epoch, and these are of the last order
 pub record IsAt (current prepared next : ℕ) (s : DihState) : Type 0 where

@@ -1,5 +1,6 @@
 -- What the epochs of a member tell of themselves, and what they give.
-use Rattle.std.proofs.Common.{◌≡◌, ◌⊎◌, ◌||◌, ℕ, ◌≤◌, ◌<◌, Bool, true, false, nat_lt, [], length, refl, subst, arith, inl, inr}
+use Rattle.std.proofs.Common.{◌≡◌, ◌⊎◌, ◌||◌, ℕ, ◌≤◌, ◌<◌, Bool, true, false, nat_lt, [], length, refl, subst, arith}
+use Rattle.std.proofs.Common.{inl, inr}
 use Rattle.std.proofs.lemmas.Bool.{false≢true, ltb-false}
 use Rattle.std.specs.Prelude.{Some, not, remove}
 use Rattle.run_theory.specs.Lists.{Each}
@@ -11,13 +12,15 @@ use Rattle.sig_core.specs.declared.outs.Outgoing.{Outgoing}
 use Rattle.sig_core.specs.declared.signal.Body.{Body}
 use Rattle.sig_core.specs.declared.signal.Body.TheVariants.{Host, Epoch}
 use Rattle.sig_core.specs.declared.signal.Signal.{Signal}
-use Rattle.sig_core.specs.declared.signal.epoch.EpochSignal.TheVariants.{GcpPrepare, GcpPrepareConf, GcpCommit, GcpNodeFinish, GcpOrd, GcpStateConf}
+use Rattle.sig_core.specs.declared.signal.epoch.EpochSignal.TheVariants.{GcpPrepare, GcpPrepareConf, GcpCommit}
+use Rattle.sig_core.specs.declared.signal.epoch.EpochSignal.TheVariants.{GcpNodeFinish, GcpOrd, GcpStateConf}
 use Rattle.sig_core.specs.Step.{Step, stay}
 use Rattle.dih_node.specs.declared.dih.Report.{Report}
 use Rattle.dih_node.specs.Dih.{dih_row}
 use Rattle.dih_node.specs.Orders.{committed, install_row, serving}
 use Rattle.dih_node.specs.State.{DihState, can_serve, gives, go_on_if, is_fenced, is_prepared}
-use Rattle.dih_node.proofs.Walk.{IsDecided, ReportOutcomes, asks, dih_each, dih_installed_each, dih_outcomes, ordered, reporting, was_oldest}
+use Rattle.dih_node.proofs.Walk.{IsDecided, ReportOutcomes, asks, dih_each, dih_installed_each, dih_outcomes, ordered}
+use Rattle.dih_node.proofs.Walk.{reporting, was_oldest}
 use Rattle.epoch_laws.specs.Alike.{IsPast, IsSound}
 use Rattle.epoch_laws.specs.Masters.{HasPrepared}
 use Rattle.epoch_laws.proofs.DihMoves.{IsAt, rests}

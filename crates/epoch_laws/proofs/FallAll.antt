@@ -1,5 +1,6 @@
 -- Epochs never fall along the decisions in the order of views.
-use Rattle.std.proofs.Common.{◌≡◌, ◌≤◌, ◌<◌, ◌⊎◌, ◌++◌, ℕ, zero, suc, Bool, true, false, cond, filter, reverse, List, [], ◌∷◌, refl, sym, ap, subst, ◌∙◌, inl, inr, arith}
+use Rattle.std.proofs.Common.{◌≡◌, ◌≤◌, ◌<◌, ◌⊎◌, ◌++◌, ℕ, zero, suc, Bool, true, false, cond, filter, reverse, List}
+use Rattle.std.proofs.Common.{[], ◌∷◌, refl, sym, ap, subst, ◌∙◌, inl, inr, arith}
 use Rattle.std.proofs.lemmas.List.{reverse-append}
 use Rattle.run_theory.proofs.Pasts.{each_append, each_in, each_map, each_past}
 use Rattle.run_theory.proofs.Runs.{log_of-own, log_of-past}
@@ -36,7 +37,8 @@ use Rattle.epoch_laws.proofs.FallMarks.{DecidesLow, tc_low}
 use Rattle.moment_laws.proofs.MomentRuns.{are_moments}
 use Rattle.view_laws.proofs.eras.DecisionMarks.{DecidesNone, IsUndecided}
 use Rattle.epoch_laws.proofs.MarkSteps.{others_decide_none, tc_steps_give}
-use Rattle.moment_laws.proofs.MomentHosts.{TcHost, never_tc, of_none, of_tc, part_some, tc_host_is, tc_member, tc_started}
+use Rattle.moment_laws.proofs.MomentHosts.{TcHost, never_tc, of_none, of_tc, part_some, tc_host_is, tc_member}
+use Rattle.moment_laws.proofs.MomentHosts.{tc_started}
 use Rattle.moment_laws.proofs.MomentMembers.{current_host}
 use Rattle.moment_laws.proofs.MomentTurns.{host_low, own_behind, taker_stands}
 use Rattle.moment_laws.proofs.MomentViews.{moment_less}

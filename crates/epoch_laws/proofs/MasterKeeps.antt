@@ -9,7 +9,8 @@ use Rattle.sig_core.specs.declared.signal.epoch.EpochSignal.TheVariants.{GcpNode
 use Rattle.gcp_master.specs.declared.known.Known.{Known}
 use Rattle.gcp_master.specs.declared.known.Told.{Told}
 use Rattle.gcp_master.specs.declared.phase.Phase.{Phase}
-use Rattle.gcp_master.specs.declared.phase.Phase.TheVariants.{Gathering, Resting, Preparing, Committing, Closing, Saving, Copying}
+use Rattle.gcp_master.specs.declared.phase.Phase.TheVariants.{Gathering, Resting, Preparing, Committing, Closing}
+use Rattle.gcp_master.specs.declared.phase.Phase.TheVariants.{Saving, Copying}
 use Rattle.gcp_master.specs.declared.phase.Run.{Run}
 use Rattle.gcp_master.specs.declared.voices.Voice.{Voice}
 use Rattle.gcp_master.specs.Known.{nothing_known}
@@ -19,7 +20,8 @@ use Rattle.dih_node.specs.State.{DihState}
 use Rattle.world_core.specs.Start.{Start}
 use Rattle.world_core.specs.Steps.{Addressed, HostStep}
 use Rattle.epoch_laws.specs.Alike.{AreAlike, EachFull, IsAcross, IsReady, IsSound, Rests, Waits}
-use Rattle.epoch_laws.specs.Masters.{EachHeard, HasPrepared, IsOfHosts, IsRight, IsRightIn, IsSilent, IsUnderWay, IsWithin}
+use Rattle.epoch_laws.specs.Masters.{EachHeard, HasPrepared, IsOfHosts, IsRight, IsRightIn, IsSilent, IsUnderWay}
+use Rattle.epoch_laws.specs.Masters.{IsWithin}
 use Rattle.epoch_laws.specs.Members.{epochs_of}
 use Rattle.moment_laws.specs.Places.{ldm_of, tc_of}
 use Rattle.moment_laws.specs.Moments.{current}
@@ -27,7 +29,8 @@ use Rattle.epoch_laws.specs.Told.{IsAllSilent, IsTrueOf, IsTrueState}
 use Rattle.epoch_laws.proofs.MasterHears.{all_by_one, heard_epochs, once_more}
 use Rattle.epoch_laws.proofs.MasterKnows.{known_more, nothing_is_known}
 use Rattle.epoch_laws.proofs.MasterMoves.{HaveAll, IsLate, IsNew, Moved, known_with, state_body, voice_of, with_one}
-use Rattle.epoch_laws.proofs.MasterMoves.{closes, closes_owed, commits, ends, goes_late, hears_finished, hears_prepared, is_ordered, learns, resumes, stays, takes_up}
+use Rattle.epoch_laws.proofs.MasterMoves.{closes, closes_owed, commits, ends, goes_late, hears_finished, hears_prepared}
+use Rattle.epoch_laws.proofs.MasterMoves.{is_ordered, learns, resumes, stays, takes_up}
 use Rattle.epoch_laws.proofs.MasterResumption.{begins_right, goes_on_right}
 use Rattle.epoch_laws.proofs.MasterRows.{master_goes}
 

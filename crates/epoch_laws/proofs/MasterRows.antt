@@ -1,5 +1,6 @@
 -- What each signal makes of a master.
-use Rattle.std.proofs.Common.{◌≡◌, ◌<◌, ◌+◌, ◌*◌, ◌/◌, ◌%◌, ℕ, Bool, true, false, not, nat_lt, [], length, refl, sym, subst, arith}
+use Rattle.std.proofs.Common.{◌≡◌, ◌<◌, ◌+◌, ◌*◌, ◌/◌, ◌%◌, ℕ, Bool, true, false, not, nat_lt, [], length, refl, sym}
+use Rattle.std.proofs.Common.{subst, arith}
 use Rattle.std.proofs.lemmas.Bool.{and_parts, not-true}
 use Rattle.std.specs.Prelude.{if◌then◌else◌, None, Some, is_some}
 use Rattle.sig_core.specs.declared.signal.Signal.{Signal}
@@ -20,11 +21,13 @@ use Rattle.gcp_master.specs.Resume.{knowing}
 use Rattle.gcp_master.specs.Sends.{entering, listing}
 use Rattle.gcp_master.specs.State.{MasterState, at_phase, counts}
 use Rattle.gcp_master.specs.Voices.{is_heard, is_in}
-use Rattle.gcp_master.proofs.Outcomes.{BeginOutcomes, Begins, Resumes, a_global, a_micro, at_end, beginning, heard_one, master_outcomes, not_owing, nothing_asked, to_commit, to_copy, to_prepare}
+use Rattle.gcp_master.proofs.Outcomes.{BeginOutcomes, Begins, Resumes, a_global, a_micro, at_end, beginning, heard_one}
+use Rattle.gcp_master.proofs.Outcomes.{master_outcomes, not_owing, nothing_asked, to_commit, to_copy, to_prepare}
 use Rattle.gcp_master.proofs.Walk.{all_heard, listing_state}
 use Rattle.epoch_laws.proofs.MasterMoves.{BeginsFrom, GoesOn, Goes, IsLate, IsNew, Moved, known_with, voice_of}
 use Rattle.epoch_laws.proofs.MasterMoves.{from_commit, from_copy, from_prepare, with_none}
-use Rattle.epoch_laws.proofs.MasterMoves.{closes, closes_owed, commits, ends, goes_late, hears_finished, hears_prepared, is_ordered, learns, resumes, stays, takes_up}
+use Rattle.epoch_laws.proofs.MasterMoves.{closes, closes_owed, commits, ends, goes_late, hears_finished, hears_prepared}
+use Rattle.epoch_laws.proofs.MasterMoves.{is_ordered, learns, resumes, stays, takes_up}
 
 -- a confirmation that counts is new
 new_voice : (s : MasterState) (v : Voice) → counts s v ≡ true → IsNew s v

@@ -17,7 +17,8 @@ use Rattle.epoch_laws.specs.Masters.{Commits, HasPrepared, IsRightIn, Prepares}
 use Rattle.epoch_laws.specs.Members.{epochs_of}
 use Rattle.moment_laws.specs.Moments.{current}
 use Rattle.epoch_laws.proofs.DihMoves.{IsAt}
-use Rattle.epoch_laws.proofs.OrderMoves.{across_commit, across_own, across_prepare, beyond_commit, beyond_prepare, full_moves, heard_moves, prepared_prepare, up_to_moves, waits_prepare}
+use Rattle.epoch_laws.proofs.OrderMoves.{across_commit, across_own, across_prepare, beyond_commit, beyond_prepare}
+use Rattle.epoch_laws.proofs.OrderMoves.{full_moves, heard_moves, prepared_prepare, up_to_moves, waits_prepare}
 
 -- a mark of no later epoch than one is of none later than a greater one
 gives_wider : (low high : ℕ) → low ≤ high → (mark : Mark) → GivesUpTo low mark → GivesUpTo high mark

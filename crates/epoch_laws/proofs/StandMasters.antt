@@ -42,13 +42,15 @@ use Rattle.epoch_laws.specs.Stand.{AllStand}
 use Rattle.epoch_laws.proofs.DihMoves.{Stays}
 use Rattle.epoch_laws.proofs.MasterKeeps.{IsBefore, master_right}
 use Rattle.epoch_laws.proofs.MasterKnows.{nothing_is_known}
-use Rattle.epoch_laws.proofs.MasterMoves.{Moved, closes, closes_owed, commits, ends, goes_late, hears_finished, hears_prepared, is_ordered, learns, resumes, stays, takes_up}
+use Rattle.epoch_laws.proofs.MasterMoves.{Moved, closes, closes_owed, commits, ends, goes_late, hears_finished}
+use Rattle.epoch_laws.proofs.MasterMoves.{hears_prepared, is_ordered, learns, resumes, stays, takes_up}
 use Rattle.epoch_laws.proofs.MasterMoves as moves
 use Rattle.epoch_laws.proofs.MasterMoves.{voice_of}
 use Rattle.epoch_laws.proofs.MasterRows.{master_goes}
 use Rattle.epoch_laws.proofs.MasterSpeaks.{installed}
 use Rattle.epoch_laws.proofs.MemberStays.{right_stays}
-use Rattle.epoch_laws.proofs.MomentEvents.{MasterDoes, enters, enters_takes, fenced_is, installs, master_does, order_told, takes, unmoved}
+use Rattle.epoch_laws.proofs.MomentEvents.{MasterDoes, enters, enters_takes, fenced_is, installs, master_does}
+use Rattle.epoch_laws.proofs.MomentEvents.{order_told, takes, unmoved}
 use Rattle.moment_laws.proofs.MomentHosts.{main_low, main_number, part_some, tc_apart, tc_number}
 use Rattle.moment_laws.proofs.MomentMembers.{current_made}
 use Rattle.moment_laws.proofs.MomentTurns.{Turn, current_rises, keeps, number_rises, raises, turn}

@@ -1,5 +1,6 @@
 -- What an event sends is true behind it.
-use Rattle.std.proofs.Common.{◌≡◌, ◌≤◌, ◌<◌, ◌⊎◌, ◌==◌, ◌++◌, ℕ, Bool, true, false, cond, filter, List, [], ◌∷◌, refl, sym, ap, subst, ◌∙◌, inl, inr, arith, eq-eqb}
+use Rattle.std.proofs.Common.{◌≡◌, ◌≤◌, ◌<◌, ◌⊎◌, ◌==◌, ◌++◌, ℕ, Bool, true, false, cond, filter, List, [], ◌∷◌, refl}
+use Rattle.std.proofs.Common.{sym, ap, subst, ◌∙◌, inl, inr, arith, eq-eqb}
 use Rattle.std.proofs.lemmas.Bool.{cases_Bool, eqb-true, ltb-false, true≢false}
 use Rattle.std.specs.Prelude.{if◌then◌else◌, slice_get, Option, None, Some}
 use Rattle.frag_map.specs.Layout.{first_layout}
@@ -14,7 +15,8 @@ use Rattle.sig_core.specs.declared.place.Part.TheVariants.{Main}
 use Rattle.sig_core.specs.declared.place.Place.{Place}
 use Rattle.sig_core.specs.declared.signal.Body.{Body}
 use Rattle.sig_core.specs.declared.signal.Body.TheVariants.{Epoch}
-use Rattle.sig_core.specs.declared.signal.epoch.EpochSignal.TheVariants.{GcpCommit, GcpNodeFinish, GcpOrd, GcpPrepare, GcpPrepareConf, GcpStateConf}
+use Rattle.sig_core.specs.declared.signal.epoch.EpochSignal.TheVariants.{GcpCommit, GcpNodeFinish, GcpOrd, GcpPrepare}
+use Rattle.sig_core.specs.declared.signal.epoch.EpochSignal.TheVariants.{GcpPrepareConf, GcpStateConf}
 use Rattle.sig_core.specs.declared.signal.Signal.{Signal}
 use Rattle.sig_core.specs.declared.view.View.{View}
 use Rattle.sig_core.specs.Place.{checkpoints}
@@ -71,7 +73,8 @@ use Rattle.epoch_laws.proofs.SentMembership.{IsOrdering, Orders, OrdersBy}
 use Rattle.epoch_laws.proofs.SentNone.{IsNoOrder, is_order}
 use Rattle.epoch_laws.proofs.SentParts.{rows_send, shell_sends_none}
 use Rattle.epoch_laws.proofs.SentRows.{IsOfRows, IsOfRowsBy}
-use Rattle.epoch_laws.proofs.StandKinds.{RunsMain, RunsRows, RunsShell, Whose, of_main, of_rows, of_shell, of_tc, runs_main, runs_rows, runs_shell, whose}
+use Rattle.epoch_laws.proofs.StandKinds.{RunsMain, RunsRows, RunsShell, Whose, of_main, of_rows, of_shell, of_tc}
+use Rattle.epoch_laws.proofs.StandKinds.{runs_main, runs_rows, runs_shell, whose}
 use Rattle.epoch_laws.proofs.StandMasters.{others_next, president_next}
 use Rattle.epoch_laws.proofs.StandOn.{ordered_own}
 use Rattle.epoch_laws.proofs.StandTakes.{taken_rises, taker_full}

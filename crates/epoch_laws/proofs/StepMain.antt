@@ -21,7 +21,8 @@ use Rattle.node_views.specs.Parts.{main_entered, main_row, main_settled, may_set
 use Rattle.node_views.specs.Replies.{giving}
 use Rattle.qmgr_block.specs.Qmgr.{qmgr_installed, qmgr_row}
 use Rattle.world_views.specs.Machine.{step_by, told}
-use Rattle.epoch_laws.proofs.SentMembership.{Orders, membership_installs_none, membership_orders, nothing_orders, settling_none}
+use Rattle.epoch_laws.proofs.SentMembership.{Orders, membership_installs_none, membership_orders, nothing_orders}
+use Rattle.epoch_laws.proofs.SentMembership.{settling_none}
 use Rattle.epoch_laws.proofs.SentNone.{AreNoOrders, IsNoOrder}
 use Rattle.epoch_laws.proofs.StepTc.{IsPassed}
 use Rattle.world_views.proofs.StepWalk.{IsTaken, IsWalked, Saying, next_comes}

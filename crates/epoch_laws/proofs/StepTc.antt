@@ -1,5 +1,6 @@
 -- What a step of a host with a coordinator does of the epochs of its member, and what it sends of them.
-use Rattle.std.proofs.Common.{◌≡◌, ◌⊎◌, ◌∙◌, ◌++◌, ◌≤◌, ◌<◌, ℕ, true, false, nat_lt, List, [], refl, sym, subst, inl, inr}
+use Rattle.std.proofs.Common.{◌≡◌, ◌⊎◌, ◌∙◌, ◌++◌, ◌≤◌, ◌<◌, ℕ, true, false, nat_lt, List, [], refl, sym, subst, inl}
+use Rattle.std.proofs.Common.{inr}
 use Rattle.run_theory.specs.Lists.{Each}
 use Rattle.run_theory.proofs.Pasts.{each_append, each_map}
 use Rattle.sig_core.specs.declared.outs.Outgoing.{Outgoing}
@@ -8,7 +9,8 @@ use Rattle.sig_core.specs.declared.place.BlockId.TheVariants as block
 use Rattle.sig_core.specs.declared.signal.Body.{Body}
 use Rattle.sig_core.specs.declared.signal.Body.TheVariants.{Epoch}
 use Rattle.sig_core.specs.declared.signal.Signal.{Signal}
-use Rattle.sig_core.specs.declared.signal.epoch.EpochSignal.TheVariants.{GcpCommit, GcpNodeFinish, GcpOrd, GcpPrepare, GcpPrepareConf, GcpStateConf}
+use Rattle.sig_core.specs.declared.signal.epoch.EpochSignal.TheVariants.{GcpCommit, GcpNodeFinish, GcpOrd, GcpPrepare}
+use Rattle.sig_core.specs.declared.signal.epoch.EpochSignal.TheVariants.{GcpPrepareConf, GcpStateConf}
 use Rattle.sig_core.specs.declared.view.View.{View}
 use Rattle.dih_node.specs.Dih.{dih_row}
 use Rattle.dih_node.specs.State.{DihState}

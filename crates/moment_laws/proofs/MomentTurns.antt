@@ -1,6 +1,7 @@
 -- At an event the current view stays and the host of the event stands in it, or stops; or the host enters a greater
 -- one.
-use Rattle.std.proofs.Common.{◌≡◌, ◌≢◌, ◌≤◌, ◌<◌, ◌⊎◌, ℕ, Bool, true, false, List, ◌∷◌, refl, sym, ap, subst, ◌∙◌, inl, inr, arith}
+use Rattle.std.proofs.Common.{◌≡◌, ◌≢◌, ◌≤◌, ◌<◌, ◌⊎◌, ℕ, Bool, true, false, List, ◌∷◌, refl, sym, ap, subst, ◌∙◌, inl}
+use Rattle.std.proofs.Common.{inr, arith}
 use Rattle.std.proofs.lemmas.Bool.{cases_lt}
 use Rattle.std.specs.Prelude.{if◌then◌else◌}
 use Rattle.frag_map.specs.Layout.{first_layout}
@@ -19,7 +20,8 @@ use Rattle.view_laws.proofs.runs.AllSound.{have_orderly}
 use Rattle.view_laws.proofs.runs.Step.{host_there}
 use Rattle.view_laws.proofs.runs.ChosenViews.{of_greater, one_view}
 use Rattle.moment_laws.specs.Moments.{IsMoment, current, logs_of}
-use Rattle.moment_laws.proofs.MomentViews.{IsSome, current_above, current_is, current_number, first_below, moment_installed, moment_less, moment_within, number_in, stands_in_current}
+use Rattle.moment_laws.proofs.MomentViews.{IsSome, current_above, current_is, current_number, first_below}
+use Rattle.moment_laws.proofs.MomentViews.{moment_installed, moment_less, moment_within, number_in, stands_in_current}
 
 module _ (start : Start) (all : ℕ → List HostStep) (e : HostStep) (es : List HostStep)
     (moment : IsMoment start all (e ∷ es))

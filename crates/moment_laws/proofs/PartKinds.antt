@@ -17,7 +17,8 @@ use Rattle.world_core.specs.Steps.{HostStep}
 use Rattle.world_views.specs.Machine.{after, step_after}
 use Rattle.view_laws.specs.Runs.{view_after}
 use Rattle.moment_laws.specs.Parts.{Enters, PartsDo, Takes, enters, leaves, settles, stays, takes}
-use Rattle.moment_laws.specs.PartSteps.{Kind, LdmDoes, PartDoes, PartEnters, PartTakes, ShellDoes, TcDoes, handles, ignores, installs, ldm_kind, remains, shell_kind, tc_kind}
+use Rattle.moment_laws.specs.PartSteps.{Kind, LdmDoes, PartDoes, PartEnters, PartTakes, ShellDoes, TcDoes, handles}
+use Rattle.moment_laws.specs.PartSteps.{ignores, installs, ldm_kind, remains, shell_kind, tc_kind}
 use Rattle.moment_laws.proofs.PartSteps.{after_do, step_do}
 
 -- a step of a part is one of its host's blocks

@@ -19,7 +19,6 @@ pub fn transactions_are_decided_once()
 
 /// What was reported before another transaction was asked for was decided before it, and stands before
 /// it in the history.
-#[tactic(auto, using(crate::proofs::order::ReportsBeforeAsks::decisions_in_strict_order, crate::proofs::order::ReportsBeforeAsks::histories_in_strict_order))]
 pub fn decided_in_strict_order()
     ensures decisions { DecisionsKeepStrictOrder }
     ensures history { HistoriesKeepStrictOrder }

@@ -40,9 +40,6 @@ module _ (start : Start) (member : Member) where
       (sends_one p log e && ((view_after start (tc_of start member) (e ∷ log)).number == number))
       || was_sent_in p number log
 
-  -- the view of the last request of an operation, and of the last commit
+  -- the view of the last request of an operation
   abbrev pub asked_in : TxId → List HostStep → ℕ
   asked_in tx log = last_view (is_request tx) log
-
-  abbrev pub driven_in : TxId → List HostStep → ℕ
-  driven_in tx log = last_view (is_commit tx) log

@@ -1,10 +1,9 @@
 -- What stands of the rows of a member after every log, and of the requests that wait there beside the queues of their
 -- locks.
-use Rattle.std.specs.Prelude.{◌≡◌, ℕ, Bool, true, List}
+use Rattle.std.specs.Prelude.{◌≡◌, ℕ, true, List}
 use Rattle.std.specs.List.{list_any}
 use Rattle.run_theory.specs.Lists.{Each, IsIn}
 use Rattle.sig_core.specs.declared.member.Member.{Member}
-use Rattle.sig_core.specs.declared.member.TxId.{TxId}
 use Rattle.sig_core.specs.declared.signal.Signal.{Signal}
 use Rattle.sig_core.specs.declared.view.View.{View}
 use Rattle.row_locks.specs.declared.claim.Wait.{Wait}
@@ -20,7 +19,7 @@ use Rattle.host_laws.specs.ReplicaLaws.{IsWell}
 use Rattle.world_core.specs.Start.{Start, made}
 use Rattle.world_core.specs.Steps.{HostStep}
 use Rattle.request_laws.specs.Blocks.{rows_after}
-use Rattle.request_laws.specs.Replicas.{event_under, key_installed}
+use Rattle.request_laws.specs.Replicas.{event_under}
 
 abbrev pub RowsAreWell : Type 0
 RowsAreWell =
@@ -34,9 +33,6 @@ HaveRequests r = Each (λ (wait : Wait). list_any (is_by wait.tx) r.waiting ≡ 
 -- whatever happens to the key
 abbrev pub EventsKeepRequests : Type 0
 EventsKeepRequests = (event : Event) (r : Replica) → HaveRequests r → HaveRequests (key_after event r)
-
-abbrev pub InstallationsKeepRequests : Type 0
-InstallationsKeepRequests = (stays : TxId → Bool) (r : Replica) → HaveRequests (key_installed stays r)
 
 -- and so after every log
 abbrev pub WaitsHaveRequests : Type 0
@@ -62,9 +58,6 @@ abbrev pub EventsKeepAttended : Type 0
 EventsKeepAttended =
     (event : Event) (r : Replica) → IsOrderly r.lock → IsOneByOne r event → AreAttended r
     → AreAttended (key_after event r)
-
-abbrev pub InstallationsKeepAttended : Type 0
-InstallationsKeepAttended = (stays : TxId → Bool) (r : Replica) → AreAttended (key_installed stays r)
 
 -- the same of the rows' steps
 abbrev pub SignalsKeepAttended : Type 0

@@ -4,7 +4,6 @@ ghost use Rattle.request_laws.specs.Waiting.{InstalledAreAttended, RowsAreWell, 
 
 /// Each signal does to each key of the rows what its event there says, and an installation ends all
 /// waits and lets go who has no record and no coordinator among the full members.
-#[tactic(auto, using(crate::proofs::replicas::KeyEvents::signals_are_events, crate::proofs::replicas::KeyEvents::installations_are_events, crate::proofs::replicas::KeyEvents::signals_keep_well, crate::proofs::replicas::KeyEvents::installations_keep_well))]
 pub fn keys_follow_events()
     ensures signals { SignalsAreEvents }
     ensures installations { InstallationsAreEvents }
@@ -26,7 +25,6 @@ pub fn waiters_have_requests()
 
 /// Where transactions ask for one thing at a time, the transaction of each request that waits holds the
 /// key's lock as it needs to, or waits for it.
-#[tactic(auto, using(crate::proofs::replicas::Waits::signals_keep_attended, crate::proofs::replicas::Waits::installed_are_attended))]
 pub fn attended_one_by_one()
     ensures signals { SignalsKeepAttended }
     ensures installations { InstalledAreAttended }

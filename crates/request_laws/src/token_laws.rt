@@ -12,7 +12,6 @@ pub fn one_at_a_time()
 
 /// So where one of these signals is taken, or a request waits, it is the only one of its transaction; and
 /// there is none where nothing was asked for in the view, or all is answered.
-#[tactic(auto, using(crate::proofs::tokens::Alone::taken_alone, crate::proofs::tokens::Alone::waiting_alone, crate::proofs::tokens::Alone::quiet_unless_asked))]
 pub fn nothing_else_is_under_way()
     ensures takes { TakenIsAlone }
     ensures waits { WaitingIsAlone }

@@ -28,7 +28,8 @@ use Rattle.outcome_laws.proofs.coordinators.Lists.{count_more, keys_once}
 use Rattle.outcome_laws.proofs.coordinators.Steps.{coordinator_each, inner}
 use Rattle.talk_laws.proofs.Picks.{pick_sends, picked_both}
 use Rattle.talk_laws.proofs.TcTalks.{AreMute, Talks, more_mute, resume_talks, turn_talks}
-use Rattle.talk_laws.proofs.TcTrack.{Gives, IsFit, Says, SaysBy, Talked, begins_says, mute_picks, mute_told, mute_verified, quiet_says, told_by, turned_says}
+use Rattle.talk_laws.proofs.TcTrack.{Gives, IsFit, Says, SaysBy, Talked, begins_says, mute_picks, mute_told}
+use Rattle.talk_laws.proofs.TcTrack.{mute_verified, quiet_says, told_by, turned_says}
 
 module _ (tx : TxId) where
   -- requests for epochs, counted and picked

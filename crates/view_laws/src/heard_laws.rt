@@ -3,7 +3,6 @@ ghost use Rattle.view_laws.specs.Heard.{MembershipsAnswerRightly, MembershipsAsk
 
 /// A membership asks the arbitrator for a set with a number, and settles on one, only where all
 /// members of its proposal have confirmed it.
-#[tactic(auto, using(crate::proofs::memberships::Questions::ask_rightly))]
 pub fn memberships_ask_rightly()
     ensures { MembershipsAskRightly }
 {}

@@ -4,7 +4,6 @@ ghost use Rattle.view_laws.specs.Grants.{GrantsStandBehindOneAnother};
 ghost use Rattle.view_laws.specs.Kept.{EachPromiseIsAskedFor, EachProposalIsRight, PromisesRise, PromisesStandBehindOneAnother, ProposalsRise, WhatIsConfirmedWasPromised};
 
 /// The numbers of last promises rise, and the installed view never has a greater one.
-#[tactic(auto, using(crate::proofs::memberships::AlongEvents::have_risen))]
 pub fn promises_rise()
     ensures { PromisesRise }
 {}
@@ -35,7 +34,6 @@ pub fn proposals_rise()
 {}
 
 /// What is confirmed was promised before, at a signal.
-#[tactic(auto, using(crate::proofs::memberships::AlongEvents::are_of_promises))]
 pub fn what_is_confirmed_was_promised()
     ensures { WhatIsConfirmedWasPromised }
 {}

@@ -3,7 +3,6 @@ ghost use Rattle.view_laws.specs.Order.{ActorsHaveTheGreatestView, EntriesStandI
 
 /// Right logs are a run in the order of (view, stamp, host), where the view of an event is the
 /// greatest that its host has stood in, or stopped by.
-#[tactic(auto, using(crate::proofs::eras::Order::run_in_views))]
 pub fn right_logs_run_in_views()
     ensures { RightLogsRunInViews }
 {}

@@ -26,7 +26,6 @@ pub fn signals_go_to_members()
 {}
 
 /// Of two views that were installed the one with the greater number is a part of the other.
-#[tactic(auto, using(crate::proofs::runs::ViewsShrink::views_shrink))]
 pub fn views_only_shrink()
     ensures { ViewsOnlyShrink }
 {}

@@ -2,7 +2,6 @@
 ghost use Rattle.view_laws.specs.Votes.{ArbitersFollowTheirSignals, ArbitersVote, HostsFollowTheirEvents, MembershipsVote, OthersDontVote};
 
 /// The main host of a member has the membership to which happened what its log says.
-#[tactic(auto, using(crate::proofs::follow::Hosts::hosts_follow))]
 pub fn hosts_follow_their_events()
     ensures { HostsFollowTheirEvents }
 {}

@@ -55,7 +55,8 @@ use Rattle.epoch_laws.proofs.SentMembership.{Orders, OrdersBy}
 use Rattle.epoch_laws.proofs.SentNone.{AreNoOrders, IsNoOrder, is_order}
 use Rattle.epoch_laws.proofs.SentParts.{entered_none, rows_send, shell_sends_none}
 use Rattle.epoch_laws.proofs.SentRows.{IsOfRows, IsOfRowsBy}
-use Rattle.epoch_laws.proofs.StandKinds.{RunsMain, RunsRows, RunsShell, Whose, of_main, of_rows, of_shell, of_tc, runs_main, runs_rows, runs_shell, whose}
+use Rattle.epoch_laws.proofs.StandKinds.{RunsMain, RunsRows, RunsShell, Whose, of_main, of_rows, of_shell, of_tc}
+use Rattle.epoch_laws.proofs.StandKinds.{runs_main, runs_rows, runs_shell, whose}
 use Rattle.epoch_laws.proofs.StandTakes.{taken_rises}
 use Rattle.epoch_laws.proofs.StepKinds.{RunsTc, runs_tc}
 use Rattle.epoch_laws.proofs.StepMain.{IsStepOfMain, main_steps}

@@ -1,6 +1,7 @@
 -- Whoever was committed and is forgotten is done: its coordinator has heard that its last key is completed, or nothing
 -- was written.
-use Rattle.std.proofs.Common.{◌≡◌, ◌≤◌, ◌⊎◌, ◌==◌, ◌∙◌, ◌++◌, ℕ, true, false, List, [], ◌∷◌, arith, inl, inr, refl, sym, ap, subst}
+use Rattle.std.proofs.Common.{◌≡◌, ◌≤◌, ◌⊎◌, ◌==◌, ◌∙◌, ◌++◌, ℕ, true, false, List, [], ◌∷◌, arith, inl, inr, refl, sym}
+use Rattle.std.proofs.Common.{ap, subst}
 use Rattle.std.proofs.lemmas.Bool.{eqb-true, true≢false}
 use Rattle.std.specs.Prelude.{if◌then◌else◌, None, Option, Some}
 use Rattle.run_theory.specs.Links.{sent}

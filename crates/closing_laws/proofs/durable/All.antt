@@ -1,5 +1,6 @@
 -- A durable epoch was closed before, in every closed cut.
-use Rattle.std.proofs.Common.{◌≡◌, ◌≢◌, ◌≤◌, ◌<◌, ◌⊎◌, ℕ, Bool, true, false, filter, List, [], ◌∷◌, refl, sym, subst, inl, inr, arith}
+use Rattle.std.proofs.Common.{◌≡◌, ◌≢◌, ◌≤◌, ◌<◌, ◌⊎◌, ℕ, Bool, true, false, filter, List, [], ◌∷◌, refl, sym, subst}
+use Rattle.std.proofs.Common.{inl, inr, arith}
 use Rattle.std.proofs.lemmas.Bool.{cases_eq}
 use Rattle.std.proofs.Math.Path.{fun_ext}
 use Rattle.frag_map.specs.Layout.{first_layout}
@@ -41,7 +42,8 @@ use Rattle.closing_laws.specs.Closed.{DurableWereClosed, WasClosed}
 use Rattle.closing_laws.proofs.durable.BehindClosed.{AllReached, all_reached}
 use Rattle.closing_laws.proofs.durable.Hosts.{ldm_said, main_good, main_said, shell_said, tc_noted, tc_said}
 use Rattle.closing_laws.proofs.durable.Marks.{closing_marked}
-use Rattle.closing_laws.proofs.durable.Statement.{AllNoted, AllSaid, HasNoted, IsGoodPhase, IsSaidTruly, IsTrulySaid, closed_grows, has_grows, phase_grows, said_grows}
+use Rattle.closing_laws.proofs.durable.Statement.{AllNoted, AllSaid, HasNoted, IsGoodPhase, IsSaidTruly, IsTrulySaid}
+use Rattle.closing_laws.proofs.durable.Statement.{closed_grows, has_grows, phase_grows, said_grows}
 
 module _ (start : Start) (all : ℕ → List HostStep) (e : HostStep) (es : List HostStep)
     (moment : IsMoment start all (e ∷ es)) (stand : AllStand start (logs_of start es))
@@ -113,7 +115,8 @@ module _ (start : Start) (all : ℕ → List HostStep) (e : HostStep) (es : List
     durables_next : (h epoch : ℕ) → h < hosts start → IsMarked (Durable epoch) (new h) → WasClosed start new epoch
     durables_next h epoch low marked =
         closed_grows start all e es moment epoch
-        (event_cases (machine start) e es h (λ log. IsMarked (Durable epoch) log → WasClosed start old epoch) (λ at. own)
+        (event_cases (machine start) e es h (λ log. IsMarked (Durable epoch) log → WasClosed start old epoch)
+        (λ at. own)
         (λ other. noted.durables h epoch low) marked)
       where
         own : IsIn (Durable epoch) e.step.marks ⊎ IsMarked (Durable epoch) (old h) → WasClosed start old epoch

@@ -48,7 +48,8 @@ module _ (start : Start) (all : ℕ → List HostStep) (e : HostStep) (es : List
         → EachFull start new (HasReached epoch)
     closed_next h epoch low marked =
         each_reached_next start all e es moment stand epoch
-        (event_cases (machine start) e es h (λ log. IsMarked (Closed epoch) log → EachFull start old (HasReached epoch)) (λ at. own)
+        (event_cases (machine start) e es h (λ log. IsMarked (Closed epoch) log → EachFull start old (HasReached epoch))
+        (λ at. own)
         (λ other. reached.closed h epoch low) marked)
       where
         own : IsIn (Closed epoch) e.step.marks ⊎ IsMarked (Closed epoch) (old h) → EachFull start old (HasReached epoch)

@@ -1,5 +1,6 @@
 -- Whomever a member counts it has decided, in the epoch with which it is counted.
-use Rattle.std.proofs.Common.{◌≡◌, ◌==◌, ◌∙◌, ◌+◌, ℕ, Bool, true, false, List, [], ◌∷◌, length, nat_le, nat_lt, refl, sym, ap, subst, inl, inr}
+use Rattle.std.proofs.Common.{◌≡◌, ◌==◌, ◌∙◌, ◌+◌, ℕ, Bool, true, false, List, [], ◌∷◌, length, nat_le, nat_lt, refl}
+use Rattle.std.proofs.Common.{sym, ap, subst, inl, inr}
 use Rattle.std.specs.Prelude.{Option, None, Some, position, remove, slice_get}
 use Rattle.run_theory.proofs.EachSent.{each_removed}
 use Rattle.run_theory.proofs.Pasts.{each_append, each_map, in_append}
@@ -10,9 +11,11 @@ use Rattle.dih_node.specs.declared.dih.Counted.{Counted}
 use Rattle.dih_node.specs.declared.dih.Report.{Report}
 use Rattle.dih_node.specs.declared.dih.TheConstants.{TRANSACTIONS}
 use Rattle.dih_node.specs.Dih.{dih_row, dih_table, epoch_table, fresh_dih}
-use Rattle.dih_node.specs.Orders.{close_row, commit_if, commit_row, committed, copy_row, done_row, fence_row, install_row, prepare_row, prepared_if, state_row}
+use Rattle.dih_node.specs.Orders.{close_row, commit_if, commit_row, committed, copy_row, done_row, fence_row}
+use Rattle.dih_node.specs.Orders.{install_row, prepare_row, prepared_if, state_row}
 use Rattle.dih_node.specs.State.{DihState, gives, is_unfinished}
-use Rattle.dih_node.specs.Verify.{end_row, ended, ended_by, given, held_by, is_of, report_by, report_if, reported, serve_by, serve_if, serve_row, take_if, verify_if, verify_row}
+use Rattle.dih_node.specs.Verify.{end_row, ended, ended_by, given, held_by, is_of, report_by, report_if, reported}
+use Rattle.dih_node.specs.Verify.{serve_by, serve_if, serve_row, take_if, verify_if, verify_row}
 use Rattle.sig_core.specs.declared.mark.Mark.{Mark}
 use Rattle.sig_core.specs.declared.mark.Mark.TheVariants.{Decided}
 use Rattle.sig_core.specs.declared.member.Member.{Member}
@@ -24,7 +27,9 @@ use Rattle.sig_core.specs.declared.signal.Body.{Body}
 use Rattle.sig_core.specs.declared.signal.Body.TheVariants.{Epoch, Host, Membership}
 use Rattle.sig_core.specs.declared.signal.Signal.{Signal}
 use Rattle.sig_core.specs.declared.signal.epoch.EpochSignal.{EpochSignal}
-use Rattle.sig_core.specs.declared.signal.epoch.EpochSignal.TheVariants.{CopyGciReq, DiVerifyEnd, DiVerifyReq, GcpClosed, GcpCommit, GcpDone, GcpPrepare, GcpStateReq}
+use Rattle.sig_core.specs.declared.signal.epoch.EpochSignal.TheVariants.{CopyGciReq, DiVerifyEnd, DiVerifyReq}
+use Rattle.sig_core.specs.declared.signal.epoch.EpochSignal.TheVariants.{GcpClosed, GcpCommit, GcpDone, GcpPrepare}
+use Rattle.sig_core.specs.declared.signal.epoch.EpochSignal.TheVariants.{GcpStateReq}
 use Rattle.sig_core.specs.declared.signal.host.HostSignal.TheVariants.{Continue}
 use Rattle.sig_core.specs.declared.signal.host.Work.TheVariants.{Held}
 use Rattle.sig_core.specs.declared.signal.membership.MembershipSignal.TheVariants.{FenceReq}

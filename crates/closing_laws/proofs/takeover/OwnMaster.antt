@@ -1,5 +1,6 @@
 -- The takeover of a member tells the master of that member alone that it is over, and nobody else tells a master so.
-use Rattle.std.proofs.Common.{◌≡◌, ◌≤◌, ◌⊎◌, ◌++◌, ℕ, zero, suc, Bool, true, false, List, [], ◌∷◌, refl, sym, ap, subst, ◌∙◌, inl, inr, arith, ⊎_elim}
+use Rattle.std.proofs.Common.{◌≡◌, ◌≤◌, ◌⊎◌, ◌++◌, ℕ, zero, suc, Bool, true, false, List, [], ◌∷◌, refl, sym, ap, subst}
+use Rattle.std.proofs.Common.{◌∙◌, inl, inr, arith, ⊎_elim}
 use Rattle.std.proofs.lemmas.Bool.{true≢false}
 use Rattle.run_theory.proofs.Pasts.{each_append, each_in, each_map}
 use Rattle.run_theory.specs.Lists.{Each, IsIn}
@@ -38,10 +39,13 @@ use Rattle.moment_laws.proofs.MomentHosts.{HasNoTc, part_some, tc_member, tc_sta
 use Rattle.moment_laws.proofs.MomentSignals.{EachSent, sent_next}
 use Rattle.moment_laws.proofs.MomentTurns.{host_low}
 use Rattle.moment_laws.proofs.MomentViews.{moment_less}
-use Rattle.epoch_laws.proofs.StandKinds.{Whose, of_main, of_rows, of_shell, of_tc, runs_main, runs_rows, runs_shell, whose}
+use Rattle.epoch_laws.proofs.StandKinds.{Whose, of_main, of_rows, of_shell, of_tc, runs_main, runs_rows, runs_shell}
+use Rattle.epoch_laws.proofs.StandKinds.{whose}
 use Rattle.closing_laws.proofs.takeover.MastersAreTold.{IsOverTrue}
 use Rattle.closing_laws.proofs.takeover.Steps.{IsForOwn, takeover_own, unended_own}
-use Rattle.closing_laws.proofs.takeover.NoEnds.{AreUnended, IsUnended, coordinator_ends_none, coordinator_installs_end_none, dih_ends_none, dih_installs_end_none, is_over, others_end_none}
+use Rattle.closing_laws.proofs.takeover.NoEnds.{AreUnended, IsUnended, coordinator_ends_none}
+use Rattle.closing_laws.proofs.takeover.NoEnds.{coordinator_installs_end_none, dih_ends_none, dih_installs_end_none}
+use Rattle.closing_laws.proofs.takeover.NoEnds.{is_over, others_end_none}
 use Rattle.dih_node.specs.Dih.{dih_row}
 use Rattle.moment_laws.proofs.PartKinds.{tc_after}
 use Rattle.sig_core.specs.declared.signal.Body.TheVariants.{Takeover}

@@ -1,6 +1,7 @@
 -- While a takeover is at work in the current view, and once it is over, the rows of each full member stand in that
 -- view.
-use Rattle.std.proofs.Common.{◌≡◌, ◌≤◌, ◌==◌, ◌+◌, ◌∙◌, nat_lt, ℕ, true, false, List, [], ◌∷◌, arith, length, refl, sym, ap, subst}
+use Rattle.std.proofs.Common.{◌≡◌, ◌≤◌, ◌==◌, ◌+◌, ◌∙◌, nat_lt, ℕ, true, false, List, [], ◌∷◌, arith, length, refl, sym}
+use Rattle.std.proofs.Common.{ap, subst}
 use Rattle.std.proofs.lemmas.Bool.{eqb-true, true≢false}
 use Rattle.run_theory.specs.Links.{sent, sent_by, taken}
 use Rattle.run_theory.specs.Lists.{Each, IsIn}

@@ -37,9 +37,11 @@ use Rattle.tc_views.specs.Views.{install_row, tasks_at}
 use Rattle.outcome_laws.specs.Counts.{IsCoordinatorOf, coordinator_member, count_sent, is_asking, is_begin, is_open_of}
 use Rattle.outcome_laws.specs.Counts.{is_unborn, may_ask, one_if}
 use Rattle.outcome_laws.specs.Own.{IsOwnAt, IsOwnSend}
-use Rattle.outcome_laws.proofs.coordinators.Claims.{AreQuiet, Claims, IsQuiet, asks, is_claim, more_quiet, quiet, resume_claims}
+use Rattle.outcome_laws.proofs.coordinators.Claims.{AreQuiet, Claims, IsQuiet, asks, is_claim, more_quiet, quiet}
+use Rattle.outcome_laws.proofs.coordinators.Claims.{resume_claims}
 use Rattle.outcome_laws.proofs.coordinators.Claims.{turn_claims}
-use Rattle.outcome_laws.proofs.coordinators.Lists.{are_once, come_to, comes_to, count_between, count_both, count_more, keys_once}
+use Rattle.outcome_laws.proofs.coordinators.Lists.{are_once, come_to, comes_to, count_between, count_both, count_more}
+use Rattle.outcome_laws.proofs.coordinators.Lists.{keys_once}
 use Rattle.outcome_laws.proofs.coordinators.Lists.{next_is_other, none_counted, put_last}
 use Rattle.outcome_laws.proofs.coordinators.Steps.{coordinator_each, inner}
 

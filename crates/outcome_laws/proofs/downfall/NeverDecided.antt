@@ -37,7 +37,8 @@ use Rattle.outcome_laws.proofs.once.DecidedOnce.{decides_asked, entries_are, non
 use Rattle.outcome_laws.proofs.downfall.NobodyIsTold.{no_down_is_told}
 use Rattle.outcome_laws.proofs.once.TakenFromLinks.{AreSentOnly, takes_few}
 use Rattle.outcome_laws.proofs.once.AlongLogs.{link_count, log_light, sends_in}
-use Rattle.outcome_laws.proofs.once.DecidesAndReports.{IsShell, begins_or_downs, client_light, in_client, of_client, wishes_client}
+use Rattle.outcome_laws.proofs.once.DecidesAndReports.{IsShell, begins_or_downs, client_light, in_client, of_client}
+use Rattle.outcome_laws.proofs.once.DecidesAndReports.{wishes_client}
 use Rattle.outcome_laws.proofs.once.NobodyElse.{IsBeside, asking_coordinators, beside_light, of_nobody, wishes_apart}
 use Rattle.outcome_laws.proofs.once.Counted.{uncounted_asking, uncounted_wish}
 use Rattle.outcome_laws.proofs.once.ReportedOnce.{shell_begins}

@@ -18,7 +18,8 @@ use Rattle.dih_node.specs.Verify.{given}
 use Rattle.outcome_laws.specs.Known.{EpochsKnow}
 use Rattle.outcome_laws.specs.Tells.{Decides, IsRightMark, Tells}
 use Rattle.outcome_laws.proofs.epochs.Silent.{silent_tell}
-use Rattle.outcome_laws.proofs.epochs.Steps.{HoldsNoMore, dih_each, dih_installs_hold, dih_installs_quiet, goes_on_silent}
+use Rattle.outcome_laws.proofs.epochs.Steps.{HoldsNoMore, dih_each, dih_installs_hold, dih_installs_quiet}
+use Rattle.outcome_laws.proofs.epochs.Steps.{goes_on_silent}
 
 each_held : (P : TxId → Type 0) (now held : List TxId) → HoldsNoMore now held → Each P held → Each P now
 each_held P now held (inl same) all = subst (Each P) (sym same) all

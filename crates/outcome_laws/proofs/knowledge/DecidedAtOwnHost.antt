@@ -42,7 +42,8 @@ use Rattle.moment_laws.proofs.MomentSignals.{EachSent, epoch_told, sent_next}
 use Rattle.moment_laws.proofs.MomentTurns.{host_low}
 use Rattle.moment_laws.proofs.MomentViews.{moment_less}
 use Rattle.outcome_laws.specs.Counts.{coordinator_member}
-use Rattle.outcome_laws.proofs.knowledge.OwnAsks.{AreOwn, AreSo, IsAskedSo, IsDecidedSo, IsOf, IsOfOwn, OwnParts, others_so}
+use Rattle.outcome_laws.proofs.knowledge.OwnAsks.{AreOwn, AreSo, IsAskedSo, IsDecidedSo, IsOf, IsOfOwn, OwnParts}
+use Rattle.outcome_laws.proofs.knowledge.OwnAsks.{others_so}
 use Rattle.outcome_laws.proofs.knowledge.OwnAsks.{own_kept, so_effects}
 use Rattle.outcome_laws.proofs.knowledge.HostSteps.{step_keeps}
 use Rattle.outcome_laws.proofs.coordinators.BeginsAndAsks.{coordinator_of_fresh}
@@ -144,7 +145,8 @@ module _ (start : Start) where
       comes_none : HasNoTc (started start e.host).parts → AreSo NoneAsk NoneOf step.effects
       comes_none none =
           (step_keeps HasNoTc (AreSo NoneAsk NoneOf) (so_effects NoneAsk NoneOf) x e.host
-          (after start e.host (old e.host)) (λ sound. others_so NoneAsk NoneOf x) (never_tc start e.host (old e.host) none)).1
+          (after start e.host (old e.host)) (λ sound. others_so NoneAsk NoneOf x)
+          (never_tc start e.host (old e.host) none)).1
 
       parts_next : (me : Member) → IsIn me (made start)
           → OwnParts me (after start (tc_of start me) (new (tc_of start me))).parts

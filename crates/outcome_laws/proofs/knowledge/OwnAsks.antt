@@ -50,7 +50,8 @@ use Rattle.moment_laws.proofs.MomentHosts.{HasNoTc}
 use Rattle.outcome_laws.specs.Counts.{IsCoordinatorOf, coordinator_member}
 use Rattle.outcome_laws.specs.Own.{IsOwnAt, IsOwnSend}
 use Rattle.outcome_laws.proofs.epochs.Silent.{AreSilent, IsSilent, is_telling}
-use Rattle.outcome_laws.proofs.epochs.Steps.{HoldsNoMore, dih_each, dih_installs_hold, dih_installs_quiet, goes_on_silent}
+use Rattle.outcome_laws.proofs.epochs.Steps.{HoldsNoMore, dih_each, dih_installs_hold, dih_installs_quiet}
+use Rattle.outcome_laws.proofs.epochs.Steps.{goes_on_silent}
 use Rattle.outcome_laws.proofs.knowledge.MasterTellsNothing.{master_tells_nothing}
 use Rattle.outcome_laws.proofs.knowledge.MembershipTellsNothing.{membership_installs_nothing, membership_tells_nothing}
 use Rattle.outcome_laws.proofs.knowledge.TellsNothing.{TellsNothing, untold_uncounted}
@@ -62,7 +63,8 @@ use Rattle.outcome_laws.proofs.takeovers.SendUncounted.{takeover_none}
 use Rattle.outcome_laws.proofs.rows.MarkNoOutcome.{rows_mark_none}
 use Rattle.outcome_laws.proofs.knowledge.MarksOfNoOutcome.{IsNoOutcome}
 use Rattle.outcome_laws.proofs.takeovers.NoMarks.{takeover_marks_nothing}
-use Rattle.outcome_laws.proofs.coordinators.BeginsAndAsks.{coordinator_installs_own, coordinator_of_installed, coordinator_of_stays}
+use Rattle.outcome_laws.proofs.coordinators.BeginsAndAsks.{coordinator_installs_own, coordinator_of_installed}
+use Rattle.outcome_laws.proofs.coordinators.BeginsAndAsks.{coordinator_of_stays}
 use Rattle.outcome_laws.proofs.coordinators.BeginsAndAsks.{coordinator_own}
 use Rattle.outcome_laws.proofs.coordinators.NoMarks.{coordinator_installs_mark, coordinator_marks}
 

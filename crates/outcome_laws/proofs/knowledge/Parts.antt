@@ -47,7 +47,8 @@ use Rattle.outcome_laws.proofs.takeovers.KnowEpochs.{takeover_install_knows, tak
 use Rattle.outcome_laws.proofs.takeovers.NoMarks.{takeover_marks_nothing}
 use Rattle.outcome_laws.proofs.takeovers.TellEpochs.{takeover_tells}
 use Rattle.outcome_laws.proofs.coordinators.NoMarks.{coordinator_installs_mark, coordinator_marks}
-use Rattle.outcome_laws.proofs.coordinators.TellsTrue.{coordinator_installs_know, coordinator_installs_tell, coordinator_knows}
+use Rattle.outcome_laws.proofs.coordinators.TellsTrue.{coordinator_installs_know, coordinator_installs_tell}
+use Rattle.outcome_laws.proofs.coordinators.TellsTrue.{coordinator_knows}
 use Rattle.outcome_laws.proofs.coordinators.TellsTrue.{coordinator_tells}
 
 -- the arbitrator tells nothing

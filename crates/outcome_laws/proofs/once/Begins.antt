@@ -33,7 +33,8 @@ use Rattle.outcome_laws.proofs.once.Counted.{is_counted, uncounted_asking, uncou
 use Rattle.outcome_laws.proofs.client.SendsNoAnswers.{is_coordinators}
 use Rattle.outcome_laws.proofs.once.Scales.{AreLight}
 use Rattle.outcome_laws.proofs.once.CoordinatorScale.{IsTcOf, coordinator_light, no_body, of_coordinator}
-use Rattle.outcome_laws.proofs.coordinators.BeginsAndAsks.{asks_once, asks_once_installed, begins_once, begins_once_installed}
+use Rattle.outcome_laws.proofs.coordinators.BeginsAndAsks.{asks_once, asks_once_installed, begins_once}
+use Rattle.outcome_laws.proofs.coordinators.BeginsAndAsks.{begins_once_installed}
 use Rattle.outcome_laws.proofs.coordinators.BeginsAndAsks.{coordinator_of_fresh}
 
 -- no signal adds to what may be sent

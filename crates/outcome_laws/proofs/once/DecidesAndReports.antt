@@ -41,7 +41,8 @@ use Rattle.tc_views.specs.Coordinator.{coordinator_row}
 use Rattle.tc_views.specs.Views as coordinator
 use Rattle.outcome_laws.specs.Counts.{count_held, count_open, count_sent, count_unwished, is_asking, is_begin}
 use Rattle.outcome_laws.specs.Counts.{is_decision, is_report, is_wish, one_if}
-use Rattle.outcome_laws.proofs.client.ReportsAndWishes.{is_down_answer, is_down_report, noted_open, noted_unwished, reports_few}
+use Rattle.outcome_laws.proofs.client.ReportsAndWishes.{is_down_answer, is_down_report, noted_open, noted_unwished}
+use Rattle.outcome_laws.proofs.client.ReportsAndWishes.{reports_few}
 use Rattle.outcome_laws.proofs.client.ReportsAndWishes.{wishes_or_downs_few}
 use Rattle.outcome_laws.proofs.epochs.DecisionsCounted.{decides_few, installs_count_held}
 use Rattle.outcome_laws.proofs.knowledge.MasterTellsNothing.{master_tells_nothing}

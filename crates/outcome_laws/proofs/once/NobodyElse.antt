@@ -38,7 +38,8 @@ use Rattle.outcome_laws.proofs.knowledge.TellsNothing.{untold_uncounted}
 use Rattle.outcome_laws.proofs.knowledge.Parts.{arbiter_tells_nothing}
 use Rattle.outcome_laws.proofs.client.SendsNoAnswers.{client_sends, is_coordinators}
 use Rattle.outcome_laws.proofs.once.Counted.{AreUncounted, IsUncounted, count_none, is_counted}
-use Rattle.outcome_laws.proofs.once.CoordinatorScale.{IsTcOf, coordinator_light, no_body, no_mark, no_marks, of_coordinator}
+use Rattle.outcome_laws.proofs.once.CoordinatorScale.{IsTcOf, coordinator_light, no_body, no_mark, no_marks}
+use Rattle.outcome_laws.proofs.once.CoordinatorScale.{of_coordinator}
 use Rattle.outcome_laws.proofs.rows.SendUncounted.{replica_none}
 use Rattle.outcome_laws.proofs.once.Scales.{AreLight, IsLight, Scale}
 use Rattle.outcome_laws.proofs.coordinators.BeginsAndAsks.{coordinator_installs_own, coordinator_own}

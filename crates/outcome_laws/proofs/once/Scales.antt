@@ -129,7 +129,8 @@ module _ (scale : Scale) (Q : Parts → Type 0) where
           }
 
       step_is : (h : ℕ) (s : hosts.Host) → Q s.parts
-          → IsLight (scale.may s.parts + one_if (scale.taken x.body)) (step_by h s x).effects (step_by h s x).state.parts
+          → IsLight (scale.may s.parts + one_if (scale.taken x.body)) (step_by h s x).effects
+          (step_by h s x).state.parts
       step_is h s keeps =
           step_so (AreWithin (scale.may s.parts + one_if (scale.taken x.body))) x h s (record {
             own = stays (scale.may s.parts + gain);

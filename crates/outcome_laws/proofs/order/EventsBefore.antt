@@ -67,7 +67,8 @@ module _ (start : Start) where
       more : IsDecidedThere a (logs_of start es) → IsDecidedThere a (logs_of start (e ∷ es))
       more older = record {
         host = older.host;
-        is = event_keeps (machine start) e es (λ h. IsMarked (Decided a.tx a.epoch)) (λ was. inr was) older.host older.is;
+        is = event_keeps (machine start) e es (λ h. IsMarked (Decided a.tx a.epoch)) (λ was. inr was) older.host
+            older.is;
       }
 
       by : IsIn (Decided a.tx a.epoch) e.step.marks ⊎ IsIn a (decisions start es)

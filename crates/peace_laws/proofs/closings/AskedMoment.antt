@@ -47,7 +47,8 @@ use Rattle.sig_core.specs.Step.{Step, to_place}
 use Rattle.world_core.specs.Hosts.{host_for, hosts}
 use Rattle.world_core.specs.Start.{Start}
 use Rattle.world_core.specs.Steps.{HostStep}
-use Rattle.world_views.specs.Machine.{IsOwn, after, has_stopped, machine, replies_at, step_after, step_by, stops_by, told}
+use Rattle.world_views.specs.Machine.{IsOwn, after, has_stopped, machine, replies_at, step_after, step_by, stops_by}
+use Rattle.world_views.specs.Machine.{told}
 use Rattle.world_views.specs.Right.{replies_in}
 use Rattle.world_views.specs.Sending.{is_asked, is_own_work}
 use Rattle.calm_laws.specs.Alike.{IsAtEase, first}

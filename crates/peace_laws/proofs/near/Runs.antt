@@ -44,7 +44,8 @@ use Rattle.peace_laws.specs.Peace.{is_closing}
 use Rattle.peace_laws.proofs.lives.Arrivals.{Arrives, arrives}
 use Rattle.peace_laws.proofs.closings.Signals.{IsPlainKind}
 use Rattle.peace_laws.proofs.near.Signals.{fine_level, txs_level}
-use Rattle.peace_laws.proofs.near.Mirrored.{IsLeftOut, IsMirrored, IsPlainStep, left_mirrored, level_step, plain_mirrored}
+use Rattle.peace_laws.proofs.near.Mirrored.{IsLeftOut, IsMirrored, IsPlainStep, left_mirrored, level_step}
+use Rattle.peace_laws.proofs.near.Mirrored.{plain_mirrored}
 use Rattle.peace_laws.proofs.near.NearHosts.{begin_level, resting_main}
 use Rattle.peace_laws.proofs.plain.Events.{events_are, is_left, left_none, no_part, plain_events, plain_within}
 use Rattle.peace_laws.proofs.plain.Events.{unless_left}

@@ -32,7 +32,8 @@ use Rattle.request_laws.specs.Ways.{entry_of, tells_abort, tells_commit}
 use Rattle.request_laws.proofs.phases.TurnSends.{AreSpared}
 use Rattle.request_laws.proofs.phases.Turns.{Changes, IsStill, resume_changes, turn_changes}
 use Rattle.request_laws.proofs.phases.TakeoverWords.{is_word}
-use Rattle.request_laws.proofs.phases.Steps.{AreAway, StaysUnborn, Walks, begins, coordinator_walks, is_about, left_of, passes, resumes, stays, turns}
+use Rattle.request_laws.proofs.phases.Steps.{AreAway, StaysUnborn, Walks, begins, coordinator_walks, is_about, left_of}
+use Rattle.request_laws.proofs.phases.Steps.{passes, resumes, stays, turns}
 
 -- no end of the transaction is told, and its epoch isn't asked for
 pub record IsUntold (tx : TxId) (sends : List Outgoing) : Type 0 where

@@ -1,5 +1,6 @@
 -- At each moment the host of a coordinator has heard rightly: requests for epochs come from itself alone.
-use Rattle.std.proofs.Common.{◌≡◌, ◌≢◌, ◌≤◌, ◌<◌, ◌+◌, ◌⊎◌, ◌∙◌, ◌∷◌, ◌++◌, ◌==◌, ◌&&◌, ◌-◌, ◌*◌, ℕ, Bool, true, false, List, [], refl, sym, ap, subst, inl, inr, arith}
+use Rattle.std.proofs.Common.{◌≡◌, ◌≢◌, ◌≤◌, ◌<◌, ◌+◌, ◌⊎◌, ◌∙◌, ◌∷◌, ◌++◌, ◌==◌, ◌&&◌, ◌-◌, ◌*◌, ℕ, Bool, true, false}
+use Rattle.std.proofs.Common.{List, [], refl, sym, ap, subst, inl, inr, arith}
 use Rattle.std.proofs.lemmas.Bool.{cases_eq, cases_lt}
 use Rattle.run_theory.proofs.LinkFacts.{stamps_rise}
 use Rattle.run_theory.proofs.Links.{sent_by_each, stamps_below, step_above}

@@ -2,7 +2,8 @@
 -- behind
 -- that the part takes the signal, all of what it sends is sent, and its marks are the host's; or the part leaves it
 -- alone.
-use Rattle.std.proofs.Common.{◌≡◌, ◌⊎◌, ◌||◌, ◌∙◌, ℕ, zero, suc, Bool, true, false, nat_lt, List, [], ◌∷◌, refl, sym, ap, subst, inl, inr}
+use Rattle.std.proofs.Common.{◌≡◌, ◌⊎◌, ◌||◌, ◌∙◌, ℕ, zero, suc, Bool, true, false, nat_lt, List, [], ◌∷◌, refl, sym}
+use Rattle.std.proofs.Common.{ap, subst, inl, inr}
 use Rattle.std.specs.Prelude.{not, Option, None, Some}
 use Rattle.std.specs.List.{list_any}
 use Rattle.run_theory.specs.Lists.{Each}
@@ -33,7 +34,10 @@ use Rattle.node_views.specs.declared.parts.Parts.TheVariants as part
 use Rattle.node_views.specs.declared.standing.Standing.{Standing}
 use Rattle.node_views.specs.declared.tc_part.TcPart.{TcPart}
 use Rattle.node_views.specs.Parts.{tc_entered, tc_row}
-use Rattle.node_views.specs.Row.{behind, blocks_row, closed_if, counted_row, cut_if, entered, entering_if, headed_if, headed_row, host_row, host_table, hushed, in_view, is_barred, is_cut, is_excluded, is_stop, kill_row, killed_after, marks_only, passed_if, passed_row, taken_if, unless_stopped}
+use Rattle.node_views.specs.Row.{behind, blocks_row, closed_if, counted_row, cut_if, entered, entering_if, headed_if}
+use Rattle.node_views.specs.Row.{headed_row, host_row, host_table, hushed, in_view, is_barred, is_cut, is_excluded}
+use Rattle.node_views.specs.Row.{is_stop, kill_row, killed_after, marks_only, passed_if, passed_row, taken_if}
+use Rattle.node_views.specs.Row.{unless_stopped}
 use Rattle.node_views.specs.WellFormed.{is_first, is_well_formed}
 use Rattle.world_core.specs.Start.{Start}
 use Rattle.world_core.specs.Steps.{HostStep}

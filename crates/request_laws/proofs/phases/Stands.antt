@@ -34,10 +34,12 @@ use Rattle.moment_laws.specs.Places.{tc_of}
 use Rattle.outcome_laws.specs.Counts.{coordinator_member}
 use Rattle.outcome_laws.specs.Decided.{IsMarked}
 use Rattle.request_laws.specs.Blocks.{coordinator_after}
-use Rattle.request_laws.specs.Phases.{CoordinatorStands, HasGone, IsDecidedWith, IsGivenWith, IsRightOf, SaysIn, SaysOf, WaitsWith}
+use Rattle.request_laws.specs.Phases.{CoordinatorStands, HasGone, IsDecidedWith, IsGivenWith, IsRightOf, SaysIn, SaysOf}
+use Rattle.request_laws.specs.Phases.{WaitsWith}
 use Rattle.request_laws.specs.Stand.{CoordinatorsStand}
 use Rattle.request_laws.specs.Ways.{entry_of, has_gone_back, has_gone_forth, is_at, is_sent, tells_abort, tells_commit}
-use Rattle.request_laws.proofs.phases.AlongLogs.{coordinator_comes, coordinator_first, coordinator_of, coordinator_touched}
+use Rattle.request_laws.proofs.phases.AlongLogs.{coordinator_comes, coordinator_first, coordinator_of}
+use Rattle.request_laws.proofs.phases.AlongLogs.{coordinator_touched}
 use Rattle.request_laws.proofs.phases.AsksOnce.{told_waits}
 use Rattle.request_laws.proofs.phases.GoneWays.{gone_nowhere, gone_stays, gone_told}
 use Rattle.request_laws.proofs.phases.HeardFromItself.{heard_at}
@@ -48,7 +50,8 @@ use Rattle.request_laws.proofs.phases.ToldByHosts.{HasTold, Heard, IsHeard, sent
 use Rattle.request_laws.proofs.phases.Turns.{Changes, IsDecidedAs}
 use Rattle.request_laws.proofs.phases.Turns as turns
 use Rattle.request_laws.proofs.phases.Steps.{left_of}
-use Rattle.request_laws.proofs.phases.OneWay.{WaySays, aborting_not_decided, at_aborting, at_decided, forth_of, goes_one_way, is_decided_as, lower_come, sent_before, sent_behind}
+use Rattle.request_laws.proofs.phases.OneWay.{WaySays, aborting_not_decided, at_aborting, at_decided, forth_of}
+use Rattle.request_laws.proofs.phases.OneWay.{goes_one_way, is_decided_as, lower_come, sent_before, sent_behind}
 use Rattle.request_laws.proofs.routes.Idle.{found_in}
 
 -- nothing is unanswered from the request for an epoch on

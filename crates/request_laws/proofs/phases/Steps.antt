@@ -1,6 +1,7 @@
 -- What a step of a coordinator does to one of its transactions: nothing, and nothing is sent about it; or it begins, or
 -- takes its turn, at a signal about it or since an installation left it to do.
-use Rattle.std.proofs.Common.{◌≡◌, ◌∙◌, ◌==◌, ◌+◌, ℕ, Bool, true, false, List, [], ◌∷◌, ◌++◌, arith, nat_lt, refl, sym, ap, subst}
+use Rattle.std.proofs.Common.{◌≡◌, ◌∙◌, ◌==◌, ◌+◌, ℕ, Bool, true, false, List, [], ◌∷◌, ◌++◌, arith, nat_lt, refl, sym}
+use Rattle.std.proofs.Common.{ap, subst}
 use Rattle.std.proofs.lemmas.Bool.{leb-false, leb-true, true≢false}
 use Rattle.std.proofs.lemmas.List.{append-nil}
 use Rattle.std.specs.Prelude.{if◌then◌else◌, nat_le, remove, slice_get, Option, None, Some}
@@ -13,8 +14,12 @@ use Rattle.sig_core.specs.declared.outs.Outgoing.{Outgoing}
 use Rattle.sig_core.specs.declared.signal.Body.{Body}
 use Rattle.sig_core.specs.declared.signal.Body.TheVariants.{Chain, Client, Epoch, Host, Membership}
 use Rattle.sig_core.specs.declared.signal.Signal.{Signal}
-use Rattle.sig_core.specs.declared.signal.chain.ChainSignal.TheVariants.{Abort, Commit, Complete, LqhKeyConf, LqhKeyRef, LqhKeyReq}
-use Rattle.sig_core.specs.declared.signal.client.ClientSignal.TheVariants.{LqhWaitConf, LqhWaitReq, TcBeginConf, TcBeginReq, TcCommitConf, TcKeyConf, TcKeyReq, TcRollbackRep, TcRollbackReq, TcWaitConf}
+use Rattle.sig_core.specs.declared.signal.chain.ChainSignal.TheVariants.{Abort, Commit, Complete, LqhKeyConf, LqhKeyRef}
+use Rattle.sig_core.specs.declared.signal.chain.ChainSignal.TheVariants.{LqhKeyReq}
+use Rattle.sig_core.specs.declared.signal.client.ClientSignal.TheVariants.{LqhWaitConf, LqhWaitReq, TcBeginConf}
+use Rattle.sig_core.specs.declared.signal.client.ClientSignal.TheVariants.{TcBeginReq, TcCommitConf, TcKeyConf}
+use Rattle.sig_core.specs.declared.signal.client.ClientSignal.TheVariants.{TcKeyReq, TcRollbackRep, TcRollbackReq}
+use Rattle.sig_core.specs.declared.signal.client.ClientSignal.TheVariants.{TcWaitConf}
 use Rattle.sig_core.specs.declared.signal.epoch.EpochSignal.TheVariants.{DiVerifyConf, DiVerifyEnd, DiVerifyReq}
 use Rattle.sig_core.specs.declared.signal.host.HostSignal.TheVariants.{Continue}
 use Rattle.sig_core.specs.declared.signal.host.Work.TheVariants as work
@@ -40,7 +45,8 @@ use Rattle.tc_block.specs.Tc.{begin_if, begun, is_full, next_tx, pass_if, tc_tab
 use Rattle.tc_block.specs.Turn.{Turn}
 use Rattle.tc_block.proofs.EachTurn.{rows_of}
 use Rattle.tc_block.proofs.LiveSplit.{AreOthers, KeysOnce, Live, Split, once_back, once_front, split_at}
-use Rattle.tc_block.proofs.TurnRows.{PlacedStep, goes, idles, is_turn, lacks, lost, opens, placed_step, tells, turn_for, turn_row, turn_with, tx_in}
+use Rattle.tc_block.proofs.TurnRows.{PlacedStep, goes, idles, is_turn, lacks, lost, opens, placed_step, tells, turn_for}
+use Rattle.tc_block.proofs.TurnRows.{turn_row, turn_with, tx_in}
 use Rattle.tc_views.specs.Coordinator.{calm_row, calm_unless, coordinator_row, coordinator_table, is_to_fail}
 use Rattle.tc_views.specs.State.{CoordinatorState, go_on_if, go_on_with, within}
 use Rattle.tc_views.specs.Views as views

@@ -16,7 +16,8 @@ use Rattle.sig_core.specs.declared.signal.Body.{Body}
 use Rattle.sig_core.specs.declared.signal.Body.TheVariants.{Chain, Client, Epoch, Host}
 use Rattle.sig_core.specs.declared.signal.chain.ChainSignal.TheVariants.{Abort, Commit, Complete, LqhKeyReq}
 use Rattle.sig_core.specs.declared.signal.chain.RowWork.{RowWork}
-use Rattle.sig_core.specs.declared.signal.client.ClientSignal.TheVariants.{LqhWaitReq, TcCommitConf, TcKeyConf, TcRollbackRep}
+use Rattle.sig_core.specs.declared.signal.client.ClientSignal.TheVariants.{LqhWaitReq, TcCommitConf, TcKeyConf}
+use Rattle.sig_core.specs.declared.signal.client.ClientSignal.TheVariants.{TcRollbackRep}
 use Rattle.sig_core.specs.declared.signal.epoch.EpochSignal.TheVariants.{DiVerifyEnd, DiVerifyReq}
 use Rattle.sig_core.specs.declared.signal.host.HostSignal.TheVariants.{Continue}
 use Rattle.sig_core.specs.declared.signal.host.Work.TheVariants as work
@@ -25,7 +26,8 @@ use Rattle.frag_map.specs.Layout.{Layout, chain_of}
 use Rattle.tc_block.specs.Abort.{abort_end, is_verifying}
 use Rattle.tc_block.specs.Part.{part_effects, rest_if}
 use Rattle.tc_block.specs.Resume.{anew_if}
-use Rattle.tc_block.specs.Sends.{abort_of, aborts_of, complete_if, entering, front_sends, key_sends, phase_sends, wait_of, waits_of}
+use Rattle.tc_block.specs.Sends.{abort_of, aborts_of, complete_if, entering, front_sends, key_sends, phase_sends}
+use Rattle.tc_block.specs.Sends.{wait_of, waits_of}
 use Rattle.tc_block.specs.Turn.{asking}
 use Rattle.tc_block.specs.declared.phase.Phase.{Phase}
 use Rattle.tc_block.specs.declared.phase.Phase.TheVariants.{Aborting, Committing, Completing, Open, Verifying}

@@ -1,5 +1,6 @@
 -- How a turn changes a transaction: it stays open, asks for its epoch, waits for it, goes forth, or goes back.
-use Rattle.std.proofs.Common.{◌≡◌, ◌⊎◌, ◌||◌, ℕ, Bool, true, false, List, [], ◌∷◌, ◌++◌, refl, ap, sym, ◌∙◌, subst, inl, inr}
+use Rattle.std.proofs.Common.{◌≡◌, ◌⊎◌, ◌||◌, ℕ, Bool, true, false, List, [], ◌∷◌, ◌++◌, refl, ap, sym, ◌∙◌, subst, inl}
+use Rattle.std.proofs.Common.{inr}
 use Rattle.std.proofs.lemmas.Bool.{and_parts, true≢false}
 use Rattle.std.specs.Prelude.{None, Some}
 use Rattle.sig_core.specs.declared.member.TxId.{TxId}
@@ -30,7 +31,8 @@ use Rattle.tc_block.specs.declared.transaction.Transaction.{Transaction}
 use Rattle.tc_block.proofs.EachTurn.{AbortForms, CommittedForms, TurnFormsAt, ready_is}
 use Rattle.outcome_laws.proofs.coordinators.Steps.{ResumeForms}
 use Rattle.request_laws.specs.Ways.{is_sent, tells_abort, tells_commit}
-use Rattle.request_laws.proofs.phases.TurnSends.{AreSpared, Spares, SparesIn, enters_spared, late_spared, on_spared, waits_spared}
+use Rattle.request_laws.proofs.phases.TurnSends.{AreSpared, Spares, SparesIn, enters_spared, late_spared, on_spared}
+use Rattle.request_laws.proofs.phases.TurnSends.{waits_spared}
 
 -- the signal tells a client that a transaction is committed, or aborted, or asks for its epoch
 abbrev pub is_commit_told : Body → Bool

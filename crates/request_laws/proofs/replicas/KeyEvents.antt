@@ -19,13 +19,15 @@ use Rattle.lqh_block.specs.Views.{goes_on_holding}
 use Rattle.lqh_views.specs.declared.report.Report.{Report}
 use Rattle.lqh_views.specs.Epochs.{epoch_table}
 use Rattle.lqh_views.specs.Replica.{is_stale, replica_by, serve_if}
-use Rattle.lqh_views.specs.Report.{go_on_by, is_orphaned_marker, is_orphaned_record, last_before, marker_by, record_by, reporting}
+use Rattle.lqh_views.specs.Report.{go_on_by, is_orphaned_marker, is_orphaned_record, last_before, marker_by, record_by}
+use Rattle.lqh_views.specs.Report.{reporting}
 use Rattle.lqh_views.specs.State.{ReplicaState}
 use Rattle.key_laws.specs.Replica.{at_key, event_at, key_after}
 use Rattle.key_laws.proofs.KeyAfter.{replica_is}
 use Rattle.host_laws.specs.ReplicaLaws.{IsWell}
 use Rattle.host_laws.proofs.rows.Replicas.{signals_are_events as rows_are_events, signals_keep_well as rows_keep_well}
-use Rattle.request_laws.specs.Replicas.{InstallationsAreEvents, InstallationsKeepWell, SignalsAreEvents, SignalsKeepWell, event_by, event_if}
+use Rattle.request_laws.specs.Replicas.{InstallationsAreEvents, InstallationsKeepWell, SignalsAreEvents}
+use Rattle.request_laws.specs.Replicas.{SignalsKeepWell, event_by, event_if}
 
 -- a report leaves the rows as they are
 pub reporting_same : (s : ReplicaState) (r : Report) → (reporting s r).state.lqh ≡ s.lqh

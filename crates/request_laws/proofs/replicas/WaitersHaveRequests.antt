@@ -23,7 +23,8 @@ use Rattle.lqh_block.specs.Views.{goes_on_holding}
 use Rattle.lqh_views.specs.declared.report.Report as reports
 use Rattle.lqh_views.specs.Epochs.{epoch_table}
 use Rattle.lqh_views.specs.Replica.{installed, is_stale, replica_by, replica_row, serve_if}
-use Rattle.lqh_views.specs.Report.{go_on_by, is_orphaned_marker, is_orphaned_record, last_before, marker_by, record_by, reporting}
+use Rattle.lqh_views.specs.Report.{go_on_by, is_orphaned_marker, is_orphaned_record, last_before, marker_by, record_by}
+use Rattle.lqh_views.specs.Report.{reporting}
 use Rattle.lqh_views.specs.State.{ReplicaState}
 use Rattle.run_laws.proofs.tokens.Waiting.{WaitersAsk, lqh_asks}
 

@@ -1,5 +1,6 @@
 -- The requests that wait for a key, and the waits in the queue of its lock, event by event.
-use Rattle.std.proofs.Common.{◌≡◌, ◌∙◌, ◌||◌, ℕ, ◌+◌, Bool, true, false, not, List, [], ◌∷◌, ◌++◌, refl, sym, ap, subst, inl, inr}
+use Rattle.std.proofs.Common.{◌≡◌, ◌∙◌, ◌||◌, ℕ, ◌+◌, Bool, true, false, not, List, [], ◌∷◌, ◌++◌, refl, sym, ap, subst}
+use Rattle.std.proofs.Common.{inl, inr}
 use Rattle.std.proofs.lemmas.Bool.{or_left, or_right, true≢false}
 use Rattle.std.specs.Prelude.{if◌then◌else◌, Option, None, Some}
 use Rattle.std.specs.FinMap as finite
@@ -21,7 +22,8 @@ use Rattle.row_locks.specs.declared.mode.Mode.{Mode}
 use Rattle.row_locks.specs.Holders.{agrees_with, hold, holds, holds_enough, others, unless_gone}
 use Rattle.row_locks.specs.Orderly.{IsOrderly}
 use Rattle.row_locks.specs.Queues.{aged_all, raised, raised_if, wait_of, waits, without}
-use Rattle.row_locks.specs.Rows.{RowLock, asked, asked_anew, asked_by as lock_asked_by, grown_old, is_quiet, may_hold, released, served, served_if, unwaited}
+use Rattle.row_locks.specs.Rows.{RowLock, asked, asked_anew, asked_by as lock_asked_by, grown_old, is_quiet, may_hold}
+use Rattle.row_locks.specs.Rows.{released, served, served_if, unwaited}
 use Rattle.row_locks.proofs.OrderlyLemmas.{grown_old_orderly}
 use Rattle.row_locks.specs.Tables.{or_unlocked}
 use Rattle.row_locks.proofs.LocksLemmas.{key_cmp}
@@ -31,14 +33,16 @@ use Rattle.lqh_views.specs.Replica.{installed, replica_row}
 use Rattle.lqh_views.specs.State.{ReplicaState}
 use Rattle.key_laws.specs.LockLaws.{is_attended}
 use Rattle.key_laws.specs.PrimaryEvents.{NoneOf}
-use Rattle.key_laws.specs.Replica.{Replica, aborts, ageing, ages, asked_by, asks, at_key, commits, completes, expires, expiring, is_by, is_let_in, key_after, letting_go, rests, served_by, serves}
+use Rattle.key_laws.specs.Replica.{Replica, aborts, ageing, ages, asked_by, asks, at_key, commits, completes, expires}
+use Rattle.key_laws.specs.Replica.{expiring, is_by, is_let_in, key_after, letting_go, rests, served_by, serves}
 use Rattle.key_laws.proofs.LockHolding.{any_last, any_longer}
 use Rattle.key_laws.proofs.LockWaiting.{expiries_attend, queued_wait, releases_attend, requests_attend, rounds_attend}
 use Rattle.key_laws.proofs.Waiting.{alone-drop_first, alone-end, each-drop_first, none-dropped}
 use Rattle.host_laws.specs.ReplicaLaws.{IsWell}
 use Rattle.request_laws.specs.Blocks.{rows_after}
 use Rattle.request_laws.specs.Replicas.{event_under}
-use Rattle.request_laws.proofs.replicas.KeyEvents.{installations_are_events, installations_keep_well, signals_are_events, signals_keep_well}
+use Rattle.request_laws.proofs.replicas.KeyEvents.{installations_are_events, installations_keep_well}
+use Rattle.request_laws.proofs.replicas.KeyEvents.{signals_are_events, signals_keep_well}
 use Rattle.request_laws.proofs.replicas.AlongLogs.{always, first_rows, first_well}
 use Rattle.request_laws.specs.Waiting.{AreAttended, EventsKeepAttended, EventsKeepRequests, HaveRequests}
 use Rattle.request_laws.specs.Waiting.{InstalledAreAttended}

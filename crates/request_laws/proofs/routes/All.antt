@@ -22,11 +22,13 @@ use Rattle.moment_laws.proofs.MomentViews.{moment_less}
 use Rattle.request_laws.specs.Blocks.{no_replica, rows_after, rows_in}
 use Rattle.request_laws.specs.Orphans.{AllOrphans}
 use Rattle.request_laws.specs.Phases.{CoordinatorStands}
-use Rattle.request_laws.specs.Routed.{AllRouted, IsGivenUp, IsRoutedSignal, SignalsAreRouted, WasAskedIn, WasDrivenIn, layout_in}
+use Rattle.request_laws.specs.Routed.{AllRouted, IsGivenUp, IsRoutedSignal, SignalsAreRouted, WasAskedIn, WasDrivenIn}
+use Rattle.request_laws.specs.Routed.{layout_in}
 use Rattle.request_laws.specs.Routes.{IsRouted, IsSentRouted}
 use Rattle.request_laws.proofs.phases.Stands.{coordinators_stand}
 use Rattle.request_laws.proofs.routes.BesideRows.{all_aside_routed}
-use Rattle.request_laws.proofs.routes.OtherHosts.{CoordinatorHas, RowsHave, coordinator_elsewhere, rows_elsewhere, signal_stays}
+use Rattle.request_laws.proofs.routes.OtherHosts.{CoordinatorHas, RowsHave, coordinator_elsewhere, rows_elsewhere}
+use Rattle.request_laws.proofs.routes.OtherHosts.{signal_stays}
 use Rattle.request_laws.proofs.routes.Headers.{sent_so}
 use Rattle.request_laws.proofs.routes.Hosts.{PartHost, beside_sends, coordinates, is_beside, keeps_rows, part_host}
 use Rattle.request_laws.proofs.orphans.TakeoversOfOrphans.{takeovers_are_of_orphans}

@@ -1,6 +1,7 @@
 -- Chains stay as they are where a view loses members of which none is a replica, and so do the routes of a transaction
 -- that keeps to the members which are left.
-use Rattle.std.proofs.Common.{◌≡◌, ◌⊎◌, ℕ, zero, suc, Bool, true, false, cond, List, [], ◌∷◌, ◌++◌, inl, inr, refl, sym, ap, ◌∙◌, subst, take}
+use Rattle.std.proofs.Common.{◌≡◌, ◌⊎◌, ℕ, zero, suc, Bool, true, false, cond, List, [], ◌∷◌, ◌++◌, inl, inr, refl, sym}
+use Rattle.std.proofs.Common.{ap, ◌∙◌, subst, take}
 use Rattle.std.specs.Prelude.{◌&&◌, ◌||◌, not, filter, None}
 use Rattle.std.specs.List.{list_any}
 use Rattle.std.proofs.lemmas.Bool.{true≢false}
@@ -14,7 +15,8 @@ use Rattle.sig_core.specs.declared.view.View.{View}
 use Rattle.sig_core.specs.Chain.{primary_of}
 use Rattle.frag_map.specs.Fragment.{frag_of, group_of_fragment}
 use Rattle.frag_map.specs.Layout.{Layout, chain_of, first_view, in_view, members}
-use Rattle.frag_map.specs.Replicas.{first_start, in_turn, is_later_of_group, is_member, is_of_group, node_in_turn, replicas_of}
+use Rattle.frag_map.specs.Replicas.{first_start, in_turn, is_later_of_group, is_member, is_of_group, node_in_turn}
+use Rattle.frag_map.specs.Replicas.{replicas_of}
 use Rattle.tc_block.specs.declared.touched.Touched.{Touched}
 use Rattle.tc_block.specs.declared.transaction.Transaction.{Transaction}
 use Rattle.tc_block.specs.Doom.{is_outside, strays}

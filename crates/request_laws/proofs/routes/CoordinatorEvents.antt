@@ -1,6 +1,7 @@
 -- At an event of the host of a coordinator, the coordinator goes on to have its routes, and what the host sends is
 -- routed.
-use Rattle.std.proofs.Common.{◌≡◌, ◌⊎◌, ◌++◌, ◌∙◌, ℕ, Bool, true, false, List, [], ◌∷◌, inl, inr, refl, sym, ap, subst, arith}
+use Rattle.std.proofs.Common.{◌≡◌, ◌⊎◌, ◌++◌, ◌∙◌, ℕ, Bool, true, false, List, [], ◌∷◌, inl, inr, refl, sym, ap, subst}
+use Rattle.std.proofs.Common.{arith}
 use Rattle.std.proofs.lemmas.Bool.{ltb-false, true≢false}
 use Rattle.run_theory.specs.Lists.{Each, IsIn}
 use Rattle.run_theory.proofs.Pasts.{each_append, each_map}
@@ -50,7 +51,8 @@ use Rattle.request_laws.specs.Routes.{CoordinatorHasRoutes, IsRouted, IsSentRout
 use Rattle.request_laws.specs.Ways.{is_sent}
 use Rattle.request_laws.proofs.routes.UnansweredPhases.{answered_installed}
 use Rattle.request_laws.proofs.routes.OwnSends.{IsOfMember, IsUnsent, sends_of_member}
-use Rattle.request_laws.proofs.routes.BesideRows.{AreAside, all_aside_routed, epochs_aside, epochs_install_aside, is_of_rows}
+use Rattle.request_laws.proofs.routes.BesideRows.{AreAside, all_aside_routed, epochs_aside, epochs_install_aside}
+use Rattle.request_laws.proofs.routes.BesideRows.{is_of_rows}
 use Rattle.request_laws.proofs.routes.Driven.{grows, makes}
 use Rattle.request_laws.proofs.routes.OtherHosts.{CoordinatorHas, routed_more}
 use Rattle.request_laws.proofs.routes.Entering.{behind_past, enters_has, own_full}

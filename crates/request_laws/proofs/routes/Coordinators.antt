@@ -1,6 +1,7 @@
 -- A coordinator whose transactions have their routes sends only what is routed in its view, and they go on to have
 -- them.
-use Rattle.std.proofs.Common.{◌≡◌, ℕ, Bool, true, false, List, [], ◌∷◌, ◌++◌, length, nat_lt, refl, sym, ap, ◌∙◌, subst, ◌⊎◌, ◌||◌}
+use Rattle.std.proofs.Common.{◌≡◌, ℕ, Bool, true, false, List, [], ◌∷◌, ◌++◌, length, nat_lt, refl, sym, ap, ◌∙◌, subst}
+use Rattle.std.proofs.Common.{◌⊎◌, ◌||◌}
 use Rattle.std.proofs.lemmas.Bool.{true≢false}
 use Rattle.std.proofs.lemmas.List.Folds.{list_any-append}
 use Rattle.std.specs.Prelude.{if◌then◌else◌}
@@ -43,7 +44,8 @@ use Rattle.request_laws.proofs.routes.OwnSends.{IsOwnTurn, IsUnsent, other_unsen
 use Rattle.request_laws.proofs.routes.DoomedStay.{doomed_stay}
 use Rattle.request_laws.proofs.routes.Sends.{IsMade}
 use Rattle.request_laws.proofs.routes.Takeovers.{ChainsAreSome}
-use Rattle.request_laws.proofs.routes.Turns.{Grows, IsAnsweredIn, IsGiven, Renews, Routes, has_stays, resume_forms, turn_forms, was_so}
+use Rattle.request_laws.proofs.routes.Turns.{Grows, IsAnsweredIn, IsGiven, Renews, Routes, has_stays, resume_forms}
+use Rattle.request_laws.proofs.routes.Turns.{turn_forms, was_so}
 
 -- What a coordinator sends is of transactions that it asks for, or drives, in this view, and of those that it had no
 -- other

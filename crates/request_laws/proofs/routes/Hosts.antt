@@ -28,7 +28,8 @@ use Rattle.view_laws.proofs.runs.FirstMembers.{first_in}
 use Rattle.moment_laws.specs.Places.{ldm_of, tc_of}
 use Rattle.moment_laws.proofs.MomentHosts.{ldm_number, tc_number}
 use Rattle.outcome_laws.proofs.knowledge.HostSteps.{IsOfEffects, step_keeps}
-use Rattle.request_laws.proofs.routes.BesideRows.{AreAside, IsAside, arbiter_aside, client_aside, master_aside, membership_aside, membership_installs_aside}
+use Rattle.request_laws.proofs.routes.BesideRows.{AreAside, IsAside, arbiter_aside, client_aside, master_aside}
+use Rattle.request_laws.proofs.routes.BesideRows.{membership_aside, membership_installs_aside}
 
 -- the client's side, or a membership with the master of checkpoints
 abbrev pub IsBeside : Parts → Type 0

@@ -42,11 +42,13 @@ use Rattle.world_core.specs.Steps.{HostStep}
 use Rattle.world_views.specs.Machine.{after, step_after}
 use Rattle.view_laws.specs.Runs.{view_after}
 use Rattle.moment_laws.specs.Places.{ldm_of, tc_of}
-use Rattle.moment_laws.specs.PartSteps.{LdmDoes, PartEnters, PartTakes, TcDoes, handles, ignores, installs, ldm_kind, remains, tc_kind}
+use Rattle.moment_laws.specs.PartSteps.{LdmDoes, PartEnters, PartTakes, TcDoes, handles, ignores, installs, ldm_kind}
+use Rattle.moment_laws.specs.PartSteps.{remains, tc_kind}
 use Rattle.moment_laws.proofs.MomentHosts.{ldm_started, part_some, tc_started}
 use Rattle.moment_laws.proofs.PartKinds.{ldm_after, tc_after}
 use Rattle.outcome_laws.proofs.coordinators.Steps.{coordinator_each}
-use Rattle.request_laws.specs.Blocks.{coordinator_after, coordinator_in, no_replica, rows_after, rows_in, takeover_after, takeover_in}
+use Rattle.request_laws.specs.Blocks.{coordinator_after, coordinator_in, no_replica, rows_after, rows_in}
+use Rattle.request_laws.specs.Blocks.{takeover_after, takeover_in}
 use Rattle.request_laws.specs.Routed.{layout_in}
 use Rattle.request_laws.proofs.replicas.KeyEvents.{epoch_same, go_on_same, reporting_same}
 

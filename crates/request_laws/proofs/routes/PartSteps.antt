@@ -17,7 +17,8 @@ use Rattle.moment_laws.specs.PartSteps.{LdmDoes, TcDoes}
 use Rattle.moment_laws.specs.Places.{ldm_of, tc_of}
 use Rattle.moment_laws.proofs.MomentHosts.{part_some}
 use Rattle.moment_laws.proofs.PartKinds.{ldm_after, tc_after}
-use Rattle.request_laws.specs.Blocks.{coordinator_after, coordinator_in, no_replica, rows_after, rows_in, takeover_after, takeover_in}
+use Rattle.request_laws.specs.Blocks.{coordinator_after, coordinator_in, no_replica, rows_after, rows_in}
+use Rattle.request_laws.specs.Blocks.{takeover_after, takeover_in}
 use Rattle.request_laws.specs.Routed.{layout_in}
 use Rattle.request_laws.proofs.routes.Layouts.{AreLaid, IsLaid, runs_ldm, runs_tc}
 

@@ -1,5 +1,6 @@
 -- Each view that was installed is a part of the first one, its chains are some, and hosts of members are of theirs.
-use Rattle.std.proofs.Common.{◌≡◌, ◌<◌, ◌≤◌, ◌⊎◌, ◌==◌, ◌||◌, ◌&&◌, ℕ, Bool, true, false, List, [], ◌∷◌, inl, inr, refl, sym, ap, subst, arith}
+use Rattle.std.proofs.Common.{◌≡◌, ◌<◌, ◌≤◌, ◌⊎◌, ◌==◌, ◌||◌, ◌&&◌, ℕ, Bool, true, false, List, [], ◌∷◌, inl, inr, refl}
+use Rattle.std.proofs.Common.{sym, ap, subst, arith}
 use Rattle.std.proofs.lemmas.Bool.{cases_lt, eqb-true, true≢false}
 use Rattle.run_theory.specs.Lists.{IsIn, IsPast}
 use Rattle.run_theory.proofs.Pasts.{past_nil}

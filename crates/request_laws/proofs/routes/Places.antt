@@ -1,5 +1,6 @@
 -- A signal about rows that comes to the rows of a member is for a place of its node, and the rows know their node.
-use Rattle.std.proofs.Common.{◌≡◌, ◌<◌, ◌⊎◌, ◌==◌, ◌∙◌, ℕ, zero, suc, Bool, true, false, filter, List, [], ◌∷◌, inl, inr, refl, ap, sym, arith}
+use Rattle.std.proofs.Common.{◌≡◌, ◌<◌, ◌⊎◌, ◌==◌, ◌∙◌, ℕ, zero, suc, Bool, true, false, filter, List, [], ◌∷◌, inl}
+use Rattle.std.proofs.Common.{inr, refl, ap, sym, arith}
 use Rattle.std.proofs.lemmas.Bool.{eqb-true, true≢false}
 use Rattle.std.specs.Prelude.{if◌then◌else◌, Option, None, Some}
 use Rattle.run_theory.specs.Lists.{IsIn}

@@ -1,5 +1,6 @@
 -- The rows of a node under views send on only what is routed in their view, if what they take and what waits is.
-use Rattle.std.proofs.Common.{◌≡◌, ◌==◌, ◌+◌, ℕ, Bool, true, false, List, [], ◌∷◌, map, refl, sym, ap, subst, arith, inl, inr, ◌∙◌}
+use Rattle.std.proofs.Common.{◌≡◌, ◌==◌, ◌+◌, ℕ, Bool, true, false, List, [], ◌∷◌, map, refl, sym, ap, subst, arith}
+use Rattle.std.proofs.Common.{inl, inr, ◌∙◌}
 use Rattle.std.specs.Prelude.{◌-◌, Option, None, Some}
 use Rattle.std.proofs.lemmas.Option.{slice_get_within}
 use Rattle.run_theory.specs.Lists.{Each, IsIn}
@@ -15,7 +16,8 @@ use Rattle.sig_core.specs.declared.signal.Body.{Body}
 use Rattle.sig_core.specs.declared.signal.Body.TheVariants.{Chain, Client, Epoch, Host, Membership, Takeover}
 use Rattle.sig_core.specs.declared.signal.Signal.{Signal}
 use Rattle.sig_core.specs.declared.signal.chain.ChainSignal.{ChainSignal}
-use Rattle.sig_core.specs.declared.signal.chain.ChainSignal.TheVariants.{Aborted, Commit, Committed, Complete, Completed, LqhKeyRef, LqhKeyReq}
+use Rattle.sig_core.specs.declared.signal.chain.ChainSignal.TheVariants.{Aborted, Commit, Committed, Complete}
+use Rattle.sig_core.specs.declared.signal.chain.ChainSignal.TheVariants.{Completed, LqhKeyRef, LqhKeyReq}
 use Rattle.sig_core.specs.declared.signal.client.ClientSignal.TheVariants.{DumpConf, LqhWaitConf}
 use Rattle.sig_core.specs.declared.signal.epoch.EpochSignal.{EpochSignal}
 use Rattle.sig_core.specs.declared.signal.epoch.EpochSignal.TheVariants.{GcpClosed, GcpSaveReq, GcpStateReq}
@@ -41,11 +43,13 @@ use Rattle.lqh_views.specs.Address.{addressed, owned_if}
 use Rattle.lqh_views.specs.declared.report.Report as reports
 use Rattle.lqh_views.specs.Epochs.{epoch_table}
 use Rattle.lqh_views.specs.Replica.{installed, is_stale, passed, replica_by, replica_row, serve_if}
-use Rattle.lqh_views.specs.Report.{go_on_by, is_orphaned_marker, is_orphaned_record, last_before, marker_by, record_by, reporting, told_record_if}
+use Rattle.lqh_views.specs.Report.{go_on_by, is_orphaned_marker, is_orphaned_record, last_before, marker_by, record_by}
+use Rattle.lqh_views.specs.Report.{reporting, told_record_if}
 use Rattle.lqh_views.specs.State.{ReplicaState}
 use Rattle.host_laws.proofs.rows.Node.{lqh_node}
 use Rattle.run_laws.proofs.tokens.Waiting.{WaitersAsk}
-use Rattle.request_laws.specs.Routes.{IsCommitRouted, IsCompletionRouted, IsRequestRouted, IsRouted, IsSentRouted, WaitsRouted, owner_if}
+use Rattle.request_laws.specs.Routes.{IsCommitRouted, IsCompletionRouted, IsRequestRouted, IsRouted, IsSentRouted}
+use Rattle.request_laws.specs.Routes.{WaitsRouted, owner_if}
 use Rattle.request_laws.proofs.routes.RefusedWaited.{refused_asked}
 
 -- what is about rows is for those of this node

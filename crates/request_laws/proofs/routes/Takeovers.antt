@@ -1,5 +1,6 @@
 -- A takeover that has gathered only driven transactions sends only what is routed in its view.
-use Rattle.std.proofs.Common.{◌≡◌, ◌<◌, ◌⊎◌, ◌+◌, ℕ, Bool, true, false, List, ◌∷◌, drop, inl, inr, length, map, nat_lt, refl, subst, sym, take}
+use Rattle.std.proofs.Common.{◌≡◌, ◌<◌, ◌⊎◌, ◌+◌, ℕ, Bool, true, false, List, ◌∷◌, drop, inl, inr, length, map, nat_lt}
+use Rattle.std.proofs.Common.{refl, subst, sym, take}
 use Rattle.std.specs.List.{flat_map}
 use Rattle.std.specs.Prelude.{Option, None, Some, remove, slice_get}
 use Rattle.run_theory.specs.Lists.{Each}
@@ -21,7 +22,8 @@ use Rattle.takeover_block.specs.declared.stage.Stage.{Stage}
 use Rattle.takeover_block.specs.declared.stage.Stage.TheVariants.{Resting, Gathering, Committing, Completing, Aborting}
 use Rattle.takeover_block.specs.Gathered.{first_of, noted, told_epoch, told_first, told_more}
 use Rattle.takeover_block.specs.Rule.{entering, finishing, ruling, ruling_by, way_of}
-use Rattle.takeover_block.specs.Sends.{abort_at, ask_effects, ask_of, asks_of, front_sends, key_sends, key_sends_along, stage_effects, stage_sends}
+use Rattle.takeover_block.specs.Sends.{abort_at, ask_effects, ask_of, asks_of, front_sends, key_sends, key_sends_along}
+use Rattle.takeover_block.specs.Sends.{stage_effects, stage_sends}
 use Rattle.takeover_block.specs.State.{TakeoverState, with_gathered}
 use Rattle.takeover_block.specs.Takeover.{takeover_row}
 use Rattle.takeover_block.proofs.EachTakeover.{takeover_each}

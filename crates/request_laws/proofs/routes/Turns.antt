@@ -1,6 +1,7 @@
 -- What a transaction does at a signal, or for what an installation left, is routed in the view of its coordinator, and
 -- it has its routes behind it, if what it sends is its own of this view.
-use Rattle.std.proofs.Common.{◌≡◌, ◌⊎◌, ◌==◌, ℕ, Bool, true, false, List, [], ◌∷◌, inl, inr, length, map, refl, sym, ap, ◌∙◌, subst, arith}
+use Rattle.std.proofs.Common.{◌≡◌, ◌⊎◌, ◌==◌, ℕ, Bool, true, false, List, [], ◌∷◌, inl, inr, length, map, refl, sym, ap}
+use Rattle.std.proofs.Common.{◌∙◌, subst, arith}
 use Rattle.std.proofs.lemmas.Bool.{eqb-true, true≢false}
 use Rattle.std.specs.Prelude.{◌&&◌, None}
 use Rattle.run_theory.specs.Lists.{Each}
@@ -36,7 +37,9 @@ use Rattle.outcome_laws.proofs.coordinators.Steps.{ResumeForms}
 use Rattle.request_laws.specs.Drives.{is_commit, is_request}
 use Rattle.request_laws.specs.Routes.{HasRoutes, HasRoutesIn, IsAskedRouted, IsRouted, IsSentRouted, IsTouchedRouted}
 use Rattle.request_laws.specs.Ways.{is_sent}
-use Rattle.request_laws.proofs.routes.Sends.{IsMade, Needs, Nobody, answered_routed, commits_sent, going_unasked, none_asked, none_driven, part_sent, phase_sent, rechained_routed, touched_routed}
+use Rattle.request_laws.proofs.routes.Sends.{IsMade, Needs, Nobody, answered_routed, commits_sent, going_unasked}
+use Rattle.request_laws.proofs.routes.Sends.{none_asked, none_driven, part_sent, phase_sent, rechained_routed}
+use Rattle.request_laws.proofs.routes.Sends.{touched_routed}
 use Rattle.request_laws.proofs.routes.Takeovers.{ChainsAreSome}
 
 -- who is aborted is given up, and who is decided isn't

@@ -1,5 +1,6 @@
 -- In a viable view of which nobody came later each key has a replica.
-use Rattle.std.proofs.Common.{◌≡◌, ◌⊎◌, ◌≤◌, ◌<◌, ◌==◌, ◌+◌, ℕ, zero, suc, Bool, true, false, cond, List, [], ◌∷◌, get_or, inl, inr, length, refl, sym, ap, ◌∙◌, subst, arith, take}
+use Rattle.std.proofs.Common.{◌≡◌, ◌⊎◌, ◌≤◌, ◌<◌, ◌==◌, ◌+◌, ℕ, zero, suc, Bool, true, false, cond, List, [], ◌∷◌}
+use Rattle.std.proofs.Common.{get_or, inl, inr, length, refl, sym, ap, ◌∙◌, subst, arith, take}
 use Rattle.std.proofs.lemmas.Bool.{eq-eqb, true≢false}
 use Rattle.std.proofs.lemmas.Nat.{div-add-mod', mod_below}
 use Rattle.std.proofs.lemmas.Option.{slice_get-get_or}
@@ -21,7 +22,8 @@ use Rattle.frag_map.specs.Layout.{Layout, chain_of, first_layout, first_view, me
 use Rattle.frag_map.specs.Replicas.{first_start, in_turn, is_member, is_of_group, node_in_turn}
 use Rattle.frag_map.specs.Shape.{IsShape, groups}
 use Rattle.view_laws.specs.Sets.{IsPart}
-use Rattle.request_laws.proofs.routes.ChainsStay.{NobodyLater, any_in, chain_is, is_full, nobody_later_first, nobody_later_part, turns, turns_left}
+use Rattle.request_laws.proofs.routes.ChainsStay.{NobodyLater, any_in, chain_is, is_full, nobody_later_first}
+use Rattle.request_laws.proofs.routes.ChainsStay.{nobody_later_part, turns, turns_left}
 use Rattle.request_laws.proofs.routes.Takeovers.{ChainsAreSome}
 
 -- one that passes

@@ -102,7 +102,8 @@ module _ (start : Start) (all : ℕ → List HostStep) where
         event_cases (machine start) e es h (StandsAt (e ∷ es))
         (λ at.
         more (e ∷ logs_of start es h)
-        (step_stands (Asked es) start h (part_some start Tc member) (logs_of start es h) e (asks e es moment at) before))
+        (step_stands (Asked es) start h (part_some start Tc member) (logs_of start es h) e (asks e es moment at)
+        before))
         (λ other. more (logs_of start es h) before)
       where
         more : (log : List HostStep) → StandsAt es log → StandsAt (e ∷ es) log

@@ -1,5 +1,6 @@
 -- Of a transaction whose token is taken, or waits, nothing else is under way.
-use Rattle.std.proofs.Common.{◌≡◌, ◌≢◌, ◌≤◌, ◌+◌, ◌==◌, ◌∙◌, ℕ, Bool, true, false, List, [], ◌∷◌, refl, sym, ap, arith, inl, inr}
+use Rattle.std.proofs.Common.{◌≡◌, ◌≢◌, ◌≤◌, ◌+◌, ◌==◌, ◌∙◌, ℕ, Bool, true, false, List, [], ◌∷◌, refl, sym, ap, arith}
+use Rattle.std.proofs.Common.{inl, inr}
 use Rattle.std.proofs.lemmas.Bool.{and_parts}
 use Rattle.std.specs.Prelude.{if◌then◌else◌}
 use Rattle.run_theory.specs.Lists.{IsIn}
@@ -12,7 +13,8 @@ use Rattle.view_laws.specs.Order.{sound_machine}
 use Rattle.moment_laws.specs.Moments.{logs_of}
 use Rattle.moment_laws.proofs.MomentViews.{moment_less}
 use Rattle.outcome_laws.specs.Counts.{one_if}
-use Rattle.request_laws.specs.Tokens.{QuietUnlessAsked, TakenIsAlone, WaitingIsAlone, all_sent, all_taken, all_waiting, is_token, is_token_in, may_go, number_now, total_of, waiting_at}
+use Rattle.request_laws.specs.Tokens.{QuietUnlessAsked, TakenIsAlone, WaitingIsAlone, all_sent, all_taken, all_waiting}
+use Rattle.request_laws.specs.Tokens.{is_token, is_token_in, may_go, number_now, total_of, waiting_at}
 use Rattle.request_laws.proofs.tokens.Moments.{before_now, have_one}
 use Rattle.request_laws.proofs.routes.BesideRows.{is_of_rows}
 use Rattle.request_laws.proofs.tokens.SumsOverHosts.{takes_before, takes_few, token_of_rows}

@@ -1,5 +1,6 @@
 -- What a step of the host of a member's coordinator comes to for the tokens of a transaction, along each log.
-use Rattle.std.proofs.Common.{◌≡◌, ◌⊎◌, ◌∙◌, ◌||◌, ◌++◌, ℕ, Bool, true, false, List, [], ◌∷◌, refl, sym, ap, subst, arith, inl, inr}
+use Rattle.std.proofs.Common.{◌≡◌, ◌⊎◌, ◌∙◌, ◌||◌, ◌++◌, ℕ, Bool, true, false, List, [], ◌∷◌, refl, sym, ap, subst}
+use Rattle.std.proofs.Common.{arith, inl, inr}
 use Rattle.std.proofs.lemmas.Bool.{or_right, true≢false}
 use Rattle.std.proofs.lemmas.List.{append-nil}
 use Rattle.std.proofs.lemmas.List.Folds.{list_any-append}
@@ -57,7 +58,8 @@ use Rattle.request_laws.proofs.routes.BesideRows.{epochs_aside}
 use Rattle.request_laws.proofs.routes.Unsent.{sent_behind}
 use Rattle.request_laws.proofs.phases.Steps.{AreAway, install_away, is_about}
 use Rattle.request_laws.proofs.tokens.OtherBlocks.{aside_none, takeover_no_tokens}
-use Rattle.request_laws.proofs.tokens.Steps.{IsFit, TokenMove, TokenStep, away_none, away_untold, coordinator_tokens, others_send_none, quiet, same_goes, sends_one}
+use Rattle.request_laws.proofs.tokens.Steps.{IsFit, TokenMove, TokenStep, away_none, away_untold, coordinator_tokens}
+use Rattle.request_laws.proofs.tokens.Steps.{others_send_none, quiet, same_goes, sends_one}
 
 -- a block of the coordinating part that the host runs takes the signal of a step, once its view is installed
 pub record IsHandled (start : Start) (h : ℕ) (log : List HostStep) (e : HostStep) (at : BlockId) : Type 0 where

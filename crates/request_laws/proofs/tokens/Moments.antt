@@ -1,5 +1,6 @@
 -- At each moment the operations of a transaction are under way one at a time.
-use Rattle.std.proofs.Common.{◌≡◌, ◌≢◌, ◌≤◌, ◌<◌, ◌+◌, ◌⊎◌, ◌==◌, ◌&&◌, ◌||◌, ◌∙◌, ℕ, Bool, true, false, List, [], ◌∷◌, refl, sym, ap, subst, arith, inl, inr}
+use Rattle.std.proofs.Common.{◌≡◌, ◌≢◌, ◌≤◌, ◌<◌, ◌+◌, ◌⊎◌, ◌==◌, ◌&&◌, ◌||◌, ◌∙◌, ℕ, Bool, true, false, List, [], ◌∷◌}
+use Rattle.std.proofs.Common.{refl, sym, ap, subst, arith, inl, inr}
 use Rattle.std.proofs.lemmas.Bool.{cases_eq, eq-eqb, eqb-true, or_right, true≢false}
 use Rattle.std.specs.Prelude.{if◌then◌else◌}
 use Rattle.std.specs.List.{count_by}
@@ -38,16 +39,20 @@ use Rattle.outcome_laws.specs.Counts.{coordinator_member, count_sent, one_if}
 use Rattle.outcome_laws.proofs.coordinators.Lists.{count_more, none_counted}
 use Rattle.request_laws.specs.Blocks.{coordinator_after, no_replica, rows_after, rows_in}
 use Rattle.request_laws.specs.Drives.{asked_in, is_request}
-use Rattle.request_laws.specs.Tokens.{OneAtATime, all_sent, all_taken, all_waiting, budget, count_waiting, has_asked, is_token, is_token_in, may_behind, number_now, waiting_at, waits_behind}
+use Rattle.request_laws.specs.Tokens.{OneAtATime, all_sent, all_taken, all_waiting, budget, count_waiting, has_asked}
+use Rattle.request_laws.specs.Tokens.{is_token, is_token_in, may_behind, number_now, waiting_at, waits_behind}
 use Rattle.request_laws.specs.Ways.{entry_of, has_gone_back, is_sent, tells_abort}
 use Rattle.request_laws.proofs.phases.GoneWays.{gone_stays}
-use Rattle.request_laws.proofs.routes.Hosts.{IsBeside, PartHost, beside_sends, coordinates, is_beside, keeps_rows, part_host}
-use Rattle.request_laws.proofs.tokens.CoordinatorEvents.{Hears, IsHandled, StepTokens, always_fits, foreign_none, step_tokens}
+use Rattle.request_laws.proofs.routes.Hosts.{IsBeside, PartHost, beside_sends, coordinates, is_beside, keeps_rows}
+use Rattle.request_laws.proofs.routes.Hosts.{part_host}
+use Rattle.request_laws.proofs.tokens.CoordinatorEvents.{Hears, IsHandled, StepTokens, always_fits, foreign_none}
+use Rattle.request_laws.proofs.tokens.CoordinatorEvents.{step_tokens}
 use Rattle.request_laws.proofs.tokens.RowHosts.{ldm_keeps, sent_few, token_taken}
 use Rattle.request_laws.proofs.tokens.OtherBlocks.{aside_none}
 use Rattle.request_laws.proofs.tokens.HostsApart.{ldm_low, ldm_no_tc, ldm_same}
 use Rattle.request_laws.proofs.tokens.Steps.{TokenMove, quiet, sends_one}
-use Rattle.request_laws.proofs.tokens.FirstInView.{all_sent_more, all_sent_none, all_taken_more, node_of, sent_now, taken_now, total_of_one, total_of_same, total_of_zero}
+use Rattle.request_laws.proofs.tokens.FirstInView.{all_sent_more, all_sent_none, all_taken_more, node_of, sent_now}
+use Rattle.request_laws.proofs.tokens.FirstInView.{taken_now, total_of_one, total_of_same, total_of_zero}
 
 -- a request is a token: where none of them is sent, none was asked for
 unasked : (tx : TxId) (sends : List Outgoing) → count_sent (is_token tx) sends ≡ 0

@@ -1,6 +1,7 @@
 -- What a host of rows sends of the tokens of a transaction at an event of a moment: no more than it takes and than
 -- waits there no longer.
-use Rattle.std.proofs.Common.{◌≡◌, ◌≤◌, ◌+◌, ◌⊎◌, ◌==◌, ◌&&◌, ◌||◌, ◌++◌, ℕ, Bool, true, false, List, [], ◌∷◌, eq-eqb, filter, refl, sym, ap, subst, arith, inl, inr, ◌∙◌}
+use Rattle.std.proofs.Common.{◌≡◌, ◌≤◌, ◌+◌, ◌⊎◌, ◌==◌, ◌&&◌, ◌||◌, ◌++◌, ℕ, Bool, true, false, List, [], ◌∷◌, eq-eqb}
+use Rattle.std.proofs.Common.{filter, refl, sym, ap, subst, arith, inl, inr, ◌∙◌}
 use Rattle.std.proofs.lemmas.Bool.{true≢false}
 use Rattle.std.specs.Prelude.{not, if◌then◌else◌}
 use Rattle.std.specs.List.{count_by}
@@ -30,7 +31,8 @@ use Rattle.world_core.specs.Steps.{Addressed, HostStep}
 use Rattle.world_views.specs.declared.sender.Sender.{Sender}
 use Rattle.world_views.specs.Hosts.{reached}
 use Rattle.world_views.specs.Machine.{after, sender, sent_count, signals_of, step_after, stops_by}
-use Rattle.world_views.specs.Sending.{Routed, addressed, all_addressed, is_kept_back, is_own_work, routed, routed_all, routed_if}
+use Rattle.world_views.specs.Sending.{Routed, addressed, all_addressed, is_kept_back, is_own_work, routed, routed_all}
+use Rattle.world_views.specs.Sending.{routed_if}
 use Rattle.view_laws.specs.Order.{is_sound, sound_machine}
 use Rattle.view_laws.specs.Runs.{view_after}
 use Rattle.moment_laws.specs.Moments.{IsMoment, logs_of}

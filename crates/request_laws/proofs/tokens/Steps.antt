@@ -1,6 +1,7 @@
 -- What a step of a coordinator sends of the tokens of a transaction, and how that comes to have an operation
 -- unanswered.
-use Rattle.std.proofs.Common.{◌≡◌, ◌⊎◌, ◌||◌, ◌++◌, ◌<◌, ℕ, Bool, true, false, List, [], ◌∷◌, refl, sym, ap, subst, arith, inl, inr, ◌∙◌}
+use Rattle.std.proofs.Common.{◌≡◌, ◌⊎◌, ◌||◌, ◌++◌, ◌<◌, ℕ, Bool, true, false, List, [], ◌∷◌, refl, sym, ap, subst}
+use Rattle.std.proofs.Common.{arith, inl, inr, ◌∙◌}
 use Rattle.std.proofs.lemmas.Bool.{leb-false, leb-true, or_cases, or_left, or_right, true≢false}
 use Rattle.std.proofs.lemmas.List.{append-nil}
 use Rattle.std.specs.Prelude.{is_some, nat_le, if◌then◌else◌, Option, None, Some}
@@ -36,9 +37,11 @@ use Rattle.request_laws.specs.Drives.{is_request}
 use Rattle.request_laws.specs.Tokens.{has_asked, is_token}
 use Rattle.request_laws.specs.Ways.{entry_of, is_at, is_sent, tells_abort}
 use Rattle.request_laws.proofs.phases.TurnSends.{AreSpared}
-use Rattle.request_laws.proofs.phases.Turns.{Changes, back, decides, forth, is_abort_told, opens, resume_changes, turn_changes, waits}
+use Rattle.request_laws.proofs.phases.Turns.{Changes, back, decides, forth, is_abort_told, opens, resume_changes}
+use Rattle.request_laws.proofs.phases.Turns.{turn_changes, waits}
 use Rattle.request_laws.proofs.phases.Turns as changes
-use Rattle.request_laws.proofs.phases.Steps.{AreAway, Walks, begins, coordinator_walks, is_about, left_of, passes, resumes, stays, turns}
+use Rattle.request_laws.proofs.phases.Steps.{AreAway, Walks, begins, coordinator_walks, is_about, left_of, passes}
+use Rattle.request_laws.proofs.phases.Steps.{resumes, stays, turns}
 use Rattle.request_laws.proofs.tokens.Turns.{TokenTurn, asks, ends, falls, hears, rests, resumes_move, turns_move}
 
 -- What is so of a transaction that has gone back, or hasn't: it has something unanswered only where it may, and once it

@@ -1,6 +1,7 @@
 -- From a chosen set to a later one along the promises of a member of both: where no chosen set between shares a
 -- member with the later one, that is made of the earlier one by one change.
-use Rattle.std.proofs.Common.{◌≡◌, ◌<◌, ◌≤◌, ◌⊎◌, ℕ, Bool, true, false, List, [], ◌∷◌, refl, sym, ap, ◌∙◌, subst, inl, inr, ⊎_elim, arith, eq-or-lt_of_le, le_refl}
+use Rattle.std.proofs.Common.{◌≡◌, ◌<◌, ◌≤◌, ◌⊎◌, ℕ, Bool, true, false, List, [], ◌∷◌, refl, sym, ap, ◌∙◌, subst, inl}
+use Rattle.std.proofs.Common.{inr, ⊎_elim, arith, eq-or-lt_of_le, le_refl}
 use Rattle.run_theory.specs.Lists.{IsIn}
 use Rattle.run_theory.proofs.Pasts.{each_in}
 use Rattle.sig_core.specs.declared.member.Member.{Member}
@@ -14,7 +15,8 @@ use Rattle.view_laws.proofs.ballots.ToldApart.{Meets}
 use Rattle.view_laws.proofs.ballots.MadeOfLesser.{Origin, full_meets}
 use Rattle.view_laws.proofs.ballots.Promises.{first_promise, older_promises, promises_rise}
 use Rattle.view_laws.proofs.ballots.GreatestBelow.{NoneBetween}
-use Rattle.view_laws.proofs.ballots.MadeSets.{full_in, joined_full, joining_new, made_from, made_joining, part_in, part_made, part_self}
+use Rattle.view_laws.proofs.ballots.MadeSets.{full_in, joined_full, joining_new, made_from, made_joining, part_in}
+use Rattle.view_laws.proofs.ballots.MadeSets.{part_made, part_self}
 
 -- a set made of a chosen one that this member joined
 pub record HasJoined (shape : Shape) (b : Ballots) (member : Member) (low : ℕ) (set : View) : Type 0 where

@@ -4,7 +4,8 @@ use Rattle.run_theory.specs.Lists.{Each, IsIn}
 use Rattle.run_theory.proofs.Pasts.{each_from, each_in, each_map, in_append}
 use Rattle.sig_core.specs.declared.member.Member.{Member}
 use Rattle.sig_core.specs.declared.view.View.{View}
-use Rattle.view_laws.specs.Sets.{Change, Change.shrinks, Change.joins, Change.promotes, IsAllowed, IsApart, IsJoining, IsMadeOf, IsPart, IsPromoted, all_of}
+use Rattle.view_laws.specs.Sets.{Change, Change.shrinks, Change.joins, Change.promotes, IsAllowed, IsApart, IsJoining}
+use Rattle.view_laws.specs.Sets.{IsMadeOf, IsPart, IsPromoted, all_of}
 
 pub in_front : {A : Type 0} (x : A) (xs ys : List A) → IsIn x xs → IsIn x (xs ++ ys)
 in_front x [] ys i = absurd i

@@ -1,5 +1,7 @@
 -- A set that has all nodes of a group and one that has a node of each share a full member, where both are of one set.
-use Rattle.std.proofs.Common.{◌≡◌, ◌<◌, ◌≤◌, ◌+◌, ◌-◌, ◌*◌, ◌/◌, ◌%◌, ℕ, zero, suc, Bool, true, false, not, if◌then◌else◌, Option, None, Some, is_some, List, ◌∷◌, length, refl, sym, subst, ⊎_elim, eq-or-lt_of_le, eqb-true, leb-true, filter, arith, true≢false}
+use Rattle.std.proofs.Common.{◌≡◌, ◌<◌, ◌≤◌, ◌+◌, ◌-◌, ◌*◌, ◌/◌, ◌%◌, ℕ, zero, suc, Bool, true, false, not}
+use Rattle.std.proofs.Common.{if◌then◌else◌, Option, None, Some, is_some, List, ◌∷◌, length, refl, sym, subst, ⊎_elim}
+use Rattle.std.proofs.Common.{eq-or-lt_of_le, eqb-true, leb-true, filter, arith, true≢false}
 use Rattle.std.proofs.lemmas.Nat.{div-add-mod'}
 use Rattle.frag_map.specs.Groups.{is_manned, is_viable, is_whole, lost_from, lost_group, whole_from, whole_group}
 use Rattle.frag_map.specs.Replicas.{is_of_group}
@@ -11,7 +13,8 @@ use Rattle.sig_core.specs.declared.view.Shape.{Shape}
 use Rattle.sig_core.specs.declared.view.View.{View}
 use Rattle.view_laws.specs.Sets.{AreApart, IsApart, all_of}
 use Rattle.view_laws.proofs.ballots.Found.{Found, found}
-use Rattle.view_laws.proofs.ballots.DistinctNodes.{IsNear, apart_filter, apart_front, apart_same, each_filter, few_near, some_node}
+use Rattle.view_laws.proofs.ballots.DistinctNodes.{IsNear, apart_filter, apart_front, apart_same, each_filter, few_near}
+use Rattle.view_laws.proofs.ballots.DistinctNodes.{some_node}
 
 module _ (shape : Shape) (set : View) where
   manned_from : (first n : ℕ) → lost_from shape set first n ≡ None → (group : ℕ) → first ≤ group → group < first + n

@@ -1,6 +1,7 @@
 -- Two sets that follow the same chosen one share a full member, or both were granted. And what was granted after
 -- another grant shares a member with a chosen set that the other comes to.
-use Rattle.std.proofs.Common.{◌≡◌, ◌<◌, ◌⊎◌, ℕ, true, List, [], ◌∷◌, Some, refl, sym, ap, ◌∙◌, subst, inl, inr, ⊎_elim, arith}
+use Rattle.std.proofs.Common.{◌≡◌, ◌<◌, ◌⊎◌, ℕ, true, List, [], ◌∷◌, Some, refl, sym, ap, ◌∙◌, subst, inl, inr, ⊎_elim}
+use Rattle.std.proofs.Common.{arith}
 use Rattle.frag_map.specs.Groups.{whole_group}
 use Rattle.frag_map.specs.Shape.{IsShape}
 use Rattle.run_theory.specs.Lists.{IsIn}
@@ -11,7 +12,8 @@ use Rattle.sig_core.specs.declared.view.View.{View}
 use Rattle.view_laws.specs.Ballots.{Ballots, Granted, IsBacked, IsChosen, IsGranted, NeedsNoGrant, Proposed}
 use Rattle.view_laws.specs.Chain.{Follows}
 use Rattle.view_laws.specs.Orderly.{AreGrants, AreOrderly, IsAmong, IsNextGrant, IsOfProposal, IsProposal}
-use Rattle.view_laws.specs.Sets.{AreApart, Change, Change.joins, Change.promotes, Change.shrinks, IsAllowed, IsMadeOf, all_of, joining}
+use Rattle.view_laws.specs.Sets.{AreApart, Change, Change.joins, Change.promotes, Change.shrinks, IsAllowed, IsMadeOf}
+use Rattle.view_laws.specs.Sets.{all_of, joining}
 use Rattle.view_laws.proofs.ballots.ToldApart.{Meets}
 use Rattle.view_laws.proofs.ballots.Grants.{Rise, grants_fall, grants_same, rise}
 use Rattle.view_laws.proofs.ballots.SharedByGroups.{shares_full}

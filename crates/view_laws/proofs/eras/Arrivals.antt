@@ -11,11 +11,13 @@ use Rattle.sig_core.specs.Step.{Step}
 use Rattle.node_views.specs.Blocks.{parts_entered}
 use Rattle.node_views.specs.declared.host.Host as hosts
 use Rattle.node_views.specs.declared.parts.Parts.{Parts}
-use Rattle.node_views.specs.Row.{counted_row, entered, entering_if, headed_if, headed_row, host_row, is_excluded, is_stop, killed_after, standing_at, taken_if}
+use Rattle.node_views.specs.Row.{counted_row, entered, entering_if, headed_if, headed_row, host_row, is_excluded}
+use Rattle.node_views.specs.Row.{is_stop, killed_after, standing_at, taken_if}
 use Rattle.node_views.specs.WellFormed.{is_well_formed}
 use Rattle.qmgr_block.specs.Laws.{Event, installs}
 use Rattle.world_views.specs.Machine.{own_stop, step_by, step_if}
-use Rattle.view_laws.specs.HostEvents.{counted_events, entering_events, events_at, events_by, headed_events, passed_events, sound_events}
+use Rattle.view_laws.specs.HostEvents.{counted_events, entering_events, events_at, events_by, headed_events}
+use Rattle.view_laws.specs.HostEvents.{passed_events, sound_events}
 use Rattle.view_laws.proofs.follow.Steps.{PassesAs, entered_parts, passes_as}
 
 -- the header isn't above the host's view, or that is installed before the blocks are passed the signal

@@ -1,5 +1,6 @@
 -- The entries of right logs are the decisions in the order of views.
-use Rattle.std.proofs.Common.{◌≡◌, ◌≢◌, ◌⊎◌, ◌≤◌, ◌<◌, ◌==◌, ◌&&◌, ◌||◌, ℕ, zero, suc, Bool, true, false, nat_lt, cond, List, [], ◌∷◌, reverse, refl, ap, sym, subst, ◌∙◌, inl, inr, arith}
+use Rattle.std.proofs.Common.{◌≡◌, ◌≢◌, ◌⊎◌, ◌≤◌, ◌<◌, ◌==◌, ◌&&◌, ◌||◌, ℕ, zero, suc, Bool, true, false, nat_lt, cond}
+use Rattle.std.proofs.Common.{List, [], ◌∷◌, reverse, refl, ap, sym, subst, ◌∙◌, inl, inr, arith}
 use Rattle.std.proofs.lemmas.Bool.{cases_eq, cases_lt, eq-eqb, eqb-true, ltb-true, ne_eqb, true≢false}
 use Rattle.std.proofs.lemmas.Bool.Decides.{nat_tests}
 use Rattle.frag_map.specs.Shape.{IsShape}
@@ -23,7 +24,8 @@ use Rattle.run_theory.proofs.EventCases.{event_cases}
 use Rattle.view_laws.proofs.eras.Deciders.{decides_here}
 use Rattle.view_laws.proofs.eras.DecisionMarks.{IsUndecided}
 use Rattle.view_laws.proofs.eras.Order.{run_in_views}
-use Rattle.view_laws.proofs.eras.Sorted.{IsFalling, IsRising, falling_of_host, insert_others, insert_owns, of_host, rises_turned, rising_all, same_order, turned_of_host}
+use Rattle.view_laws.proofs.eras.Sorted.{IsFalling, IsRising, falling_of_host, insert_others, insert_owns, of_host}
+use Rattle.view_laws.proofs.eras.Sorted.{rises_turned, rising_all, same_order, turned_of_host}
 
 -- an entry isn't behind what has this view, stamp and host
 abbrev IsBelow : ℕ → ℕ → ℕ → Entry → Type 0

@@ -1,5 +1,6 @@
 -- The view of a host, whichever it is, never falls, and it reaches the header of what the host takes.
-use Rattle.std.proofs.Common.{◌≡◌, ◌≤◌, ◌<◌, ◌⊎◌, ◌%◌, ℕ, zero, suc, true, false, List, [], ◌∷◌, ◌++◌, refl, ap, sym, subst, ◌∙◌, arith, inl, inr}
+use Rattle.std.proofs.Common.{◌≡◌, ◌≤◌, ◌<◌, ◌⊎◌, ◌%◌, ℕ, zero, suc, true, false, List, [], ◌∷◌, ◌++◌, refl, ap, sym}
+use Rattle.std.proofs.Common.{subst, ◌∙◌, arith, inl, inr}
 use Rattle.std.specs.List.{list_any}
 use Rattle.std.specs.Prelude.{None, Some}
 use Rattle.frag_map.specs.Layout.{Layout, first_layout}
@@ -36,7 +37,8 @@ use Rattle.view_laws.proofs.eras.Shapes.{shape_stays}
 use Rattle.view_laws.proofs.follow.Hosts.{started_behind}
 use Rattle.view_laws.proofs.follow.HostKinds.{never_joins, no_membership_in_shell}
 use Rattle.view_laws.proofs.follow.Memberships.{settles_on}
-use Rattle.view_laws.proofs.follow.Seen.{known_view, membership_enters, membership_is_seen, membership_seen, some_membership, to_membership, to_view, view_is_seen, view_seen}
+use Rattle.view_laws.proofs.follow.Seen.{known_view, membership_enters, membership_is_seen, membership_seen}
+use Rattle.view_laws.proofs.follow.Seen.{some_membership, to_membership, to_view, view_is_seen, view_seen}
 use Rattle.view_laws.proofs.follow.Steps.{PassesAs, StepsAs, entering, plain, steps_as}
 use Rattle.view_laws.proofs.follow.Views.{IsAfterPass, none_settle, passes_views}
 use Rattle.view_laws.proofs.follow.Walk.{along, along_append, log_goes, next_goes}

@@ -1,5 +1,6 @@
 -- What the marks of a step of a host tell: who decides goes on, and stands in the view that was marked last.
-use Rattle.std.proofs.Common.{◌≡◌, ◌⊎◌, ◌||◌, ◌++◌, ℕ, zero, suc, Bool, true, false, nat_lt, List, [], ◌∷◌, refl, ap, sym, subst, ◌∙◌, inl, inr}
+use Rattle.std.proofs.Common.{◌≡◌, ◌⊎◌, ◌||◌, ◌++◌, ℕ, zero, suc, Bool, true, false, nat_lt, List, [], ◌∷◌, refl, ap}
+use Rattle.std.proofs.Common.{sym, subst, ◌∙◌, inl, inr}
 use Rattle.std.specs.List.{list_any}
 use Rattle.std.specs.Prelude.{not, Option, None, Some}
 use Rattle.run_theory.specs.Lists.{Each}
@@ -16,13 +17,16 @@ use Rattle.sig_core.specs.Step.{Step}
 use Rattle.api_views.specs.Members.{same_member}
 use Rattle.node_views.specs.Blocks.{parts_row}
 use Rattle.node_views.specs.declared.host.Host as hosts
-use Rattle.node_views.specs.Row.{blocks_row, closed_if, counted_row, cut_if, entered, entering_if, headed_if, headed_row, host_row, host_table, is_barred, is_cut, is_excluded, is_stop, killed_after, passed_if, passed_row, settle, standing_at, taken_if, with_parts}
+use Rattle.node_views.specs.Row.{blocks_row, closed_if, counted_row, cut_if, entered, entering_if, headed_if}
+use Rattle.node_views.specs.Row.{headed_row, host_row, host_table, is_barred, is_cut, is_excluded, is_stop}
+use Rattle.node_views.specs.Row.{killed_after, passed_if, passed_row, settle, standing_at, taken_if, with_parts}
 use Rattle.node_views.specs.WellFormed.{is_first, is_well_formed}
 use Rattle.world_core.specs.Entries.{installed_in}
 use Rattle.world_views.specs.Machine.{own_stop, step_by, step_if}
 use Rattle.world_views.proofs.StepEach.{step_words}
 use Rattle.view_laws.proofs.eras.DecisionMarks.{DecidesNone, DecidesOnly, IsUndecided, decisions_go, decisions_install}
-use Rattle.view_laws.proofs.eras.Parts.{coordinating, entered_bare, entered_has, has_coordinator, none_settled, host_undecided}
+use Rattle.view_laws.proofs.eras.Parts.{coordinating, entered_bare, entered_has, has_coordinator, none_settled}
+use Rattle.view_laws.proofs.eras.Parts.{host_undecided}
 
 entered_marks : (s : hosts.Host) (view : View) → (entered s view).effects.marks ≡ []
 unfolding entered

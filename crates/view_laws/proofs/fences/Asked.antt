@@ -1,5 +1,6 @@
 -- A membership asks its blocks for a fence where it promises a set that it is asked for, and nowhere else.
-use Rattle.std.proofs.Common.{◌≡◌, ◌⊎◌, ◌||◌, ℕ, Bool, true, false, List, [], ◌∷◌, ◌++◌, refl, inl, inr, filter, cond, ap, sym, subst, ◌∙◌}
+use Rattle.std.proofs.Common.{◌≡◌, ◌⊎◌, ◌||◌, ℕ, Bool, true, false, List, [], ◌∷◌, ◌++◌, refl, inl, inr, filter, cond}
+use Rattle.std.proofs.Common.{ap, sym, subst, ◌∙◌}
 use Rattle.std.specs.Prelude.{if◌then◌else◌, Option, None, Some}
 use Rattle.frag_map.specs.Groups.{lost_group}
 use Rattle.run_theory.specs.Lists.{Each, IsIn}
@@ -15,7 +16,8 @@ use Rattle.sig_core.specs.declared.view.View.{View}
 use Rattle.sig_core.specs.Step.{Step}
 use Rattle.qmgr_block.specs.declared.known.Known.{Known}
 use Rattle.qmgr_block.specs.Promise.{fences, may_promise, promise_by, promise_row, promising, with_absent}
-use Rattle.qmgr_block.specs.Propose.{has_number, proposal_sends, propose, proposed_if, proposed_view, remaining_view, request_of}
+use Rattle.qmgr_block.specs.Propose.{has_number, proposal_sends, propose, proposed_if, proposed_view, remaining_view}
+use Rattle.qmgr_block.specs.Propose.{request_of}
 use Rattle.qmgr_block.specs.Qmgr.{qmgr_row, qmgr_table}
 use Rattle.qmgr_block.specs.Sets.{members_of}
 use Rattle.qmgr_block.specs.State.{QmgrState}

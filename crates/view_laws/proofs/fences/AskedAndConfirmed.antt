@@ -1,5 +1,6 @@
 -- A number is confirmed once each part has confirmed as many fences as were asked for up to its promise.
-use Rattle.std.proofs.Common.{◌≡◌, ◌⊎◌, ◌≤◌, ◌<◌, ◌+◌, ℕ, suc, Bool, true, false, List, [], ◌∷◌, ◌++◌, length, refl, ap, sym, subst, arith, inl, inr, ◌∙◌}
+use Rattle.std.proofs.Common.{◌≡◌, ◌⊎◌, ◌≤◌, ◌<◌, ◌+◌, ℕ, suc, Bool, true, false, List, [], ◌∷◌, ◌++◌, length, refl, ap}
+use Rattle.std.proofs.Common.{sym, subst, arith, inl, inr, ◌∙◌}
 use Rattle.std.specs.Prelude.{if◌then◌else◌}
 use Rattle.frag_map.specs.Layout.{Layout}
 use Rattle.run_theory.specs.Lists.{IsIn, IsPast}
@@ -16,13 +17,17 @@ use Rattle.qmgr_block.specs.declared.known.Known.{Known}
 use Rattle.qmgr_block.specs.declared.promise.Promise.{Promise}
 use Rattle.qmgr_block.specs.Install.{installed_row}
 use Rattle.qmgr_block.specs.Laws.{Event, installs, takes}
-use Rattle.qmgr_block.specs.Promise.{is_ldm, may_promise, promise_by, promise_row, promising, waiting_promise, waits_for, with_absent}
+use Rattle.qmgr_block.specs.Promise.{is_ldm, may_promise, promise_by, promise_row, promising, waiting_promise}
+use Rattle.qmgr_block.specs.Promise.{waits_for, with_absent}
 use Rattle.qmgr_block.specs.Qmgr.{qmgr_installed, qmgr_row, qmgr_table}
 use Rattle.qmgr_block.specs.State.{QmgrState}
 use Rattle.qmgr_block.specs.Suspects.{has_more}
 use Rattle.view_laws.specs.Members.{confirmed_by, confirmed_of, known_of, state_of}
-use Rattle.view_laws.proofs.fences.WaitInOrder.{InOrder, behind, drop_few, drop_left, drop_order, full, left, left_all, same, set_left, set_order, snoc_left, snoc_order, times, times_more, waits_some}
-use Rattle.view_laws.proofs.fences.Confirming.{AreRanked, Confirms, HasRank, confirms, drop_ranked, first_rank, lessens, row_confirms, set_ranked, stays}
+use Rattle.view_laws.proofs.fences.WaitInOrder.{InOrder, behind, drop_few, drop_left, drop_order, full, left, left_all}
+use Rattle.view_laws.proofs.fences.WaitInOrder.{same, set_left, set_order, snoc_left, snoc_order, times, times_more}
+use Rattle.view_laws.proofs.fences.WaitInOrder.{waits_some}
+use Rattle.view_laws.proofs.fences.Confirming.{AreRanked, Confirms, HasRank, confirms, drop_ranked, first_rank, lessens}
+use Rattle.view_laws.proofs.fences.Confirming.{row_confirms, set_ranked, stays}
 use Rattle.qmgr_block.proofs.Outcomes.{is_of_promises}
 use Rattle.view_laws.proofs.memberships.RowsAlike.{absent_like, promised_like}
 use Rattle.view_laws.proofs.ballots.MadeSets.{in_either}

@@ -1,12 +1,14 @@
 -- What a confirmation of a fence does to the promises that wait, and how many were asked for up to each of them.
-use Rattle.std.proofs.Common.{◌≡◌, ◌≤◌, ◌+◌, ◌∙◌, ℕ, suc, Bool, true, false, List, [], ◌∷◌, length, refl, ap, sym, subst, arith}
+use Rattle.std.proofs.Common.{◌≡◌, ◌≤◌, ◌+◌, ◌∙◌, ℕ, suc, Bool, true, false, List, [], ◌∷◌, length, refl, ap, sym}
+use Rattle.std.proofs.Common.{subst, arith}
 use Rattle.std.specs.Prelude.{if◌then◌else◌, Option, None, Some, position, slice_get}
 use Rattle.sig_core.proofs.Firsts.{first-drop, first-get, first-set, drop_by, get_by, set_by, set_first}
 use Rattle.sig_core.specs.declared.mark.Mark.{Mark}
 use Rattle.sig_core.specs.Firsts.{drop_first, first}
 use Rattle.sig_core.specs.Step.{Step}
 use Rattle.qmgr_block.specs.declared.promise.Promise.{Promise}
-use Rattle.qmgr_block.specs.Promise.{confirmed_at, confirmed_if, confirmed_place, fence_row, is_fenced, is_ldm, less, waits_for}
+use Rattle.qmgr_block.specs.Promise.{confirmed_at, confirmed_if, confirmed_place, fence_row, is_fenced, is_ldm, less}
+use Rattle.qmgr_block.specs.Promise.{waits_for}
 use Rattle.qmgr_block.specs.State.{QmgrState}
 use Rattle.view_laws.specs.Members.{confirmed_by}
 use Rattle.view_laws.proofs.fences.WaitInOrder.{behind}

@@ -4,7 +4,8 @@ use Rattle.std.specs.Prelude.{◌&&◌, nat_lt}
 use Rattle.sig_core.specs.declared.signal.Signal.{Signal}
 use Rattle.sig_core.specs.Step.{stay}
 use Rattle.node_views.specs.Blocks.{fence_at}
-use Rattle.node_views.specs.Row.{counted_row, headed_if, headed_row, host_row, hushed, is_barred, passed_if, passed_row, taken_if}
+use Rattle.node_views.specs.Row.{counted_row, headed_if, headed_row, host_row, hushed, is_barred, passed_if, passed_row}
+use Rattle.node_views.specs.Row.{taken_if}
 use Rattle.node_views.specs.WellFormed.{is_well_formed}
 use Rattle.node_views.specs.declared.host.Host as hosts
 use Rattle.view_laws.specs.Fenced.{FencedSignalsChangeNothing, IsFromBelow}

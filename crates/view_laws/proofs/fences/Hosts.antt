@@ -1,5 +1,6 @@
 -- The host of each part of a member that was made, and to which member's part a request for a fence comes.
-use Rattle.std.proofs.Common.{◌≡◌, ◌==◌, ◌+◌, ◌-◌, ◌*◌, ◌≤◌, ◌||◌, ◌∙◌, ℕ, suc, Bool, true, false, filter, List, [], ◌∷◌, length, refl, ap, sym, subst, arith}
+use Rattle.std.proofs.Common.{◌≡◌, ◌==◌, ◌+◌, ◌-◌, ◌*◌, ◌≤◌, ◌||◌, ◌∙◌, ℕ, suc, Bool, true, false, filter, List, []}
+use Rattle.std.proofs.Common.{◌∷◌, length, refl, ap, sym, subst, arith}
 use Rattle.std.proofs.lemmas.Bool.{eqb-true}
 use Rattle.std.specs.List.{list_any}
 use Rattle.std.specs.Prelude.{if◌then◌else◌, Option, None, Some, position}

@@ -1,7 +1,8 @@
 -- A part that has taken as many requests for fences as were sent up to a promise has taken one of that promise, or
 -- of a
 -- later one, for each of its blocks: a link gives first what was sent first.
-use Rattle.std.proofs.Common.{◌≡◌, ◌⊎◌, ◌≤◌, ◌==◌, ◌&&◌, ◌+◌, ◌-◌, ◌*◌, ◌++◌, ◌∙◌, ℕ, suc, Bool, true, false, cond, List, [], ◌∷◌, append_assoc, length, refl, ap, sym, subst, arith, inl, inr}
+use Rattle.std.proofs.Common.{◌≡◌, ◌⊎◌, ◌≤◌, ◌==◌, ◌&&◌, ◌+◌, ◌-◌, ◌*◌, ◌++◌, ◌∙◌, ℕ, suc, Bool, true, false, cond}
+use Rattle.std.proofs.Common.{List, [], ◌∷◌, append_assoc, length, refl, ap, sym, subst, arith, inl, inr}
 use Rattle.std.proofs.lemmas.Bool.{and_parts, eqb-true, true≢false}
 use Rattle.std.specs.Prelude.{if◌then◌else◌}
 use Rattle.frag_map.specs.Layout.{Layout, first_layout}
@@ -47,7 +48,8 @@ use Rattle.view_laws.proofs.fences.Asked.{asked_fences, fencing}
 use Rattle.view_laws.proofs.fences.AskedAndConfirmed.{Does, IsAskedAs, asked_by, asked_of, asks, hears, rests, row_does}
 use Rattle.view_laws.proofs.fences.WhatLinksOwe.{HasTaken, RequestsAreHigh, asks_fence, in_ldm, running, running_if}
 use Rattle.view_laws.proofs.fences.Hosts.{block_host, number_some, part_reaches}
-use Rattle.view_laws.proofs.fences.RequestsInOrder.{AreAsked, IsOf, Line, asked, goes, line, nothing, onward, step_asked}
+use Rattle.view_laws.proofs.fences.RequestsInOrder.{AreAsked, IsOf, Line, asked, goes, line, nothing, onward}
+use Rattle.view_laws.proofs.fences.RequestsInOrder.{step_asked}
 use Rattle.view_laws.proofs.fences.WaitInOrder.{full, times, times_more}
 use Rattle.view_laws.proofs.fences.Ranks.{asked_more, rank_below}
 use Rattle.view_laws.proofs.fences.RequestsTaken.{takes_or_stops}

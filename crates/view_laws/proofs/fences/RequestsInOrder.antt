@@ -1,6 +1,7 @@
 -- Requests for fences are put on the link from a main host to a part of its member in the order of promises: for each
 -- promise one for each block of the part, or none.
-use Rattle.std.proofs.Common.{◌≡◌, ◌⊎◌, ◌==◌, ◌&&◌, ◌++◌, ◌∙◌, ℕ, Bool, true, false, cond, filter, List, [], ◌∷◌, refl, ap, sym, subst, inl, inr}
+use Rattle.std.proofs.Common.{◌≡◌, ◌⊎◌, ◌==◌, ◌&&◌, ◌++◌, ◌∙◌, ℕ, Bool, true, false, cond, filter, List, [], ◌∷◌, refl}
+use Rattle.std.proofs.Common.{ap, sym, subst, inl, inr}
 use Rattle.std.specs.Prelude.{if◌then◌else◌, not, Some}
 use Rattle.frag_map.specs.Layout.{Layout, first_layout}
 use Rattle.run_theory.specs.Links.{put}

@@ -1,6 +1,7 @@
 -- A fenced block takes each request for its fence that comes to its host and is well formed, unless the host stops
 -- by it.
-use Rattle.std.proofs.Common.{◌≡◌, ◌⊎◌, ◌||◌, ◌++◌, ◌∙◌, ℕ, zero, suc, Bool, true, false, List, [], ◌∷◌, refl, ap, inl, inr}
+use Rattle.std.proofs.Common.{◌≡◌, ◌⊎◌, ◌||◌, ◌++◌, ◌∙◌, ℕ, zero, suc, Bool, true, false, List, [], ◌∷◌, refl, ap, inl}
+use Rattle.std.proofs.Common.{inr}
 use Rattle.std.specs.Prelude.{◌==◌, if◌then◌else◌, not, Option, None, Some}
 use Rattle.run_theory.specs.Lists.{IsIn}
 use Rattle.sig_core.specs.declared.mark.Mark.{Mark}
@@ -14,11 +15,14 @@ use Rattle.sig_core.specs.declared.view.View.{View}
 use Rattle.node_views.specs.Blocks.{settled_at}
 use Rattle.node_views.specs.declared.host.Host as hosts
 use Rattle.node_views.specs.Fence.{is_body_fenced, is_fenced}
-use Rattle.node_views.specs.Row.{counted_row, entered, entering_if, headed_if, headed_row, host_row, is_barred, is_excluded, killed_after, standing_at, taken_if}
+use Rattle.node_views.specs.Row.{counted_row, entered, entering_if, headed_if, headed_row, host_row, is_barred}
+use Rattle.node_views.specs.Row.{is_excluded, killed_after, standing_at, taken_if}
 use Rattle.node_views.specs.WellFormed.{is_well_formed}
 use Rattle.qmgr_block.specs.Laws.{Event, installs, takes}
 use Rattle.world_views.specs.Machine.{closes, own_stop, step_by, step_if, stops_by}
-use Rattle.view_laws.specs.HostEvents.{block_events, counted_events, entering_events, events_at, events_by, headed_events, installing, is_handled, is_newer, passed_events, sound_events, taken_in, taking}
+use Rattle.view_laws.specs.HostEvents.{block_events, counted_events, entering_events, events_at, events_by}
+use Rattle.view_laws.specs.HostEvents.{headed_events, installing, is_handled, is_newer, passed_events, sound_events}
+use Rattle.view_laws.specs.HostEvents.{taken_in, taking}
 use Rattle.view_laws.proofs.votes.NoVotes.{is_fencing}
 
 -- a request for a fence is never barred, and no host handles it itself or stops by what it says

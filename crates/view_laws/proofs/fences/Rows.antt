@@ -1,5 +1,6 @@
 -- What a signal, or a view that is installed, makes of the fences of the blocks that have one.
-use Rattle.std.proofs.Common.{◌≡◌, ◌==◌, ℕ, Bool, true, false, List, [], ◌∷◌, nat_lt, refl, ◌∙◌, ◌⊎◌, inl, inr, ap, sym, subst}
+use Rattle.std.proofs.Common.{◌≡◌, ◌==◌, ℕ, Bool, true, false, List, [], ◌∷◌, nat_lt, refl, ◌∙◌, ◌⊎◌, inl, inr, ap, sym}
+use Rattle.std.proofs.Common.{subst}
 use Rattle.sig_core.specs.declared.member.TxId.{TxId}
 use Rattle.sig_core.specs.declared.signal.Body.{Body}
 use Rattle.sig_core.specs.declared.signal.Body.TheVariants.{Client, Epoch, Host, Membership}

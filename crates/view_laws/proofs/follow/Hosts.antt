@@ -1,5 +1,6 @@
 -- The host of a member's membership follows its events, and the shell's host those of the arbitrator.
-use Rattle.std.proofs.Common.{◌≡◌, ◌⊎◌, ◌+◌, ◌-◌, ◌*◌, ◌/◌, ◌%◌, ◌≤◌, ℕ, zero, suc, Bool, true, false, List, [], ◌∷◌, ◌++◌, refl, ap, sym, ◌∙◌, arith, inl, inr}
+use Rattle.std.proofs.Common.{◌≡◌, ◌⊎◌, ◌+◌, ◌-◌, ◌*◌, ◌/◌, ◌%◌, ◌≤◌, ℕ, zero, suc, Bool, true, false, List, [], ◌∷◌}
+use Rattle.std.proofs.Common.{◌++◌, refl, ap, sym, ◌∙◌, arith, inl, inr}
 use Rattle.std.proofs.lemmas.Bool.{eqb-true}
 use Rattle.std.proofs.lemmas.Nat.{div-mul-add, mod-mul-add}
 use Rattle.std.specs.Prelude.{if◌then◌else◌, ◌==◌, slice_index_or, Some}
@@ -18,7 +19,9 @@ use Rattle.world_core.specs.Start.{Start, made}
 use Rattle.world_views.specs.Hosts.{part_started, started}
 use Rattle.view_laws.specs.HostEvents.{events_of, is_arbiter, is_membership}
 use Rattle.view_laws.specs.Votes.{ArbitersFollowTheirSignals, HostsFollowTheirEvents, main_of}
-use Rattle.view_laws.proofs.follow.Seen.{arbiter_is_seen, arbiter_seen, known_view, membership_is_seen, membership_seen, some_arbiter, some_membership, to_arbiter, to_membership, to_view, view_is_seen, view_seen}
+use Rattle.view_laws.proofs.follow.Seen.{arbiter_is_seen, arbiter_seen, known_view, membership_is_seen, membership_seen}
+use Rattle.view_laws.proofs.follow.Seen.{some_arbiter, some_membership, to_arbiter, to_membership, to_view}
+use Rattle.view_laws.proofs.follow.Seen.{view_is_seen, view_seen}
 use Rattle.view_laws.proofs.follow.Walk.{along, log_goes}
 
 -- a member that began the life is the first start of a node

@@ -13,7 +13,8 @@ use Rattle.node_views.specs.Row.{entered, is_excluded, killed_after, standing_at
 use Rattle.node_views.specs.WellFormed.{is_well_formed}
 use Rattle.qmgr_block.specs.Laws.{Event, installs}
 use Rattle.world_views.specs.Machine.{own_stop}
-use Rattle.view_laws.specs.HostEvents.{block_events, counted_events, entering_events, events_at, events_by, headed_events, installing, is_passed, passed_events, sound_events, taking}
+use Rattle.view_laws.specs.HostEvents.{block_events, counted_events, entering_events, events_at, events_by}
+use Rattle.view_laws.specs.HostEvents.{headed_events, installing, is_passed, passed_events, sound_events, taking}
 
 -- blocks are passed nothing, or the signal: what they settle on is installed behind it
 pub data PassesAs (mine : BlockId → Bool) (parts : Parts) (x : Signal) (events : List Event) : Type 0 where

@@ -1,5 +1,6 @@
 -- What changes of a host but by the events of its blocks is what these make of it, along any log.
-use Rattle.std.proofs.Common.{◌≡◌, ◌||◌, ℕ, zero, suc, Bool, true, false, nat_lt, List, [], ◌∷◌, ◌++◌, refl, ap, sym, ◌∙◌}
+use Rattle.std.proofs.Common.{◌≡◌, ◌||◌, ℕ, zero, suc, Bool, true, false, nat_lt, List, [], ◌∷◌, ◌++◌, refl, ap, sym}
+use Rattle.std.proofs.Common.{◌∙◌}
 use Rattle.std.specs.Prelude.{if◌then◌else◌, not, Option, None, Some}
 use Rattle.sig_core.specs.declared.member.HostId.{HostId}
 use Rattle.sig_core.specs.declared.outcome.StopCause.{StopCause}
@@ -16,14 +17,17 @@ use Rattle.node_views.specs.Blocks.{parts_row, settled_at}
 use Rattle.node_views.specs.declared.host.Host as hosts
 use Rattle.node_views.specs.declared.standing.Standing.{Standing}
 use Rattle.node_views.specs.Replies.{with_replies}
-use Rattle.node_views.specs.Row.{blocks_row, closed_if, counted_row, cut_if, entered, entering_if, headed_if, headed_row, host_row, host_table, is_barred, is_cut, is_excluded, killed_after, passed_if, passed_row, settle, standing_at, taken_if, with_parts}
+use Rattle.node_views.specs.Row.{blocks_row, closed_if, counted_row, cut_if, entered, entering_if, headed_if}
+use Rattle.node_views.specs.Row.{headed_row, host_row, host_table, is_barred, is_cut, is_excluded, killed_after}
+use Rattle.node_views.specs.Row.{passed_if, passed_row, settle, standing_at, taken_if, with_parts}
 use Rattle.node_views.specs.WellFormed.{is_first, is_well_formed}
 use Rattle.qmgr_block.specs.Laws.{Event, installs}
 use Rattle.world_core.specs.Start.{Start}
 use Rattle.world_core.specs.Steps.{HostStep}
 use Rattle.world_views.specs.Hosts.{started}
 use Rattle.world_views.specs.Machine.{after, own_stop, step_by, step_if, told}
-use Rattle.view_laws.specs.HostEvents.{block_events, counted_events, entering_events, events_at, events_by, events_of, headed_events, installing, is_handled, passed_events, sound_events, taking}
+use Rattle.view_laws.specs.HostEvents.{block_events, counted_events, entering_events, events_at, events_by, events_of}
+use Rattle.view_laws.specs.HostEvents.{headed_events, installing, is_handled, passed_events, sound_events, taking}
 
 -- what events, the newest first, make of something
 abbrev pub along : {A : Type 0} → (A → Event → A) → A → List Event → A

@@ -1,5 +1,6 @@
 -- One membership along its events: the numbers of its promises rise, and what it confirms it had promised.
-use Rattle.std.proofs.Common.{◌≡◌, ◌≤◌, ◌<◌, ◌==◌, ◌⊎◌, ℕ, Bool, true, false, nat_lt, List, [], ◌∷◌, ◌++◌, map, refl, ap, sym, subst, ◌∙◌, arith, inl, inr}
+use Rattle.std.proofs.Common.{◌≡◌, ◌≤◌, ◌<◌, ◌==◌, ◌⊎◌, ℕ, Bool, true, false, nat_lt, List, [], ◌∷◌, ◌++◌, map, refl}
+use Rattle.std.proofs.Common.{ap, sym, subst, ◌∙◌, arith, inl, inr}
 use Rattle.std.proofs.lemmas.Bool.{eq-eqb, eqb-true, ltb-true, ltb-false, true≢false}
 use Rattle.std.specs.Prelude.{if◌then◌else◌}
 use Rattle.frag_map.specs.Layout.{Layout}
@@ -13,8 +14,10 @@ use Rattle.qmgr_block.specs.Laws.{Event, after, installs, takes}
 use Rattle.qmgr_block.specs.Qmgr.{qmgr_row}
 use Rattle.qmgr_block.specs.State.{QmgrState}
 use Rattle.view_laws.specs.Ballots.{Promised}
-use Rattle.view_laws.specs.Kept.{AreOfPromises, AreRising, HaveRisen, IsInstalled, IsLast, IsNumberAsked, PromisesRise, WhatIsConfirmedWasPromised}
-use Rattle.view_laws.specs.Members.{confirmed_by, confirmed_of, effects_at, installed_of, is_adopted, promised_at, promises_of, state_of}
+use Rattle.view_laws.specs.Kept.{AreOfPromises, AreRising, HaveRisen, IsInstalled, IsLast, IsNumberAsked, PromisesRise}
+use Rattle.view_laws.specs.Kept.{WhatIsConfirmedWasPromised}
+use Rattle.view_laws.specs.Members.{confirmed_by, confirmed_of, effects_at, installed_of, is_adopted, promised_at}
+use Rattle.view_laws.specs.Members.{promises_of, state_of}
 use Rattle.view_laws.proofs.memberships.Steps.{Asks, HasNumber, Stays, Steps, higher, row_installs, row_steps}
 
 -- what a signal does

@@ -1,5 +1,6 @@
 -- What a membership sends of votes: it confirms promises to who asked for them, and asks the members of its proposals.
-use Rattle.std.proofs.Common.{◌≡◌, ◌⊎◌, ℕ, Bool, true, false, List, [], ◌∷◌, ◌++◌, map, refl, ap, sym, subst, ◌∙◌, inl, inr}
+use Rattle.std.proofs.Common.{◌≡◌, ◌⊎◌, ℕ, Bool, true, false, List, [], ◌∷◌, ◌++◌, map, refl, ap, sym, subst, ◌∙◌, inl}
+use Rattle.std.proofs.Common.{inr}
 use Rattle.std.proofs.lemmas.Bool.{true≢false}
 use Rattle.std.specs.Prelude.{Option, None, Some}
 use Rattle.frag_map.specs.Layout.{Layout}
@@ -27,7 +28,8 @@ use Rattle.view_laws.specs.Members.{confirmed_by, confirmed_of, proposed_of, sta
 use Rattle.view_laws.specs.Sets.{all_of}
 use Rattle.view_laws.specs.Votes.{is_vote}
 use Rattle.view_laws.proofs.ballots.NewProposals.{entry_of, new_there}
-use Rattle.view_laws.proofs.memberships.Outstanding.{Answers, Does, IsPlain, Proposes, Waits, does_answer, does_hear, does_propose, does_rest, does_settle, row_does}
+use Rattle.view_laws.proofs.memberships.Outstanding.{Answers, Does, IsPlain, Proposes, Waits, does_answer, does_hear}
+use Rattle.view_laws.proofs.memberships.Outstanding.{does_propose, does_rest, does_settle, row_does}
 use Rattle.view_laws.proofs.memberships.WaitingPromises.{IsPending, pending, pending_more}
 use Rattle.view_laws.proofs.memberships.SetTests.{take_in}
 

@@ -1,5 +1,6 @@
 -- What each row of the membership does to the outstanding proposal, which votes it sends, and where it settles.
-use Rattle.std.proofs.Common.{◌≡◌, ◌≤◌, ◌<◌, ◌&&◌, ◌==◌, ◌⊎◌, ℕ, zero, suc, Bool, true, false, nat_lt, not, List, [], ◌∷◌, ◌++◌, map, refl, arith, inl, inr, ap, sym, subst, ◌∙◌}
+use Rattle.std.proofs.Common.{◌≡◌, ◌≤◌, ◌<◌, ◌&&◌, ◌==◌, ◌⊎◌, ℕ, zero, suc, Bool, true, false, nat_lt, not, List, []}
+use Rattle.std.proofs.Common.{◌∷◌, ◌++◌, map, refl, arith, inl, inr, ap, sym, subst, ◌∙◌}
 use Rattle.std.specs.Prelude.{is_some, Option, None, Some, slice_get}
 use Rattle.run_theory.specs.Lists.{Each, IsIn}
 use Rattle.run_theory.proofs.EachSent.{each_mapped}
@@ -8,7 +9,8 @@ use Rattle.sig_core.specs.declared.mark.Mark.{Mark}
 use Rattle.sig_core.specs.declared.mark.Mark.TheVariants.{Decided, Installed, Promised}
 use Rattle.sig_core.specs.declared.member.Member.{Member}
 use Rattle.sig_core.specs.declared.outcome.StopCause.{StopCause}
-use Rattle.sig_core.specs.declared.outcome.StopCause.TheVariants.{Clock, Disk, Excluded, Killed, Memory, NoGroup, Sibling}
+use Rattle.sig_core.specs.declared.outcome.StopCause.TheVariants.{Clock, Disk, Excluded, Killed, Memory, NoGroup}
+use Rattle.sig_core.specs.declared.outcome.StopCause.TheVariants.{Sibling}
 use Rattle.sig_core.specs.declared.outs.Outgoing.{Outgoing}
 use Rattle.sig_core.specs.declared.signal.Body.{Body}
 use Rattle.sig_core.specs.declared.signal.Body.TheVariants.{Membership}
@@ -23,7 +25,8 @@ use Rattle.qmgr_block.specs.declared.promise.Promise.{Promise}
 use Rattle.qmgr_block.specs.Decide.{awaits, confirmed_all, confirmed_one, heard, is_asked, stopping, with_unlike}
 use Rattle.qmgr_block.specs.Install.{commit_of, copy_of, is_some_suspect, orders, own_orders, work_if}
 use Rattle.qmgr_block.specs.Promise.{confirmed_if, fences, is_ldm, less, promising, refusal_of, with_absent}
-use Rattle.qmgr_block.specs.Propose.{greatest_number, next_number, proposal_by, proposal_sends, remaining_view, stop_of, stop_sends}
+use Rattle.qmgr_block.specs.Propose.{greatest_number, next_number, proposal_by, proposal_sends, remaining_view, stop_of}
+use Rattle.qmgr_block.specs.Propose.{stop_sends}
 use Rattle.qmgr_block.specs.Qmgr.{qmgr_table}
 use Rattle.qmgr_block.specs.Ring.{heartbeat_to, with_missing, with_round}
 use Rattle.qmgr_block.specs.Sets.{is_among, joined_view, members_of, promoted_view, without}

@@ -1,5 +1,6 @@
 -- The promises of one membership, along its rows: each stands rightly behind the one before.
-use Rattle.std.proofs.Common.{◌≡◌, ◌&&◌, ◌==◌, ◌⊎◌, Bool, true, false, not, nat_lt, List, [], ◌∷◌, ◌++◌, refl, ap, sym, subst, ◌∙◌, inl, inr, append_assoc}
+use Rattle.std.proofs.Common.{◌≡◌, ◌&&◌, ◌==◌, ◌⊎◌, Bool, true, false, not, nat_lt, List, [], ◌∷◌, ◌++◌, refl, ap, sym}
+use Rattle.std.proofs.Common.{subst, ◌∙◌, inl, inr, append_assoc}
 use Rattle.std.proofs.lemmas.Bool.{and_parts, eq-eqb, eqb-true, not-true, or_cases, true≢false}
 use Rattle.std.specs.Prelude.{if◌then◌else◌}
 use Rattle.frag_map.specs.Layout.{Layout}
@@ -14,11 +15,13 @@ use Rattle.qmgr_block.specs.Laws.{Event, installs, takes}
 use Rattle.qmgr_block.specs.Promise.{may_promise}
 use Rattle.qmgr_block.specs.Qmgr.{qmgr_row}
 use Rattle.qmgr_block.specs.Sets as sets
-use Rattle.qmgr_block.specs.Sets.{are_same_parts, is_in, is_join, is_part, is_promotion, is_special, joined_view, members_of, with_member}
+use Rattle.qmgr_block.specs.Sets.{are_same_parts, is_in, is_join, is_part, is_promotion, is_special, joined_view}
+use Rattle.qmgr_block.specs.Sets.{members_of, with_member}
 use Rattle.qmgr_block.specs.State.{QmgrState}
 use Rattle.view_laws.specs.Ballots.{Promised}
 use Rattle.view_laws.specs.Events.{AreOrderlyEvents, IsSet, IsSound}
-use Rattle.view_laws.specs.Kept.{AreBehind, EachPromiseIsAskedFor, IsAsked, IsAskedBehind, IsBehind, IsGrown, IsGrownOfSome, IsInstalled, IsLast, PromisesStandBehindOneAnother}
+use Rattle.view_laws.specs.Kept.{AreBehind, EachPromiseIsAskedFor, IsAsked, IsAskedBehind, IsBehind, IsGrown}
+use Rattle.view_laws.specs.Kept.{IsGrownOfSome, IsInstalled, IsLast, PromisesStandBehindOneAnother}
 use Rattle.view_laws.specs.Members.{installed_of, is_adopted, known_of, promises_of, state_of}
 use Rattle.view_laws.specs.Sets.{AreApart, IsApart, IsMadeOf, IsPart, all_of, joins, promotes}
 use Rattle.view_laws.proofs.ballots.ApartNodes.{all_members, parts_apart}

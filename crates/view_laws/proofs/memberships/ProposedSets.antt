@@ -1,5 +1,6 @@
 -- The sets that a membership proposes: each is rightly made of the installed view, and its own.
-use Rattle.std.proofs.Common.{◌≡◌, ◌≤◌, ◌⊎◌, ℕ, Bool, true, false, cond, not, List, [], ◌∷◌, ◌++◌, filter, length, refl, ap, sym, subst, ◌∙◌, arith, inl, inr, append_assoc, length-append}
+use Rattle.std.proofs.Common.{◌≡◌, ◌≤◌, ◌⊎◌, ℕ, Bool, true, false, cond, not, List, [], ◌∷◌, ◌++◌, filter, length, refl}
+use Rattle.std.proofs.Common.{ap, sym, subst, ◌∙◌, arith, inl, inr, append_assoc, length-append}
 use Rattle.std.proofs.lemmas.Bool.{and_from, not-true, false≢true, true≢false}
 use Rattle.std.proofs.lemmas.List.Elements.{filter-append}
 use Rattle.std.proofs.lemmas.List.{take_all}
@@ -18,9 +19,11 @@ use Rattle.view_laws.specs.Events.{IsSet}
 use Rattle.view_laws.specs.Kept.{IsOwn, oldest}
 use Rattle.view_laws.specs.Members.{change_by, promotion_among}
 use Rattle.view_laws.specs.Sets.{AreApart, Change, IsApart, IsMadeOf, all_of, joins, promotes, shrinks}
-use Rattle.view_laws.proofs.ballots.ApartNodes.{AreUpTo, all_members, few, join_apart, no_node_apart, parts_apart, snoc_apart, two_apart}
+use Rattle.view_laws.proofs.ballots.ApartNodes.{AreUpTo, all_members, few, join_apart, no_node_apart, parts_apart}
+use Rattle.view_laws.proofs.ballots.ApartNodes.{snoc_apart, two_apart}
 use Rattle.view_laws.proofs.ballots.DistinctNodes.{apart_filter, some_node}
-use Rattle.view_laws.proofs.memberships.SetTests.{among_in, among_is, filter_in, promoted_made, same_is, set_self, with_in, without_in}
+use Rattle.view_laws.proofs.memberships.SetTests.{among_in, among_is, filter_in, promoted_made, same_is, set_self}
+use Rattle.view_laws.proofs.memberships.SetTests.{with_in, without_in}
 use Rattle.view_laws.proofs.memberships.RowChanges.{Form, fills_one, has_one, president_of, remains}
 
 -- the change that is read off a set: it shrinks, and promotes nobody, or it is a promotion

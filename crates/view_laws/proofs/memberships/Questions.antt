@@ -1,5 +1,6 @@
 -- What a membership has heard when it asks the arbitrator for a set, and when it settles on one.
-use Rattle.std.proofs.Common.{◌≡◌, ◌&&◌, ◌==◌, ◌⊎◌, ℕ, Bool, true, false, cond, nat_lt, not, List, [], ◌∷◌, ◌++◌, filter, refl, ap, sym, subst, ◌∙◌, arith, inl, inr}
+use Rattle.std.proofs.Common.{◌≡◌, ◌&&◌, ◌==◌, ◌⊎◌, ℕ, Bool, true, false, cond, nat_lt, not, List, [], ◌∷◌, ◌++◌}
+use Rattle.std.proofs.Common.{filter, refl, ap, sym, subst, ◌∙◌, arith, inl, inr}
 use Rattle.std.proofs.lemmas.Bool.{and_parts, eqb-true, false≢true, true≢false}
 use Rattle.std.specs.Prelude.{if◌then◌else◌, is_some, Option, None, Some}
 use Rattle.frag_map.specs.Groups.{whole_group}
@@ -29,14 +30,16 @@ use Rattle.qmgr_block.specs.Sets.{is_among, members_of, without}
 use Rattle.qmgr_block.specs.State.{QmgrState}
 use Rattle.view_laws.specs.Ballots.{NeedsNoGrant, Proposed}
 use Rattle.view_laws.specs.Events.{AreOrderlyEvents, IsSet}
-use Rattle.view_laws.specs.Heard.{HasConfirmed, IsHeardOf, IsOpen, IsRightlyAsked, IsRightlySettled, MembershipsAskRightly}
+use Rattle.view_laws.specs.Heard.{HasConfirmed, IsHeardOf, IsOpen, IsRightlyAsked, IsRightlySettled}
+use Rattle.view_laws.specs.Heard.{MembershipsAskRightly}
 use Rattle.view_laws.specs.HostEvents.{taken_in}
 use Rattle.view_laws.specs.Members.{known_of, proposed_at, proposed_of, state_of}
 use Rattle.view_laws.specs.Sets.{Change, all_of, joining, joins, promotes, shrinks}
 use Rattle.view_laws.specs.Votes.{is_vote}
 use Rattle.view_laws.proofs.ballots.ApartNodes.{all_members}
 use Rattle.view_laws.proofs.ballots.NewProposals.{change_joins, entry_of, new_there}
-use Rattle.view_laws.proofs.memberships.Outstanding.{Does, Hears, IsPlain, Settles, does_answer, does_hear, does_propose, does_rest, does_settle, is_settling, row_does}
+use Rattle.view_laws.proofs.memberships.Outstanding.{Does, Hears, IsPlain, Settles, does_answer, does_hear}
+use Rattle.view_laws.proofs.memberships.Outstanding.{does_propose, does_rest, does_settle, is_settling, row_does}
 use Rattle.view_laws.proofs.memberships.Proposals.{each_right, shape_is}
 use Rattle.view_laws.proofs.memberships.SetTests.{among_is}
 use Rattle.view_laws.proofs.memberships.RowChanges.{closed_like}

@@ -1,6 +1,7 @@
 -- What a row of the membership may change of what it knows: its last promise, and its proposals. So much do the rows
 -- change by which it proposes.
-use Rattle.std.proofs.Common.{◌≡◌, ◌≤◌, ◌<◌, ◌⊎◌, ℕ, Bool, true, false, nat_lt, List, [], ◌∷◌, refl, ap, sym, subst, ◌∙◌, arith, inl, inr}
+use Rattle.std.proofs.Common.{◌≡◌, ◌≤◌, ◌<◌, ◌⊎◌, ℕ, Bool, true, false, nat_lt, List, [], ◌∷◌, refl, ap, sym, subst}
+use Rattle.std.proofs.Common.{◌∙◌, arith, inl, inr}
 use Rattle.std.proofs.lemmas.Bool.{ltb-true, ltb-false}
 use Rattle.std.specs.Prelude.{if◌then◌else◌, Option, None, Some, position}
 use Rattle.frag_map.specs.Groups.{lost_group}
@@ -12,10 +13,12 @@ use Rattle.sig_core.specs.Step.{Step, stay}
 use Rattle.qmgr_block.specs.declared.known.Known.{Known}
 use Rattle.qmgr_block.specs.declared.known.Proposal.{Proposal}
 use Rattle.qmgr_block.specs.Join.{has_node}
-use Rattle.qmgr_block.specs.Propose.{greatest_number, has_number, next_number, proposal_by, propose, proposed_if, proposed_view, remaining_view}
+use Rattle.qmgr_block.specs.Propose.{greatest_number, has_number, next_number, proposal_by, propose, proposed_if}
+use Rattle.qmgr_block.specs.Propose.{proposed_view, remaining_view}
 use Rattle.qmgr_block.specs.Sets.{is_among, members_of, with_member, without}
 use Rattle.qmgr_block.specs.State.{sent_before}
-use Rattle.qmgr_block.specs.Suspects.{is_new, is_trusted, member_at, president, presides, presides_by, told, told_by, told_if, with_closed, with_suspect, with_suspects}
+use Rattle.qmgr_block.specs.Suspects.{is_new, is_trusted, member_at, president, presides, presides_by, told, told_by}
+use Rattle.qmgr_block.specs.Suspects.{told_if, with_closed, with_suspect, with_suspects}
 use Rattle.view_laws.specs.Members.{confirmed_by}
 
 -- all that matters is as before, but for the last promise, which is this one

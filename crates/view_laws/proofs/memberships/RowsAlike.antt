@@ -21,7 +21,8 @@ use Rattle.sig_core.specs.Step.{sending}
 use Rattle.qmgr_block.specs.Propose.{proposed_by, proposed_view, remaining_view}
 use Rattle.qmgr_block.specs.Suspects.{president}
 use Rattle.qmgr_block.proofs.Outcomes.{ToldForms}
-use Rattle.view_laws.proofs.memberships.RowChanges.{Keeps, IsNotAbove, Like, Moves, both_like, closed_like, like_on, like_self, moves_like, moves_proposed, remains, suspect_like}
+use Rattle.view_laws.proofs.memberships.RowChanges.{Keeps, IsNotAbove, Like, Moves, both_like, closed_like, like_on}
+use Rattle.view_laws.proofs.memberships.RowChanges.{like_self, moves_like, moves_proposed, remains, suspect_like}
 
 -- heartbeats
 round_if : (k : Known) (n : ℕ) (less : Bool) → Like k (if less then record k { missed = n } else k) k.promised

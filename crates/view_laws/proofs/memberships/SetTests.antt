@@ -1,5 +1,6 @@
 -- Sets as the rows of a membership test and change them: what the tests tell, and of what a changed set is made.
-use Rattle.std.proofs.Common.{◌≡◌, ◌||◌, ◌⊎◌, ℕ, zero, suc, Bool, true, false, cond, nat_eq, List, [], ◌∷◌, ◌++◌, filter, take, refl, ap, sym, subst, ◌∙◌, inl, inr}
+use Rattle.std.proofs.Common.{◌≡◌, ◌||◌, ◌⊎◌, ℕ, zero, suc, Bool, true, false, cond, nat_eq, List, [], ◌∷◌, ◌++◌}
+use Rattle.std.proofs.Common.{filter, take, refl, ap, sym, subst, ◌∙◌, inl, inr}
 use Rattle.std.proofs.lemmas.Bool.{and_from, and_parts, eq-eqb, eqb-true, false≢true}
 use Rattle.std.specs.Cmp.Lexicographic.{pointwise}
 use Rattle.std.specs.List.{list_all, list_any}
@@ -8,7 +9,8 @@ use Rattle.run_theory.proofs.Pasts.{each_from}
 use Rattle.sig_core.specs.declared.member.Member.{Member}
 use Rattle.sig_core.specs.declared.view.View.{View}
 use Rattle.qmgr_block.specs.Sets as sets
-use Rattle.qmgr_block.specs.Sets.{are_same_parts, is_among, is_part, is_same_set, lie_in, promoted_view, same_member, with_member, without}
+use Rattle.qmgr_block.specs.Sets.{are_same_parts, is_among, is_part, is_same_set, lie_in, promoted_view, same_member}
+use Rattle.qmgr_block.specs.Sets.{with_member, without}
 use Rattle.view_laws.specs.Sets.{IsMadeOf, IsPart, promotes}
 use Rattle.view_laws.proofs.ballots.Found.{found}
 

@@ -1,6 +1,7 @@
 -- What a signal, or an installation, changes of a membership: its last promise, its proposals, and what waits for
 -- fences.
-use Rattle.std.proofs.Common.{◌≡◌, ◌≤◌, ◌<◌, ◌⊎◌, ℕ, zero, suc, Bool, true, false, nat_lt, List, [], ◌∷◌, ◌++◌, take, drop, slice_set, refl, sym, subst, ◌∙◌, arith, inl, inr, ap}
+use Rattle.std.proofs.Common.{◌≡◌, ◌≤◌, ◌<◌, ◌⊎◌, ℕ, zero, suc, Bool, true, false, nat_lt, List, [], ◌∷◌, ◌++◌, take}
+use Rattle.std.proofs.Common.{drop, slice_set, refl, sym, subst, ◌∙◌, arith, inl, inr, ap}
 use Rattle.std.proofs.lemmas.Bool.{and_parts, ltb-true}
 use Rattle.std.specs.Prelude.{if◌then◌else◌, Option, None, Some, slice_get}
 use Rattle.frag_map.specs.Layout.{in_view}
@@ -22,7 +23,8 @@ use Rattle.view_laws.specs.Events.{IsSound}
 use Rattle.view_laws.specs.Members.{confirmed_by}
 use Rattle.frag_map.specs.Groups.{lost_group}
 use Rattle.sig_core.specs.declared.outcome.StopCause.{StopCause}
-use Rattle.sig_core.specs.declared.outcome.StopCause.TheVariants.{Clock, Disk, Excluded, Killed, Memory, NoGroup, Sibling}
+use Rattle.sig_core.specs.declared.outcome.StopCause.TheVariants.{Clock, Disk, Excluded, Killed, Memory, NoGroup}
+use Rattle.sig_core.specs.declared.outcome.StopCause.TheVariants.{Sibling}
 use Rattle.sig_core.specs.declared.outs.Outgoing.{Outgoing}
 use Rattle.sig_core.specs.declared.signal.Signal.{Signal}
 use Rattle.sig_core.specs.declared.signal.joining.JoiningSignal.TheVariants.{StartEnd, StartRep}
@@ -39,8 +41,11 @@ use Rattle.qmgr_block.specs.Sets.{is_among, joined_view, promoted_view}
 use Rattle.qmgr_block.specs.State.{proposing, sent_before}
 use Rattle.qmgr_block.specs.Suspects.{presides, with_closing, with_suspects}
 use Rattle.qmgr_block.proofs.Outcomes.{ToldForms, is_of_promises, qmgr_outcomes}
-use Rattle.view_laws.proofs.memberships.RowsAlike.{absent_like, closing_like, keeps_heard, missed_like, promised_like, starting_if, told_moves, unlike_like}
-use Rattle.view_laws.proofs.memberships.RowChanges.{Brings, Form, IsNotAbove, Keeps, Like, Moves, closed_like, fills_one, has_one, like_self, moves_like, moves_proposed, moves_sent, moves_stay, suspects_like}
+use Rattle.view_laws.proofs.memberships.RowsAlike.{absent_like, closing_like, keeps_heard, missed_like, promised_like}
+use Rattle.view_laws.proofs.memberships.RowsAlike.{starting_if, told_moves, unlike_like}
+use Rattle.view_laws.proofs.memberships.RowChanges.{Brings, Form, IsNotAbove, Keeps, Like, Moves, closed_like}
+use Rattle.view_laws.proofs.memberships.RowChanges.{fills_one, has_one, like_self, moves_like, moves_proposed}
+use Rattle.view_laws.proofs.memberships.RowChanges.{moves_sent, moves_stay, suspects_like}
 
 -- one of these promises has the number
 abbrev pub HasNumber : List Promise → ℕ → Type 0

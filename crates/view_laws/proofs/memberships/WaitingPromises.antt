@@ -1,5 +1,6 @@
 -- Promises that wait for fences: each was asked for by the node to which it is to be confirmed.
-use Rattle.std.proofs.Common.{◌≡◌, ◌<◌, ◌==◌, ℕ, Bool, true, false, List, [], ◌∷◌, ◌++◌, refl, sym, subst, arith, inl, inr}
+use Rattle.std.proofs.Common.{◌≡◌, ◌<◌, ◌==◌, ℕ, Bool, true, false, List, [], ◌∷◌, ◌++◌, refl, sym, subst, arith, inl}
+use Rattle.std.proofs.Common.{inr}
 use Rattle.std.proofs.lemmas.Bool.{eqb-true, false≢true}
 use Rattle.std.specs.Prelude.{if◌then◌else◌, Option, None, Some, position, slice_get}
 use Rattle.frag_map.specs.Layout.{Layout}
@@ -15,7 +16,8 @@ use Rattle.sig_core.specs.declared.signal.Signal.{Signal}
 use Rattle.sig_core.specs.declared.view.View.{View}
 use Rattle.qmgr_block.specs.declared.promise.Promise.{Promise}
 use Rattle.qmgr_block.specs.Laws.{Event, installs, takes}
-use Rattle.qmgr_block.specs.Promise.{confirmed_at, confirmed_if, confirmed_place, fence_row, is_fenced, is_ldm, less, may_promise, promise_by, promise_row, promising, waits_for, with_absent}
+use Rattle.qmgr_block.specs.Promise.{confirmed_at, confirmed_if, confirmed_place, fence_row, is_fenced, is_ldm, less}
+use Rattle.qmgr_block.specs.Promise.{may_promise, promise_by, promise_row, promising, waits_for, with_absent}
 use Rattle.qmgr_block.specs.Qmgr.{membership_table, qmgr_row, qmgr_table}
 use Rattle.qmgr_block.specs.State.{QmgrState}
 use Rattle.qmgr_block.specs.Suspects.{has_more}

@@ -1,5 +1,6 @@
 -- From the ballots of runs to the views in all right logs: each that was installed is chosen.
-use Rattle.std.proofs.Common.{◌≡◌, ◌<◌, ◌⊎◌, ℕ, suc, Bool, true, false, if◌then◌else◌, nat_lt, List, [], ◌∷◌, ◌++◌, ap, sym, subst, ◌∙◌, inl, inr, lt-suc_self}
+use Rattle.std.proofs.Common.{◌≡◌, ◌<◌, ◌⊎◌, ℕ, suc, Bool, true, false, if◌then◌else◌, nat_lt, List, [], ◌∷◌, ◌++◌, ap}
+use Rattle.std.proofs.Common.{sym, subst, ◌∙◌, inl, inr, lt-suc_self}
 use Rattle.frag_map.proofs.FirstReplicas.{first_viable}
 use Rattle.frag_map.specs.Groups.{is_viable}
 use Rattle.frag_map.specs.Shape.{IsShape}
@@ -18,7 +19,8 @@ use Rattle.world_views.proofs.SentFacts.{is_stamped}
 use Rattle.world_views.specs.Machine.{machine}
 use Rattle.view_laws.specs.Ballots.{IsChosen}
 use Rattle.view_laws.specs.Orderly.{AreOrderly}
-use Rattle.view_laws.specs.Runs.{AreOfCluster, IsRun, OneViewOfANumber, RunsHaveOrderlyBallots, ViewsAreViable, WasInstalled, ballots_of, view_after}
+use Rattle.view_laws.specs.Runs.{AreOfCluster, IsRun, OneViewOfANumber, RunsHaveOrderlyBallots, ViewsAreViable}
+use Rattle.view_laws.specs.Runs.{WasInstalled, ballots_of, view_after}
 use Rattle.view_laws.proofs.ballots.OneOfANumber.{chained}
 use Rattle.view_laws.proofs.ballots.MadeOfLesser.{origin}
 use Rattle.view_laws.proofs.runs.Growth.{ballots_grow, chosen_more}

@@ -11,14 +11,16 @@ use Rattle.sig_core.specs.declared.place.BlockId.{BlockId}
 use Rattle.sig_core.specs.declared.signal.Body.{Body}
 use Rattle.sig_core.specs.declared.signal.Body.TheVariants.{Joining, Membership}
 use Rattle.sig_core.specs.declared.signal.joining.JoiningSignal.TheVariants.{StartReq}
-use Rattle.sig_core.specs.declared.signal.membership.MembershipSignal.TheVariants.{ArbitConf, ArbitReq, PrepFailConf, PrepFailReq}
+use Rattle.sig_core.specs.declared.signal.membership.MembershipSignal.TheVariants.{ArbitConf, ArbitReq, PrepFailConf}
+use Rattle.sig_core.specs.declared.signal.membership.MembershipSignal.TheVariants.{PrepFailReq}
 use Rattle.sig_core.specs.declared.signal.Signal.{Signal}
 use Rattle.sig_core.specs.declared.view.Shape.{Shape}
 use Rattle.sig_core.specs.declared.view.View.{View}
 use Rattle.qmgr_block.specs.Laws.{Event, installs, takes}
 use Rattle.world_core.specs.Start.{Start, made}
 use Rattle.world_core.specs.Steps.{Addressed, HostStep}
-use Rattle.view_laws.specs.Ballots.{Ballots, HasPromised, IsBacked, IsChosen, IsGranted, NeedsNoGrant, Promised, Proposed}
+use Rattle.view_laws.specs.Ballots.{Ballots, HasPromised, IsBacked, IsChosen, IsGranted, NeedsNoGrant, Promised}
+use Rattle.view_laws.specs.Ballots.{Proposed}
 use Rattle.view_laws.specs.Grants.{grants_of}
 use Rattle.view_laws.specs.HostEvents.{events_of, is_arbiter, is_membership, taken_in}
 use Rattle.view_laws.specs.Members.{confirmed_of, installed_of, promises_of, proposed_of}
@@ -27,7 +29,8 @@ use Rattle.view_laws.specs.Sets.{all_of}
 use Rattle.view_laws.specs.Votes.{main_of}
 use Rattle.view_laws.proofs.ballots.MadeSets.{in_either, in_front}
 use Rattle.view_laws.proofs.runs.FirstMembers.{made_test}
-use Rattle.view_laws.proofs.runs.Sound.{Asks, IsGood, IsGrantedTo, IsHeard, IsProposedBy, IsQuestion, IsSoundMember, IsSoundSignal, Says, proposed_in}
+use Rattle.view_laws.proofs.runs.Sound.{Asks, IsGood, IsGrantedTo, IsHeard, IsProposedBy, IsQuestion, IsSoundMember}
+use Rattle.view_laws.proofs.runs.Sound.{IsSoundSignal, Says, proposed_in}
 
 -- a front before a list
 pub past_front : {A : Type 0} (front xs : List A) → IsPast xs (front ++ xs)

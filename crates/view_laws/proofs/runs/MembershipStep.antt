@@ -21,7 +21,8 @@ use Rattle.view_laws.specs.HostEvents.{taken_in}
 use Rattle.view_laws.specs.Members.{effects_at, proposed_of, state_of}
 use Rattle.view_laws.specs.Runs.{ballots_of, events_in}
 use Rattle.view_laws.specs.Sets.{all_of}
-use Rattle.view_laws.proofs.follow.Memberships.{MembershipSteps, TakesAs, leaves, settles, settles_on, taken_entering, taken_plain, takes_it}
+use Rattle.view_laws.proofs.follow.Memberships.{MembershipSteps, TakesAs, leaves, settles, settles_on, taken_entering}
+use Rattle.view_laws.proofs.follow.Memberships.{taken_plain, takes_it}
 use Rattle.view_laws.proofs.memberships.Questions.{ask_rightly}
 use Rattle.view_laws.proofs.runs.Growth.{in_flat, installed_past, proposed_past, taken_past}
 use Rattle.view_laws.proofs.runs.OrderlyBallots.{orderly_events, own_proposal, proposal_same}

@@ -1,5 +1,6 @@
 -- Ballots of logs in which all is sound are orderly.
-use Rattle.std.proofs.Common.{◌≡◌, ◌≤◌, ◌<◌, ◌⊎◌, ◌==◌, ◌&&◌, ℕ, Bool, true, false, nat_lt, List, [], ◌∷◌, ◌++◌, append-nil, map, refl, ap, sym, subst, ◌∙◌, arith, inl, inr}
+use Rattle.std.proofs.Common.{◌≡◌, ◌≤◌, ◌<◌, ◌⊎◌, ◌==◌, ◌&&◌, ℕ, Bool, true, false, nat_lt, List, [], ◌∷◌, ◌++◌}
+use Rattle.std.proofs.Common.{append-nil, map, refl, ap, sym, subst, ◌∙◌, arith, inl, inr}
 use Rattle.std.proofs.lemmas.Bool.{and_parts, eqb-true, false≢true, ltb-true}
 use Rattle.std.specs.List.{list_any}
 use Rattle.std.specs.Prelude.{if◌then◌else◌, Option, None, Some}
@@ -31,7 +32,8 @@ use Rattle.view_laws.specs.Members.{installed_of, is_adopted, known_of, promised
 use Rattle.view_laws.specs.Orderly as orderly
 use Rattle.view_laws.specs.Orderly.{AreGrants, AreOrderly, ArePromises, IsOfProposal, IsOut, IsProposal, IsSpecial}
 use Rattle.view_laws.specs.Runs.{ballots_of, events_in}
-use Rattle.view_laws.specs.Sets.{Change, IsJoining, IsMadeOf, IsPart, IsPromoted, all_of, joining, joins, promotes, shrinks}
+use Rattle.view_laws.specs.Sets.{Change, IsJoining, IsMadeOf, IsPart, IsPromoted, all_of, joining, joins, promotes}
+use Rattle.view_laws.specs.Sets.{shrinks}
 use Rattle.view_laws.proofs.memberships.AlongEvents.{have_risen, promise_number}
 use Rattle.view_laws.proofs.memberships.ArbitratorGrants.{grants_stand}
 use Rattle.view_laws.proofs.memberships.Promises.{stand_behind}
@@ -39,7 +41,8 @@ use Rattle.view_laws.proofs.memberships.Proposals.{each_right, rise}
 use Rattle.view_laws.proofs.runs.Growth.{from_flat, in_flat, in_made}
 use Rattle.view_laws.proofs.runs.NobodyJoins.{IsNoStart, no_joins}
 use Rattle.view_laws.proofs.runs.FirstMembers.{first_set, made_test, made_tested}
-use Rattle.view_laws.proofs.runs.Sound.{AreSoundLogs, Asks, IsGood, IsOfMade, IsQuestion, IsSoundMember, Says, proposed_in}
+use Rattle.view_laws.proofs.runs.Sound.{AreSoundLogs, Asks, IsGood, IsOfMade, IsQuestion, IsSoundMember, Says}
+use Rattle.view_laws.proofs.runs.Sound.{proposed_in}
 
 -- rising numbers tell their items apart
 module _ {A : Type 0} (number : A → ℕ) where

@@ -1,5 +1,6 @@
 -- What a host sends in a step is true, where all is sound behind it.
-use Rattle.std.proofs.Common.{◌≡◌, ◌⊎◌, ◌<◌, ◌≤◌, ℕ, zero, suc, Bool, true, false, List, [], ◌∷◌, ◌++◌, append_assoc, map, refl, ap, sym, subst, ◌∙◌, arith, inl, inr}
+use Rattle.std.proofs.Common.{◌≡◌, ◌⊎◌, ◌<◌, ◌≤◌, ℕ, zero, suc, Bool, true, false, List, [], ◌∷◌, ◌++◌, append_assoc}
+use Rattle.std.proofs.Common.{map, refl, ap, sym, subst, ◌∙◌, arith, inl, inr}
 use Rattle.std.specs.Prelude.{Option, None, Some}
 use Rattle.frag_map.specs.Layout.{Layout, first_layout, members}
 use Rattle.frag_map.specs.Shape.{IsShape}
@@ -10,7 +11,8 @@ use Rattle.sig_core.specs.declared.outs.Outgoing.{Outgoing}
 use Rattle.sig_core.specs.declared.signal.Body.{Body}
 use Rattle.sig_core.specs.declared.signal.Body.TheVariants.{Joining, Membership}
 use Rattle.sig_core.specs.declared.signal.joining.JoiningSignal.TheVariants.{StartReq}
-use Rattle.sig_core.specs.declared.signal.membership.MembershipSignal.TheVariants.{ArbitConf, ArbitReq, PrepFailConf, PrepFailReq}
+use Rattle.sig_core.specs.declared.signal.membership.MembershipSignal.TheVariants.{ArbitConf, ArbitReq, PrepFailConf}
+use Rattle.sig_core.specs.declared.signal.membership.MembershipSignal.TheVariants.{PrepFailReq}
 use Rattle.sig_core.specs.declared.signal.Signal.{Signal}
 use Rattle.sig_core.specs.declared.view.View.{View}
 use Rattle.sig_core.specs.Place.{membership}
@@ -39,10 +41,12 @@ use Rattle.view_laws.proofs.memberships.Answers.{answer_rightly}
 use Rattle.view_laws.proofs.memberships.Questions.{ask_rightly}
 use Rattle.view_laws.proofs.runs.Grants.{IsAnswer, IsGrantOf, IsNoGrant, arbiter_answers, members_grant}
 use Rattle.view_laws.proofs.runs.Growth.{confirmed_past, in_made, promises_past, proposed_past}
-use Rattle.view_laws.proofs.runs.FirstMembers.{HostIs, IsOfNode, host_is, latest_is, made_same, main_is, member_is, member_main, of_main, of_other, of_shell, reaches}
+use Rattle.view_laws.proofs.runs.FirstMembers.{HostIs, IsOfNode, host_is, latest_is, made_same, main_is, member_is}
+use Rattle.view_laws.proofs.runs.FirstMembers.{member_main, of_main, of_other, of_shell, reaches}
 use Rattle.view_laws.proofs.runs.MembershipStep.{heard_backed, sound_past}
 use Rattle.view_laws.proofs.runs.OrderlyBallots.{arbiter_some, granted_some, orderly_events, own_proposal}
-use Rattle.view_laws.proofs.runs.Sound.{AreSoundLogs, Asks, IsGood, IsGrantedTo, IsHeard, IsOfMade, IsProposedBy, IsQuestion, IsSoundMember, IsSoundSignal, Says, proposed_in}
+use Rattle.view_laws.proofs.runs.Sound.{AreSoundLogs, Asks, IsGood, IsGrantedTo, IsHeard, IsOfMade, IsProposedBy}
+use Rattle.view_laws.proofs.runs.Sound.{IsQuestion, IsSoundMember, IsSoundSignal, Says, proposed_in}
 use Rattle.view_laws.proofs.runs.Step.{plain_asks, plain_says}
 use Rattle.view_laws.proofs.ballots.MadeSets.{in_either, in_front}
 use Rattle.view_laws.proofs.votes.Memberships.{memberships_vote}

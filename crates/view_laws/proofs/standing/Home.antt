@@ -1,6 +1,7 @@
 -- Whose host one is, that it has joined, and the shape of its cluster don't change; so it enters no view without its
 -- member.
-use Rattle.std.proofs.Common.{◌≡◌, ◌≤◌, ◌<◌, ◌⊎◌, ◌||◌, ◌&&◌, ◌%◌, ◌/◌, ◌+◌, ℕ, zero, suc, Bool, true, false, List, [], ◌∷◌, refl, ap, sym, subst, arith, inl, inr}
+use Rattle.std.proofs.Common.{◌≡◌, ◌≤◌, ◌<◌, ◌⊎◌, ◌||◌, ◌&&◌, ◌%◌, ◌/◌, ◌+◌, ℕ, zero, suc, Bool, true, false, List, []}
+use Rattle.std.proofs.Common.{◌∷◌, refl, ap, sym, subst, arith, inl, inr}
 use Rattle.std.proofs.lemmas.Bool.{lt-ltb, or_cases}
 use Rattle.std.specs.List.{list_any}
 use Rattle.std.specs.Prelude.{if◌then◌else◌, not, Option, None, Some}
@@ -36,7 +37,8 @@ use Rattle.node_views.specs.declared.standing.Standing.{Standing}
 use Rattle.node_views.specs.Row.{in_view}
 use Rattle.node_views.proofs.HostWalk.{Saying, TakesSo}
 use Rattle.world_views.proofs.StepWalk.{step_so}
-use Rattle.view_laws.specs.HostEvents.{counted_events, entering_events, events_at, events_by, headed_events, passed_events, sound_events}
+use Rattle.view_laws.specs.HostEvents.{counted_events, entering_events, events_at, events_by, headed_events}
+use Rattle.view_laws.specs.HostEvents.{passed_events, sound_events}
 use Rattle.view_laws.specs.Sets.{all_of}
 use Rattle.view_laws.proofs.follow.Hosts.{started_behind}
 use Rattle.view_laws.proofs.runs.FirstMembers.{first_in}

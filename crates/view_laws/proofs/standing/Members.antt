@@ -1,5 +1,6 @@
 -- Each host of a node is of the view that it stands in.
-use Rattle.std.proofs.Common.{◌≡◌, ◌≤◌, ◌<◌, ◌⊎◌, ℕ, List, [], ◌∷◌, ◌++◌, append_assoc, refl, ap, sym, subst, ◌∙◌, arith, inl, inr}
+use Rattle.std.proofs.Common.{◌≡◌, ◌≤◌, ◌<◌, ◌⊎◌, ℕ, List, [], ◌∷◌, ◌++◌, append_assoc, refl, ap, sym, subst, ◌∙◌}
+use Rattle.std.proofs.Common.{arith, inl, inr}
 use Rattle.std.specs.Prelude.{None}
 use Rattle.frag_map.specs.Layout.{Layout, first_layout}
 use Rattle.run_theory.specs.Lists.{IsIn, IsPast}
@@ -25,7 +26,8 @@ use Rattle.view_laws.specs.Votes.{main_of, membership_in}
 use Rattle.view_laws.proofs.memberships.AlongEvents.{steps}
 use Rattle.view_laws.proofs.follow.Hosts.{hosts_follow}
 use Rattle.view_laws.proofs.follow.HostKinds.{no_membership_beside}
-use Rattle.view_laws.proofs.follow.Memberships.{MembershipSteps, TakesAs, leaves, member_steps, settles, settles_on, taken_entering, taken_plain, takes_it}
+use Rattle.view_laws.proofs.follow.Memberships.{MembershipSteps, TakesAs, leaves, member_steps, settles, settles_on}
+use Rattle.view_laws.proofs.follow.Memberships.{taken_entering, taken_plain, takes_it}
 use Rattle.view_laws.proofs.follow.Seen.{to_view, view_is_seen, view_seen}
 use Rattle.view_laws.proofs.follow.Views.{others_move}
 use Rattle.view_laws.proofs.follow.Walk.{along, next_goes}

@@ -1,5 +1,6 @@
 -- The number of the view that a host stands in never falls.
-use Rattle.std.proofs.Common.{◌≡◌, ◌≤◌, ◌<◌, ◌⊎◌, ℕ, suc, List, [], ◌∷◌, ◌++◌, append_assoc, refl, ap, sym, subst, ◌∙◌, arith, inl, inr}
+use Rattle.std.proofs.Common.{◌≡◌, ◌≤◌, ◌<◌, ◌⊎◌, ℕ, suc, List, [], ◌∷◌, ◌++◌, append_assoc, refl, ap, sym, subst, ◌∙◌}
+use Rattle.std.proofs.Common.{arith, inl, inr}
 use Rattle.std.specs.Prelude.{None}
 use Rattle.frag_map.specs.Layout.{Layout, first_layout}
 use Rattle.run_theory.specs.Lists.{IsIn}
@@ -20,7 +21,8 @@ use Rattle.view_laws.specs.Votes.{main_of, membership_in}
 use Rattle.view_laws.proofs.memberships.AlongEvents.{steps}
 use Rattle.view_laws.proofs.follow.Hosts.{hosts_follow}
 use Rattle.view_laws.proofs.follow.HostKinds.{no_membership_beside, no_membership_in_shell}
-use Rattle.view_laws.proofs.follow.Memberships.{MembershipSteps, TakesAs, leaves, member_steps, settles, settles_on, taken_entering, taken_plain, takes_it}
+use Rattle.view_laws.proofs.follow.Memberships.{MembershipSteps, TakesAs, leaves, member_steps, settles, settles_on}
+use Rattle.view_laws.proofs.follow.Memberships.{taken_entering, taken_plain, takes_it}
 use Rattle.view_laws.proofs.follow.Views.{others_move}
 use Rattle.view_laws.proofs.runs.FirstMembers.{HostIs, host_is, of_main, of_other, of_shell}
 use Rattle.view_laws.proofs.standing.Settled.{settles_above}

@@ -1,5 +1,6 @@
 -- A view on which a membership settles has its member as the oldest.
-use Rattle.std.proofs.Common.{◌≡◌, ◌<◌, ◌⊎◌, ◌++◌, ◌∙◌, Bool, true, false, List, [], ◌∷◌, ℕ, suc, inl, inr, refl, sym, ap, subst}
+use Rattle.std.proofs.Common.{◌≡◌, ◌<◌, ◌⊎◌, ◌++◌, ◌∙◌, Bool, true, false, List, [], ◌∷◌, ℕ, suc, inl, inr, refl, sym}
+use Rattle.std.proofs.Common.{ap, subst}
 use Rattle.std.proofs.lemmas.Bool.{true≢false}
 use Rattle.std.specs.Prelude.{Option, None, Some}
 use Rattle.frag_map.specs.Layout.{Layout, first_layout}
@@ -32,7 +33,8 @@ use Rattle.world_views.specs.Machine.{after}
 use Rattle.view_laws.proofs.runs.AllSound.{logs_sound}
 use Rattle.view_laws.proofs.runs.MembershipStep.{sound_past}
 use Rattle.view_laws.proofs.runs.Growth.{events_past, past_front}
-use Rattle.view_laws.proofs.follow.Memberships.{TakesAs, leaves, takes_it, settles, MembershipSteps, taken_plain, taken_entering, member_steps}
+use Rattle.view_laws.proofs.follow.Memberships.{TakesAs, leaves, takes_it, settles, MembershipSteps, taken_plain}
+use Rattle.view_laws.proofs.follow.Memberships.{taken_entering, member_steps}
 use Rattle.view_laws.proofs.follow.Hosts.{hosts_follow}
 use Rattle.view_laws.proofs.memberships.AlongEvents.{steps}
 use Rattle.view_laws.proofs.memberships.Steps.{row_installs}

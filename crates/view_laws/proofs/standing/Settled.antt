@@ -1,5 +1,6 @@
 -- What a membership settles on is its outstanding proposal, whose number is above that of the installed view.
-use Rattle.std.proofs.Common.{◌≡◌, ◌≤◌, ◌<◌, ◌⊎◌, ℕ, Bool, true, false, nat_lt, List, [], ◌∷◌, refl, sym, subst, arith, inl, inr}
+use Rattle.std.proofs.Common.{◌≡◌, ◌≤◌, ◌<◌, ◌⊎◌, ℕ, Bool, true, false, nat_lt, List, [], ◌∷◌, refl, sym, subst, arith}
+use Rattle.std.proofs.Common.{inl, inr}
 use Rattle.std.proofs.lemmas.Bool.{ltb-true, true≢false}
 use Rattle.std.specs.Prelude.{if◌then◌else◌, Option, None, Some}
 use Rattle.frag_map.specs.Layout.{Layout}
@@ -23,7 +24,8 @@ use Rattle.view_laws.specs.Events.{IsSound}
 use Rattle.view_laws.specs.Members.{known_of, state_of}
 use Rattle.view_laws.proofs.memberships.AlongEvents.{have_risen, steps}
 use Rattle.view_laws.proofs.memberships.Questions.{left_outstanding}
-use Rattle.view_laws.proofs.memberships.Outstanding.{Does, Proposes, does_answer, does_hear, does_propose, does_rest, does_settle, is_settling, row_does}
+use Rattle.view_laws.proofs.memberships.Outstanding.{Does, Proposes, does_answer, does_hear, does_propose, does_rest}
+use Rattle.view_laws.proofs.memberships.Outstanding.{does_settle, is_settling, row_does}
 use Rattle.view_laws.proofs.memberships.Proposals.{are_low}
 use Rattle.view_laws.proofs.memberships.Steps.{row_installs}
 use Rattle.view_laws.proofs.memberships.RowChanges.{Brings, IsNotAbove, Keeps}

@@ -15,11 +15,16 @@ use Rattle.api_views.specs.Members.{same_member}
 use Rattle.node_views.specs.Blocks.{parts_entered, parts_row, settled_at}
 use Rattle.node_views.specs.declared.host.Host as hosts
 use Rattle.node_views.specs.declared.parts.Parts.{Parts}
-use Rattle.node_views.specs.Row.{blocks_row, closed_if, counted_row, cut_if, entered, entering_if, headed_if, headed_row, host_row, host_table, is_barred, is_excluded, is_stop, kill_row, killed_after, passed_if, passed_row, settle, standing_at, taken_if, unless_stopped, with_parts}
+use Rattle.node_views.specs.Row.{blocks_row, closed_if, counted_row, cut_if, entered, entering_if, headed_if}
+use Rattle.node_views.specs.Row.{headed_row, host_row, host_table, is_barred, is_excluded, is_stop, kill_row}
+use Rattle.node_views.specs.Row.{killed_after, passed_if, passed_row, settle, standing_at, taken_if, unless_stopped}
+use Rattle.node_views.specs.Row.{with_parts}
 use Rattle.node_views.specs.WellFormed.{is_well_formed}
 use Rattle.qmgr_block.specs.Laws.{Event, installs}
 use Rattle.world_views.specs.Machine.{own_stop, step_by, step_if}
-use Rattle.view_laws.specs.HostEvents.{block_events, counted_events, entering_events, events_at, events_by, headed_events, installing, is_handled, is_newer, passed_events, sound_events, taking}
+use Rattle.view_laws.specs.HostEvents.{block_events, counted_events, entering_events, events_at, events_by}
+use Rattle.view_laws.specs.HostEvents.{headed_events, installing, is_handled, is_newer, passed_events, sound_events}
+use Rattle.view_laws.specs.HostEvents.{taking}
 use Rattle.view_laws.proofs.votes.NoVotes.{AreNoVotes}
 use Rattle.view_laws.proofs.votes.Parts.{entered_none}
 

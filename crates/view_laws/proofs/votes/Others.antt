@@ -1,7 +1,8 @@
 -- A host that runs neither a membership nor the arbitrator sends no vote, and confirms a fence once at most, where
 -- it is
 -- asked for one.
-use Rattle.std.proofs.Common.{◌≡◌, ◌⊎◌, ◌≤◌, ◌+◌, ◌++◌, ◌||◌, ℕ, Bool, true, false, List, [], refl, ap, sym, subst, arith, inl, inr}
+use Rattle.std.proofs.Common.{◌≡◌, ◌⊎◌, ◌≤◌, ◌+◌, ◌++◌, ◌||◌, ℕ, Bool, true, false, List, [], refl, ap, sym, subst}
+use Rattle.std.proofs.Common.{arith, inl, inr}
 use Rattle.std.specs.Prelude.{None}
 use Rattle.run_theory.specs.Counts.{one_if, tally}
 use Rattle.run_theory.specs.Lists.{Each}
@@ -25,7 +26,8 @@ use Rattle.world_core.specs.Steps.{HostStep}
 use Rattle.world_views.specs.Machine.{after, step_after}
 use Rattle.view_laws.specs.Votes.{OthersDontVote, arbiter_in, is_vote, membership_in}
 use Rattle.view_laws.proofs.votes.Lists.{IsSaidOf, SayingAll, all_said}
-use Rattle.view_laws.proofs.votes.NoVotes.{AreNoVotes, AreQuiet, IsNoVote, confirmation, is_confirming, is_fencing, untold_vote}
+use Rattle.view_laws.proofs.votes.NoVotes.{AreNoVotes, AreQuiet, IsNoVote, confirmation, is_confirming, is_fencing}
+use Rattle.view_laws.proofs.votes.NoVotes.{untold_vote}
 use Rattle.view_laws.proofs.votes.Parts.{others_quiet, own_node, still_others}
 
 -- none of its blocks

@@ -20,7 +20,8 @@ use Rattle.qmgr_block.specs.Qmgr.{qmgr_installed}
 use Rattle.qmgr_block.specs.State.{QmgrState}
 use Rattle.tc_views.specs.Views as coordinator
 use Rattle.view_laws.specs.Votes.{arbiter_in, membership_in}
-use Rattle.view_laws.proofs.votes.OtherBlocks.{coordinator_installs_none, coordinator_quiet, dih_installs_none, dih_quiet, replica_quiet, takeover_none}
+use Rattle.view_laws.proofs.votes.OtherBlocks.{coordinator_installs_none, coordinator_quiet, dih_installs_none}
+use Rattle.view_laws.proofs.votes.OtherBlocks.{dih_quiet, replica_quiet, takeover_none}
 use Rattle.view_laws.proofs.votes.NoVotes.{AreNoVotes, AreQuiet, IsNoVote, SendsNoVote}
 
 left_none : (me : Member) (b c : Bool) → AreNoVotes (left_by me b c)

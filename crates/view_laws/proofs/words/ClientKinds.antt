@@ -2,7 +2,9 @@
 use Rattle.std.proofs.Common.{Bool, true, false}
 use Rattle.sig_core.specs.declared.signal.Body.{Body}
 use Rattle.sig_core.specs.declared.signal.Body.TheVariants.{Client, Epoch, Host}
-use Rattle.sig_core.specs.declared.signal.client.ClientSignal.TheVariants.{DumpReq, TcBeginReq, TcCommitAck, TcCommitReq, TcKeyReq, TcRollbackReq, TcWaitReq}
+use Rattle.sig_core.specs.declared.signal.client.ClientSignal.TheVariants.{DumpReq, TcBeginReq, TcCommitAck}
+use Rattle.sig_core.specs.declared.signal.client.ClientSignal.TheVariants.{TcCommitReq, TcKeyReq, TcRollbackReq}
+use Rattle.sig_core.specs.declared.signal.client.ClientSignal.TheVariants.{TcWaitReq}
 use Rattle.sig_core.specs.declared.signal.epoch.EpochSignal.TheVariants.{GcpReq, MicroReq}
 
 -- the client's side asks coordinators, and the master to close an epoch, and tells hosts of rounds, deaths and cuts
