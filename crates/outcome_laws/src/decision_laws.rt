@@ -26,7 +26,6 @@ pub fn decided_in_strict_order()
 
 /// No host is told that a transaction was aborted since the cluster is down: that only the client's own
 /// side finds.
-#[tactic(auto, using(crate::proofs::downfall::NobodyIsTold::no_down_is_told))]
 pub fn no_down_is_told()
     ensures { NoDownIsTold }
 {}

@@ -14,7 +14,6 @@ pub fn commits_were_decided()
 {}
 
 /// Whoever is reported aborted since the cluster is down was never decided, nor is later.
-#[tactic(auto, using(crate::proofs::downfall::NeverDecided::none_down_decided))]
 pub fn none_that_was_down_was_decided()
     ensures { NoneThatWasDownWasDecided }
 {}
