@@ -6,7 +6,6 @@ ghost use Rattle.closing_laws.specs.Stays.{ClosedStayClosed};
 
 /// An epoch is closed by the president of the current view, where each full member has ended it, and the
 /// takeover of that view is over.
-#[tactic(auto, using(crate::proofs::closers::Hear::closers_have_heard_all))]
 pub fn closers_have_heard_all()
     ensures { ClosersHaveHeardAll }
 {}
@@ -19,20 +18,17 @@ pub fn ended_ones_are_done()
 {}
 
 /// Once a takeover of the current view is over, whoever commits and has no coordinator there is done.
-#[tactic(auto, using(crate::proofs::takeover::Done::over_leaves))]
 pub fn takeovers_leave_none()
     ensures { OverLeavesNone }
 {}
 
 /// Once an epoch is closed, or durable, nobody who writes and has it, or one before it, comes to any later
 /// history.
-#[tactic(auto, using(crate::proofs::settled::ClosedStayClosed::closed_stay_closed))]
 pub fn closed_epochs_stay_closed()
     ensures { ClosedStayClosed }
 {}
 
 /// An epoch that is durable was closed before.
-#[tactic(auto, using(crate::proofs::durable::All::durable_were_closed))]
 pub fn durable_epochs_were_closed()
     ensures { DurableWereClosed }
 {}

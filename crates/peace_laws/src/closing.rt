@@ -3,7 +3,6 @@ ghost use Rattle.peace_laws.specs.Closing.{ClosingsEnd};
 
 /// Once nothing of a closing that was asked for is under way, the client was told of its end, once, and
 /// all members and the president's master rest in the epoch that follows.
-#[tactic(auto, using(crate::proofs::closings::Ends::closings_end))]
 pub fn closings_end()
     ensures { ClosingsEnd }
 {}

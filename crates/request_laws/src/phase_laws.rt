@@ -5,7 +5,6 @@ ghost use Rattle.request_laws.specs.Stand.{CoordinatorsStand};
 /// transaction in its phase; whom it has forgotten has gone one way, and none goes both; who has gone
 /// forth was decided; and who was decided, in the one epoch that was asked for with its operations, has
 /// gone one way or waits for that epoch.
-#[tactic(auto, using(crate::proofs::phases::Stands::coordinators_stand))]
 pub fn coordinators_stand()
     ensures { CoordinatorsStand }
 {}

@@ -12,13 +12,11 @@ pub fn keys_follow_events()
 {}
 
 /// The rows of each member have their places, and their locks are orderly, after every log.
-#[tactic(auto, using(crate::proofs::replicas::AlongLogs::rows_well))]
 pub fn rows_of_members_are_well()
     ensures { RowsAreWell }
 {}
 
 /// Whoever waits in the queue of a key has a request that waits for it.
-#[tactic(auto, using(crate::proofs::replicas::Waits::waits_have_requests))]
 pub fn waiters_have_requests()
     ensures { WaitsHaveRequests }
 {}

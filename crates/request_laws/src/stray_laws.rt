@@ -2,7 +2,6 @@
 ghost use Rattle.request_laws.specs.Strays.{CoordinatorsHaveTheNumber, FencesSpareNoStrays, InstallationsSpareNoStrays};
 
 /// A coordinator has the number of the view in which its host stands.
-#[tactic(auto, using(crate::proofs::strays::Numbers::have_the_number))]
 pub fn coordinators_have_the_number()
     ensures { CoordinatorsHaveTheNumber }
 {}

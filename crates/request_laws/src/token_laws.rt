@@ -4,7 +4,6 @@ ghost use Rattle.request_laws.specs.Tokens.{OneAtATime, QuietUnlessAsked, TakenI
 /// At each moment, of the current view: what was sent of a transaction's requests to rows and of their
 /// answers, with the requests that wait there, is no more than what was taken, and one if its last operation
 /// was asked for in the view and is unanswered, or it is given up. No more of them is taken than was sent.
-#[tactic(auto, using(crate::proofs::tokens::Moments::have_one, crate::proofs::tokens::SumsOverHosts::takes_are_few))]
 pub fn one_at_a_time()
     ensures few { OneAtATime }
     ensures taken { TakesAreFew }

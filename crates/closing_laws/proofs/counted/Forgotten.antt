@@ -1,6 +1,5 @@
 -- Whose count is ended, the coordinator has forgotten it, for ever.
-use Rattle.std.proofs.Common.{◌≡◌, ◌⊎◌, ◌∙◌, ◌++◌, ◌<◌, ℕ, Bool, true, false, List, [], ◌∷◌, arith, refl, sym, ap}
-use Rattle.std.proofs.Common.{subst, inl, inr}
+use Rattle.std.proofs.Common.{◌≡◌, ◌⊎◌, ◌∙◌, ◌++◌, ◌<◌, ℕ, Bool, true, false, List, [], ◌∷◌, arith, refl, sym, ap, subst, inl, inr}
 use Rattle.std.proofs.lemmas.Bool.{leb-false, leb-true, true≢false}
 use Rattle.std.specs.Prelude.{nat_le, None, Some}
 use Rattle.run_theory.specs.Lists.{Each, IsIn}
@@ -46,8 +45,7 @@ use Rattle.request_laws.proofs.routes.PartSteps.{TcStep, coordinator_is}
 use Rattle.commit_laws.specs.Going.{own_coordinator, own_live}
 use Rattle.commit_laws.proofs.forth.DecidedStay.{log_grows}
 use Rattle.commit_laws.proofs.drive.Foreign.{between_of, step}
-use Rattle.closing_laws.proofs.counted.OtherHosts.{coordinator_installs_counting, dih_counting, dih_installs_counting}
-use Rattle.closing_laws.proofs.counted.OtherHosts.{others_count, takeover_counting}
+use Rattle.closing_laws.proofs.counted.OtherHosts.{coordinator_installs_counting, dih_counting, dih_installs_counting, others_count, takeover_counting}
 use Rattle.closing_laws.proofs.counted.Turns.{AreCounting, Forgets, is_uncounting, uncounted_step}
 
 -- its coordinator has begun and forgotten the transaction

@@ -1,6 +1,5 @@
 -- Whoever is decided in a cut, and applied there, has its entry in the history of that cut.
-use Rattle.std.proofs.Common.{◌≡◌, ◌⊎◌, ◌∙◌, ◌++◌, cond, ℕ, zero, suc, Bool, true, false, List, [], ◌∷◌, filter, sym}
-use Rattle.std.proofs.Common.{ap, subst, inl, inr}
+use Rattle.std.proofs.Common.{◌≡◌, ◌⊎◌, ◌∙◌, ◌++◌, cond, ℕ, zero, suc, Bool, true, false, List, [], ◌∷◌, filter, sym, ap, subst, inl, inr}
 use Rattle.std.proofs.lemmas.Bool.{true≢false}
 use Rattle.std.specs.List.{list_any}
 use Rattle.run_theory.proofs.Pasts.{each_in, in_past, past_self, past_trans}
