@@ -14,7 +14,6 @@ pub mod Going
 pub mod LostDoomed
 pub mod LostStays
 pub mod Moves
-pub mod Reasons
 pub mod Rows
 pub mod RowsUnasked
 pub mod SpokenAside

@@ -6,11 +6,11 @@ pub mod Counted
 pub mod DecidersGo
 pub mod Goes
 pub mod InstallMarks
-pub mod Joined
+pub mod MarkCases
 pub mod MarkReasons
 pub mod Marks
+pub mod OwnTaken
 pub mod PartEach
-pub mod PlainMarks
 pub mod ReportsOfShell
 pub mod RowsGo
 pub mod RowsTurn

@@ -2,16 +2,19 @@
 ghost use Rattle.commit_laws.specs.Cuts.{AbortsTakeNone, CommitsTakeEffect, HistoriesAreLegal, RecordsAgree, RestingRowsFollow};
 
 /// Each answer in the history of right logs is the one that the rows give.
+#[tactic(auto, using(crate::proofs::led::CutLaws::histories_legal))]
 pub fn histories_are_legal()
     ensures { HistoriesAreLegal }
 {}
 
 /// Of each key at rest each live replica has the row that the history leaves.
+#[tactic(auto, using(crate::proofs::led::CutLaws::resting_rows))]
 pub fn resting_rows_follow()
     ensures { RestingRowsFollow }
 {}
 
 /// Whoever was reported committed is in the history, with the epoch that was told.
+#[tactic(auto, using(crate::proofs::led::CutLaws::commits_effective))]
 pub fn commits_take_effect()
     ensures { CommitsTakeEffect }
 {}

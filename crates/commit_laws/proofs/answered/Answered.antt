@@ -1,10 +1,11 @@
 -- Where a coordinator confirms a commit to its client, or completes a key, each key that the transaction wrote has been
 -- committed in the view in which its host stands.
-use Rattle.std.proofs.Common.{◌≡◌, ◌≤◌, ◌⊎◌, ◌==◌, ◌&&◌, ◌++◌, ◌∙◌, ℕ, Bool, true, false, List, [], ◌∷◌, inl, inr, refl, sym, ap, arith, subst}
+use Rattle.std.proofs.Common.{◌≡◌, ◌≤◌, ◌⊎◌, ◌==◌, ◌&&◌, ◌∙◌, ℕ, Bool, true, false, List, [], ◌∷◌, inl, inr, refl, sym, ap, arith, subst}
 use Rattle.std.proofs.lemmas.Bool.{eq-eqb, eqb-true, true≢false}
 use Rattle.std.specs.Prelude.{Some}
 use Rattle.run_theory.specs.Lists.{Each, IsIn}
 use Rattle.run_theory.proofs.Pasts.{each_append, each_from, each_in, each_map}
+use Rattle.commit_laws.proofs.hosts.PartEach.{part_each_by}
 use Rattle.host_laws.proofs.coordinator.OfLive.{each_found}
 use Rattle.sig_core.specs.declared.mark.Mark.TheVariants.{Decided}
 use Rattle.sig_core.specs.declared.member.Member.{Member}
@@ -48,7 +49,7 @@ use Rattle.view_laws.proofs.words.Sent.{IsOf}
 use Rattle.view_laws.proofs.words.Turns.{is_of_coordinator}
 use Rattle.moment_laws.specs.Moments.{IsMoment, logs_of}
 use Rattle.moment_laws.specs.Parts.{IsPassed}
-use Rattle.moment_laws.specs.PartSteps.{PartEnters, PartTakes, handles, ignores, installs, remains, tc_kind}
+use Rattle.moment_laws.specs.PartSteps.{tc_kind}
 use Rattle.moment_laws.specs.Places.{tc_of}
 use Rattle.moment_laws.proofs.MomentTurns.{own_log}
 use Rattle.moment_laws.proofs.MomentViews.{moment_less}
@@ -360,18 +361,6 @@ module _ (start : Start) (all : ℕ → List HostStep) (e : HostStep) (es : List
         each_map (λ (o : Outgoing). Speaks (λ tx. ⊥) Anyone o.body) (λ (o : Outgoing). IsTold o.body) sends
         (λ o spoken. silent_one o.body spoken) all
 
-    -- so it is of an installation, and of the epochs beside it
-    front_answered : PartEnters tc_kind tc.own (view_after start e.host (old e.host)) x between view tc.does.front
-        → AreTold tc.does.front
-    front_answered (remains same seen none) = subst AreTold (sym none) tt
-    front_answered (installs above same seen is) =
-        subst AreTold (sym is)
-        (each_append (λ (o : Outgoing). IsTold o.body)
-        (coordinators.install_row tc.own.coordinator x.view).effects.sends
-        (epochs.install_row tc.own.dih x.view.number).effects.sends
-        (silent_answered _ (coordinator_installs_speak (λ tx. ⊥) Anyone tc.own.coordinator x.view))
-        (silent_answered _ (dih_installs_speak (λ tx. ⊥) Anyone tc.own.dih x.view.number)))
-
     -- all that the host sends, if what its takeover sends is answered
     module _ (takeover : IsPassed start.shape (part.Tc tc.does.between) view e.step.taken
         → e.step.taken.to.block ≡ block.Takeover
@@ -387,22 +376,16 @@ module _ (start : Start) (all : ℕ → List HostStep) (e : HostStep) (es : List
         row_answered passed block.Dih to is = silent_answered _ (dih_speaks (λ tx. ⊥) Anyone between.dih x)
         row_answered passed b to is = tt
 
-        rest_answered : PartTakes tc_kind start.shape between view x tc.does.own tc.does.rest → AreTold tc.does.rest
-        rest_answered (ignores is none) = subst AreTold (sym none) tt
-        rest_answered (handles passed is sends_are) =
-            subst AreTold (sym sends_are) (row_answered passed x.to.block refl is)
-
         pub host_answered : Each (λ (o : Outgoing). IsAnswered start (logs_of start (e ∷ es))
             (view_after start e.host (e ∷ logs_of start es e.host)).number o.body)
             (step_after start e.host (logs_of start es e.host) e).effects.sends
-        host_answered = by tc.does.sent
-          where
-            sends : List Outgoing
-            sends = (step_after start e.host (old e.host) e).effects.sends
-
-            by : (sends ≡ tc.does.front ++ tc.does.rest) ⊎ (sends ≡ []) → AreTold sends
-            by (inl whole) =
-                subst AreTold (sym whole)
-                (each_append (λ (o : Outgoing). IsTold o.body) tc.does.front tc.does.rest
-                (front_answered tc.does.enters) (rest_answered tc.does.takes))
-            by (inr nothing) = subst AreTold (sym nothing) tt
+        host_answered =
+            part_each_by tc_kind (λ (o : Outgoing). IsTold o.body) start.shape tc.own _ x _ view
+            (step_after start e.host (old e.host) e).effects.sends tc.does
+            (λ above.
+            each_append (λ (o : Outgoing). IsTold o.body)
+            (coordinators.install_row tc.own.coordinator x.view).effects.sends
+            (epochs.install_row tc.own.dih x.view.number).effects.sends
+            (silent_answered _ (coordinator_installs_speak (λ tx. ⊥) Anyone tc.own.coordinator x.view))
+            (silent_answered _ (dih_installs_speak (λ tx. ⊥) Anyone tc.own.dih x.view.number)))
+            (λ passed same all. row_answered passed x.to.block refl same)

@@ -1,7 +1,7 @@
 -- Rows complete keys whose commits are answered, and hosts beside them and the coordinators tell of no commit.
-use Rattle.std.proofs.Common.{◌≡◌, ◌⊎◌, ◌∙◌, ℕ, List, [], ◌∷◌, sym, ap, subst, inl, inr}
+use Rattle.std.proofs.Common.{◌≡◌, ◌∙◌, ℕ, List, ◌∷◌, sym, ap, subst}
 use Rattle.run_theory.specs.Lists.{Each, IsIn}
-use Rattle.run_theory.proofs.Pasts.{each_from, each_in}
+use Rattle.run_theory.proofs.Pasts.{each_from, each_in, each_map}
 use Rattle.sig_core.specs.declared.member.Member.{Member}
 use Rattle.sig_core.specs.declared.outs.Outgoing.{Outgoing}
 use Rattle.sig_core.specs.declared.signal.Body.{Body}
@@ -29,7 +29,7 @@ use Rattle.commit_laws.proofs.answered.Stays.{answered_stays}
 use Rattle.commit_laws.proofs.gathering.EndsTold.{IsEnd, beside_ends}
 use Rattle.commit_laws.proofs.forth.All.{forth_is_known}
 use Rattle.commit_laws.proofs.commits.RowsEnd.{IsRowsWord, rows_words}
-use Rattle.commit_laws.proofs.hosts.RowsTurn.{IsTakenAt, RowsGo, enter, rest, rows_go, take}
+use Rattle.commit_laws.proofs.hosts.RowsTurn.{IsTakenAt, rows_each}
 use Rattle.commit_laws.proofs.links.TakenChains.{chain_told}
 
 module _ (start : Start) (all : ℕ → List HostStep) (e : HostStep) (es : List HostStep)
@@ -81,26 +81,11 @@ module _ (start : Start) (all : ℕ → List HostStep) (e : HostStep) (es : List
 
     own_answered : (member : Member) (there : IsIn member (made start)) → e.host ≡ ldm_of start member
         → AreAnswered (step_after start (ldm_of start member) (old (ldm_of start member)) e).effects.sends
-    own_answered member there at = by (rows_go start all e es moment member there)
-      where
-        by : RowsGo start all e es moment member there
-            → AreAnswered (step_after start (ldm_of start member) (old (ldm_of start member)) e).effects.sends
-        by (rest is quiet) = subst AreAnswered (sym (quiet at).sends) tt
-        by (enter seen is quiet) = subst AreAnswered (sym (quiet at).sends) tt
-        by (take s between taken) = either taken.sent
-          where
-            either : ((step_after start (ldm_of start member) (old (ldm_of start member)) e).effects.sends
-                ≡ (replica_row s x).effects.sends)
-                ⊎ ((step_after start (ldm_of start member) (old (ldm_of start member)) e).effects.sends ≡ [])
-                → AreAnswered (step_after start (ldm_of start member) (old (ldm_of start member)) e).effects.sends
-            either (inl is) =
-                subst AreAnswered (sym is)
-                (each_from (λ (o : Outgoing). IsAnswered start new number o.body) (replica_row s x).effects.sends
-                (λ o inside.
-                word_answered member there s taken o.body
-                (each_in (λ (sent : Outgoing). IsRowsWord x.body sent.body) o (replica_row s x).effects.sends
-                (rows_words s x) inside)))
-            either (inr nothing) = subst AreAnswered (sym nothing) tt
+    own_answered member there =
+        rows_each start all e es moment member there (λ (o : Outgoing). IsAnswered start new number o.body)
+        (λ s between taken.
+        each_map (λ (o : Outgoing). IsRowsWord x.body o.body) (λ (o : Outgoing). IsAnswered start new number o.body)
+        (replica_row s x).effects.sends (λ o word. word_answered member there s taken o.body word) (rows_words s x))
 
     pub rows_answered : (member : Member) (there : IsIn member (made start)) → e.host ≡ ldm_of start member
         → AreAnswered (step_after start e.host (logs_of start es e.host) e).effects.sends

@@ -1,10 +1,12 @@
 -- How far a takeover is with the transaction that it is at: while it commits it, no more answers are missing than it
 -- awaits; while it completes it, each of its keys was committed in its view.
-use Rattle.std.proofs.Common.{◌≡◌, ◌≢◌, ◌≤◌, ◌⊎◌, ◌+◌, ◌-◌, ◌&&◌, ◌∙◌, ℕ, Bool, true, false, None, Some, Option, List, [], ◌∷◌, inl, inr, length, nat_lt, refl, sym, ap, arith, subst, ltb-false}
-use Rattle.std.proofs.lemmas.Bool.{cases_eq, true≢false}
+use Rattle.std.proofs.Common.{◌≡◌, ◌≢◌, ◌≤◌, ◌+◌, ◌-◌, ◌&&◌, ◌∙◌, ℕ, Bool, true, false, None, Some, Option, List, [], ◌∷◌, length, nat_lt, refl, sym, ap, arith, subst, ltb-false}
+use Rattle.std.proofs.lemmas.Bool.{true≢false}
 use Rattle.std.specs.Prelude.{remove, slice_get}
 use Rattle.run_theory.specs.Lists.{Each, IsIn}
 use Rattle.run_theory.proofs.Pasts.{each_map}
+use Rattle.run_theory.proofs.EventCases.{event_moves}
+use Rattle.world_views.specs.Machine.{machine}
 use Rattle.sig_core.specs.declared.member.Member.{Member}
 use Rattle.sig_core.specs.declared.member.TxId.{TxId}
 use Rattle.sig_core.specs.declared.place.BlockId.{BlockId}
@@ -40,7 +42,6 @@ use Rattle.moment_laws.specs.Parts.{IsPassed}
 use Rattle.moment_laws.specs.PartSteps.{PartEnters, PartTakes, handles, ignores, installs, remains, tc_kind}
 use Rattle.moment_laws.specs.Places.{tc_of}
 use Rattle.moment_laws.proofs.MomentHosts.{tc_started}
-use Rattle.moment_laws.proofs.MomentTurns.{other_log, own_log}
 use Rattle.moment_laws.proofs.MomentViews.{moment_less}
 use Rattle.moment_laws.proofs.PartKinds.{tc_is}
 use Rattle.moment_laws.proofs.PartTaken.{IsTakenNow, handled_now}
@@ -344,26 +345,18 @@ module _ (start : Start) (all : ℕ → List HostStep) (member : Member) (there 
       (ap (λ (s : hosts_of.Host). takeover_in (resting member.node (first_layout start.shape)) s.parts)
       (tc_started start member there)))
       tt
-  heard_always (e ∷ es) moment = by (cases_eq e.host home) (heard_always es (moment_less start all e es moment))
+  heard_always (e ∷ es) moment =
+      event_moves (machine start) e es
+      (λ h was log. (h ≡ home → HeardAt start member old h was) → h ≡ home → HeardAt start member new h log)
+      (λ before at. heard_next start all e es moment member there at (before at))
+      (λ h log before at.
+      heard_grows start old new (view_after start h log).number log log (λ p. omega arith)
+      (λ tx key was. committed_stays start all e es moment (view_after start h log).number tx key was)
+      (takeover_after start member log).stage (slice_get (takeover_after start member log).gathered 0) (before at))
+      home (λ same. heard_always es (moment_less start all e es moment)) refl
     where
       old : ℕ → List HostStep
       old = logs_of start es
 
       new : ℕ → List HostStep
       new = logs_of start (e ∷ es)
-
-      by : (e.host ≡ home) ⊎ (e.host ≢ home) → HeardAt start member old home (old home)
-          → HeardAt start member new home (new home)
-      by (inl at) before =
-          subst (λ h. HeardAt start member new h (new h)) at
-          (subst (HeardAt start member new e.host) (sym (own_log start all e es moment))
-          (heard_next start all e es moment member there at
-          (subst (λ h. HeardAt start member old h (old h)) (sym at) before)))
-      by (inr other) before =
-          subst (HeardAt start member new home) (sym (other_log start all e es moment home other))
-          (heard_grows start old new (view_after start home (old home)).number (old home) (old home)
-          (λ p. omega arith)
-          (λ tx key was.
-          committed_stays start all e es moment (view_after start home (old home)).number tx key was)
-          (takeover_after start member (old home)).stage
-          (slice_get (takeover_after start member (old home)).gathered 0) before)

@@ -1,11 +1,11 @@
 -- What is answered stays so, and rows pass it on as they took it.
-use Rattle.std.proofs.Common.{◌≡◌, ◌≢◌, ◌⊎◌, ℕ, true, List, ◌∷◌, sym, subst, inl, inr}
-use Rattle.std.proofs.lemmas.Bool.{cases_eq}
+use Rattle.std.proofs.Common.{◌≡◌, ◌⊎◌, ℕ, true, List, ◌∷◌, inl, inr}
 use Rattle.run_theory.specs.Links.{sent}
 use Rattle.run_theory.specs.Lists.{Each, IsPast}
 use Rattle.run_theory.proofs.Links.{sent_more}
 use Rattle.run_theory.proofs.Pasts.{each_from, each_in, in_past, past_self}
-use Rattle.run_theory.proofs.Runs.{log_of-other, log_of-own}
+use Rattle.run_theory.proofs.EventCases.{event_cases}
+use Rattle.commit_laws.proofs.forth.Grows.{known_grows}
 use Rattle.sig_core.specs.declared.member.TxId.{TxId}
 use Rattle.sig_core.specs.declared.signal.Body.{Body}
 use Rattle.sig_core.specs.declared.signal.Body.TheVariants.{Chain, Client}
@@ -21,7 +21,7 @@ use Rattle.commit_laws.specs.Answered.{AllWereCommittedIn, IsAnswered, WasCommit
 use Rattle.commit_laws.specs.Forth.{IsForth, TellsForth}
 use Rattle.commit_laws.specs.Going.{is_forth}
 use Rattle.commit_laws.specs.Traces.{is_known}
-use Rattle.commit_laws.proofs.forth.DecidedStay.{forth_decided, known_more, written_before}
+use Rattle.commit_laws.proofs.forth.DecidedStay.{forth_decided, written_before}
 use Rattle.commit_laws.proofs.forth.All.{forth_is_known}
 
 module _ (start : Start) (all : ℕ → List HostStep) (e : HostStep) (es : List HostStep)
@@ -38,16 +38,11 @@ module _ (start : Start) (all : ℕ → List HostStep) (e : HostStep) (es : List
 
     -- what was sent stays sent
     sent_stays : (i j : ℕ) → IsPast (sent (sound_machine start) i j (old i)) (sent (sound_machine start) i j (new i))
-    sent_stays i j = by (cases_eq e.host i)
-      where
-        by : (e.host ≡ i) ⊎ (e.host ≢ i)
-            → IsPast (sent (sound_machine start) i j (old i)) (sent (sound_machine start) i j (new i))
-        by (inl at) =
-            subst (λ log. IsPast (sent (sound_machine start) i j (old i)) (sent (sound_machine start) i j log))
-            (sym (log_of-own (machine start) e es i at)) (sent_more (sound_machine start) i j (old i) e)
-        by (inr other) =
-            subst (λ log. IsPast (sent (sound_machine start) i j (old i)) (sent (sound_machine start) i j log))
-            (sym (log_of-other (machine start) e es i other)) (past_self (sent (sound_machine start) i j (old i)))
+    sent_stays i j =
+        event_cases (machine start) e es i
+        (λ log. IsPast (sent (sound_machine start) i j (old i)) (sent (sound_machine start) i j log))
+        (λ at. sent_more (sound_machine start) i j (old i) e)
+        (λ off. past_self (sent (sound_machine start) i j (old i)))
 
     pub committed_stays : (number : ℕ) (tx : TxId) (key : List ℕ)
         → WasCommittedIn start (logs_of start es) number tx key
@@ -72,7 +67,7 @@ module _ (start : Start) (all : ℕ → List HostStep) (e : HostStep) (es : List
         → AllWereCommittedIn start old number tx ⊎ (is_known start old tx ≡ true)
         → AllWereCommittedIn start new number tx ⊎ (is_known start new tx ≡ true)
     either_stays number tx forth (inl were) = inl (all_stay number tx forth were)
-    either_stays number tx forth (inr known) = inr (known_more start all e es moment tx known)
+    either_stays number tx forth (inr known) = inr (known_grows start e es tx known)
 
     pub answered_stays : (number : ℕ) (body : Body) → TellsForth (IsForth start (logs_of start es)) body
         → IsAnswered start (logs_of start es) number body → IsAnswered start (logs_of start (e ∷ es)) number body

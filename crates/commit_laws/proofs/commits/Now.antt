@@ -1,11 +1,12 @@
 -- Behind a commit that rows take, the key is committed at their place of its chain and at those behind; at the first
 -- place it is so at all replicas, and was applied.
 use Rattle.std.proofs.Common.{◌≡◌, ◌<◌, ◌≤◌, ◌⊎◌, ◌||◌, ◌∙◌, ℕ, Bool, true, false, List, ◌∷◌, eq-or-lt_of_le, refl, sym, ap, subst, arith, inl, inr}
-use Rattle.std.proofs.lemmas.Bool.{cases_eq, or_left, or_right}
+use Rattle.std.proofs.lemmas.Bool.{or_left, or_right}
 use Rattle.std.specs.Prelude.{Option, None, Some}
 use Rattle.std.specs.List.{slice_get}
 use Rattle.run_theory.specs.Lists.{IsIn}
-use Rattle.run_theory.proofs.Runs.{log_of-other, log_of-own}
+use Rattle.run_theory.proofs.Runs.{log_of-own}
+use Rattle.run_theory.proofs.EventCases.{event_cases}
 use Rattle.frag_map.specs.Layout.{chain_of}
 use Rattle.outcome_laws.proofs.knowledge.CommitsWereDecided.{in_front}
 use Rattle.sig_core.specs.declared.mark.Mark.TheVariants.{Applied}
@@ -174,7 +175,9 @@ module _ (forth : ForthIsKnownAlways) (remembered : CommitsAreRemembered) (ackno
     -- what was applied is committed
     pub applied_now : (tx : TxId) (key : List ℕ) → IsApplied start (logs_of start (e ∷ es)) tx key
         → AreCommitted start (logs_of start (e ∷ es)) tx key
-    applied_now tx key applied = by (cases_eq e.host (ldm_of start applied.member)) applied.marked
+    applied_now tx key applied =
+        event_cases (machine start) e es (ldm_of start applied.member)
+        (λ log. IsMarked (Applied tx key) log → AreCommitted start new tx key) either (λ off. was) applied.marked
       where
         was : IsMarked (Applied tx key) (old (ldm_of start applied.member)) → AreCommitted start new tx key
         was marked =
@@ -195,12 +198,3 @@ module _ (forth : ForthIsKnownAlways) (remembered : CommitsAreRemembered) (ackno
             → AreCommitted start new tx key
         either at (inl marked) = now at marked
         either at (inr marked) = was marked
-
-        by : (e.host ≡ ldm_of start applied.member) ⊎ (e.host ≡ ldm_of start applied.member → ⊥)
-            → IsMarked (Applied tx key) (new (ldm_of start applied.member)) → AreCommitted start new tx key
-        by (inl at) marked =
-            either at (subst (IsMarked (Applied tx key))
-            (log_of-own (machine start) e es (ldm_of start applied.member) at) marked)
-        by (inr other) marked =
-            was (subst (IsMarked (Applied tx key))
-            (log_of-other (machine start) e es (ldm_of start applied.member) other) marked)

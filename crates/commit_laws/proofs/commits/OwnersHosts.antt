@@ -4,6 +4,7 @@ use Rattle.std.specs.Prelude.{Some}
 use Rattle.std.specs.List.{slice_get}
 use Rattle.run_theory.specs.Lists.{Each, IsIn}
 use Rattle.run_theory.proofs.Pasts.{each_append, each_map}
+use Rattle.commit_laws.proofs.hosts.OwnTaken.{tc_taken}
 use Rattle.sig_core.specs.declared.member.Member.{Member}
 use Rattle.sig_core.specs.declared.member.TxId.{TxId}
 use Rattle.sig_core.specs.declared.outs.Outgoing.{Outgoing}
@@ -24,7 +25,7 @@ use Rattle.node_views.specs.declared.tc_part.TcPart.{TcPart}
 use Rattle.node_views.specs.Parts.{tc_row, tc_entered}
 use Rattle.world_core.specs.Start.{Start, made}
 use Rattle.world_core.specs.Steps.{HostStep}
-use Rattle.world_views.specs.Machine.{after, step_after}
+use Rattle.world_views.specs.Machine.{step_after}
 use Rattle.view_laws.specs.Runs.{view_after}
 use Rattle.moment_laws.specs.Moments.{IsMoment, logs_of}
 use Rattle.moment_laws.specs.Parts.{IsPassed}
@@ -33,8 +34,7 @@ use Rattle.moment_laws.specs.Places.{tc_of}
 use Rattle.moment_laws.proofs.MomentHosts.{tc_low}
 use Rattle.moment_laws.proofs.MomentTurns.{current_rises}
 use Rattle.moment_laws.proofs.MomentViews.{current_above, current_number}
-use Rattle.moment_laws.proofs.PartKinds.{tc_is}
-use Rattle.moment_laws.proofs.PartTaken.{IsTakenNow, handled_now}
+use Rattle.moment_laws.proofs.PartTaken.{IsTakenNow}
 use Rattle.request_laws.proofs.routes.PartSteps.{TcStep, own_tc, takeover_is}
 use Rattle.commit_laws.specs.Takeovers.{takeover_at}
 use Rattle.commit_laws.proofs.forth.Epochs.{dih_installs_speak, dih_speaks}
@@ -136,15 +136,7 @@ module _ (start : Start) (all : ℕ → List HostStep) (e : HostStep) (es : List
     -- where the takeover is at work, it stood in the current view before
     module _ (passed : IsPassed start.shape (part.Tc between) view x) (entering : Entering) where
       taken : (b : BlockId) → x.to.block ≡ b → IsTakenNow start all e es moment b
-      taken b to =
-          handled_now start all e es moment tc_kind tc_is p
-          (subst (λ k. (after start k (old k)).parts ≡ part.Tc p) (sym at) step.runs) between step.does.front
-          (subst
-          (λ k. PartEnters tc_kind p (view_after start k (old k)) x between (view_after start k (e ∷ old k))
-          step.does.front)
-          (sym at) entering)
-          (subst (λ k. IsPassed start.shape (part.Tc between) (view_after start k (e ∷ old k)) x) (sym at) passed)
-          b to
+      taken = tc_taken start all e es moment (tc_of start member) at step passed
 
       at_work : x.to.block ≡ block.Takeover → (g : Gathered) → IsBusy between.takeover.stage
           → slice_get between.takeover.gathered 0 ≡ Some g → W g.tx

@@ -52,7 +52,7 @@ use Rattle.commit_laws.proofs.hosts.RowsTurn.{IsBetween, as_was, entered}
 use Rattle.commit_laws.proofs.links.TakenChains.{chain_current, chain_told}
 
 -- what stands at a place is one of the list
-pub in_at : (xs : List Member) (at : ℕ) (x : Member) → slice_get xs at ≡ Some x → IsIn x xs
+pub in_at : {A : Type 0} (xs : List A) (at : ℕ) (x : A) → slice_get xs at ≡ Some x → IsIn x xs
 in_at [] at x there = absurd cc
 in_at (y ∷ xs) zero x there = inl cc
 in_at (y ∷ xs) (suc at) x there = inr (in_at xs at x there)

@@ -5,6 +5,7 @@ use Rattle.std.specs.Prelude.{if◌then◌else◌, Option, None, Some}
 use Rattle.std.specs.List.{list_any}
 use Rattle.run_theory.specs.Links.{sent}
 use Rattle.run_theory.specs.Lists.{Each, IsIn}
+use Rattle.commit_laws.proofs.forth.Grows.{known_grows}
 use Rattle.sig_core.specs.declared.member.Member.{Member}
 use Rattle.sig_core.specs.declared.member.TxId.{TxId}
 use Rattle.sig_core.specs.declared.rows.PendingRecord.{PendingRecord}
@@ -36,7 +37,7 @@ use Rattle.commit_laws.specs.Going.{is_decided, is_forth}
 use Rattle.commit_laws.specs.Markers.{CommitsAreRemembered, IsRemembered}
 use Rattle.commit_laws.specs.Traces.{AreCommitted, IsCommittedAtAll, has_marker_at, is_committed_at, is_committed_by, is_known, record_at, rows_at}
 use Rattle.commit_laws.proofs.fates.Committed.{IsCalm, forth_calm}
-use Rattle.commit_laws.proofs.forth.DecidedStay.{applied_more, known_more, written_before}
+use Rattle.commit_laws.proofs.forth.DecidedStay.{applied_more, written_before}
 use Rattle.commit_laws.proofs.records.KeyGoes.{IsAcknowledged, KeyGoes, RecordGoes, is_aborted, is_committed, is_completed, key_goes, record_stays}
 use Rattle.commit_laws.proofs.records.Moves.{now_by}
 use Rattle.commit_laws.proofs.records.Replicas.{replica_before, replica_made}
@@ -173,7 +174,7 @@ module _ (forth : ForthIsKnownAlways) where
             where
               known : is_known start old tx ≡ true → is_remembered new ≡ true
               known told = or_right (has_marker_at start new member key tx) (is_known start new tx)
-                  (known_more start all e es moment tx told)
+                  (known_grows start e es tx told)
 
               marked : (has_marker_at start new member key tx ≡ true)
                   ⊎ IsAcknowledged start all e es moment member there key tx → is_remembered new ≡ true

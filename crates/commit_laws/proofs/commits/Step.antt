@@ -6,7 +6,10 @@ use Rattle.std.specs.List.{list_any, slice_get}
 use Rattle.run_theory.specs.Links.{sent}
 use Rattle.run_theory.specs.Lists.{Each, IsIn}
 use Rattle.run_theory.proofs.Pasts.{each_in, each_map}
-use Rattle.run_theory.proofs.Runs.{log_of-other, log_of-own}
+use Rattle.run_theory.proofs.Runs.{log_of-other}
+use Rattle.run_theory.proofs.EventCases.{event_cases}
+use Rattle.commit_laws.proofs.parts.Sent.{both_each}
+use Rattle.commit_laws.proofs.forth.Grows.{known_grows}
 use Rattle.sig_core.specs.declared.member.Member.{Member}
 use Rattle.sig_core.specs.declared.member.TxId.{TxId}
 use Rattle.sig_core.specs.declared.outs.Outgoing.{Outgoing}
@@ -57,7 +60,7 @@ use Rattle.commit_laws.specs.Whole.{CommitsGoWhole}
 use Rattle.commit_laws.proofs.commits.Places.{commit_place}
 use Rattle.commit_laws.proofs.commits.Now.{applied_now, at_all_first, from_here}
 use Rattle.commit_laws.proofs.commits.Remain.{AcknowledgedAreKnown, at_all_stays, committed_stays, done_stays}
-use Rattle.commit_laws.proofs.forth.DecidedStay.{forth_decided, known_more, written_before, written_more}
+use Rattle.commit_laws.proofs.forth.DecidedStay.{forth_decided, written_before, written_more}
 use Rattle.commit_laws.proofs.gathering.EndsTold.{IsEnd, beside_ends}
 use Rattle.commit_laws.proofs.forth.Client.{IsToldOf, by_coordinator, by_takeover}
 use Rattle.commit_laws.proofs.fates.Decided.{commits_forth}
@@ -67,15 +70,9 @@ use Rattle.commit_laws.proofs.records.Locks.{let_go_now, prepared_now}
 use Rattle.commit_laws.proofs.commits.Owners.{IsAtCommit, IsOwnersWord, OwnersSayCommits}
 use Rattle.commit_laws.proofs.commits.OwnersTakeover.{IsBusy}
 use Rattle.commit_laws.proofs.commits.RowsEnd.{IsRowsWord, rows_words}
-use Rattle.commit_laws.proofs.hosts.RowsTurn.{IsBetween, IsTakenAt, RowsGo, enter, rest, rows_go, take}
+use Rattle.commit_laws.proofs.hosts.RowsTurn.{IsBetween, IsTakenAt, rows_each}
 use Rattle.commit_laws.proofs.links.TakenChains.{chain_told}
 use Rattle.commit_laws.proofs.markers.Traces.{alone_now, complete_done, written_now}
-
--- what is so of each in two ways
-each_with : {A : Type 0} (P Q R : A → Type 0) (xs : List A) → ((x : A) → P x → Q x → R x) → Each P xs → Each Q xs
-    → Each R xs
-each_with P Q R [] f ps qs = tt
-each_with P Q R (x ∷ xs) f ps qs = (f x ps.0 qs.0, each_with P Q R xs f ps.1 qs.1)
 
 -- a place with a member is within the list
 place_low : (xs : List Member) (place : ℕ) (m : Member) → slice_get xs place ≡ Some m → place < length xs
@@ -139,7 +136,7 @@ module _ (forth : ForthIsKnownAlways) (remembered : CommitsAreRemembered) (ackno
             (found tx (at_key key s.lqh).cell.pending) ≡ true)
             (sym (same_rows other))
             (more (record_at start old member key tx) (has_marker_at start old member key tx) (is_known start old tx)
-            (is_known start new tx) (known_more start all e es moment tx) is)
+            (is_known start new tx) (known_grows start e es tx) is)
 
     decided_of : (tx : TxId) → is_forth start old tx ≡ true → is_decided start old tx ≡ true
     decided_of tx gone = forth_decided start all es before tx gone
@@ -181,7 +178,7 @@ module _ (forth : ForthIsKnownAlways) (remembered : CommitsAreRemembered) (ackno
 
     old_done : EachSent start (λ (y : Addressed). ComesWhenDone start new y.signal.body) old
     old_done i j =
-        each_with (λ (y : Addressed). TellsForth (IsForth start old) y.signal.body)
+        both_each (λ (y : Addressed). TellsForth (IsForth start old) y.signal.body)
         (λ (y : Addressed). ComesWhenDone start old y.signal.body)
         (λ (y : Addressed). ComesWhenDone start new y.signal.body) (sent (sound_machine start) i j (old i))
         (λ y gone done. word_stays y.signal.body gone done) (old_forth i j) (follows.stood.commits.done i j)
@@ -274,17 +271,9 @@ module _ (forth : ForthIsKnownAlways) (remembered : CommitsAreRemembered) (ackno
 
     rows_sent : (me : Member) (there : IsIn me (made start)) → e.host ≡ ldm_of start me
         → AreNew (sends_at (ldm_of start me))
-    rows_sent me there at = by (rows_go start all e es moment me there)
-      where
-        by : RowsGo start all e es moment me there → AreNew (sends_at (ldm_of start me))
-        by (rest is quiet) = subst AreNew (sym (quiet at).sends) tt
-        by (enter view is quiet) = subst AreNew (sym (quiet at).sends) tt
-        by (take s between taken) = either taken.sent
-          where
-            either : (sends_at (ldm_of start me) ≡ (replica_row s e.step.taken).effects.sends)
-                ⊎ (sends_at (ldm_of start me) ≡ []) → AreNew (sends_at (ldm_of start me))
-            either (inl is) = subst AreNew (sym is) (taken_new me there s between taken)
-            either (inr is) = subst AreNew (sym is) tt
+    rows_sent me there =
+        rows_each start all e es moment me there (λ (o : Outgoing). NewWord o.body)
+        (λ s between taken. taken_new me there s between taken)
 
     -- of coordinators and takeovers
     module _ (me : Member) (there : IsIn me (made start)) where
@@ -347,7 +336,7 @@ module _ (forth : ForthIsKnownAlways) (remembered : CommitsAreRemembered) (ackno
       where
         by : Turn start all e es moment → Each EndNow (sent (sound_machine start) i j (old i))
         by (keeps same stands) =
-            each_with (λ (y : Addressed). TellsForth (IsForth start old) y.signal.body)
+            both_each (λ (y : Addressed). TellsForth (IsForth start old) y.signal.body)
             (λ (y : Addressed). y.signal.view.number ≡ old_number → ComesFromTheEnd start old y.signal.body) EndNow
             (sent (sound_machine start) i j (old i))
             (λ y gone comes number. end_stays y.signal.body gone (comes (number ∙ ap (λ (v : View). v.number) same)))
@@ -388,24 +377,18 @@ module _ (forth : ForthIsKnownAlways) (remembered : CommitsAreRemembered) (ackno
             by false off is more = more is
 
     pub known_new : (tx : TxId) → is_known start new tx ≡ true → IsDone start new tx
-    known_new tx is = by (cases_eq e.host 0)
+    known_new tx is =
+        event_cases (machine start) e es 0
+        (λ log. has_sent start (is_acknowledgement tx) 0 log ≡ true → IsDone start new tx)
+        (λ at. either at (is_sent (is_acknowledgement tx) (sends_at 0)) refl) (λ off. was) is
       where
         was : is_known start old tx ≡ true → IsDone start new tx
         was known = done_more tx ((forth start all es before).known tx known) (follows.stood.commits.known tx known)
 
-        by : (e.host ≡ 0) ⊎ (e.host ≢ 0) → IsDone start new tx
-        by (inr other) =
-            was (subst (λ log. has_sent start (is_acknowledgement tx) 0 log ≡ true)
-            (log_of-other (machine start) e es 0 other) is)
-        by (inl at) =
-            either (is_sent (is_acknowledgement tx) (sends_at 0)) refl
-            (subst (λ log. has_sent start (is_acknowledgement tx) 0 log ≡ true) (log_of-own (machine start) e es 0 at)
-            is)
-          where
-            either : (b : Bool) → is_sent (is_acknowledgement tx) (sends_at 0) ≡ b
-                → (b || has_sent start (is_acknowledgement tx) 0 (old 0)) ≡ true → IsDone start new tx
-            either true here is = acknowledged_done tx here at
-            either false off is = was is
+        either : e.host ≡ 0 → (b : Bool) → is_sent (is_acknowledgement tx) (sends_at 0) ≡ b
+            → (b || has_sent start (is_acknowledgement tx) 0 (old 0)) ≡ true → IsDone start new tx
+        either at true here is = acknowledged_done tx here at
+        either at false off is = was is
 
     -- what comes when all is done
     module _ (answered : (i j : ℕ)
@@ -455,7 +438,7 @@ module _ (forth : ForthIsKnownAlways) (remembered : CommitsAreRemembered) (ackno
 
       done_new : EachSent start (λ (y : Addressed). ComesWhenDone start new y.signal.body) new
       done_new i j =
-          each_with IsFreshOrDone (λ (y : Addressed). IsAnswered start new y.signal.view.number y.signal.body)
+          both_each IsFreshOrDone (λ (y : Addressed). IsAnswered start new y.signal.view.number y.signal.body)
           (λ (y : Addressed). ComesWhenDone start new y.signal.body) (sent (sound_machine start) i j (new i))
           (λ y fresh answers. by y fresh answers) (fresh_or_done i j) (answered i j)
         where

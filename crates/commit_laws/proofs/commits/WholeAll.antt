@@ -1,5 +1,5 @@
 -- At each moment the commit of a key that was written goes along all replicas of it in the view of its header.
-use Rattle.std.proofs.Common.{◌≡◌, ◌⊎◌, ◌∙◌, ℕ, true, List, [], ◌∷◌, refl, sym, ap, subst, inl, inr}
+use Rattle.std.proofs.Common.{◌≡◌, ◌∙◌, ℕ, true, List, [], ◌∷◌, refl, sym, ap, subst}
 use Rattle.std.proofs.lemmas.Bool.{true≢false}
 use Rattle.run_theory.specs.Links.{sent}
 use Rattle.run_theory.specs.Lists.{IsIn}
@@ -40,7 +40,7 @@ use Rattle.commit_laws.specs.Whole.{CommitsGoWhole, GoesWhole}
 use Rattle.commit_laws.proofs.forth.DecidedStay.{forth_decided, written_before}
 use Rattle.commit_laws.proofs.forth.All.{forth_is_known}
 use Rattle.commit_laws.proofs.commits.RowsEnd.{IsRowsWord, PassesOn, rows_words}
-use Rattle.commit_laws.proofs.hosts.RowsTurn.{IsTakenAt, RowsGo, enter, rest, rows_go, take}
+use Rattle.commit_laws.proofs.hosts.RowsTurn.{IsTakenAt, rows_each}
 use Rattle.commit_laws.proofs.links.TakenChains.{chain_told}
 use Rattle.commit_laws.proofs.commits.WholeHosts.{owner_whole}
 
@@ -135,26 +135,17 @@ module _ (start : Start) (all : ℕ → List HostStep) (e : HostStep) (es : List
 
         rows_whole : (member : Member) (there : IsIn member (made start)) → e.host ≡ ldm_of start member → IsIn o sends
             → Whole
-        rows_whole member there at inside = by (rows_go start all e es moment member there)
-          where
-            own_sends : List Outgoing
-            own_sends = (step_after start (ldm_of start member) (old (ldm_of start member)) e).effects.sends
-
-            own : IsIn o own_sends
-            own = subst (λ h. IsIn o (step_after start h (old h) e).effects.sends) at inside
-
-            by : RowsGo start all e es moment member there → Whole
-            by (rest is quiet) = absurd (subst (IsIn o) (quiet at).sends own)
-            by (enter seen is quiet) = absurd (subst (IsIn o) (quiet at).sends own)
-            by (take s between taken) = either taken.sent
-              where
-                either : (own_sends ≡ (replica_row s x).effects.sends) ⊎ (own_sends ≡ []) → Whole
-                either (inl is) =
-                    passed member there s taken
-                    (subst (IsRowsWord x.body) about
-                    (each_in (λ (sent : Outgoing). IsRowsWord x.body sent.body) o (replica_row s x).effects.sends
-                    (rows_words s x) (subst (IsIn o) is own)))
-                either (inr nothing) = absurd (subst (IsIn o) nothing own)
+        rows_whole member there at inside =
+            each_in (λ (one : Outgoing). one ≡ o → Whole) o _
+            (rows_each start all e es moment member there (λ (one : Outgoing). one ≡ o → Whole)
+            (λ s between taken.
+            each_map (λ (one : Outgoing). IsRowsWord x.body one.body) (λ (one : Outgoing). one ≡ o → Whole)
+            (replica_row s x).effects.sends
+            (λ one word is.
+            passed member there s taken
+            (subst (IsRowsWord x.body) (ap (λ (u : Outgoing). u.body) is ∙ about) word))
+            (rows_words s x)) at)
+            (subst (λ h. IsIn o (step_after start h (old h) e).effects.sends) at inside) refl
 
         sent_whole : IsIn o sends → WasDrivenIn start new view tx → Whole
         sent_whole inside driven = by (part_host start e.host (host_low start all e es moment))

@@ -195,9 +195,6 @@ module _ (member : Member) (s : CoordinatorState) (of : IsCoordinatorOf member s
     drives_of : (t : Transaction) → entry_of s tx ≡ Some t → Drives tx layout sent taken t (listed tx s)
     drives_of t found = (entry_stands (Some t) found).drives
 
-    abbrev At : Layout → Turn → Type 0
-    At l turn = DrivesLeft tx l sent_now taken_now (left_of turn) (listed tx step.state)
-
     walked : Walks member s x.view.number x.body tx step → Is (entry_of step.state tx) (is_unborn step.state tx)
     walked (stays same unborn away) = quiet (entry_of step.state tx) (is_unborn step.state tx) same (unborn own) away
     walked (passes ahead about same next out) =

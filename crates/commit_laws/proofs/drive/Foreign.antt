@@ -8,6 +8,7 @@ use Rattle.run_theory.specs.Links.{sent_by}
 use Rattle.run_theory.specs.Lists.{Each, IsIn}
 use Rattle.run_theory.proofs.Links.{sent_by_each}
 use Rattle.run_theory.proofs.Pasts.{each_map}
+use Rattle.commit_laws.proofs.hosts.PartEach.{between_so}
 use Rattle.sig_core.specs.declared.member.Member.{Member}
 use Rattle.sig_core.specs.declared.member.TxId.{TxId}
 use Rattle.sig_core.specs.declared.outs.Outgoing.{Outgoing}
@@ -126,14 +127,10 @@ module _ (start : Start) (all : ℕ → List HostStep) (e : HostStep) (es : List
     entering = step.does.enters
 
     pub between_of : IsCoordinatorOf me step.does.between.coordinator
-    between_of = by entering
-      where
-        by : PartEnters tc_kind step.own stood x step.does.between view step.does.front
-            → IsCoordinatorOf me step.does.between.coordinator
-        by (remains same stands none) = subst (λ (q : TcPart). IsCoordinatorOf me q.coordinator) (sym same) own_of
-        by (installs above same stands front_is) =
-            subst (λ (q : TcPart). IsCoordinatorOf me q.coordinator) (sym same)
-            (coordinator_of_installed me step.own.coordinator x.view own_of)
+    between_of =
+        between_so tc_kind (λ (q : TcPart). IsCoordinatorOf me q.coordinator) step.own stood x step.does.between view
+        step.does.front entering (λ still. own_of)
+        (λ above seen. coordinator_of_installed me step.own.coordinator x.view own_of)
 
     pub installed : WasInstalled start all view
     installed = own_installed start all e es moment
@@ -150,15 +147,11 @@ module _ (start : Start) (all : ℕ → List HostStep) (e : HostStep) (es : List
         (sym at) (orphans_before.gathered me there))
 
     between_orphans : GatheredAre (IsOrphan view) step.does.between.takeover
-    between_orphans = by entering
-      where
-        by : PartEnters tc_kind step.own stood x step.does.between view step.does.front
-            → GatheredAre (IsOrphan view) step.does.between.takeover
-        by (remains same stands none) =
-            subst (λ (v : View). GatheredAre (IsOrphan v) step.does.between.takeover) (sym stands)
-            (subst (λ (q : TcPart). GatheredAre (IsOrphan stood) q.takeover) (sym same) own_orphans)
-        by (installs above same stands front_is) =
-            subst (λ (q : TcPart). GatheredAre (IsOrphan view) q.takeover) (sym same) tt
+    between_orphans =
+        between_so tc_kind (λ (q : TcPart). GatheredAre (IsOrphan view) q.takeover) step.own stood x
+        step.does.between view step.does.front entering
+        (λ still. subst (λ (v : View). GatheredAre (IsOrphan v) step.own.takeover) (sym still) own_orphans)
+        (λ above seen. tt)
 
     pub between_laid : IsLaid (layout_in start view) step.does.between
     between_laid = tc_enters start step.own stood x step.does.between view step.does.front entering step.laid
@@ -166,20 +159,15 @@ module _ (start : Start) (all : ℕ → List HostStep) (e : HostStep) (es : List
     -- it has the number of the view
     pub between_number : step.does.between.coordinator.number ≡ view.number
     unfolding install_row
-    between_number = by entering
+    between_number =
+        between_so tc_kind (λ (q : TcPart). q.coordinator.number ≡ view.number) step.own stood x step.does.between view
+        step.does.front entering (λ still. own_number ∙ sym (ap (λ (v : View). v.number) still))
+        (λ above seen. sym (ap (λ (v : View). v.number) seen))
       where
         own_number : step.own.coordinator.number ≡ stood.number
         own_number =
             ap (λ (s : CoordinatorState). s.number) (sym (coordinator_is start me e.host log at step.own step.runs))
             ∙ (have_the_number start me log there ∙ ap (λ k. (view_after start k log).number) (sym at))
-
-        by : PartEnters tc_kind step.own stood x step.does.between view step.does.front
-            → step.does.between.coordinator.number ≡ view.number
-        by (remains same stands none) =
-            ap (λ (q : TcPart). q.coordinator.number) same
-            ∙ (own_number ∙ sym (ap (λ (v : View). v.number) stands))
-        by (installs above same stands front_is) =
-            ap (λ (q : TcPart). q.coordinator.number) same ∙ sym (ap (λ (v : View). v.number) stands)
 
     -- what becomes of a transaction that a full member leads
     module _ (tx : TxId) (led : is_coordinated view.full tx ≡ true) where

@@ -7,6 +7,7 @@ use Rattle.run_theory.specs.Links.{sent_by}
 use Rattle.run_theory.specs.Lists.{Each, IsIn}
 use Rattle.run_theory.proofs.Links.{sent_by_each}
 use Rattle.run_theory.proofs.Pasts.{each_append, each_map}
+use Rattle.commit_laws.proofs.hosts.PartEach.{part_each}
 use Rattle.sig_core.specs.declared.member.Member.{Member}
 use Rattle.sig_core.specs.declared.outs.Outgoing.{Outgoing}
 use Rattle.sig_core.specs.declared.place.BlockId.{BlockId}
@@ -50,7 +51,7 @@ use Rattle.outcome_laws.specs.Counts.{count_sent, one_if}
 use Rattle.outcome_laws.proofs.coordinators.Lists.{count_more, none_counted}
 use Rattle.request_laws.proofs.routes.BesideRows.{epochs_aside, epochs_install_aside, is_of_rows}
 use Rattle.request_laws.proofs.routes.Hosts.{IsBeside, beside_sends}
-use Rattle.request_laws.proofs.routes.PartSteps.{LdmStep, TcStep, ldm_step, tc_step}
+use Rattle.request_laws.proofs.routes.PartSteps.{LdmStep, ldm_step, tc_step}
 use Rattle.request_laws.proofs.tokens.RowHosts.{sent_few, test_taken}
 use Rattle.request_laws.proofs.tokens.FirstInView.{sent_now, taken_now}
 use Rattle.commit_laws.proofs.drive.Kinds.{Drive, Keys, comes, committing, completing, either, either_aside, goes, numbered}
@@ -128,30 +129,11 @@ module _ (drive : Drive) (w : Keys) where
   pub coordinator_tells_none : (start : Start) (member : Member) → IsIn member (made start) → (h : ℕ)
       → h ≡ tc_of start member → (log : List HostStep) (e : HostStep)
       → Each (λ (o : Outgoing). comes drive w o.body ≡ false) (step_after start h log e).effects.sends
-  coordinator_tells_none start member there h at log e = by step.does.sent
-    where
-      step : TcStep start h log e
-      step = tc_step start member there h at log e
-
-      front_none : PartEnters tc_kind step.own (view_after start h log) e.step.taken step.does.between
-          (view_after start h (e ∷ log)) step.does.front → TellNone step.does.front
-      front_none (remains same stands none) = subst TellNone (sym none) tt
-      front_none (installs above same stands sends) =
-          subst TellNone (sym sends) (enters_tells_none step.own e.step.taken.view)
-
-      rest_none : PartTakes tc_kind start.shape step.does.between (view_after start h (e ∷ log)) e.step.taken
-          step.does.own step.does.rest → TellNone step.does.rest
-      rest_none (ignores is nothing) = subst TellNone (sym nothing) tt
-      rest_none (handles passed is sends) =
-          subst TellNone (sym sends) (part_tells_none step.does.between e.step.taken e.step.taken.to.block)
-
-      by : ((step_after start h log e).effects.sends ≡ step.does.front ++ step.does.rest)
-          ⊎ ((step_after start h log e).effects.sends ≡ []) → TellNone (step_after start h log e).effects.sends
-      by (inl is) =
-          subst TellNone (sym is)
-          (each_append TellsNone step.does.front step.does.rest (front_none step.does.enters)
-          (rest_none step.does.takes))
-      by (inr is) = subst TellNone (sym is) tt
+  coordinator_tells_none start member there h at log e =
+      let step = tc_step start member there h at log e in
+      part_each tc_kind TellsNone start.shape step.own _ e.step.taken _ _ (step_after start h log e).effects.sends
+      step.does (λ above. enters_tells_none step.own e.step.taken.view)
+      (λ passed. part_tells_none step.does.between e.step.taken e.step.taken.to.block)
 
 module _ (start : Start) (all : ℕ → List HostStep) (e : HostStep) (es : List HostStep)
     (moment : IsMoment start all (e ∷ es))

@@ -1,7 +1,6 @@
 -- In a view in which a transaction's coordinator is a full member, what it sent itself is all that owners sent, and all
 -- that goes on.
-use Rattle.std.proofs.Common.{◌≡◌, ◌≢◌, ◌≤◌, ◌<◌, ◌⊎◌, ◌∙◌, ℕ, Bool, List, [], ◌∷◌, inl, inr, refl, sym, ap, arith}
-use Rattle.std.proofs.lemmas.Bool.{cases_eq}
+use Rattle.std.proofs.Common.{◌≡◌, ◌≢◌, ◌≤◌, ◌<◌, ◌∙◌, ℕ, Bool, List, [], ◌∷◌, refl, sym, ap, arith}
 use Rattle.run_theory.specs.Lists.{IsIn}
 use Rattle.host_laws.proofs.hosts.Sums.{total_one, total_zero}
 use Rattle.sig_core.specs.declared.member.Member.{Member}
@@ -25,7 +24,7 @@ use Rattle.commit_laws.specs.Once.{owners_sent}
 use Rattle.commit_laws.proofs.drive.Foreign.{IsLedIn, none_now, other_now, rows_now}
 use Rattle.commit_laws.proofs.drive.Kinds.{Drive, goes, numbered}
 use Rattle.commit_laws.proofs.drive.Lists.{mine, onward}
-use Rattle.commit_laws.proofs.drive.Moments.{along_other, along_own}
+use Rattle.commit_laws.proofs.drive.Moments.{along_still}
 use Rattle.commit_laws.proofs.drive.Parts.{aside_off}
 
 module _ (start : Start) (all : ℕ → List HostStep) (tx : TxId) (number : ℕ) (led : IsLedIn start all tx number) where
@@ -52,20 +51,9 @@ module _ (start : Start) (all : ℕ → List HostStep) (tx : TxId) (number : ℕ
       → sent_along start (numbered number (onward tx place)) k (logs_of start es k) ≡ 0
   none_onward [] moment k off place = refl
   none_onward (e ∷ es) moment k off place =
-      by (cases_eq e.host k) (none_onward es (moment_less start all e es moment) k off place)
-    where
-      by : (e.host ≡ k) ⊎ (e.host ≢ k)
-          → sent_along start (numbered number (onward tx place)) k (logs_of start es k) ≡ 0
-          → sent_along start (numbered number (onward tx place)) k (logs_of start (e ∷ es) k) ≡ 0
-      by (inl at) before =
-          omega (
-            arith,
-            along_own start all e es moment (numbered number (onward tx place)) k at,
-            onward_now e es moment (λ is. off (sym at ∙ is)) place,
-            before,
-          )
-      by (inr other) before =
-          omega (arith, along_other start all e es moment (numbered number (onward tx place)) k other, before)
+      along_still start all e es moment (numbered number (onward tx place)) k
+      (λ at. onward_now e es moment (λ is. off (sym at ∙ is)) place)
+      ∙ none_onward es (moment_less start all e es moment) k off place
 
   -- nor does another coordinator, or a takeover, drive a key
   no_keys : (es : List HostStep) → IsMoment start all es → (me : Member) → IsIn me (made start)
@@ -74,26 +62,9 @@ module _ (start : Start) (all : ℕ → List HostStep) (tx : TxId) (number : ℕ
       (logs_of start es (tc_of start me)) ≡ 0
   no_keys [] moment me there other drive wk = refl
   no_keys (e ∷ es) moment me there other drive wk =
-      by (cases_eq e.host (tc_of start me)) (no_keys es (moment_less start all e es moment) me there other drive wk)
-    where
-      by : (e.host ≡ tc_of start me) ⊎ (e.host ≢ tc_of start me)
-          → sent_along start (numbered number (goes drive (mine tx wk))) (tc_of start me)
-          (logs_of start es (tc_of start me)) ≡ 0
-          → sent_along start (numbered number (goes drive (mine tx wk))) (tc_of start me)
-          (logs_of start (e ∷ es) (tc_of start me)) ≡ 0
-      by (inl at) before =
-          omega (
-            arith,
-            along_own start all e es moment (numbered number (goes drive (mine tx wk))) (tc_of start me) at,
-            (other_now start all tx number led e es moment me there other at).0 drive wk,
-            before,
-          )
-      by (inr off) before =
-          omega (
-            arith,
-            along_other start all e es moment (numbered number (goes drive (mine tx wk))) (tc_of start me) off,
-            before,
-          )
+      along_still start all e es moment (numbered number (goes drive (mine tx wk))) (tc_of start me)
+      (λ at. (other_now start all tx number led e es moment me there other at).0 drive wk)
+      ∙ no_keys es (moment_less start all e es moment) me there other drive wk
 
   module _ (es : List HostStep) (moment : IsMoment start all es) where
     abbrev logs : ℕ → List HostStep

@@ -170,10 +170,6 @@ module _ (layout : Layout) (tx : TxId) where
     abbrev own : Keys
     own = mine tx (only key)
 
-    away_less : (b : Bool) → one_if (b && false) ≤ 0
-    away_less true = omega arith
-    away_less false = omega arith
-
     one_less : (a b : Bool) → one_if (a && b) ≤ one_if b
     one_less true b = omega arith
     one_less false true = omega arith

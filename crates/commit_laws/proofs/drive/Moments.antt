@@ -1,9 +1,10 @@
 -- At each moment, in each view, no more keys were committed than their owners sent commits of, and no more completed.
-use Rattle.std.proofs.Common.{◌≡◌, ◌≢◌, ◌≤◌, ◌+◌, ◌⊎◌, ◌==◌, ◌&&◌, ◌||◌, ◌∙◌, ℕ, Bool, true, false, List, [], ◌∷◌, refl, sym, ap, subst, arith, inl, inr}
-use Rattle.std.proofs.lemmas.Bool.{and_parts, cases_eq, eqb-true, true≢false}
+use Rattle.std.proofs.Common.{◌≡◌, ◌≢◌, ◌≤◌, ◌+◌, ◌==◌, ◌&&◌, ◌||◌, ◌∙◌, ℕ, Bool, true, false, List, [], ◌∷◌, refl, sym, ap, subst, arith, inl, inr}
+use Rattle.std.proofs.lemmas.Bool.{and_parts, eqb-true, true≢false}
 use Rattle.std.specs.List.{count_by}
 use Rattle.run_theory.specs.Links.{sent_by}
 use Rattle.run_theory.specs.Lists.{IsIn}
+use Rattle.run_theory.proofs.EventCases.{event_cases, event_moves}
 use Rattle.host_laws.proofs.hosts.Sums.{total_add, total_same, total_zero}
 use Rattle.sig_core.specs.declared.member.Member.{Member}
 use Rattle.sig_core.specs.declared.signal.Signal.{Signal}
@@ -11,7 +12,7 @@ use Rattle.frag_map.specs.Replicas.{first_start}
 use Rattle.world_core.specs.Hosts.{hosts}
 use Rattle.world_core.specs.Start.{Start, made}
 use Rattle.world_core.specs.Steps.{Addressed, HostStep}
-use Rattle.world_views.specs.Machine.{step_after}
+use Rattle.world_views.specs.Machine.{step_after, machine}
 use Rattle.view_laws.specs.Order.{sound_machine}
 use Rattle.view_laws.proofs.follow.Hosts.{first_of}
 use Rattle.view_laws.proofs.runs.FirstMembers.{first_in, node_low, node_some}
@@ -129,11 +130,18 @@ module _ (start : Start) (all : ℕ → List HostStep) (e : HostStep) (es : List
     along_other h off = ap (sent_along start p h) (other_log start all e es moment h off)
 
     pub along_rises : (h : ℕ) → sent_along start p h (before h) ≤ sent_along start p h (behind h)
-    along_rises h = by (cases_eq e.host h)
-      where
-        by : (e.host ≡ h) ⊎ (e.host ≢ h) → sent_along start p h (before h) ≤ sent_along start p h (behind h)
-        by (inl at) = omega (arith, along_own h at)
-        by (inr off) = omega (arith, along_other h off)
+    along_rises h =
+        event_cases (machine start) e es h (λ log. sent_along start p h (before h) ≤ sent_along start p h log)
+        (λ at. omega arith) (λ off. omega arith)
+
+    -- where none is sent now, it is what it was
+    pub along_still : (h : ℕ) → (e.host ≡ h → sent_now start all e es moment p ≡ 0)
+        → sent_along start p h (behind h) ≡ sent_along start p h (before h)
+    along_still =
+        event_moves (machine start) e es
+        (λ h was log. (e.host ≡ h → sent_now start all e es moment p ≡ 0)
+        → sent_along start p h log ≡ sent_along start p h was)
+        (λ none. let nothing = none refl in omega (arith, nothing)) (λ h log none. refl)
 
     pub owners_rise : owners_sent start p before ≤ owners_sent start p behind
     owners_rise =

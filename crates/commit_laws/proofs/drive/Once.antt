@@ -1,8 +1,8 @@
 -- In each view each key of a transaction is committed once at most, and completed once at most, where takeovers commit
 -- and
 -- complete each once.
-use Rattle.std.proofs.Common.{◌≡◌, ◌≢◌, ◌≤◌, ◌⊎◌, ◌==◌, ◌&&◌, ◌∙◌, ℕ, Bool, true, false, List, [], ◌∷◌, inl, inr, refl, sym, ap, arith, subst, nat_eq}
-use Rattle.std.proofs.lemmas.Bool.{and_parts, cases_eq, eqb-true}
+use Rattle.std.proofs.Common.{◌≡◌, ◌≤◌, ◌⊎◌, ◌==◌, ◌&&◌, ◌∙◌, ℕ, Bool, true, false, List, [], ◌∷◌, inl, inr, refl, sym, ap, arith, subst, nat_eq}
+use Rattle.std.proofs.lemmas.Bool.{and_parts, eqb-true}
 use Rattle.std.specs.List.{count_by}
 use Rattle.run_theory.specs.Links.{sent_by}
 use Rattle.run_theory.specs.Lists.{IsIn}
@@ -37,7 +37,7 @@ use Rattle.commit_laws.proofs.drive.Foreign.{IsLedIn, unseen_none}
 use Rattle.commit_laws.proofs.drive.Kinds.{Drive, comes, committing, completing, goes, numbered}
 use Rattle.commit_laws.proofs.drive.Led.{owners_own}
 use Rattle.commit_laws.proofs.drive.Lists.{mine, only}
-use Rattle.commit_laws.proofs.drive.Moments.{along_other, along_own, told_few, total_of_below}
+use Rattle.commit_laws.proofs.drive.Moments.{told_few, total_of_below, along_still}
 use Rattle.commit_laws.proofs.drive.Own.{coordinators_drive_once}
 use Rattle.commit_laws.proofs.hosts.SomePasses.{passing}
 
@@ -149,17 +149,11 @@ module _ (takeovers : TakeoversDriveOnce) (start : Start) (tx : TxId) (number : 
         (λ me there. one (tc_of start me))
       where
         one : (h : ℕ) → sent_along start p h (logs_of start (e ∷ es) h) ≤ sent_along start p h (logs_of start es h)
-        one h = by (cases_eq e.host h)
-          where
-            by : (e.host ≡ h) ⊎ (e.host ≢ h)
-                → sent_along start p h (logs_of start (e ∷ es) h) ≤ sent_along start p h (logs_of start es h)
-            by (inl at) =
-                omega (
-                  arith,
-                  along_own start all e es moment p h at,
-                  unseen_none start e.host (logs_of start es e.host) e number (goes drive (mine tx (only key))) off,
-                )
-            by (inr other) = omega (arith, along_other start all e es moment p h other)
+        one h =
+            let same =
+            along_still start all e es moment p h
+            (λ at. unseen_none start e.host (logs_of start es e.host) e number (goes drive (mine tx (only key))) off) in
+            omega (arith, same)
 
   pub owners_once : (all : ℕ → List HostStep) (es : List HostStep) → IsMoment start all es
       → owners_sent start p (logs_of start es) ≤ 1

@@ -1,11 +1,13 @@
 -- Takeovers commit each key of a transaction that is left in a view once at most there, and complete it once at most,
 -- where
 -- one of them is ordered once.
-use Rattle.std.proofs.Common.{◌≡◌, ◌≢◌, ◌≤◌, ◌+◌, ◌*◌, ◌⊎◌, ◌==◌, ◌++◌, ◌∙◌, ℕ, zero, suc, Bool, true, false, List, [], ◌∷◌, inl, inr, refl, sym, ap, arith, subst}
-use Rattle.std.proofs.lemmas.Bool.{cases_eq, eq-eqb, eqb-true, true≢false}
+use Rattle.std.proofs.Common.{◌≡◌, ◌≢◌, ◌≤◌, ◌+◌, ◌*◌, ◌==◌, ◌++◌, ◌∙◌, ℕ, zero, suc, Bool, true, false, List, [], ◌∷◌, refl, sym, ap, arith, subst}
+use Rattle.std.proofs.lemmas.Bool.{eq-eqb, eqb-true, true≢false}
 use Rattle.std.specs.Prelude.{◌-◌}
 use Rattle.run_theory.specs.Counts.{total}
 use Rattle.run_theory.specs.Lists.{IsIn}
+use Rattle.run_theory.proofs.EventCases.{event_keeps}
+use Rattle.world_views.specs.Machine.{machine}
 use Rattle.frag_map.specs.Layout.{members}
 use Rattle.sig_core.specs.declared.member.Member.{Member}
 use Rattle.sig_core.specs.declared.member.TxId.{TxId}
@@ -21,7 +23,6 @@ use Rattle.view_laws.proofs.runs.ChosenViews.{one_view}
 use Rattle.moment_laws.specs.Moments.{IsMoment, logs_of}
 use Rattle.moment_laws.specs.Places.{tc_of}
 use Rattle.moment_laws.proofs.MomentHosts.{tc_number}
-use Rattle.moment_laws.proofs.MomentTurns.{other_log, own_log}
 use Rattle.moment_laws.proofs.MomentViews.{moment_less}
 use Rattle.request_laws.specs.Tokens.{sent_along, taken_along, total_of}
 use Rattle.request_laws.proofs.tokens.FirstInView.{node_of, total_of_same}
@@ -69,19 +70,9 @@ module _ (orders : OrdersAreOnce) (start : Start) (all : ℕ → List HostStep) 
         → IsRuled start me tx key number (tc_of start me) (logs_of start es (tc_of start me))
     ruled [] moment me there = ruled_first start me there tx key number (tc_of start me)
     ruled (e ∷ es) moment me there =
-        by (cases_eq e.host (tc_of start me)) (ruled es (moment_less start all e es moment) me there)
-      where
-        by : (e.host ≡ tc_of start me) ⊎ (e.host ≢ tc_of start me)
-            → IsRuled start me tx key number (tc_of start me) (logs_of start es (tc_of start me))
-            → IsRuled start me tx key number (tc_of start me) (logs_of start (e ∷ es) (tc_of start me))
-        by (inl at) before =
-            subst (λ h. IsRuled start me tx key number h (logs_of start (e ∷ es) h)) at
-            (subst (IsRuled start me tx key number e.host) (sym (own_log start all e es moment))
-            (next e es moment me there at
-            (subst (λ h. IsRuled start me tx key number h (logs_of start es h)) (sym at) before)))
-        by (inr off) before =
-            subst (IsRuled start me tx key number (tc_of start me))
-            (sym (other_log start all e es moment (tc_of start me) off)) before
+        event_keeps (machine start) e es (λ h log. h ≡ tc_of start me → IsRuled start me tx key number h log)
+        (λ before at. next e es moment me there at (before at)) (tc_of start me)
+        (λ same. ruled es (moment_less start all e es moment) me there) refl
 
 -- a sum over the hosts of coordinators is a part of the sum over all
 last_member : (ms : List Member) (m : Member) (f : Member → ℕ) → total_of (ms ++ m ∷ []) f ≡ total_of ms f + f m

@@ -1,8 +1,9 @@
 -- A coordinator commits each key of a transaction once at most in each view, and completes it once at most.
-use Rattle.std.proofs.Common.{◌≡◌, ◌≢◌, ◌≤◌, ◌<◌, ◌+◌, ◌⊎◌, ◌==◌, ◌&&◌, ◌||◌, ◌∙◌, ℕ, Bool, true, false, None, Some, Option, List, [], ◌∷◌, inl, inr, refl, sym, ap, arith, subst}
-use Rattle.std.proofs.lemmas.Bool.{and_parts, cases_eq, eq-eqb, eqb-true, ltb-false, true≢false}
+use Rattle.std.proofs.Common.{◌≡◌, ◌≢◌, ◌≤◌, ◌<◌, ◌+◌, ◌==◌, ◌&&◌, ◌||◌, ◌∙◌, ℕ, Bool, true, false, None, Some, Option, List, [], ◌∷◌, refl, sym, ap, arith, subst}
+use Rattle.std.proofs.lemmas.Bool.{and_parts, eq-eqb, eqb-true, ltb-false, true≢false}
 use Rattle.std.specs.Prelude.{if◌then◌else◌, not}
 use Rattle.run_theory.specs.Lists.{IsIn, IsPast}
+use Rattle.run_theory.proofs.EventCases.{event_keeps}
 use Rattle.host_laws.proofs.coordinator.OfLive.{each_found}
 use Rattle.host_laws.proofs.hosts.Sums.{total_at}
 use Rattle.sig_core.specs.declared.member.Member.{Member}
@@ -30,7 +31,7 @@ use Rattle.run_laws.specs.Keyed.{AreApart, IsTouchedRightly}
 use Rattle.world_core.specs.Hosts.{hosts}
 use Rattle.world_core.specs.Start.{Start, made}
 use Rattle.world_core.specs.Steps.{HostStep}
-use Rattle.world_views.specs.Machine.{step_after}
+use Rattle.world_views.specs.Machine.{step_after, machine}
 use Rattle.world_views.specs.Sending.{is_own_work}
 use Rattle.view_laws.specs.Order.{sound_machine}
 use Rattle.view_laws.specs.Runs.{view_after}
@@ -40,7 +41,7 @@ use Rattle.moment_laws.specs.Moments.{IsMoment, logs_of}
 use Rattle.moment_laws.specs.Parts.{IsPassed}
 use Rattle.moment_laws.specs.PartSteps.{PartEnters, PartTakes, handles, ignores, installs, remains, tc_kind}
 use Rattle.moment_laws.specs.Places.{tc_of}
-use Rattle.moment_laws.proofs.MomentTurns.{host_low, other_log, own_log}
+use Rattle.moment_laws.proofs.MomentTurns.{host_low, own_log}
 use Rattle.moment_laws.proofs.MomentViews.{moment_less}
 use Rattle.moment_laws.proofs.PartKinds.{tc_is}
 use Rattle.moment_laws.proofs.PartTaken.{IsTakenNow, handled_now}
@@ -448,19 +449,9 @@ module _ (start : Start) (member : Member) (there : IsIn member (made start)) (t
         → IsDriven start member tx (tc_of start member) (logs_of start es (tc_of start member))
     driven all [] moment = driven_first (tc_of start member)
     driven all (e ∷ es) moment =
-        by (cases_eq e.host (tc_of start member)) (driven all es (moment_less start all e es moment))
-      where
-        by : (e.host ≡ tc_of start member) ⊎ (e.host ≢ tc_of start member)
-            → IsDriven start member tx (tc_of start member) (logs_of start es (tc_of start member))
-            → IsDriven start member tx (tc_of start member) (logs_of start (e ∷ es) (tc_of start member))
-        by (inl at) before =
-            subst (λ h. IsDriven start member tx h (logs_of start (e ∷ es) h)) at
-            (subst (IsDriven start member tx e.host) (sym (own_log start all e es moment))
-            (driven_next all e es moment at
-            (subst (λ h. IsDriven start member tx h (logs_of start es h)) (sym at) before)))
-        by (inr off) before =
-            subst (IsDriven start member tx (tc_of start member))
-            (sym (other_log start all e es moment (tc_of start member) off)) before
+        event_keeps (machine start) e es (λ h log. h ≡ tc_of start member → IsDriven start member tx h log)
+        (λ before at. driven_next all e es moment at (before at)) (tc_of start member)
+        (λ same. driven all es (moment_less start all e es moment)) refl
 
 -- so it sends each commit and each completion once at most in a view
 pub coordinators_drive_once : (start : Start) (all : ℕ → List HostStep) (es : List HostStep) → IsMoment start all es

@@ -4,6 +4,7 @@
 use Rattle.std.proofs.Common.{◌≡◌, ◌≢◌, ◌≤◌, ◌+◌, ◌⊎◌, ◌++◌, ◌∙◌, ℕ, zero, suc, Bool, true, false, List, [], ◌∷◌, inl, inr, refl, sym, ap, arith, subst}
 use Rattle.std.proofs.lemmas.Bool.{cases_eq, true≢false}
 use Rattle.run_theory.specs.Lists.{IsIn, IsPast}
+use Rattle.commit_laws.proofs.hosts.PartEach.{between_so}
 use Rattle.host_laws.proofs.hosts.Sums.{total_at}
 use Rattle.sig_core.specs.declared.member.Member.{Member}
 use Rattle.sig_core.specs.declared.member.TxId.{TxId}
@@ -34,7 +35,7 @@ use Rattle.world_views.specs.Sending.{is_own_work}
 use Rattle.view_laws.specs.Runs.{view_after}
 use Rattle.moment_laws.specs.Moments.{IsMoment, logs_of}
 use Rattle.moment_laws.specs.Parts.{IsPassed}
-use Rattle.moment_laws.specs.PartSteps.{PartEnters, PartTakes, handles, ignores, installs, remains, tc_kind}
+use Rattle.moment_laws.specs.PartSteps.{PartTakes, handles, ignores, tc_kind}
 use Rattle.moment_laws.specs.Places.{tc_of}
 use Rattle.moment_laws.proofs.MomentHosts.{tc_started}
 use Rattle.moment_laws.proofs.MomentTurns.{host_low, own_log}
@@ -272,26 +273,21 @@ module _ (orders : OrdersAreOnce) (start : Start) (all : ℕ → List HostStep) 
           (sym (coordinated view.full tx (subst (λ (m : Member). IsIn m view.full) (sym own) full)) ∙ orphan)
 
       before_between : StandsRuled start me tx key number e.host log between.takeover
-      before_between = by (entering start all e es moment me there at)
-        where
-          by : PartEnters tc_kind tc.own (view_after start e.host log) x between view tc.does.front
-              → StandsRuled start me tx key number e.host log between.takeover
-          by (remains same stands none) =
-              subst (λ (q : TcPart). StandsRuled start me tx key number e.host log q.takeover) (sym same)
-              (subst (StandsRuled start me tx key number e.host log)
-              (takeover_is start me e.host log at tc.own tc.runs)
-              (was.now (sym (ap (λ (v : View). v.number) stands))))
-          by (installs above same stands front_is) =
-              subst (λ (q : TcPart). StandsRuled start me tx key number e.host log q.takeover) (sym same)
-              (record {
-                fit = none_fit;
-                rules =
-                    awaits refl
-                    (λ drive.
-                    sent_low_none start (goes drive (mine tx (only key))) number e.host log
-                    (let same_number = ap (λ (v : View). v.number) stands in omega (arith, same_number, above)));
-                idle = λ none. refl;
-              })
+      before_between =
+          between_so tc_kind (λ (q : TcPart). StandsRuled start me tx key number e.host log q.takeover) tc.own
+          (view_after start e.host log) x between view tc.does.front (entering start all e es moment me there at)
+          (λ still.
+          subst (StandsRuled start me tx key number e.host log) (takeover_is start me e.host log at tc.own tc.runs)
+          (was.now (sym (ap (λ (v : View). v.number) still))))
+          (λ above seen. record {
+            fit = none_fit;
+            rules =
+                awaits refl
+                (λ drive.
+                sent_low_none start (goes drive (mine tx (only key))) number e.host log
+                (let same_number = ap (λ (v : View). v.number) seen in omega (arith, same_number, above)));
+            idle = λ none. refl;
+          })
 
       row : IsPassed start.shape (part.Tc between) view x → (b : BlockId) → x.to.block ≡ b
           → tc.does.own ≡ (tc_row between b x).state → tc.does.rest ≡ (tc_row between b x).effects.sends

@@ -1,9 +1,10 @@
 -- Nobody has a record of a transaction that hasn't begun.
-use Rattle.std.proofs.Common.{◌≡◌, ◌≢◌, ◌⊎◌, ◌∙◌, ℕ, Bool, true, false, filter, map, List, [], ◌∷◌, refl, sym, ap, subst, inl, inr}
-use Rattle.std.proofs.lemmas.Bool.{cases_eq, true≢false}
+use Rattle.std.proofs.Common.{◌≡◌, ◌≢◌, ◌∙◌, ℕ, Bool, true, false, filter, map, List, [], ◌∷◌, refl, sym, ap, subst}
+use Rattle.std.proofs.lemmas.Bool.{true≢false}
 use Rattle.std.specs.Prelude.{Option, None, Some, is_some}
 use Rattle.run_theory.specs.Lists.{IsIn}
-use Rattle.run_theory.proofs.Runs.{log_of-other, log_of-own}
+use Rattle.run_theory.proofs.Runs.{log_of-other}
+use Rattle.run_theory.proofs.EventCases.{event_cases}
 use Rattle.sig_core.specs.declared.member.Member.{Member}
 use Rattle.sig_core.specs.declared.member.TxId.{TxId}
 use Rattle.sig_core.specs.declared.rows.PendingRecord.{PendingRecord}
@@ -50,13 +51,10 @@ module _ (start : Start) (all : ℕ → List HostStep) (tx : TxId) (there : IsIn
 
     unborn_less : (e : HostStep) (es : List HostStep) → IsUnborn start tx there (logs_of start (e ∷ es) h)
         → IsUnborn start tx there (logs_of start es h)
-    unborn_less e es now = by (cases_eq e.host h)
-      where
-        by : (e.host ≡ h) ⊎ (e.host ≢ h) → IsUnborn start tx there (logs_of start es h)
-        by (inl at) =
-            unborn_before start tx there (logs_of start es h) e
-            (subst (IsUnborn start tx there) (log_of-own (machine start) e es h at) now)
-        by (inr other) = subst (IsUnborn start tx there) (log_of-other (machine start) e es h other) now
+    unborn_less e es =
+        event_cases (machine start) e es h
+        (λ log. IsUnborn start tx there log → IsUnborn start tx there (logs_of start es h))
+        (λ at. unborn_before start tx there (logs_of start es h) e) (λ off now. now)
 
     -- in no view was anything asked for it
     unasked : (es : List HostStep) → IsUnborn start tx there (logs_of start es h) → (view : View) (other : TxId)
@@ -95,21 +93,17 @@ module _ (start : Start) (all : ℕ → List HostStep) (tx : TxId) (there : IsIn
 
 -- so whoever begins has none
 pub begun_have_none : BegunHaveNone
-begun_have_none start all e es moment tx there none some m among key = by (cases_eq e.host h)
+begun_have_none start all e es moment tx there none some m among key =
+    event_cases (machine start) e es h
+    (λ log. entry_of (coordinator_after start (coordinator_member tx) log) tx ≡ Some fresh
+    → record_at start (logs_of start (e ∷ es)) m key tx ≡ None)
+    (λ at begun.
+    ap (λ log. found tx (at_key key (rows_after start m log).lqh).cell.pending)
+    (log_of-other (machine start) e es (ldm_of start m)
+    (λ is. ldm_no_tc start m (coordinator_member tx) among there (sym is ∙ at)))
+    ∙ unborn_none start all tx there es (moment_less start all e es moment)
+    (begun_unborn start tx there (logs_of start es h) e none begun) m among key)
+    (λ off begun. absurd (let nothing : Some fresh ≡ None = sym begun ∙ none in cc)) some
   where
     h : ℕ
     h = tc_of start (coordinator_member tx)
-
-    by : (e.host ≡ h) ⊎ (e.host ≢ h) → record_at start (logs_of start (e ∷ es)) m key tx ≡ None
-    by (inl at) =
-        let unborn = begun_unborn start tx there (logs_of start es h) e none
-        (ap (λ log. entry_of (coordinator_after start (coordinator_member tx) log) tx)
-        (sym (log_of-own (machine start) e es h at)) ∙ some) in
-        ap (λ log. found tx (at_key key (rows_after start m log).lqh).cell.pending)
-        (log_of-other (machine start) e es (ldm_of start m)
-        (λ is. ldm_no_tc start m (coordinator_member tx) among there (sym is ∙ at)))
-        ∙ unborn_none start all tx there es (moment_less start all e es moment) unborn m among key
-    by (inr other) =
-        absurd (let nothing : Some fresh ≡ None =
-        sym some ∙ (ap (λ log. entry_of (coordinator_after start (coordinator_member tx) log) tx)
-        (log_of-other (machine start) e es h other) ∙ none) in cc)

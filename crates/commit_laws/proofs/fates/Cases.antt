@@ -1,5 +1,5 @@
 -- What becomes of a transaction, case by case.
-use Rattle.std.proofs.Common.{◌≡◌, Bool, true, false, refl, sym}
+use Rattle.std.proofs.Common.{◌≡◌, ◌⊎◌, Bool, true, false, inl, inr, refl, sym}
 use Rattle.std.proofs.lemmas.Bool.{true≢false}
 use Rattle.commit_laws.specs.Fates.{aborts, commits, fate_if}
 
@@ -42,3 +42,21 @@ none_aborts false false forth lost false unknown is none = refl
 -- none does both
 pub not_both : commits ≡ aborts → ⊥
 not_both is = absurd cc
+
+-- why one commits
+pub commits_by : (known full forth lost trace : Bool) → fate_if known full forth lost trace ≡ commits
+    → (known ≡ true) ⊎ ((forth ≡ true) ⊎ (trace ≡ true))
+commits_by true full forth lost trace is = inl refl
+commits_by false true true lost trace is = inr (inl refl)
+commits_by false true false true trace is = absurd cc
+commits_by false true false false trace is = absurd cc
+commits_by false false forth lost true is = inr (inr refl)
+commits_by false false forth lost false is = absurd cc
+
+-- of another coordinator one commits or aborts
+pub gone_either : (known full forth lost trace : Bool) → full ≡ false
+    → (fate_if known full forth lost trace ≡ commits) ⊎ (fate_if known full forth lost trace ≡ aborts)
+gone_either true full forth lost trace is = inl refl
+gone_either false true forth lost trace is = absurd (true≢false is)
+gone_either false false forth lost true is = inl refl
+gone_either false false forth lost false is = inr refl

@@ -1,12 +1,14 @@
 -- Transactions that are decided and don't abort: nothing more is asked for them; they were so before, unless they are
 -- decided by the event, and then each key is settled.
 use Rattle.std.proofs.Common.{◌≡◌, ◌≢◌, ◌≤◌, ◌⊎◌, ◌||◌, ◌&&◌, ◌∙◌, ℕ, Bool, true, false, List, ◌∷◌, refl, sym, ap, subst, arith, inl, inr}
-use Rattle.std.proofs.lemmas.Bool.{and_parts, cases_eq, or_cases, true≢false}
+use Rattle.std.proofs.lemmas.Bool.{and_parts, or_cases, true≢false}
 use Rattle.std.specs.Prelude.{not}
 use Rattle.std.specs.List.{list_any}
 use Rattle.run_theory.specs.Lists.{IsIn}
 use Rattle.run_theory.proofs.Pasts.{each_in}
-use Rattle.run_theory.proofs.Runs.{log_of-other, log_of-own}
+use Rattle.run_theory.proofs.Runs.{log_of-other}
+use Rattle.commit_laws.proofs.fates.Cases.{commits_by}
+use Rattle.commit_laws.proofs.hosts.MarkCases.{mark_cases}
 use Rattle.sig_core.specs.declared.mark.Mark.TheVariants.{Decided}
 use Rattle.sig_core.specs.declared.member.Member.{Member}
 use Rattle.sig_core.specs.declared.member.TxId.{TxId}
@@ -18,7 +20,6 @@ use Rattle.tc_block.specs.Doom.{is_among}
 use Rattle.lqh_block.specs.declared.request.Marker.{Marker}
 use Rattle.lqh_block.specs.Views.{was_begun_by}
 use Rattle.lqh_views.specs.State.{ReplicaState}
-use Rattle.world_core.specs.Marks.{has_mark}
 use Rattle.world_core.specs.Start.{Start, made}
 use Rattle.world_core.specs.Steps.{HostStep}
 use Rattle.world_views.specs.Machine.{machine}
@@ -52,16 +53,6 @@ not_aborting false true false true trace isnt = absurd (isnt refl)
 not_aborting false true false false trace isnt = inr (inl (refl, inr refl))
 not_aborting false false forth lost true isnt = inr (inr (refl, refl))
 not_aborting false false forth lost false isnt = absurd (isnt refl)
-
--- and of one that commits
-committing : (known full forth lost trace : Bool) → fate_if known full forth lost trace ≡ commits
-    → (known ≡ true) ⊎ ((forth ≡ true) ⊎ (trace ≡ true))
-committing true full forth lost trace is = inl refl
-committing false true true lost trace is = inr (inl refl)
-committing false true false true trace is = absurd cc
-committing false true false false trace is = absurd cc
-committing false false forth lost true is = inr (inr refl)
-committing false false forth lost false is = absurd cc
 
 module _ (forth : ForthIsKnownAlways) where
   module _ (start : Start) (all : ℕ → List HostStep) (es : List HostStep) (moment : IsMoment start all es) (tx : TxId)
@@ -100,7 +91,7 @@ module _ (forth : ForthIsKnownAlways) where
       -- whoever commits has gone forth
       pub commits_forth : fate start (logs_of start es) tx ≡ commits → is_forth start (logs_of start es) tx ≡ true
       commits_forth is =
-          by (committing (is_known start logs tx) (is_led_by_full start logs tx) (is_forth start logs tx)
+          by (commits_by (is_known start logs tx) (is_led_by_full start logs tx) (is_forth start logs tx)
           (is_lost start logs tx) (has_trace start logs tx) is)
         where
           by : (is_known start logs tx ≡ true) ⊎ ((is_forth start logs tx ≡ true) ⊎ (has_trace start logs tx ≡ true))
@@ -169,32 +160,17 @@ module _ (forth : ForthIsKnownAlways) where
         pub marked : IsIn (Decided tx epoch) e.step.marks
 
       pub decides_now : is_decided start new tx ≡ true → is_decided start old tx ≡ false → DecidesNow
-      decides_now is isnt = by (cases_eq e.host home)
-        where
-          home : ℕ
-          home = tc_of start (coordinator_member tx)
-
-          now : e.host ≡ home → list_any (is_decision tx) e.step.marks ≡ true
-          now at = either (or_cases (list_any (is_decision tx) e.step.marks) (has_mark (is_decision tx) (old home))
-              (sym (ap (has_mark (is_decision tx)) (log_of-own (machine start) e es home at)) ∙ is))
-            where
-              either : (list_any (is_decision tx) e.step.marks ≡ true) ⊎ (has_mark (is_decision tx) (old home) ≡ true)
-                  → list_any (is_decision tx) e.step.marks ≡ true
-              either (inl some) = some
-              either (inr was) = absurd (true≢false (sym was ∙ isnt))
-
-          by : (e.host ≡ home) ⊎ (e.host ≢ home) → DecidesNow
-          by (inl at) =
-              let one = decision_in tx e.step.marks (now at) in
-              record {
-                at = at;
-                made = decided_made start all (e ∷ es) moment tx is;
-                epoch = one.epoch;
-                marked = one.inside;
-              }
-          by (inr other) =
-              absurd (true≢false (sym is
-              ∙ (ap (has_mark (is_decision tx)) (log_of-other (machine start) e es home other) ∙ isnt)))
+      decides_now is isnt =
+          mark_cases start e es (tc_of start (coordinator_member tx)) (is_decision tx)
+          (λ at some.
+          let one = decision_in tx e.step.marks some in
+          record {
+            at = at;
+            made = decided_made start all (e ∷ es) moment tx is;
+            epoch = one.epoch;
+            marked = one.inside;
+          })
+          (λ was. absurd (true≢false (sym was ∙ isnt))) is
 
       module _ (decides : DecidesNow) where
         -- rows, and what the client's side knows, are as before

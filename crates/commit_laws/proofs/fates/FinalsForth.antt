@@ -1,13 +1,15 @@
 -- Whoever is final was committed by its coordinator: what it wrote was applied by rows at a commit, or the client's
 -- side reported a commit that it was told of.
-use Rattle.std.proofs.Common.{◌≡◌, ◌≢◌, ◌⊎◌, ◌||◌, ◌∙◌, cond, ℕ, zero, suc, Bool, true, false, List, [], ◌∷◌, filter, refl, sym, ap, subst, inl, inr}
-use Rattle.std.proofs.lemmas.Bool.{cases_eq, true≢false}
+use Rattle.std.proofs.Common.{◌≡◌, ◌≢◌, ◌⊎◌, ◌∙◌, cond, ℕ, zero, suc, Bool, true, false, List, [], ◌∷◌, filter, refl, sym, ap, subst, inl, inr}
+use Rattle.std.proofs.lemmas.Bool.{true≢false, or_cases}
 use Rattle.std.specs.List.{list_any}
 use Rattle.std.specs.Prelude.{if◌then◌else◌}
 use Rattle.run_theory.proofs.Pasts.{each_in}
-use Rattle.run_theory.proofs.Runs.{log_of-other, log_of-own}
+use Rattle.run_theory.proofs.Runs.{log_of-own}
 use Rattle.run_theory.specs.Lists.{Each, IsIn}
 use Rattle.run_theory.specs.Runs.{Happens}
+use Rattle.commit_laws.proofs.forth.Grows.{forth_grows}
+use Rattle.commit_laws.proofs.hosts.MarkCases.{mark_cases, marked_cases}
 use Rattle.sig_core.proofs.TxLemmas.{same_tx-is}
 use Rattle.sig_core.specs.declared.entry.Entry.{Entry}
 use Rattle.sig_core.specs.declared.mark.Mark.{Mark}
@@ -46,7 +48,7 @@ use Rattle.commit_laws.specs.Owed.{FinalsAreForth}
 use Rattle.commit_laws.specs.Traces.{IsApplied}
 use Rattle.commit_laws.specs.Values.{history_at, is_final, is_final_entry}
 use Rattle.commit_laws.proofs.markers.AppliedMarks.{marks_of_commit}
-use Rattle.commit_laws.proofs.forth.DecidedStay.{applied_more, forth_more}
+use Rattle.commit_laws.proofs.forth.DecidedStay.{applied_more}
 use Rattle.commit_laws.proofs.views.AtEvents.{some_of}
 use Rattle.commit_laws.proofs.forth.All.{forth_is_known}
 use Rattle.commit_laws.proofs.forth.Client.{IsToldOf, by_coordinator, by_takeover}
@@ -86,9 +88,6 @@ module _ (start : Start) (all : ℕ → List HostStep) (e : HostStep) (es : List
   where
     abbrev old : ℕ → List HostStep
     old = logs_of start es
-
-    abbrev new : ℕ → List HostStep
-    new = logs_of start (e ∷ es)
 
     abbrev F : TxId → Type 0
     F = IsForth start old
@@ -158,29 +157,13 @@ module _ (start : Start) (all : ℕ → List HostStep) (e : HostStep) (es : List
         (chain_told start all e es moment c.takes.now (Commit v key c.epoch c.chain 0) c.body_is
         (λ (y : Addressed). TellsForth F y.signal.body) (forth_is_known start all es before).signals)
 
-or_either : (a b : Bool) → (a || b) ≡ true → (a ≡ true) ⊎ (b ≡ true)
-or_either true b is = inl refl
-or_either false b is = inr is
-
 reported_forth : (start : Start) (all : ℕ → List HostStep) (es : List HostStep) → IsMoment start all es → (v : TxId)
     (h : ℕ) → has_mark (is_reported v) (logs_of start es h) ≡ true → is_forth start (logs_of start es) v ≡ true
 reported_forth start all [] moment v h is = absurd (true≢false (sym is))
 reported_forth start all (e ∷ es) moment v h is =
-    forth_more start all e es moment v
-    (by (cases_eq e.host h) (reported_forth start all es (moment_less start all e es moment) v h))
-  where
-    by : (e.host ≡ h) ⊎ (e.host ≢ h)
-        → (has_mark (is_reported v) (logs_of start es h) ≡ true → is_forth start (logs_of start es) v ≡ true)
-        → is_forth start (logs_of start es) v ≡ true
-    by (inl at) rest =
-        either (or_either (list_any (is_reported v) e.step.marks) (has_mark (is_reported v) (logs_of start es h))
-        (sym (ap (has_mark (is_reported v)) (log_of-own (machine start) e es h at)) ∙ is))
-      where
-        either : (list_any (is_reported v) e.step.marks ≡ true) ⊎ (has_mark (is_reported v) (logs_of start es h) ≡ true)
-            → is_forth start (logs_of start es) v ≡ true
-        either (inl now) = reported_now start all e es moment v now
-        either (inr older) = rest older
-    by (inr other) rest = rest (sym (ap (has_mark (is_reported v)) (log_of-other (machine start) e es h other)) ∙ is)
+    forth_grows start e es v
+    (mark_cases start e es h (is_reported v) (λ at now. reported_now start all e es moment v now)
+    (reported_forth start all es (moment_less start all e es moment) v h) is)
 
 -- on some key it is applied
 record IsAppliedOnOne (start : Start) (logs : ℕ → List HostStep) (v : TxId) : Type 0 where
@@ -191,7 +174,8 @@ applied_on_one : (start : Start) (all : ℕ → List HostStep) (es : List HostSt
     (h : ℕ) → has_mark (is_applied v) (logs_of start es h) ≡ true → IsAppliedOnOne start (logs_of start es) v
 applied_on_one start all [] moment v h is = absurd (true≢false (sym is))
 applied_on_one start all (e ∷ es) moment v h is =
-    by (cases_eq e.host h) (applied_on_one start all es (moment_less start all e es moment) v h)
+    mark_cases start e es h (is_applied v) (λ at now. now_one (applied_now start all e es moment v now))
+    (λ was. more (applied_on_one start all es (moment_less start all e es moment) v h was)) is
   where
     more : IsAppliedOnOne start (logs_of start es) v → IsAppliedOnOne start (logs_of start (e ∷ es)) v
     more one = record { key = one.key; applied = applied_more start all e es moment v one.key one.applied }
@@ -208,43 +192,16 @@ applied_on_one start all (e ∷ es) moment v h is =
       };
     }
 
-    by : (e.host ≡ h) ⊎ (e.host ≢ h)
-        → (has_mark (is_applied v) (logs_of start es h) ≡ true → IsAppliedOnOne start (logs_of start es) v)
-        → IsAppliedOnOne start (logs_of start (e ∷ es)) v
-    by (inl at) rest =
-        either (or_either (list_any (is_applied v) e.step.marks) (has_mark (is_applied v) (logs_of start es h))
-        (sym (ap (has_mark (is_applied v)) (log_of-own (machine start) e es h at)) ∙ is))
-      where
-        either : (list_any (is_applied v) e.step.marks ≡ true) ⊎ (has_mark (is_applied v) (logs_of start es h) ≡ true)
-            → IsAppliedOnOne start (logs_of start (e ∷ es)) v
-        either (inl now) = now_one (applied_now start all e es moment v now)
-        either (inr older) = more (rest older)
-    by (inr other) rest =
-        more (rest (sym (ap (has_mark (is_applied v)) (log_of-other (machine start) e es h other)) ∙ is))
-
 -- whoever was applied has gone forth
 pub applied_forth : (start : Start) (all : ℕ → List HostStep) (es : List HostStep) → IsMoment start all es → (v : TxId)
     (key : List ℕ) → IsApplied start (logs_of start es) v key → is_forth start (logs_of start es) v ≡ true
 applied_forth start all [] moment v key applied = absurd applied.marked
 applied_forth start all (e ∷ es) moment v key applied =
-    forth_more start all e es moment v
-    (by (cases_eq e.host h)
+    forth_grows start e es v
+    (marked_cases start e es (ldm_of start applied.member) (Applied v key)
+    (applied_forth_now start all e es moment applied.member applied.is_made v key)
     (λ older. applied_forth start all es (moment_less start all e es moment) v key
-    (record { member = applied.member; is_made = applied.is_made; marked = older })))
-  where
-    h : ℕ
-    h = ldm_of start applied.member
-
-    by : (e.host ≡ h) ⊎ (e.host ≢ h)
-        → (IsMarked (Applied v key) (logs_of start es h) → is_forth start (logs_of start es) v ≡ true)
-        → is_forth start (logs_of start es) v ≡ true
-    by (inl at) rest = own (subst (IsMarked (Applied v key)) (log_of-own (machine start) e es h at) applied.marked)
-      where
-        own : IsMarked (Applied v key) (e ∷ logs_of start es h) → is_forth start (logs_of start es) v ≡ true
-        own (inl now) = applied_forth_now start all e es moment applied.member applied.is_made v key at now
-        own (inr older) = rest older
-    by (inr other) rest =
-        rest (subst (IsMarked (Applied v key)) (log_of-other (machine start) e es h other) applied.marked)
+    (record { member = applied.member; is_made = applied.is_made; marked = older })) applied.marked)
 
 -- a host that has the mark
 record HasItAt (test : Mark → Bool) (logs : ℕ → List HostStep) : Type 0 where
@@ -254,7 +211,7 @@ record HasItAt (test : Mark → Bool) (logs : ℕ → List HostStep) : Type 0 wh
 host_with : (test : Mark → Bool) (n : ℕ) (logs : ℕ → List HostStep) → have_mark test n logs ≡ true → HasItAt test logs
 host_with test zero logs is = absurd (true≢false (sym is))
 host_with test (suc n) logs is =
-    by (or_either (has_mark test (logs n)) (have_mark test n logs) is) (host_with test n logs)
+    by (or_cases (has_mark test (logs n)) (have_mark test n logs) is) (host_with test n logs)
   where
     by : (has_mark test (logs n) ≡ true) ⊎ (have_mark test n logs ≡ true)
         → (have_mark test n logs ≡ true → HasItAt test logs) → HasItAt test logs

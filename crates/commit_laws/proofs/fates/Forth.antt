@@ -2,7 +2,7 @@
 -- the
 -- current view.
 use Rattle.std.proofs.Common.{◌≡◌, ◌≢◌, ◌⊎◌, ℕ, Bool, true, false, List, ◌∷◌, inl, inr, sym, subst}
-use Rattle.std.proofs.lemmas.Bool.{and_parts, true≢false}
+use Rattle.std.proofs.lemmas.Bool.{and_parts, true≢false, or_cases}
 use Rattle.std.specs.List.{list_any}
 use Rattle.run_theory.specs.Lists.{IsIn}
 use Rattle.run_theory.proofs.Pasts.{each_in}
@@ -24,12 +24,11 @@ use Rattle.commit_laws.specs.Takeovers.{IsOrphan}
 use Rattle.commit_laws.specs.Together.{FatesMove}
 use Rattle.commit_laws.specs.Traces.{has_trace, is_committed_of, is_known, is_marker_of, leave_trace, members_now, rows_at}
 use Rattle.commit_laws.proofs.forth.DecidedStay.{forth_decided, unknown_before, written_before, written_more}
-use Rattle.commit_laws.proofs.fates.Reasons.{commits_by, gone_either}
+use Rattle.commit_laws.proofs.fates.Cases.{commits_by, gone_either}
 use Rattle.commit_laws.proofs.forth.All.{forth_is_known}
 use Rattle.commit_laws.proofs.hosts.SomePasses.{passing}
 use Rattle.commit_laws.proofs.records.Replicas.{member_made}
 use Rattle.commit_laws.proofs.takeover.Words.{Commits, IsRight}
-use Rattle.commit_laws.proofs.hosts.Joined.{either}
 
 module _ (start : Start) (all : ℕ → List HostStep) (es : List HostStep) (moment : IsMoment start all es) where
   abbrev logs : ℕ → List HostStep
@@ -42,7 +41,7 @@ module _ (start : Start) (all : ℕ → List HostStep) (es : List HostStep) (mom
   pub left_forth : (member : Member) → IsIn member (made start) → (tx : TxId)
       → leave_trace tx (rows_at start (logs_of start es) member) ≡ true → is_forth start (logs_of start es) tx ≡ true
   left_forth member there tx left =
-      by (either (list_any (is_committed_of tx) (rows_at start logs member).lqh.rows.pending)
+      by (or_cases (list_any (is_committed_of tx) (rows_at start logs member).lqh.rows.pending)
       (list_any (is_marker_of tx) (rows_at start logs member).lqh.markers) left)
     where
       of_record : (r : PendingRecord) (b : Bool) → b ≡ true
@@ -108,12 +107,6 @@ module _ (start : Start) (all : ℕ → List HostStep) (e : HostStep) (es : List
     (moment : IsMoment start all (e ∷ es)) (moves : (tx : TxId) → FatesMove start e es tx)
     (same : current start (logs_of start (e ∷ es)) ≡ current start (logs_of start es))
   where
-    abbrev old : ℕ → List HostStep
-    old = logs_of start es
-
-    abbrev new : ℕ → List HostStep
-    new = logs_of start (e ∷ es)
-
     less : IsMoment start all es
     less = moment_less start all e es moment
 

@@ -4,8 +4,8 @@ use Rattle.std.proofs.lemmas.Bool.{true≢false}
 use Rattle.std.specs.List.{list_any}
 use Rattle.std.specs.Map.{keys_of}
 use Rattle.std.specs.Prelude.{if◌then◌else◌, Option, None, Some, is_some}
-use Rattle.run_theory.specs.Lists.{Each, IsIn}
-use Rattle.run_theory.proofs.Pasts.{each_in}
+use Rattle.run_theory.specs.Lists.{IsIn}
+use Rattle.run_theory.proofs.Pasts.{each_in, each_from}
 use Rattle.sig_core.specs.declared.member.TxId.{TxId}
 use Rattle.sig_core.specs.declared.signal.Body.{Body}
 use Rattle.sig_core.specs.declared.signal.Body.TheVariants.{Client, Epoch, Host, Membership}
@@ -38,15 +38,10 @@ use Rattle.tc_views.specs.Views.{fence_row}
 use Rattle.request_laws.specs.Ways.{entry_of}
 use Rattle.request_laws.proofs.strays.DoomedInSteps.{dooms, stays_doomed}
 
--- each of a list is in it
-each_self : {A : Type 0} (P : A → Type 0) (xs : List A) → ((x : A) → IsIn x xs → P x) → Each P xs
-each_self P [] all = tt
-each_self P (x ∷ xs) all = (all x (inl refl), each_self P xs (λ y there. all y (inr there)))
-
 -- the entry of a transaction stands among them
 found_in : (live : Live) (tx : TxId) (t : Transaction) → of_live tx live ≡ Some t → IsIn (tx, t) live
 found_in live tx t is =
-    each_found (λ (e : TxId × Transaction). IsIn e live) live tx t (each_self _ live (λ e there. there)) is
+    each_found (λ (e : TxId × Transaction). IsIn e live) live tx t (each_from _ live (λ e there. there)) is
 
 -- where none stands twice, it is the one that stands there
 in_found : (live : Live) → KeysOnce live → (e : TxId × Transaction) → IsIn e live → of_live e.0 live ≡ Some e.1

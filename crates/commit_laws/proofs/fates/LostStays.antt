@@ -1,10 +1,10 @@
 -- Whoever is lost at its coordinator is so for ever.
 use Rattle.std.proofs.Common.{◌≡◌, ◌≢◌, ◌⊎◌, ◌∙◌, ◌++◌, ◌||◌, ◌&&◌, ℕ, Bool, true, false, not, List, [], ◌∷◌, refl, sym, ap, subst, inl, inr}
-use Rattle.std.proofs.lemmas.Bool.{and_parts, cases_eq, true≢false}
+use Rattle.std.proofs.lemmas.Bool.{and_parts, true≢false, or_right}
 use Rattle.std.specs.Prelude.{if◌then◌else◌, Option, None, Some}
 use Rattle.run_theory.specs.Lists.{IsIn}
-use Rattle.run_theory.proofs.Runs.{log_of-other, log_of-own}
 use Rattle.run_theory.proofs.Pasts.{each_append, each_map}
+use Rattle.run_theory.proofs.EventCases.{event_cases}
 use Rattle.frag_map.specs.Layout.{first_layout}
 use Rattle.sig_core.specs.declared.member.Member.{Member}
 use Rattle.sig_core.specs.declared.member.TxId.{TxId}
@@ -51,10 +51,9 @@ use Rattle.request_laws.proofs.phases.Moves as moves
 use Rattle.request_laws.proofs.phases.Moves.{Comes}
 use Rattle.request_laws.proofs.phases.TurnSends.{AreSpared, IsSpared}
 use Rattle.request_laws.proofs.phases.Turns as turns
-use Rattle.request_laws.proofs.phases.Turns.{Changes, IsDecidedAs, IsStill}
+use Rattle.request_laws.proofs.phases.Turns.{Changes, IsStill}
 use Rattle.request_laws.proofs.phases.Steps.{left_of}
-use Rattle.request_laws.proofs.phases.OneWay.{WaySays, goes_one_way, sent_before, sent_behind}
-use Rattle.commit_laws.specs.Going.{is_lost}
+use Rattle.request_laws.proofs.phases.OneWay.{WaySays, goes_one_way, sent_before, sent_behind, at_decided, at_aborting, is_decided_as, aborting_not_decided}
 use Rattle.commit_laws.specs.Lost.{LostStay}
 use Rattle.commit_laws.proofs.fates.LostDoomed.{Dooms, IsPromise, IsThere, IsUndecidedThere, row_dooms, takes_no_epoch}
 
@@ -120,34 +119,6 @@ undecided_not (Committing epoch awaited) is = absurd (true≢false (sym is))
 undecided_not (Completing epoch awaited) is = absurd (true≢false (sym is))
 undecided_not (Aborting why verifying awaited) is = refl
 
-decided_as : (phase : Phase) (epoch : ℕ) → IsDecidedAs phase epoch → is_decided phase ≡ true
-decided_as Open epoch is = absurd is
-decided_as Verifying epoch is = absurd is
-decided_as (Committing now awaited) epoch is = refl
-decided_as (Completing now awaited) epoch is = refl
-decided_as (Aborting why verifying awaited) epoch is = absurd is
-
-aborting_not : (phase : Phase) → is_aborting phase ≡ true → is_decided phase ≡ false
-aborting_not Open is = refl
-aborting_not Verifying is = refl
-aborting_not (Committing epoch awaited) is = absurd (true≢false (sym is))
-aborting_not (Completing epoch awaited) is = absurd (true≢false (sym is))
-aborting_not (Aborting why verifying awaited) is = refl
-
-says_forth : (phase : Phase) (f b : Bool) → WaySays f b phase → is_decided phase ≡ true → f ≡ true
-says_forth Open f b says is = absurd (true≢false (sym is))
-says_forth Verifying f b says is = absurd (true≢false (sym is))
-says_forth (Committing epoch awaited) f b says is = says.0
-says_forth (Completing epoch awaited) f b says is = says.0
-says_forth (Aborting why verifying awaited) f b says is = absurd (true≢false (sym is))
-
-says_back : (phase : Phase) (f b : Bool) → WaySays f b phase → is_aborting phase ≡ true → b ≡ true
-says_back Open f b says is = absurd (true≢false (sym is))
-says_back Verifying f b says is = absurd (true≢false (sym is))
-says_back (Committing epoch awaited) f b says is = absurd (true≢false (sym is))
-says_back (Completing epoch awaited) f b says is = absurd (true≢false (sym is))
-says_back (Aborting why verifying awaited) f b says is = says.1
-
 undecided_forth : (phase : Phase) (f b : Bool) → WaySays f b phase → is_undecided phase ≡ true → f ≡ false
 undecided_forth Open f b says is = says.0
 undecided_forth Verifying f b says is = says.0
@@ -162,10 +133,6 @@ not_true false is = refl
 not_both : (f b : Bool) → b ≡ true → (f ≡ true → b ≡ false) → f ≡ false
 not_both true b is one_way = absurd (true≢false (sym is ∙ one_way refl))
 not_both false b is one_way = refl
-
-or_right : (a b : Bool) → b ≡ true → (a || b) ≡ true
-or_right true b is = refl
-or_right false b is = is
 
 not_promise : (epoch : ℕ) (tx : TxId) (body : Body) → body ≡ Epoch (DiVerifyConf tx epoch) → IsPromise body → ⊥
 not_promise epoch tx body is promise =
@@ -328,12 +295,12 @@ module _ (start : Start) (member : Member) (there : IsIn member (made start)) (t
             let same : turn.step.state ≡ t = cc (sym (on_some on) ∙ (held epoch about ∙ found)) in
             let is : is_decided t.phase ≡ true =
             subst (λ (u : Transaction). is_decided u.phase ≡ true) same
-            (decided_as turn.step.state.phase epoch (goes.on on)) in
+            (is_decided_as turn.step.state.phase epoch (goes.on on)) in
             absurd (true≢false (sym is ∙ ap is_decided at))
 
         goes_back : turns.Back tx t turn → (over : Bool) → turn.over ≡ over → Remains
         goes_back goes false on =
-            stays_by turn.step.state (on_some on) (aborting_not turn.step.state.phase (goes.on on))
+            stays_by turn.step.state (on_some on) (aborting_not_decided turn.step.state.phase (goes.on on))
             (no_commit goes.commits)
         goes_back goes true over = record {
           forth =
@@ -346,7 +313,7 @@ module _ (start : Start) (member : Member) (there : IsIn member (made start)) (t
                 → b (e ∷ log) ≡ true
             back (inl is) =
                 gone_stays start member tx is_aborting (tells_abort tx) log e
-                (says_back t.phase (f log) (b log) says is)
+                (at_aborting t.phase (f log) (b log) says is)
             back (inr is) = gone_told start member tx is_aborting (tells_abort tx) log e (abort_told is)
 
         changed : (body : Body) → e.step.taken.body ≡ body → Changes (c log).tc.node tx t body turn → Remains
@@ -358,12 +325,12 @@ module _ (start : Start) (member : Member) (there : IsIn member (made start)) (t
             on_by on Verifying (ap (λ (u : Transaction). u.phase) now ∙ at) refl still.commits
         changed body is (turns.decides epoch at about goes) = not_decided epoch at (is ∙ about) goes turn.over refl
         changed body is (turns.forth epoch decided goes) =
-            absurd (true≢false (sym (says_forth t.phase (f log) (b log) says (decided_as t.phase epoch decided)) ∙
+            absurd (true≢false (sym (at_decided t.phase (f log) (b log) says (is_decided_as t.phase epoch decided)) ∙
             forth))
         changed body is (turns.back undecided goes) = goes_back goes turn.over refl
 
       counted : is_at is_decided (o log) ≡ true → f log ≡ true
-      counted is = says_forth t.phase (f log) (b log) says (sym (ap (is_at is_decided) found) ∙ is)
+      counted is = at_decided t.phase (f log) (b log) says (sym (ap (is_at is_decided) found) ∙ is)
 
       remains : Remains
       remains = by (coordinator_comes start member there log e tx)
@@ -450,16 +417,9 @@ module _ (start : Start) (member : Member) (there : IsIn member (made start)) (t
 
 -- Whoever is lost stays so.
 pub lost_stay : LostStay
-lost_stay start all e es moment tx there lost = by (cases_eq e.host (tc_of start (coordinator_member tx)))
-  where
-    home : ℕ
-    home = tc_of start (coordinator_member tx)
-
-    by : (e.host ≡ home) ⊎ (e.host ≢ home) → is_lost start (logs_of start (e ∷ es)) tx ≡ true
-    by (inl at) =
-        subst (λ log. lost_along start (coordinator_member tx) there tx log ≡ true)
-        (sym (log_of-own (machine start) e es home at))
-        (lost_next start (coordinator_member tx) there tx (logs_of start es home) e lost)
-    by (inr other) =
-        subst (λ log. lost_along start (coordinator_member tx) there tx log ≡ true)
-        (sym (log_of-other (machine start) e es home other)) lost
+lost_stay start all e es moment tx there lost =
+    event_cases (machine start) e es (tc_of start (coordinator_member tx))
+    (λ log. lost_along start (coordinator_member tx) there tx log ≡ true)
+    (λ at. lost_next start (coordinator_member tx) there tx (logs_of start es (tc_of start (coordinator_member tx))) e
+    lost)
+    (λ off. lost)

@@ -1,6 +1,6 @@
 -- How an event moves what becomes of a transaction.
 use Rattle.std.proofs.Common.{◌≡◌, ◌⊎◌, ◌∙◌, ◌||◌, ◌&&◌, ◌≤◌, ◌++◌, ℕ, Bool, true, false, not, List, ◌∷◌, refl, sym, ap, subst, inl, inr, arith}
-use Rattle.std.proofs.lemmas.Bool.{and_parts, eqb-true, true≢false}
+use Rattle.std.proofs.lemmas.Bool.{and_parts, eqb-true, true≢false, or_cases}
 use Rattle.std.specs.List.{list_any}
 use Rattle.std.specs.Prelude.{nat_eq}
 use Rattle.run_theory.specs.Lists.{IsIn}
@@ -112,10 +112,6 @@ none_of test xs none x there = by (test x) refl
     by : (b : Bool) → test x ≡ b → b ≡ false
     by false is = refl
     by true is = absurd (true≢false (sym (any_of test xs x there is) ∙ none))
-
-either : (a b : Bool) → (a || b) ≡ true → (a ≡ true) ⊎ (b ≡ true)
-either true b is = inl refl
-either false b is = inr is
 
 module _ (start : Start) (all : ℕ → List HostStep) (e : HostStep) (es : List HostStep)
     (follows : Follows start all e es)
@@ -280,7 +276,7 @@ module _ (start : Start) (all : ℕ → List HostStep) (e : HostStep) (es : List
                 → fate start new tx ≡ commits
             traced one =
                 which
-                (either (leave_trace tx (rows_at start new one.one)) (is_known start new tx)
+                (or_cases (leave_trace tx (rows_at start new one.one)) (is_known start new tx)
                 (traces_stay start all e es moment one.one (members_made start all es before one.one one.there) tx
                 one.passes))
               where

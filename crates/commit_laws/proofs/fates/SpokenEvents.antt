@@ -1,8 +1,9 @@
 -- Who speaks of commits and aborts says what becomes of them, behind each event.
-use Rattle.std.proofs.Common.{◌≡◌, ◌⊎◌, ◌++◌, ◌∙◌, ◌≤◌, ℕ, true, List, [], ◌∷◌, inl, inr, refl, sym, ap, subst, arith}
+use Rattle.std.proofs.Common.{◌≡◌, ◌∙◌, ◌≤◌, ℕ, true, List, ◌∷◌, refl, sym, ap, subst, arith}
 use Rattle.run_theory.specs.Links.{sent}
 use Rattle.run_theory.specs.Lists.{Each, IsIn}
-use Rattle.run_theory.proofs.Pasts.{each_append, each_map}
+use Rattle.run_theory.proofs.Pasts.{each_map}
+use Rattle.commit_laws.proofs.hosts.PartEach.{part_each}
 use Rattle.sig_core.specs.declared.member.Member.{Member}
 use Rattle.sig_core.specs.declared.member.TxId.{TxId}
 use Rattle.sig_core.specs.declared.outs.Outgoing.{Outgoing}
@@ -22,7 +23,7 @@ use Rattle.world_views.specs.Machine.{step_after}
 use Rattle.view_laws.specs.Order.{sound_machine}
 use Rattle.view_laws.specs.Runs.{view_after}
 use Rattle.moment_laws.specs.Moments.{IsMoment, current, logs_of}
-use Rattle.moment_laws.specs.PartSteps.{PartEnters, PartTakes, handles, ignores, installs, ldm_kind, remains}
+use Rattle.moment_laws.specs.PartSteps.{ldm_kind}
 use Rattle.moment_laws.specs.Places.{tc_of}
 use Rattle.moment_laws.proofs.MomentSignals.{EachSent, sent_below, sent_next}
 use Rattle.moment_laws.proofs.MomentTurns.{Turn, host_low, keeps, raises, turn}
@@ -124,33 +125,18 @@ module _ (known : ForthIsKnownAlways) (start : Start) (all : ℕ → List HostSt
 
     ldm_speaks : LdmStep start e.host (old e.host) e → AreSpoken A C sends
     unfolding ldm_row
-    ldm_speaks step = by step.does.sent
+    ldm_speaks step =
+        part_each ldm_kind (IsSpoken A C) start.shape step.own (view_after start e.host (old e.host)) x _ view sends
+        step.does (λ above. tt)
+        (λ passed.
+        row x.to.block
+        (handled_now start all e es moment ldm_kind ldm_is step.own step.runs step.does.between step.does.front
+        step.does.enters passed x.to.block refl))
       where
-        front : PartEnters ldm_kind step.own (view_after start e.host (old e.host)) x step.does.between view
-            step.does.front
-            → AreSpoken A C step.does.front
-        front (remains same stands none) = subst (AreSpoken A C) (sym none) tt
-        front (installs above same stands is) = subst (AreSpoken A C) (sym is) tt
-
         row : (b : BlockId) → IsTakenNow start all e es moment x.to.block
             → AreSpoken A C (ldm_row step.does.between b x).effects.sends
         row block.Lqh taken = rows_speak A C step.does.between.replica x (heard x.to.block taken)
         row _ taken = tt
-
-        rest : PartTakes ldm_kind start.shape step.does.between view x step.does.own step.does.rest
-            → AreSpoken A C step.does.rest
-        rest (ignores same none) = subst (AreSpoken A C) (sym none) tt
-        rest (handles passed same is) =
-            subst (AreSpoken A C) (sym is)
-            (row x.to.block
-            (handled_now start all e es moment ldm_kind ldm_is step.own step.runs step.does.between step.does.front
-            step.does.enters passed x.to.block refl))
-
-        by : (sends ≡ step.does.front ++ step.does.rest) ⊎ (sends ≡ []) → AreSpoken A C sends
-        by (inl is) =
-            subst (AreSpoken A C) (sym is)
-            (each_append (IsSpoken A C) step.does.front step.does.rest (front step.does.enters) (rest step.does.takes))
-        by (inr is) = subst (AreSpoken A C) (sym is) tt
 
     sends_speak : AreSpoken A C sends
     sends_speak = by (part_host start e.host (host_low start all e es moment))

@@ -1,8 +1,11 @@
 -- What the host of a coordinator and a takeover sends at an event speaks truly, if what the takeover has stands.
-use Rattle.std.proofs.Common.{◌≡◌, ◌⊎◌, ◌++◌, ◌∙◌, ℕ, Bool, true, List, [], ◌∷◌, inl, inr, refl, sym, ap, subst, arith}
+use Rattle.std.proofs.Common.{◌≡◌, ◌∙◌, ℕ, Bool, true, List, ◌∷◌, refl, sym, ap, subst, arith}
 use Rattle.std.specs.Prelude.{None}
 use Rattle.run_theory.specs.Lists.{IsIn}
 use Rattle.run_theory.proofs.Pasts.{each_append, each_map}
+use Rattle.outcome_laws.proofs.coordinators.BeginsAndAsks.{coordinator_of_installed}
+use Rattle.commit_laws.proofs.hosts.OwnTaken.{tc_taken}
+use Rattle.commit_laws.proofs.hosts.PartEach.{part_each_by, between_so}
 use Rattle.sig_core.specs.declared.member.Member.{Member}
 use Rattle.sig_core.specs.declared.member.TxId.{TxId}
 use Rattle.sig_core.specs.declared.outs.Outgoing.{Outgoing}
@@ -23,17 +26,16 @@ use Rattle.node_views.specs.declared.tc_part.TcPart.{TcPart}
 use Rattle.node_views.specs.Parts.{tc_row}
 use Rattle.world_core.specs.Start.{Start, made}
 use Rattle.world_core.specs.Steps.{HostStep}
-use Rattle.world_views.specs.Machine.{after, step_after}
+use Rattle.world_views.specs.Machine.{step_after}
 use Rattle.view_laws.specs.Runs.{view_after}
 use Rattle.moment_laws.specs.Moments.{IsMoment, current, logs_of}
 use Rattle.moment_laws.specs.Parts.{IsPassed}
-use Rattle.moment_laws.specs.PartSteps.{PartEnters, PartTakes, handles, ignores, installs, remains, tc_kind}
+use Rattle.moment_laws.specs.PartSteps.{PartEnters, tc_kind}
 use Rattle.moment_laws.specs.Places.{tc_of}
 use Rattle.moment_laws.proofs.MomentHosts.{tc_low}
 use Rattle.moment_laws.proofs.MomentTurns.{current_rises, old_current}
 use Rattle.moment_laws.proofs.MomentViews.{current_above, current_number, moment_less, number_in}
-use Rattle.moment_laws.proofs.PartKinds.{tc_is}
-use Rattle.moment_laws.proofs.PartTaken.{IsTakenNow, handled_now}
+use Rattle.moment_laws.proofs.PartTaken.{IsTakenNow}
 use Rattle.outcome_laws.specs.Counts.{IsCoordinatorOf}
 use Rattle.request_laws.specs.Blocks.{coordinator_after, takeover_after}
 use Rattle.request_laws.specs.Ways.{entry_of, is_sent}
@@ -126,56 +128,22 @@ module _ (start : Start) (all : ℕ → List HostStep) (e : HostStep) (es : List
     module _ (entering : PartEnters tc_kind p stood x between view step.does.front) where
       -- what the coordinator is before the signal is taken
       between_fits : IsCoordinatorOf member between.coordinator
-      unfolding install_row
-      between_fits = by entering
-        where
-          by : PartEnters tc_kind p stood x between view step.does.front → IsCoordinatorOf member between.coordinator
-          by (remains same stands none) = subst (λ (q : TcPart). IsCoordinatorOf member q.coordinator) (sym same) fits
-          by (installs above same stands is) =
-              subst (λ (q : TcPart). IsCoordinatorOf member q.coordinator) (sym same)
-              (record {
-                node_is = fits.node_is;
-                start_is = fits.start_is;
-                own = fits.own;
-                begun = fits.begun;
-                once = fits.once;
-              })
+      between_fits =
+          between_so tc_kind (λ (q : TcPart). IsCoordinatorOf member q.coordinator) p stood x between view
+          step.does.front entering (λ still. fits)
+          (λ above seen. coordinator_of_installed member p.coordinator x.view fits)
 
       between_same : (tx : TxId) → entry_of between.coordinator tx ≡ entry_of (coordinator_after start member log) tx
       unfolding install_row
-      between_same tx = by entering ∙ ap (λ (c : CoordinatorState). entry_of c tx)
-          (sym (coordinator_is start member h log refl p step.runs))
-        where
-          by : PartEnters tc_kind p stood x between view step.does.front
-              → entry_of between.coordinator tx ≡ entry_of p.coordinator tx
-          by (remains same stands none) = ap (λ (q : TcPart). entry_of q.coordinator tx) same
-          by (installs above same stands is) = ap (λ (q : TcPart). entry_of q.coordinator tx) same
-
-      -- an installation speaks of nobody
-      front_speaks : AreSpoken A C step.does.front
-      front_speaks = by entering
-        where
-          by : PartEnters tc_kind p stood x between view step.does.front → AreSpoken A C step.does.front
-          by (remains same stands none) = subst (AreSpoken A C) (sym none) tt
-          by (installs above same stands is) =
-              subst (AreSpoken A C) (sym is)
-              (each_append (IsSpoken A C) (install_row p.coordinator x.view).effects.sends
-              (dih.install_row p.dih x.view.number).effects.sends
-              (coordinator_installs_speak A C p.coordinator x.view)
-              (epochs_install_speak A C p.dih x.view.number))
+      between_same tx =
+          between_so tc_kind (λ (q : TcPart). entry_of q.coordinator tx ≡ entry_of p.coordinator tx) p stood x between
+          view step.does.front entering (λ still. refl) (λ above seen. refl)
+          ∙ ap (λ (c : CoordinatorState). entry_of c tx) (sym (coordinator_is start member h log refl p step.runs))
 
       -- the block takes the signal in the current view
       module _ (passed : IsPassed start.shape (part.Tc between) view x) where
         pub taken : (b : BlockId) → x.to.block ≡ b → IsTakenNow start all e es moment b
-        taken b to =
-            handled_now start all e es moment tc_kind tc_is p
-            (subst (λ k. (after start k (old k)).parts ≡ part.Tc p) (sym at) step.runs) between step.does.front
-            (subst
-            (λ k. PartEnters tc_kind p (view_after start k (old k)) x between (view_after start k (e ∷ old k))
-            step.does.front)
-            (sym at) entering)
-            (subst (λ k. IsPassed start.shape (part.Tc between) (view_after start k (e ∷ old k)) x) (sym at) passed)
-            b to
+        taken = tc_taken start all e es moment (tc_of start member) at step passed
 
         view_is : view ≡ current start new
         view_is =
@@ -193,31 +161,25 @@ module _ (start : Start) (all : ℕ → List HostStep) (e : HostStep) (es : List
             }
 
         pub between_is : TakeoverIs A D W between.takeover
-        between_is = by entering
-          where
-            by : PartEnters tc_kind p stood x between view step.does.front → TakeoverIs A D W between.takeover
-            by (remains same stands none) =
-                subst (λ (q : TcPart). TakeoverIs A D W q.takeover) (sym same)
-                (subst (TakeoverIs A D W) (takeover_is start member h log refl p step.runs)
-                (goes.stands (stands_still stands)))
-            by (installs above same stands is) =
-                subst (λ (q : TcPart). TakeoverIs A D W q.takeover) (sym same) (is_installed A D W p.takeover x.view)
+        between_is =
+            between_so tc_kind (λ (q : TcPart). TakeoverIs A D W q.takeover) p stood x between view step.does.front
+            entering
+            (λ still.
+            subst (TakeoverIs A D W) (takeover_is start member h log refl p step.runs)
+            (goes.stands (stands_still still)))
+            (λ above seen. is_installed A D W p.takeover x.view)
 
         pub between_closes : x.to.block ≡ block.Takeover → ClosesBy A D W between.takeover x.body
-        between_closes to = by entering
+        between_closes to =
+            between_so tc_kind (λ (q : TcPart). ClosesBy A D W q.takeover x.body) p stood x between view
+            step.does.front entering
+            (λ still.
+            subst (λ (s : TakeoverState). ClosesBy A D W s x.body) (takeover_is start member h log refl p step.runs)
+            (goes.closes (stands_still still) (taken block.Takeover to)))
+            (λ above seen n ends gathers last. absurd (idle n gathers))
           where
             idle : (n : ℕ) → Resting ≡ Gathering n → ⊥
             idle n is = absurd cc
-
-            by : PartEnters tc_kind p stood x between view step.does.front → ClosesBy A D W between.takeover x.body
-            by (remains same stands none) =
-                subst (λ (q : TcPart). ClosesBy A D W q.takeover x.body) (sym same)
-                (subst (λ (s : TakeoverState). ClosesBy A D W s x.body)
-                (takeover_is start member h log refl p step.runs)
-                (goes.closes (stands_still stands) (taken block.Takeover to)))
-            by (installs above same stands is) =
-                λ n ends gathers last.
-                absurd (idle n (sym (ap (λ (q : TcPart). q.takeover.stage) same) ∙ gathers))
 
         module _ (forth : ForthIsKnown start (logs_of start (e ∷ es)))
             (own_is : step.does.own ≡ (tc_row between x.to.block x).state)
@@ -273,20 +235,14 @@ module _ (start : Start) (all : ℕ → List HostStep) (e : HostStep) (es : List
     -- all that the host sends
     pub tc_speaks : ForthIsKnown start (logs_of start (e ∷ es))
         → AreSpoken A C (step_after start (tc_of start member) (logs_of start es (tc_of start member)) e).effects.sends
-    tc_speaks forth = by step.does.sent
-      where
-        rest : (sends ≡ step.does.front ++ step.does.rest)
-            → PartTakes tc_kind start.shape between view x step.does.own step.does.rest → AreSpoken A C step.does.rest
-        rest is (ignores same none) = subst (AreSpoken A C) (sym none) tt
-        rest is (handles passed same own) =
-            subst (AreSpoken A C) (sym own)
-            (row_true step.does.enters passed forth same
-            (λ q told. ap (is_sent q) is
-            ∙ sent_behind q step.does.front step.does.rest (ap (is_sent q) own ∙ told)))
-
-        by : (sends ≡ step.does.front ++ step.does.rest) ⊎ (sends ≡ []) → AreSpoken A C sends
-        by (inl is) =
-            subst (AreSpoken A C) (sym is)
-            (each_append (IsSpoken A C) step.does.front step.does.rest (front_speaks step.does.enters)
-            (rest is step.does.takes))
-        by (inr is) = subst (AreSpoken A C) (sym is) tt
+    tc_speaks forth =
+        part_each_by tc_kind (IsSpoken A C) start.shape p stood x _ view sends step.does
+        (λ above.
+        each_append (IsSpoken A C) (install_row p.coordinator x.view).effects.sends
+        (dih.install_row p.dih x.view.number).effects.sends (coordinator_installs_speak A C p.coordinator x.view)
+        (epochs_install_speak A C p.dih x.view.number))
+        (λ passed same all.
+        row_true step.does.enters passed forth same
+        (λ q told.
+        ap (is_sent q) all
+        ∙ sent_behind q step.does.front (tc_row between x.to.block x).effects.sends told))

@@ -2,7 +2,7 @@
 -- and
 -- who is given up aborts.
 use Rattle.std.proofs.Common.{◌≡◌, ◌||◌, ◌&&◌, ◌∙◌, not, ℕ, Bool, true, false, List, ◌∷◌, refl, sym, ap, subst}
-use Rattle.std.proofs.lemmas.Bool.{true≢false}
+use Rattle.std.proofs.lemmas.Bool.{true≢false, false_from_ne_true, or_left}
 use Rattle.std.specs.Prelude.{Option, None, Some}
 use Rattle.run_theory.specs.Lists.{IsIn}
 use Rattle.run_theory.proofs.Runs.{log_of-own}
@@ -30,9 +30,8 @@ use Rattle.commit_laws.specs.Fates.{aborts, commits, fate, is_led_by_full}
 use Rattle.commit_laws.specs.Forth.{ForthIsKnown}
 use Rattle.commit_laws.specs.Going.{is_back, is_forth, is_lost, own_coordinator}
 use Rattle.commit_laws.specs.Traces.{has_trace, is_known}
-use Rattle.commit_laws.proofs.fates.Reasons.{forth_commits, lost_aborts}
+use Rattle.commit_laws.proofs.fates.Cases.{forth_commits, lost_aborts}
 use Rattle.commit_laws.proofs.fates.SpokenCoordinator.{Shows, before_it, behind_it, tells_it}
-use Rattle.commit_laws.proofs.hosts.Joined.{not_true, or_left}
 
 -- behind an event of the host of a member's coordinator
 module _ (start : Start) (all : ℕ → List HostStep) (e : HostStep) (es : List HostStep)
@@ -73,7 +72,8 @@ module _ (start : Start) (all : ℕ → List HostStep) (e : HostStep) (es : List
       goes_back is =
           lost_aborts (is_known start new tx) (is_led_by_full start new tx) (is_forth start new tx)
           (is_lost start new tx) (has_trace start new tx)
-          (not_true (is_known start new tx) (λ known. true≢false (sym (forth.known tx known) ∙ unmoved))) led unmoved
+          (false_from_ne_true (is_known start new tx) (λ known. true≢false (sym (forth.known tx known) ∙ unmoved))) led
+          unmoved
           (lost (is_forth start new tx) (is_back start new tx || is_among (own_coordinator start new tx).doomed tx)
           unmoved
           (or_left (is_back start new tx) (is_among (own_coordinator start new tx).doomed tx) back))
@@ -86,7 +86,7 @@ module _ (start : Start) (all : ℕ → List HostStep) (e : HostStep) (es : List
 
           not_forth : has_gone_forth start member tx (e ∷ log) ≡ false
           not_forth =
-              not_true (has_gone_forth start member tx (e ∷ log)) (λ yes. true≢false (sym is ∙ one_way yes))
+              false_from_ne_true (has_gone_forth start member tx (e ∷ log)) (λ yes. true≢false (sym is ∙ one_way yes))
 
           unmoved : is_forth start new tx ≡ false
           unmoved =

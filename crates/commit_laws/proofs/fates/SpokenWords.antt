@@ -1,5 +1,5 @@
 -- What signals say of aborts and of commits.
-use Rattle.std.proofs.Common.{◌≡◌, true, false, List}
+use Rattle.std.proofs.Common.{◌≡◌, false, List}
 use Rattle.run_theory.specs.Lists.{Each}
 use Rattle.run_theory.proofs.Pasts.{each_map}
 use Rattle.sig_core.specs.declared.member.TxId.{TxId}
@@ -8,7 +8,6 @@ use Rattle.sig_core.specs.declared.signal.Body.{Body}
 use Rattle.sig_core.specs.declared.signal.Body.TheVariants.{Chain, Client}
 use Rattle.sig_core.specs.declared.signal.chain.ChainSignal.TheVariants.{Abort, Aborted, Commit, Committed, Complete, Completed}
 use Rattle.sig_core.specs.declared.signal.client.ClientSignal.TheVariants.{TcKeyFailRef, TcRollbackRep, ViewRep}
-use Rattle.outcome_laws.proofs.client.Turns.{ArePlain, IsPlain, is_plain}
 use Rattle.outcome_laws.proofs.knowledge.TellsNothing.{AreUntold, IsUntold, is_tale}
 use Rattle.commit_laws.specs.Fates.{Fate, aborts, commits}
 use Rattle.commit_laws.specs.Speaks.{SaysAbort, SaysCommit}
@@ -42,15 +41,6 @@ module _ (A C : TxId → Type 0) where
   pub untold_speak : (sends : List Outgoing) → AreUntold sends → AreSpoken sends
   untold_speak sends none =
       each_map IsUntold IsSpoken sends (λ sent is. untold_speaks sent.body is) none
-
-  plain_speaks : (body : Body) → is_plain body ≡ true → Speaks body
-  plain_speaks (Client (TcRollbackRep tx cause)) plain = absurd cc
-  plain_speaks (Client (TcKeyFailRef tx)) plain = absurd cc
-  plain_speaks (Chain signal) plain = absurd cc
-  plain_speaks body plain = tt
-
-  pub plain_speak : (sends : List Outgoing) → ArePlain sends → AreSpoken sends
-  plain_speak sends all = each_map IsPlain IsSpoken sends (λ sent is. plain_speaks sent.body is) all
 
 -- where one is so of whoever the other is so of, a signal that speaks of the other does of the one
 module _ (A C B D : TxId → Type 0) (one : (tx : TxId) → A tx → B tx) (other : (tx : TxId) → C tx → D tx) where

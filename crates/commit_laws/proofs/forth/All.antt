@@ -1,11 +1,12 @@
 -- At each moment whoever knows that a transaction is committed knows of one that has gone forth; and the client's side
 -- has acknowledged each commit that rows are told to be acknowledged.
 use Rattle.std.proofs.Common.{◌≡◌, ◌≢◌, ◌⊎◌, ◌∙◌, ◌||◌, ◌%◌, ℕ, zero, suc, Bool, true, false, List, [], ◌∷◌, refl, sym, ap, subst, arith, inl, inr}
-use Rattle.std.proofs.lemmas.Bool.{cases_eq, true≢false}
+use Rattle.std.proofs.lemmas.Bool.{true≢false}
 use Rattle.run_theory.proofs.Pasts.{each_from, each_in, each_map}
 use Rattle.run_theory.proofs.Runs.{log_of-other, log_of-own}
 use Rattle.run_theory.specs.Links.{sent}
 use Rattle.run_theory.specs.Lists.{Each, IsIn}
+use Rattle.run_theory.proofs.EventCases.{event_each}
 use Rattle.sig_core.specs.declared.member.Member.{Member}
 use Rattle.sig_core.specs.declared.member.TxId.{TxId}
 use Rattle.sig_core.specs.declared.outs.Outgoing.{Outgoing}
@@ -342,16 +343,9 @@ module _ (start : Start) where
               }
 
       parts_next : (h : ℕ) → PartsKnow F (after start h (new h)).parts
-      parts_next h = by (cases_eq e.host h)
-        where
-          by : (e.host ≡ h) ⊎ (e.host ≢ h) → PartsKnow F (after start h (new h)).parts
-          by (inl at) =
-              subst (λ (log : List HostStep). PartsKnow F (after start h log).parts)
-              (sym (log_of-own (machine start) e es h at))
-              (subst (λ k. PartsKnow F (after start k (e ∷ old k)).parts) at is_now.knowing)
-          by (inr other) =
-              subst (λ (log : List HostStep). PartsKnow F (after start h log).parts)
-              (sym (log_of-other (machine start) e es h other)) (old_parts h)
+      parts_next =
+          event_each (machine start) e es (λ h log. PartsKnow F (after start h log).parts) is_now.knowing
+          (λ h off. old_parts h)
 
       sent_true : (y : Addressed)
           → IsSentBy (made start) e.host (after start e.host (e ∷ old e.host)).standing.view sends y

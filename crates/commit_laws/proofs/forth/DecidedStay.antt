@@ -4,6 +4,7 @@ use Rattle.std.proofs.lemmas.Bool.{cases_eq, or_left, or_right, true≢false}
 use Rattle.std.specs.List.{list_any}
 use Rattle.run_theory.specs.Lists.{IsIn}
 use Rattle.run_theory.proofs.Runs.{log_of-other, log_of-own}
+use Rattle.commit_laws.proofs.forth.Grows.{grows, known_grows}
 use Rattle.sig_core.specs.declared.mark.Mark.{Mark}
 use Rattle.sig_core.specs.declared.mark.Mark.TheVariants.{Decided}
 use Rattle.sig_core.specs.declared.member.Member.{Member}
@@ -11,7 +12,6 @@ use Rattle.sig_core.specs.declared.member.TxId.{TxId}
 use Rattle.sig_core.specs.declared.op.Answer.{Answer}
 use Rattle.sig_core.specs.declared.op.Op.{Op}
 use Rattle.sig_core.proofs.Keys.{same_tx-self}
-use Rattle.tc_block.specs.Phases.{is_decided as is_in_commit}
 use Rattle.world_core.specs.Entries.{ops_of}
 use Rattle.world_core.specs.Marks.{has_mark}
 use Rattle.world_core.specs.Start.{Start, made}
@@ -22,19 +22,17 @@ use Rattle.moment_laws.specs.Places.{ldm_of, tc_of}
 use Rattle.moment_laws.proofs.MomentViews.{moment_less}
 use Rattle.outcome_laws.specs.Counts.{coordinator_member, is_decision}
 use Rattle.outcome_laws.specs.Decided.{IsMarked}
-use Rattle.request_laws.specs.Ways.{has_gone_forth, tells_commit}
-use Rattle.request_laws.proofs.phases.GoneWays.{gone_stays}
 use Rattle.request_laws.proofs.phases.HeardFromItself.{heard_at}
 use Rattle.request_laws.proofs.phases.ToldByHosts.{Heard}
 use Rattle.request_laws.proofs.phases.HeldAreAsked.{is_kept, ops_stay}
 use Rattle.request_laws.proofs.phases.Stands.{coordinators_stand}
 use Rattle.commit_laws.specs.Commits.{HasWritten}
 use Rattle.commit_laws.specs.Going.{decided_ops, is_decided, is_forth, is_written_by, own_log}
-use Rattle.commit_laws.specs.Traces.{IsApplied, has_sent, is_acknowledgement, is_known}
+use Rattle.commit_laws.specs.Traces.{IsApplied, is_known}
 use Rattle.commit_laws.proofs.fates.Committed.{decided_at, decided_made, forth_made}
 
 -- a mark of a decision makes it one
-decided_mark : (tx : TxId) (epoch : ℕ) (marks : List Mark) → IsIn (Decided tx epoch) marks
+pub decided_mark : (tx : TxId) (epoch : ℕ) (marks : List Mark) → IsIn (Decided tx epoch) marks
     → list_any (is_decision tx) marks ≡ true
 decided_mark tx epoch [] there = absurd there
 decided_mark tx epoch (mark ∷ marks) (inl is) =
@@ -69,30 +67,10 @@ module _ (start : Start) (all : ℕ → List HostStep) (e : HostStep) (es : List
     abbrev new : ℕ → List HostStep
     new = logs_of start (e ∷ es)
 
-    -- what is so of a log stays so behind one more step
-    pub log_grows : (P : List HostStep → Type 0) (h : ℕ) → (e.host ≡ h → P (old h) → P (e ∷ old h)) → P (old h)
-        → P (new h)
-    log_grows P h more before = by (cases_eq e.host h)
-      where
-        by : (e.host ≡ h) ⊎ (e.host ≢ h) → P (new h)
-        by (inl at) = subst P (sym (log_of-own (machine start) e es h at)) (more at before)
-        by (inr other) = subst P (sym (log_of-other (machine start) e es h other)) before
-
     pub decided_more : (tx : TxId) → is_decided start old tx ≡ true → is_decided start new tx ≡ true
-    decided_more tx is =
-        log_grows (λ log. has_mark (is_decision tx) log ≡ true) (tc_of start (coordinator_member tx))
-        (λ at was. or_right (list_any (is_decision tx) e.step.marks) _ was) is
-
-    pub forth_more : (tx : TxId) → is_forth start old tx ≡ true → is_forth start new tx ≡ true
-    forth_more tx is =
-        log_grows (λ log. has_gone_forth start (coordinator_member tx) tx log ≡ true)
-        (tc_of start (coordinator_member tx))
-        (λ at was. gone_stays start (coordinator_member tx) tx is_in_commit (tells_commit tx)
-        (old (tc_of start (coordinator_member tx))) e was) is
-
-    pub known_more : (tx : TxId) → is_known start old tx ≡ true → is_known start new tx ≡ true
-    known_more tx is =
-        log_grows (λ log. has_sent start (is_acknowledgement tx) 0 log ≡ true) 0 (λ at was. or_right _ _ was) is
+    decided_more tx =
+        grows start e es (λ log. has_mark (is_decision tx) log ≡ true) (tc_of start (coordinator_member tx))
+        (λ log was. or_right (list_any (is_decision tx) e.step.marks) _ was)
 
     -- and what wasn't known behind the event wasn't before
     pub unknown_before : (tx : TxId) → is_known start new tx ≡ false → is_known start old tx ≡ false
@@ -100,13 +78,13 @@ module _ (start : Start) (all : ℕ → List HostStep) (e : HostStep) (es : List
       where
         by : (b : Bool) → is_known start old tx ≡ b → b ≡ false
         by false is = refl
-        by true is = absurd (true≢false (sym (known_more tx is) ∙ off))
+        by true is = absurd (true≢false (sym (known_grows start e es tx is) ∙ off))
 
     pub applied_more : (tx : TxId) (key : List ℕ) → IsApplied start old tx key → IsApplied start new tx key
     applied_more tx key applied = record {
       member = applied.member;
       is_made = applied.is_made;
-      marked = log_grows (IsMarked _) (ldm_of start applied.member) (λ at was. inr was) applied.marked;
+      marked = grows start e es (IsMarked _) (ldm_of start applied.member) (λ log was. inr was) applied.marked;
     }
 
     pub ops_same : (tx : TxId) → is_decided start old tx ≡ true → decided_ops start new tx ≡ decided_ops start old tx

@@ -1,16 +1,16 @@
 -- Whoever has gone forth at its coordinator, or is acknowledged by the client's side, is so for ever.
-use Rattle.std.proofs.Common.{◌≡◌, ◌≢◌, ◌⊎◌, ◌||◌, ℕ, Bool, true, false, List, ◌∷◌, refl, sym, subst, inl, inr}
-use Rattle.std.proofs.lemmas.Bool.{cases_eq}
-use Rattle.run_theory.proofs.Runs.{log_of-other, log_of-own}
+use Rattle.std.proofs.Common.{◌≡◌, ℕ, true, List, ◌∷◌}
+use Rattle.std.proofs.lemmas.Bool.{or_right}
+use Rattle.run_theory.proofs.EventCases.{event_cases}
 use Rattle.sig_core.specs.declared.member.TxId.{TxId}
 use Rattle.tc_block.specs.Phases.{is_decided}
 use Rattle.world_core.specs.Start.{Start}
 use Rattle.world_core.specs.Steps.{HostStep}
-use Rattle.world_views.specs.Machine.{machine, step_after}
+use Rattle.world_views.specs.Machine.{machine}
 use Rattle.moment_laws.specs.Moments.{logs_of}
 use Rattle.moment_laws.specs.Places.{tc_of}
 use Rattle.outcome_laws.specs.Counts.{coordinator_member}
-use Rattle.request_laws.specs.Ways.{has_gone_forth, is_sent, tells_commit}
+use Rattle.request_laws.specs.Ways.{has_gone_forth, tells_commit}
 use Rattle.request_laws.proofs.phases.GoneWays.{gone_stays}
 use Rattle.commit_laws.specs.Forth.{IsForth}
 use Rattle.commit_laws.specs.Traces.{has_sent, is_acknowledgement, is_known}
@@ -23,12 +23,9 @@ module _ (start : Start) (e : HostStep) (es : List HostStep) where
   new = logs_of start (e ∷ es)
 
   -- what is so of a log also with a step more
-  grows : (P : List HostStep → Type 0) (h : ℕ) → ((log : List HostStep) → P log → P (e ∷ log)) → P (old h) → P (new h)
-  grows P h more so = by (cases_eq e.host h)
-    where
-      by : (e.host ≡ h) ⊎ (e.host ≢ h) → P (new h)
-      by (inl at) = subst P (sym (log_of-own (machine start) e es h at)) (more (old h) so)
-      by (inr other) = subst P (sym (log_of-other (machine start) e es h other)) so
+  pub grows : (P : List HostStep → Type 0) (h : ℕ) → ((log : List HostStep) → P log → P (e ∷ log)) → P (old h)
+      → P (new h)
+  grows P h more was = event_cases (machine start) e es h P (λ at. more (old h) was) (λ off. was)
 
   pub forth_grows : (tx : TxId) → IsForth start old tx → IsForth start new tx
   forth_grows tx =
@@ -36,11 +33,4 @@ module _ (start : Start) (e : HostStep) (es : List HostStep) where
       (λ log is. gone_stays start (coordinator_member tx) tx is_decided (tells_commit tx) log e is)
 
   pub known_grows : (tx : TxId) → is_known start old tx ≡ true → is_known start new tx ≡ true
-  known_grows tx =
-      grows (λ log. has_sent start (is_acknowledgement tx) 0 log ≡ true) 0
-      (λ log is. by (is_sent (is_acknowledgement tx) (step_after start 0 log e).effects.sends) log is)
-    where
-      by : (b : Bool) (log : List HostStep) → has_sent start (is_acknowledgement tx) 0 log ≡ true
-          → (b || has_sent start (is_acknowledgement tx) 0 log) ≡ true
-      by true log is = refl
-      by false log is = is
+  known_grows tx = grows (λ log. has_sent start (is_acknowledgement tx) 0 log ≡ true) 0 (λ log was. or_right _ _ was)

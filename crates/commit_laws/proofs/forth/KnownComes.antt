@@ -1,11 +1,11 @@
 -- Whoever comes to be known to the client's side commits: a takeover tells of a commit that left traces, and
 -- coordinators are heard that are full members of the current view alone.
-use Rattle.std.proofs.Common.{◌≡◌, ◌≢◌, ◌⊎◌, ◌<◌, ◌||◌, ◌∙◌, ℕ, Bool, true, false, length, List, [], ◌∷◌, refl, sym, ap, subst, arith, inl, inr}
-use Rattle.std.proofs.lemmas.Bool.{cases_eq, or_cases, true≢false}
+use Rattle.std.proofs.Common.{◌≡◌, ◌≢◌, ◌⊎◌, ◌<◌, ◌||◌, ◌∙◌, ℕ, true, false, length, List, [], ◌∷◌, refl, sym, subst, arith, inl, inr}
+use Rattle.std.proofs.lemmas.Bool.{or_cases, true≢false}
 use Rattle.std.specs.Prelude.{Option, None, Some}
 use Rattle.run_theory.specs.Lists.{IsIn}
 use Rattle.run_theory.proofs.Pasts.{each_in}
-use Rattle.run_theory.proofs.Runs.{log_of-other, log_of-own}
+use Rattle.commit_laws.proofs.hosts.MarkCases.{known_cases}
 use Rattle.frag_map.specs.Layout.{chain_of}
 use Rattle.sig_core.specs.declared.member.Member.{Member}
 use Rattle.sig_core.specs.declared.member.TxId.{TxId}
@@ -20,7 +20,7 @@ use Rattle.node_views.specs.WellFormed.{is_well_formed}
 use Rattle.world_core.specs.Start.{Start}
 use Rattle.world_core.specs.Steps.{Addressed, HostStep}
 use Rattle.world_views.specs.Hosts.{started}
-use Rattle.world_views.specs.Machine.{IsOwnWork, machine, step_after}
+use Rattle.world_views.specs.Machine.{IsOwnWork, step_after}
 use Rattle.moment_laws.specs.Moments.{IsMoment, current, logs_of}
 use Rattle.moment_laws.proofs.MomentSignals.{EachSent, taken_told}
 use Rattle.moment_laws.proofs.MomentViews.{moment_installed, moment_less}
@@ -32,7 +32,7 @@ use Rattle.commit_laws.specs.Fates.{commits, fate, is_led_by_full}
 use Rattle.commit_laws.specs.Forth.{IsForth, TellsForth}
 use Rattle.commit_laws.specs.Going.{is_forth, is_lost}
 use Rattle.commit_laws.specs.Together.{Follows, KnownCommit}
-use Rattle.commit_laws.specs.Traces.{IsCommittedAtAll, IsReplicaOf, has_marker_at, has_sent, has_trace, is_acknowledgement, is_committed_by, is_known, members_now, record_at}
+use Rattle.commit_laws.specs.Traces.{IsCommittedAtAll, IsReplicaOf, has_marker_at, has_trace, is_acknowledgement, is_committed_by, is_known, members_now, record_at}
 use Rattle.commit_laws.proofs.commits.Step.{not_closing}
 use Rattle.commit_laws.proofs.gathering.EndsTold.{AreEnds, IsEnd, beside_ends}
 use Rattle.commit_laws.proofs.fates.Cases.{forth_commits}
@@ -109,24 +109,12 @@ module _ (start : Start) (all : ℕ → List HostStep) (e : HostStep) (es : List
 
       module _ (is : is_known start new tx ≡ true) where
         at : e.host ≡ 0
-        at = by (cases_eq e.host 0)
-          where
-            by : (e.host ≡ 0) ⊎ (e.host ≢ 0) → e.host ≡ 0
-            by (inl same) = same
-            by (inr other) =
-                absurd (true≢false (sym is
-                ∙ (ap (has_sent start (is_acknowledgement tx) 0) (log_of-other (machine start) e es 0 other) ∙ off)))
+        at =
+            known_cases start e es tx (λ at here. at) (λ was. absurd (true≢false (sym was ∙ off))) is
 
         acknowledges : is_sent (is_acknowledgement tx) sends ≡ true
         acknowledges =
-            by (is_sent (is_acknowledgement tx) sends) refl
-            (subst (λ log. has_sent start (is_acknowledgement tx) 0 log ≡ true) (log_of-own (machine start) e es 0 at)
-            is)
-          where
-            by : (b : Bool) → is_sent (is_acknowledgement tx) sends ≡ b
-                → (b || has_sent start (is_acknowledgement tx) 0 (old 0)) ≡ true → b ≡ true
-            by true here is = refl
-            by false here is = absurd (true≢false (sym is ∙ off))
+            known_cases start e es tx (λ at here. here) (λ was. absurd (true≢false (sym was ∙ off))) is
 
         word : TakesWord tx
         word =

@@ -1,11 +1,12 @@
 -- The client's side knows only of commits that it was told of.
-use Rattle.std.proofs.Common.{◌≡◌, ◌≢◌, ◌⊎◌, ◌∙◌, ◌||◌, ℕ, Bool, true, false, List, [], ◌∷◌, inl, inr, refl, sym, ap, subst}
-use Rattle.std.proofs.lemmas.Bool.{cases_eq, true≢false}
+use Rattle.std.proofs.Common.{◌≡◌, ◌≢◌, ◌∙◌, ℕ, true, false, List, [], ◌∷◌, sym, ap, subst}
+use Rattle.std.proofs.lemmas.Bool.{true≢false}
 use Rattle.run_theory.specs.Links.{sent, sent_by}
 use Rattle.run_theory.specs.Lists.{Each, IsIn}
 use Rattle.run_theory.proofs.Links.{put_past}
 use Rattle.run_theory.proofs.Pasts.{each_append, each_from, each_in, each_map, in_past}
-use Rattle.run_theory.proofs.Runs.{log_of-other, log_of-own}
+use Rattle.run_theory.proofs.EventCases.{event_cases}
+use Rattle.commit_laws.proofs.hosts.MarkCases.{known_cases}
 use Rattle.sig_core.specs.declared.member.TxId.{TxId}
 use Rattle.sig_core.specs.declared.outs.Outgoing.{Outgoing}
 use Rattle.sig_core.specs.declared.place.BlockId.{BlockId}
@@ -39,7 +40,7 @@ use Rattle.outcome_laws.proofs.knowledge.TellsNothing.{AreUntold, IsUntold, is_t
 use Rattle.outcome_laws.proofs.knowledge.Parts.{arbiter_tells_nothing}
 use Rattle.outcome_laws.proofs.knowledge.HostSteps.{IsOfEffects, step_keeps}
 use Rattle.request_laws.specs.Ways.{is_sent}
-use Rattle.commit_laws.specs.Traces.{has_sent, is_acknowledgement, is_known}
+use Rattle.commit_laws.specs.Traces.{is_acknowledgement, is_known}
 use Rattle.commit_laws.proofs.forth.Client.{Answers, IsToldOf, by_coordinator, by_takeover, client_acknowledges}
 use Rattle.commit_laws.proofs.hosts.SomePasses.{passing}
 
@@ -158,17 +159,13 @@ module _ (start : Start) (all : ℕ → List HostStep) (e : HostStep) (es : List
     -- what was sent before was so behind the event
     pub still_sent : (y : Addressed) (i j : ℕ) → IsIn y (sent (sound_machine start) i j (old i))
         → IsIn y (sent (sound_machine start) i j (new i))
-    still_sent y i j there = by (cases_eq e.host i)
-      where
-        by : (e.host ≡ i) ⊎ (e.host ≢ i) → IsIn y (sent (sound_machine start) i j (new i))
-        by (inl at) =
-            subst (λ log. IsIn y (sent (sound_machine start) i j log)) (sym (log_of-own (machine start) e es i at))
-            (in_past y
-            (put_past (sound_machine start) j (sent_by (sound_machine start) i (old i) e)
-            (sent (sound_machine start) i j (old i))) there)
-        by (inr other) =
-            subst (λ log. IsIn y (sent (sound_machine start) i j log)) (sym (log_of-other (machine start) e es i other))
-            there
+    still_sent y i j there =
+        event_cases (machine start) e es i (λ log. IsIn y (sent (sound_machine start) i j log))
+        (λ at.
+        in_past y
+        (put_past (sound_machine start) j (sent_by (sound_machine start) i (old i) e)
+        (sent (sound_machine start) i j (old i))) there)
+        (λ off. there)
 
     told_still : (tx : TxId) → WasTold start old tx → WasTold start new tx
     told_still tx was = record {
@@ -218,23 +215,7 @@ module _ (start : Start) (all : ℕ → List HostStep) (e : HostStep) (es : List
 
     pub told_next : (tx : TxId) → (is_known start old tx ≡ true → WasTold start old tx) → is_known start new tx ≡ true
         → WasTold start new tx
-    told_next tx before is = told_still tx (by (cases_eq e.host 0))
-      where
-        either : e.host ≡ 0 → (b : Bool)
-            → is_sent (is_acknowledgement tx) (step_after start 0 (old 0) e).effects.sends ≡ b
-            → (b || is_known start old tx) ≡ true → WasTold start old tx
-        either at true here known = sent_told tx at here
-        either at false none known = before known
-
-        by : (e.host ≡ 0) ⊎ (e.host ≢ 0) → WasTold start old tx
-        by (inl at) =
-            either at (is_sent (is_acknowledgement tx) (step_after start 0 (old 0) e).effects.sends) refl
-            (subst (λ log. has_sent start (is_acknowledgement tx) 0 log ≡ true) (log_of-own (machine start) e es 0 at)
-            is)
-        by (inr other) =
-            before
-            (subst (λ log. has_sent start (is_acknowledgement tx) 0 log ≡ true)
-            (log_of-other (machine start) e es 0 other) is)
+    told_next tx before is = told_still tx (known_cases start e es tx (λ at here. sent_told tx at here) before is)
 
 -- so it is at each moment
 pub known_told : (start : Start) (all : ℕ → List HostStep) (es : List HostStep) → IsMoment start all es → (tx : TxId)

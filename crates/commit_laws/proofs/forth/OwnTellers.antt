@@ -1,5 +1,5 @@
 -- The client's side is told of the commit of a transaction by the member whose coordinator began it.
-use Rattle.std.proofs.Common.{◌≡◌, ◌⊎◌, ℕ, true, List, [], ◌∷◌, sym, subst, inl, inr}
+use Rattle.std.proofs.Common.{◌≡◌, ℕ, true, List, [], ◌∷◌, sym, subst}
 use Rattle.run_theory.specs.Lists.{Each, IsIn}
 use Rattle.run_theory.proofs.Pasts.{each_append, each_in, each_map}
 use Rattle.sig_core.specs.declared.member.Member.{Member}
@@ -46,7 +46,7 @@ use Rattle.commit_laws.proofs.forth.Epochs.{dih_installs_speak, dih_speaks}
 use Rattle.commit_laws.proofs.forth.Speaks.{AreSpoken, Speaks}
 use Rattle.commit_laws.proofs.commits.RowsEnd.{IsRowsWord, rows_words}
 use Rattle.commit_laws.proofs.hosts.PartEach.{part_each}
-use Rattle.commit_laws.proofs.hosts.RowsTurn.{RowsGo, enter, rest, rows_go, take}
+use Rattle.commit_laws.proofs.hosts.RowsTurn.{rows_each}
 
 -- the word of a commit is of a transaction of the member's own
 abbrev pub IsOfOwn : Member → Body → Type 0
@@ -151,21 +151,12 @@ module _ (start : Start) (all : ℕ → List HostStep) (e : HostStep) (es : List
 
     rows_own : (member me : Member) (there : IsIn me (made start)) → e.host ≡ ldm_of start me
         → AreOfOwn member (sends_at (ldm_of start me))
-    rows_own member me there at = by (rows_go start all e es moment me there)
-      where
-        by : RowsGo start all e es moment me there → AreOfOwn member (sends_at (ldm_of start me))
-        by (rest is quiet) = subst (AreOfOwn member) (sym (quiet at).sends) tt
-        by (enter view is quiet) = subst (AreOfOwn member) (sym (quiet at).sends) tt
-        by (take s between taken) = either taken.sent
-          where
-            either : (sends_at (ldm_of start me) ≡ (replica_row s e.step.taken).effects.sends)
-                ⊎ (sends_at (ldm_of start me) ≡ []) → AreOfOwn member (sends_at (ldm_of start me))
-            either (inl is) =
-                subst (AreOfOwn member) (sym is)
-                (each_map (λ (o : Outgoing). IsRowsWord e.step.taken.body o.body)
-                (λ (o : Outgoing). IsOfOwn member o.body) (replica_row s e.step.taken).effects.sends
-                (λ o one. of_rows member e.step.taken.body o.body one) (rows_words s e.step.taken))
-            either (inr is) = subst (AreOfOwn member) (sym is) tt
+    rows_own member me there =
+        rows_each start all e es moment me there (λ (o : Outgoing). IsOfOwn member o.body)
+        (λ s between taken.
+        each_map (λ (o : Outgoing). IsRowsWord e.step.taken.body o.body) (λ (o : Outgoing). IsOfOwn member o.body)
+        (replica_row s e.step.taken).effects.sends (λ o one. of_rows member e.step.taken.body o.body one)
+        (rows_words s e.step.taken))
 
     all_own : AreOfOwn (member_at (made start) e.host) (sends_at e.host)
     all_own = by (part_host start e.host (host_low start all e es moment))

@@ -40,7 +40,7 @@ use Rattle.commit_laws.proofs.forth.OwnTellers.{IsOfOwn, IsToldByOwn, own_teller
 use Rattle.commit_laws.proofs.hosts.ShellSees.{IsSeeing, did, noted_sees, seeing}
 
 -- what tells nothing acknowledges nothing
-untold_off : (tx : TxId) (sends : List Outgoing) → AreUntold sends → is_sent (is_acknowledgement tx) sends ≡ false
+pub untold_off : (tx : TxId) (sends : List Outgoing) → AreUntold sends → is_sent (is_acknowledgement tx) sends ≡ false
 untold_off tx [] none = refl
 untold_off tx (o ∷ sends) none =
     ap (λ b. b || is_sent (is_acknowledgement tx) sends) (by o.body none.0) ∙ untold_off tx sends none.1

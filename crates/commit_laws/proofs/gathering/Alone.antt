@@ -5,7 +5,8 @@ use Rattle.std.specs.Prelude.{Option, None, Some, remove, slice_get}
 use Rattle.run_theory.specs.Counts.{total}
 use Rattle.outcome_laws.specs.Counts.{one_if}
 use Rattle.run_theory.specs.Lists.{IsIn}
-use Rattle.run_theory.proofs.Runs.{log_of-other, log_of-own}
+use Rattle.run_theory.proofs.EventCases.{event_cases}
+use Rattle.commit_laws.proofs.hosts.OwnTaken.{tc_taken}
 use Rattle.sig_core.specs.declared.member.Member.{Member}
 use Rattle.sig_core.specs.declared.member.TxId.{TxId}
 use Rattle.sig_core.specs.declared.place.BlockId.{BlockId}
@@ -31,7 +32,7 @@ use Rattle.node_views.specs.Parts.{tc_row}
 use Rattle.world_core.specs.Hosts.{hosts, member_at}
 use Rattle.world_core.specs.Start.{Start, made}
 use Rattle.world_core.specs.Steps.{HostStep}
-use Rattle.world_views.specs.Machine.{after, machine}
+use Rattle.world_views.specs.Machine.{machine}
 use Rattle.world_views.specs.Sending.{is_own_work}
 use Rattle.view_laws.specs.Runs.{WasInstalled, view_after}
 use Rattle.view_laws.proofs.runs.AllSound.{have_orderly}
@@ -43,8 +44,7 @@ use Rattle.moment_laws.specs.Places.{tc_of}
 use Rattle.moment_laws.proofs.MomentHosts.{tc_low, tc_member}
 use Rattle.moment_laws.proofs.MomentTurns.{current_rises}
 use Rattle.moment_laws.proofs.MomentViews.{current_number, moment_installed, moment_less, number_in}
-use Rattle.moment_laws.proofs.PartKinds.{tc_is}
-use Rattle.moment_laws.proofs.PartTaken.{IsTakenNow, handled_now}
+use Rattle.moment_laws.proofs.PartTaken.{IsTakenNow}
 use Rattle.request_laws.specs.Blocks.{takeover_after}
 use Rattle.request_laws.specs.Tokens.{all_taken, taken_along}
 use Rattle.request_laws.proofs.routes.PartSteps.{TcStep, own_tc, takeover_is}
@@ -284,18 +284,7 @@ module _ (orders : OrdersAreOnce) (start : Start) (all : ℕ → List HostStep) 
 
               taken_by : (b : BlockId) → x.to.block ≡ b → IsPassed start.shape (part.Tc between) view x
                   → IsTakenNow start all e es moment b
-              taken_by b to passed =
-                  handled_now start all e es moment tc_kind tc_is own.own
-                  (subst (λ k. (after start k (old k)).parts ≡ part.Tc own.own) (sym at) own.runs) between
-                  own.does.front
-                  (subst
-                  (λ k. PartEnters tc_kind own.own (view_after start k (old k)) x between
-                  (view_after start k (e ∷ old k))
-                  own.does.front)
-                  (sym at) own.does.enters)
-                  (subst (λ k. IsPassed start.shape (part.Tc between) (view_after start k (e ∷ old k)) x) (sym at)
-                  passed)
-                  b to
+              taken_by b to passed = tc_taken start all e es moment h at own passed b to
 
               between_was : view.number ≡ number → PartEnters tc_kind own.own stood x between view own.does.front
                   → is_gathering between.takeover.stage ≡ true → Was
@@ -334,19 +323,12 @@ module _ (orders : OrdersAreOnce) (start : Start) (all : ℕ → List HostStep) 
 
             pub gathered_before : (number_in start old (tc_of start member) ≡ number)
                 × (is_gathering (stage_at es member) ≡ true)
-            gathered_before = by (cases_eq e.host h)
-              where
-                by : (e.host ≡ h) ⊎ (e.host ≢ h)
-                    → (number_in start old (tc_of start member) ≡ number) × (is_gathering (stage_at es member) ≡ true)
-                by (inl at) =
-                    let own_log = log_of-own (machine start) e es h at in
-                    own_was at (subst (λ l. (view_after start h l).number ≡ number) own_log stands)
-                    (subst (λ l. is_gathering (takeover_after start member l).stage ≡ true) own_log gathering)
-                by (inr other) =
-                    let same = log_of-other (machine start) e es h other in (
-                      subst (λ l. (view_after start h l).number ≡ number) same stands,
-                      subst (λ l. is_gathering (takeover_after start member l).stage ≡ true) same gathering,
-                    )
+            gathered_before =
+                event_cases (machine start) e es h
+                (λ log. (view_after start h log).number ≡ number
+                → is_gathering (takeover_after start member log).stage ≡ true
+                → (number_in start old (tc_of start member) ≡ number) × (is_gathering (stage_at es member) ≡ true))
+                own_was (λ off stood was. (stood, was)) stands gathering
 
       gathering_rest : (es : List HostStep) → IsMoment start all es → current_number start (logs_of start es) ≡ number
           → StandsAt es member → is_gathering (stage_at es member) ≡ true → NoneRuled start es

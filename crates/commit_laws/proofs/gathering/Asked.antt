@@ -1,8 +1,9 @@
 -- At each moment, in each view, the rows of a node were asked for a report once at most.
-use Rattle.std.proofs.Common.{◌≡◌, ◌≢◌, ◌≤◌, ◌<◌, ◌⊎◌, ◌++◌, ℕ, false, List, [], ◌∷◌, inl, inr, refl, sym, arith, subst}
+use Rattle.std.proofs.Common.{◌≡◌, ◌≢◌, ◌≤◌, ◌<◌, ◌⊎◌, ℕ, false, List, [], ◌∷◌, inl, inr, refl, sym, arith, subst}
 use Rattle.std.proofs.lemmas.Bool.{cases_eq}
 use Rattle.run_theory.specs.Lists.{IsIn}
-use Rattle.run_theory.proofs.Pasts.{each_append}
+use Rattle.run_theory.proofs.EventCases.{event_keeps}
+use Rattle.commit_laws.proofs.hosts.PartEach.{part_each}
 use Rattle.host_laws.proofs.hosts.Sums.{total_at, total_le}
 use Rattle.sig_core.specs.declared.member.Member.{Member}
 use Rattle.sig_core.specs.declared.outs.Outgoing.{Outgoing}
@@ -14,12 +15,11 @@ use Rattle.node_views.specs.Parts.{ldm_row}
 use Rattle.world_core.specs.Hosts.{hosts}
 use Rattle.world_core.specs.Start.{Start, made}
 use Rattle.world_core.specs.Steps.{HostStep}
-use Rattle.world_views.specs.Machine.{step_after}
+use Rattle.world_views.specs.Machine.{step_after, machine}
 use Rattle.view_laws.specs.Runs.{view_after}
 use Rattle.moment_laws.specs.Moments.{IsMoment, logs_of}
-use Rattle.moment_laws.specs.PartSteps.{PartEnters, PartTakes, handles, ignores, installs, ldm_kind, remains}
+use Rattle.moment_laws.specs.PartSteps.{ldm_kind}
 use Rattle.moment_laws.specs.Places.{ldm_of, tc_of}
-use Rattle.moment_laws.proofs.MomentTurns.{other_log, own_log}
 use Rattle.moment_laws.proofs.MomentViews.{moment_less}
 use Rattle.request_laws.specs.Tokens.{all_sent, sent_along, taken_along}
 use Rattle.request_laws.proofs.routes.Hosts.{PartHost, beside_sends, coordinates, is_beside, keeps_rows, part_host}
@@ -46,26 +46,11 @@ module _ (start : Start) (me : Member) (there : IsIn me (made start)) (h : ℕ) 
     of_block p block.Lqh = rows_ask_none p.replica e.step.taken
     of_block p _ = tt
 
-    front_none : PartEnters ldm_kind step.own (view_after start h log) e.step.taken step.does.between
-        (view_after start h (e ∷ log)) step.does.front → AskNone step.does.front
-    front_none (remains same stands none) = subst AskNone (sym none) tt
-    front_none (installs above same stands none) = subst AskNone (sym none) tt
-
-    rest_none : PartTakes ldm_kind start.shape step.does.between (view_after start h (e ∷ log)) e.step.taken
-        step.does.own step.does.rest → AskNone step.does.rest
-    rest_none (ignores is nothing) = subst AskNone (sym nothing) tt
-    rest_none (handles passed is sends) = subst AskNone (sym sends) (of_block step.does.between e.step.taken.to.block)
-
     rows_none : AskNone (step_after start h log e).effects.sends
-    rows_none = by step.does.sent
-      where
-        by : ((step_after start h log e).effects.sends ≡ step.does.front ++ step.does.rest)
-            ⊎ ((step_after start h log e).effects.sends ≡ []) → AskNone (step_after start h log e).effects.sends
-        by (inl is) =
-            subst AskNone (sym is)
-            (each_append (λ (o : Outgoing). asks o.body ≡ false) step.does.front step.does.rest
-            (front_none step.does.enters) (rest_none step.does.takes))
-        by (inr is) = subst AskNone (sym is) tt
+    rows_none =
+        part_each ldm_kind (λ (o : Outgoing). asks o.body ≡ false) start.shape step.own _ e.step.taken _ _
+        (step_after start h log e).effects.sends step.does (λ above. tt)
+        (λ passed. of_block step.does.between e.step.taken.to.block)
 
 module _ (start : Start) (node number : ℕ) where
   -- a host asked for none, of whose steps none does
@@ -111,19 +96,9 @@ module _ (start : Start) (node number : ℕ) where
         → IsAsked start me node number (tc_of start me) (logs_of start es (tc_of start me))
     asked [] moment me there = asked_first start me there node number (tc_of start me)
     asked (e ∷ es) moment me there =
-        by (cases_eq e.host (tc_of start me)) (asked es (moment_less start all e es moment) me there)
-      where
-        by : (e.host ≡ tc_of start me) ⊎ (e.host ≢ tc_of start me)
-            → IsAsked start me node number (tc_of start me) (logs_of start es (tc_of start me))
-            → IsAsked start me node number (tc_of start me) (logs_of start (e ∷ es) (tc_of start me))
-        by (inl at) before =
-            subst (λ h. IsAsked start me node number h (logs_of start (e ∷ es) h)) at
-            (subst (IsAsked start me node number e.host) (sym (own_log start all e es moment))
-            (next e es moment me there at
-            (subst (λ h. IsAsked start me node number h (logs_of start es h)) (sym at) before)))
-        by (inr off) before =
-            subst (IsAsked start me node number (tc_of start me))
-            (sym (other_log start all e es moment (tc_of start me) off)) before
+        event_keeps (machine start) e es (λ h log. h ≡ tc_of start me → IsAsked start me node number h log)
+        (λ before at. next e es moment me there at (before at)) (tc_of start me)
+        (λ same. asked es (moment_less start all e es moment) me there) refl
 
     module _ (es : List HostStep) (moment : IsMoment start all es) where
       abbrev logs : ℕ → List HostStep

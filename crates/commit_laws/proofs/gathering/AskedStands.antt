@@ -3,6 +3,8 @@
 use Rattle.std.proofs.Common.{◌≡◌, ◌≢◌, ◌≤◌, ◌+◌, ◌⊎◌, ◌++◌, ◌∙◌, ℕ, Bool, true, false, List, [], ◌∷◌, inl, inr, refl, sym, ap, arith, subst}
 use Rattle.std.proofs.lemmas.Bool.{cases_eq, true≢false}
 use Rattle.run_theory.specs.Lists.{IsIn}
+use Rattle.commit_laws.proofs.hosts.PartEach.{between_so}
+use Rattle.commit_laws.proofs.gathering.Alone.{plain}
 use Rattle.host_laws.proofs.hosts.Sums.{total_at}
 use Rattle.sig_core.specs.declared.member.Member.{Member}
 use Rattle.sig_core.specs.declared.outs.Outgoing.{Outgoing}
@@ -95,12 +97,6 @@ asked_first start me there node number k = record {
       (tc_started start me there)))
       (record { stands = off_stands node _ 0 0 refl; idle = λ none. refl });
 }
-
--- orders and ends are of a kind that fences stop, and no host asks itself for them
-plain_order : (body : Body) → is_order body ≡ true
-    → (is_own_work body ≡ false) × ((y : Signal) → is_body_fenced y body ≡ true)
-plain_order (Takeover TakeoverOrd) own = (refl, λ y. refl)
-plain_order body own = absurd (true≢false (sym own))
 
 pub plain_end : (body : Body) → ends body ≡ true
     → (is_own_work body ≡ false) × ((y : Signal) → is_body_fenced y body ≡ true)
@@ -199,7 +195,7 @@ module _ (orders : OrdersAreOnce) (start : Start) (all : ℕ → List HostStep) 
     first_order passed to is = (more, omega (arith, more, under))
       where
         more : ordered + 1 ≤ ordered_behind
-        more = takes_one is_order plain_order passed to (ap is_order is)
+        more = takes_one is_order plain passed to (ap is_order is)
 
         under : ordered_behind ≤ 1
         under =
@@ -269,17 +265,13 @@ module _ (orders : OrdersAreOnce) (start : Start) (all : ℕ → List HostStep) 
 
     module _ (was : IsAsked start me node number e.host log) where
       before_between : StandsAsked start me node number e.host log between.takeover
-      before_between = by tc.does.enters
-        where
-          by : PartEnters tc_kind tc.own (view_after start e.host log) x between view tc.does.front
-              → StandsAsked start me node number e.host log between.takeover
-          by (remains same stands none) =
-              subst (λ (q : TcPart). StandsAsked start me node number e.host log q.takeover) (sym same)
-              (subst (StandsAsked start me node number e.host log) (takeover_is start me e.host log at tc.own tc.runs)
-              (was.now (sym (ap (λ (v : View). v.number) stands))))
-          by (installs above same stands is) =
-              subst (λ (q : TcPart). StandsAsked start me node number e.host log q.takeover) (sym same)
-              (record { stands = off_stands node _ _ _ refl; idle = λ none. refl })
+      before_between =
+          between_so tc_kind (λ (q : TcPart). StandsAsked start me node number e.host log q.takeover) tc.own
+          (view_after start e.host log) x between view tc.does.front tc.does.enters
+          (λ still.
+          subst (StandsAsked start me node number e.host log) (takeover_is start me e.host log at tc.own tc.runs)
+          (was.now (sym (ap (λ (v : View). v.number) still))))
+          (λ above seen. record { stands = off_stands node _ _ _ refl; idle = λ none. refl })
 
       row : IsPassed start.shape (part.Tc between) view x → (b : BlockId) → x.to.block ≡ b
           → tc.does.own ≡ (tc_row between b x).state → tc.does.rest ≡ (tc_row between b x).effects.sends

@@ -1,6 +1,6 @@
 -- When a takeover takes the word of the last member that it asked, it has taken the end of each full member: it took as
 -- many as there are members, no more than one of each, and none of others.
-use Rattle.std.proofs.Common.{◌≡◌, ◌≤◌, ◌<◌, ◌+◌, ◌⊎◌, ◌==◌, ◌&&◌, ◌||◌, ◌++◌, ◌∙◌, ℕ, Bool, true, false, List, [], ◌∷◌, eq-eqb, eqb-true, inl, inr, length, refl, sym, ap, arith, subst}
+use Rattle.std.proofs.Common.{◌≡◌, ◌≤◌, ◌<◌, ◌+◌, ◌==◌, ◌&&◌, ◌||◌, ◌∙◌, ℕ, Bool, true, false, List, [], ◌∷◌, eq-eqb, eqb-true, length, refl, sym, ap, arith, subst}
 use Rattle.std.proofs.lemmas.Bool.{and_parts, ltb-false, true≢false}
 use Rattle.std.specs.Prelude.{if◌then◌else◌, not}
 use Rattle.std.specs.List.{count_by}
@@ -8,9 +8,9 @@ use Rattle.run_theory.specs.Counts.{total}
 use Rattle.run_theory.specs.Links.{sent, taken}
 use Rattle.run_theory.specs.Lists.{IsIn}
 use Rattle.run_theory.specs.Machine.{Machine}
-use Rattle.run_theory.proofs.Pasts.{each_append}
 use Rattle.run_theory.proofs.Runs.{log_of-own, logs_of_run}
 use Rattle.run_theory.specs.Runs.{AreLogs}
+use Rattle.commit_laws.proofs.hosts.PartEach.{part_each}
 use Rattle.host_laws.proofs.hosts.Sums.{total_at}
 use Rattle.sig_core.specs.declared.member.Member.{Member}
 use Rattle.sig_core.specs.declared.outs.Outgoing.{Outgoing}
@@ -29,9 +29,9 @@ use Rattle.world_core.specs.Steps.{Addressed, HostStep}
 use Rattle.world_views.specs.Machine.{machine, step_after}
 use Rattle.world_views.specs.Sending.{is_own_work}
 use Rattle.view_laws.specs.Order.{sound_machine}
-use Rattle.view_laws.specs.Runs.{WasInstalled, view_after}
+use Rattle.view_laws.specs.Runs.{WasInstalled}
 use Rattle.moment_laws.specs.Moments.{IsMoment, current, logs_of}
-use Rattle.moment_laws.specs.PartSteps.{PartEnters, PartTakes, handles, ignores, installs, remains, tc_kind}
+use Rattle.moment_laws.specs.PartSteps.{tc_kind}
 use Rattle.moment_laws.specs.Places.{ldm_of, tc_of}
 use Rattle.moment_laws.proofs.MomentHosts.{tc_low}
 use Rattle.moment_laws.proofs.MomentMembers.{current_made}
@@ -61,28 +61,12 @@ module _ (start : Start) (me : Member) (there : IsIn me (made start)) (h : ℕ) 
     step : TcStep start h log e
     step = tc_step start me there h at log e
 
-    front_none : PartEnters tc_kind step.own (view_after start h log) e.step.taken step.does.between
-        (view_after start h (e ∷ log)) step.does.front → EndNone step.does.front
-    front_none (remains same stands none) = subst EndNone (sym none) tt
-    front_none (installs above same stands sends) =
-        subst EndNone (sym sends) (none_ends _ (tc_enters_none step.own e.step.taken.view))
-
-    rest_none : PartTakes tc_kind start.shape step.does.between (view_after start h (e ∷ log)) e.step.taken
-        step.does.own step.does.rest → EndNone step.does.rest
-    rest_none (ignores is nothing) = subst EndNone (sym nothing) tt
-    rest_none (handles passed is sends) =
-        subst EndNone (sym sends) (tc_ends_none step.does.between e.step.taken e.step.taken.to.block)
-
     coordinator_ends_none : EndNone (step_after start h log e).effects.sends
-    coordinator_ends_none = by step.does.sent
-      where
-        by : ((step_after start h log e).effects.sends ≡ step.does.front ++ step.does.rest)
-            ⊎ ((step_after start h log e).effects.sends ≡ []) → EndNone (step_after start h log e).effects.sends
-        by (inl is) =
-            subst EndNone (sym is)
-            (each_append (λ (o : Outgoing). ends o.body ≡ false) step.does.front step.does.rest
-            (front_none step.does.enters) (rest_none step.does.takes))
-        by (inr is) = subst EndNone (sym is) tt
+    coordinator_ends_none =
+        part_each tc_kind (λ (o : Outgoing). ends o.body ≡ false) start.shape step.own _ e.step.taken _ _
+        (step_after start h log e).effects.sends step.does
+        (λ above. none_ends _ (tc_enters_none step.own e.step.taken.view))
+        (λ passed. tc_ends_none step.does.between e.step.taken e.step.taken.to.block)
 
 -- a host of whose steps none ends a report ended none
 silent_along : (start : Start) (number h : ℕ)

@@ -5,6 +5,7 @@ use Rattle.std.proofs.lemmas.Bool.Decides.{nat_tests}
 use Rattle.std.specs.Prelude.{if◌then◌else◌}
 use Rattle.run_theory.specs.Lists.{IsIn, IsPast}
 use Rattle.run_theory.proofs.Runs.{log_of-own}
+use Rattle.run_theory.proofs.EventCases.{event_cases}
 use Rattle.sig_core.specs.declared.member.Member.{Member}
 use Rattle.sig_core.specs.declared.outs.Outgoing.{Outgoing}
 use Rattle.sig_core.specs.declared.place.BlockId.TheVariants as block
@@ -280,11 +281,7 @@ module _ (start : Start) (all : ℕ → List HostStep) (member : Member) (there 
             by (inr off) = unseen off
 
       next : Few (e ∷ es)
-      next = by (cases_eq e.host h)
-        where
-          by : (e.host ≡ h) ⊎ (e.host ≢ h) → Few (e ∷ es)
-          by (inl at) = own_few at
-          by (inr off) = other off
+      next = event_cases (machine start) e es h (λ log. Few (e ∷ es)) own_few other
 
     few : (es : List HostStep) → IsMoment start all es → Few es
     few [] moment = first

@@ -1,11 +1,12 @@
 -- When the last member ends, each transaction that is gathered without an epoch is prepared at a replica: no takeover
 -- was at work in the view yet, so it is as the takeover was told.
 use Rattle.std.proofs.Common.{◌≡◌, ◌≢◌, ◌⊎◌, ◌∙◌, ℕ, true, List, [], ◌∷◌, inl, inr, refl, sym, ap, subst, arith}
-use Rattle.std.proofs.lemmas.Bool.{cases_eq, true≢false}
+use Rattle.std.proofs.lemmas.Bool.{true≢false}
 use Rattle.std.specs.Prelude.{Option, None, Some, slice_get}
 use Rattle.run_theory.specs.Lists.{Each, IsIn}
 use Rattle.run_theory.proofs.Pasts.{each_after, each_append, each_before, each_from, each_in, each_map}
-use Rattle.run_theory.proofs.Runs.{log_of-other, log_of-own}
+use Rattle.run_theory.proofs.EventCases.{event_cases}
+use Rattle.commit_laws.proofs.hosts.OwnTaken.{tc_taken}
 use Rattle.sig_core.specs.declared.member.Member.{Member}
 use Rattle.sig_core.specs.declared.member.TxId.{TxId}
 use Rattle.sig_core.specs.declared.place.BlockId.{BlockId}
@@ -40,8 +41,7 @@ use Rattle.moment_laws.specs.Places.{tc_of}
 use Rattle.moment_laws.proofs.MomentHosts.{tc_low, tc_started}
 use Rattle.moment_laws.proofs.MomentTurns.{current_rises, old_current}
 use Rattle.moment_laws.proofs.MomentViews.{current_above, current_number, moment_less, number_in}
-use Rattle.moment_laws.proofs.PartKinds.{tc_is}
-use Rattle.moment_laws.proofs.PartTaken.{IsTakenNow, handled_now}
+use Rattle.moment_laws.proofs.PartTaken.{IsTakenNow}
 use Rattle.request_laws.specs.Blocks.{takeover_after, takeover_in}
 use Rattle.request_laws.proofs.routes.BesideRows.{is_of_rows}
 use Rattle.request_laws.proofs.routes.Headers.{takeover_fenced, told_of}
@@ -244,15 +244,7 @@ module _ (start : Start) (all : ℕ → List HostStep) (tx : TxId) (member : Mem
 
             taken_by : (b : BlockId) → x.to.block ≡ b → IsPassed start.shape (part.Tc between) view x
                 → IsTakenNow start all e es moment b
-            taken_by b to passed =
-                handled_now start all e es moment tc_kind tc_is own.own
-                (subst (λ k. (after start k (old k)).parts ≡ part.Tc own.own) (sym at) own.runs) between own.does.front
-                (subst
-                (λ k. PartEnters tc_kind own.own (view_after start k (old k)) x between (view_after start k (e ∷ old k))
-                own.does.front)
-                (sym at) own.does.enters)
-                (subst (λ k. IsPassed start.shape (part.Tc between) (view_after start k (e ∷ old k)) x) (sym at) passed)
-                b to
+            taken_by b to passed = tc_taken start all e es moment h at own passed b to
 
             own_row : IsPassed start.shape (part.Tc between) view x → (b : BlockId) → x.to.block ≡ b
                 → SayAt tx R (tc_row between b x).state.takeover
@@ -277,17 +269,11 @@ module _ (start : Start) (all : ℕ → List HostStep) (tx : TxId) (member : Mem
                 (takes_say own.does.takes)
 
         prepared_next : number_in start new h ≡ current_number start new → SayAt tx R (takeover_at start new member)
-        prepared_next stands = by (cases_eq e.host h)
-          where
-            by : (e.host ≡ h) ⊎ (e.host ≢ h) → SayAt tx R (takeover_at start new member)
-            by (inl at) =
-                let same = log_of-own (machine start) e es h at in
-                subst (λ l. SayAt tx R (takeover_after start member l)) (sym same)
-                (own_says at (subst (λ l. (view_after start h l).number ≡ current_number start new) same stands))
-            by (inr other) =
-                let same = log_of-other (machine start) e es h other in
-                subst (λ l. SayAt tx R (takeover_after start member l)) (sym same)
-                (was (subst (λ l. (view_after start h l).number ≡ current_number start new) same stands))
+        prepared_next =
+            event_cases (machine start) e es h
+            (λ log. (view_after start h log).number ≡ current_number start new
+            → SayAt tx R (takeover_after start member log))
+            own_says (λ off. was)
 
     are_prepared : (es : List HostStep) → IsMoment start all es → ArePrepared es
     are_prepared [] moment = λ none orphan stands.

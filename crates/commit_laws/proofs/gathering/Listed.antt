@@ -1,6 +1,6 @@
 -- When the last member ends, a takeover was told of each commit of which any member knows.
 use Rattle.std.proofs.Common.{◌≡◌, ◌⊎◌, ◌∙◌, ◌||◌, ◌&&◌, ℕ, Bool, true, false, List, [], ◌∷◌, inl, inr, refl, ap, subst}
-use Rattle.std.proofs.lemmas.Bool.{and_parts}
+use Rattle.std.proofs.lemmas.Bool.{and_parts, or_cases}
 use Rattle.std.specs.List.{list_any}
 use Rattle.run_theory.specs.Lists.{IsIn}
 use Rattle.run_theory.specs.Logs.{IsRunning}
@@ -36,7 +36,6 @@ use Rattle.commit_laws.proofs.hosts.SomePasses.{passed, passing}
 use Rattle.commit_laws.proofs.records.Replicas.{member_made, members_full}
 use Rattle.commit_laws.proofs.gathering.TellingsNoted.{tellings_noted}
 use Rattle.commit_laws.proofs.gathering.TellingsPlaced.{tellings_are_for_takeovers}
-use Rattle.commit_laws.proofs.hosts.Joined.{either}
 
 module _ (behind : EndsComeBehind) (ended : AllHaveEnded) (told : TellingsAreGathered) (first : OrdersComeFirst)
     (start : Start) (all : ℕ → List HostStep) (e : HostStep) (es : List HostStep) (moment : IsMoment start all (e ∷ es))
@@ -79,7 +78,7 @@ module _ (behind : EndsComeBehind) (ended : AllHaveEnded) (told : TellingsAreGat
     traced : (one : Member) → IsIn one (members_now start old) → leave_trace tx (rows_at start old one) ≡ true
         → IsSaid start old tx [] ⊎ IsListed tx gathered
     traced one there is =
-        by (either (list_any (is_committed_of tx) (rows_at start old one).lqh.rows.pending)
+        by (or_cases (list_any (is_committed_of tx) (rows_at start old one).lqh.rows.pending)
         (list_any (is_marker_of tx) (rows_at start old one).lqh.markers) is)
       where
         full : IsIn one (current start old).full
@@ -89,7 +88,7 @@ module _ (behind : EndsComeBehind) (ended : AllHaveEnded) (told : TellingsAreGat
             → (has_marker_at start old one r.key r.tx || is_known start old r.tx) ≡ true
             → IsSaid start old tx [] ⊎ IsListed tx gathered
         of_record r own remembered =
-            which (either (has_marker_at start old one r.key r.tx) (is_known start old r.tx) remembered)
+            which (or_cases (has_marker_at start old one r.key r.tx) (is_known start old r.tx) remembered)
           where
             which : (has_marker_at start old one r.key r.tx ≡ true) ⊎ (is_known start old r.tx ≡ true)
                 → IsSaid start old tx [] ⊎ IsListed tx gathered

@@ -1,6 +1,6 @@
 -- What a takeover was told of while it gathers is among what is gathered, until it is ordered anew.
 use Rattle.std.proofs.Common.{◌≡◌, ◌⊎◌, ◌++◌, ◌∙◌, ◌||◌, ℕ, Bool, true, false, List, [], ◌∷◌, inl, inr, refl, sym, ap, subst}
-use Rattle.std.proofs.lemmas.Bool.{true≢false}
+use Rattle.std.proofs.lemmas.Bool.{true≢false, or_left, or_right}
 use Rattle.std.specs.List.{list_any}
 use Rattle.std.specs.Prelude.{Option, None, Some, slice_get}
 use Rattle.run_theory.specs.Lists.{IsIn}
@@ -24,7 +24,6 @@ use Rattle.takeover_block.specs.State.{TakeoverState, with_gathered}
 use Rattle.takeover_block.specs.Takeover.{takeover_row, takeover_table}
 use Rattle.takeover_block.proofs.EachTakeover.{is_gathering, takeover_each}
 use Rattle.takeover_block.proofs.NotedLemmas.{IsMore, IsNew, noted_is}
-use Rattle.commit_laws.proofs.hosts.Joined.{or_left, or_right}
 
 -- keys
 

@@ -1,12 +1,14 @@
 -- Coordinators end their own transactions alone, and rows only whom they are told to: so nobody ends an orphan of the
 -- current
 -- view until a takeover is at work.
-use Rattle.std.proofs.Common.{◌≡◌, ◌⊎◌, ◌++◌, ◌∙◌, ◌<◌, ℕ, false, List, [], ◌∷◌, inl, inr, refl, sym, ap, subst, arith}
+use Rattle.std.proofs.Common.{◌≡◌, ◌⊎◌, ◌∙◌, ◌<◌, ℕ, false, List, [], ◌∷◌, inl, inr, refl, sym, ap, subst, arith}
 use Rattle.std.proofs.lemmas.Bool.{true≢false}
 use Rattle.run_theory.specs.Links.{sent}
 use Rattle.run_theory.specs.Lists.{Each, IsIn}
 use Rattle.run_theory.proofs.Pasts.{each_append, each_from, each_in, each_map}
 use Rattle.run_theory.proofs.Runs.{log_of-own}
+use Rattle.outcome_laws.proofs.coordinators.BeginsAndAsks.{coordinator_of_installed}
+use Rattle.commit_laws.proofs.hosts.PartEach.{part_each, part_each_by, between_so}
 use Rattle.sig_core.specs.declared.member.Member.{Member}
 use Rattle.sig_core.specs.declared.member.TxId.{TxId}
 use Rattle.sig_core.specs.declared.outs.Outgoing.{Outgoing}
@@ -32,7 +34,7 @@ use Rattle.world_views.specs.Machine.{machine, step_after}
 use Rattle.view_laws.specs.Order.{sound_machine}
 use Rattle.view_laws.specs.Runs.{view_after}
 use Rattle.moment_laws.specs.Moments.{IsMoment, current, logs_of}
-use Rattle.moment_laws.specs.PartSteps.{PartEnters, PartTakes, handles, ignores, installs, ldm_kind, remains, tc_kind}
+use Rattle.moment_laws.specs.PartSteps.{PartEnters, installs, ldm_kind, remains, tc_kind}
 use Rattle.moment_laws.specs.Places.{tc_of}
 use Rattle.moment_laws.proofs.MomentHosts.{tc_low, tc_started}
 use Rattle.moment_laws.proofs.MomentSignals.{EachSent, sent_below, sent_next}
@@ -132,34 +134,18 @@ module _ (start : Start) where
 
       ldm_speaks : LdmStep start e.host (old e.host) e → AreSpoken N N sends
       unfolding ldm_row
-      ldm_speaks step = by step.does.sent
+      ldm_speaks step =
+          part_each ldm_kind (IsSpoken N N) start.shape step.own (view_after start e.host (old e.host)) x _ view sends
+          step.does (λ above. tt)
+          (λ passed.
+          row x.to.block
+          (handled_now start all e es moment ldm_kind ldm_is step.own step.runs step.does.between step.does.front
+          step.does.enters passed x.to.block refl))
         where
-          front : PartEnters ldm_kind step.own (view_after start e.host (old e.host)) x step.does.between view
-              step.does.front
-              → AreSpoken N N step.does.front
-          front (remains same stands none) = subst (AreSpoken N N) (sym none) tt
-          front (installs above same stands is) = subst (AreSpoken N N) (sym is) tt
-
           row : (b : BlockId) → IsTakenNow start all e es moment x.to.block
               → AreSpoken N N (ldm_row step.does.between b x).effects.sends
           row block.Lqh taken = rows_speak N N step.does.between.replica x (heard x.to.block taken)
           row _ taken = tt
-
-          rest : PartTakes ldm_kind start.shape step.does.between view x step.does.own step.does.rest
-              → AreSpoken N N step.does.rest
-          rest (ignores same none) = subst (AreSpoken N N) (sym none) tt
-          rest (handles passed same is) =
-              subst (AreSpoken N N) (sym is)
-              (row x.to.block
-              (handled_now start all e es moment ldm_kind ldm_is step.own step.runs step.does.between step.does.front
-              step.does.enters passed x.to.block refl))
-
-          by : (sends ≡ step.does.front ++ step.does.rest) ⊎ (sends ≡ []) → AreSpoken N N sends
-          by (inl is) =
-              subst (AreSpoken N N) (sym is)
-              (each_append (IsSpoken N N) step.does.front step.does.rest (front step.does.enters)
-              (rest step.does.takes))
-          by (inr is) = subst (AreSpoken N N) (sym is) tt
 
       -- a coordinator's host that stands in the current view
       module _ (member : Member) (there : IsIn member (made start)) (at : e.host ≡ tc_of start member) where
@@ -192,28 +178,11 @@ module _ (start : Start) where
             subst (IsCoordinatorOf member) (coordinator_is start member (tc_of start member) log refl p step.runs)
             (coordinators_stand start all es less member there).of
 
-        between_fits : PartEnters tc_kind p own_stood x between own_view step.does.front
-            → IsCoordinatorOf member between.coordinator
-        unfolding install_row
-        between_fits (remains same stands none) =
-            subst (λ (q : TcPart). IsCoordinatorOf member q.coordinator) (sym same) fits
-        between_fits (installs above same stands is) =
-            subst (λ (q : TcPart). IsCoordinatorOf member q.coordinator) (sym same)
-            (record {
-              node_is = fits.node_is;
-              start_is = fits.start_is;
-              own = fits.own;
-              begun = fits.begun;
-              once = fits.once;
-            })
-
-        front_speaks : PartEnters tc_kind p own_stood x between own_view step.does.front → AreSpoken N N step.does.front
-        front_speaks (remains same stands none) = subst (AreSpoken N N) (sym none) tt
-        front_speaks (installs above same stands is) =
-            subst (AreSpoken N N) (sym is)
-            (each_append (IsSpoken N N) (install_row p.coordinator x.view).effects.sends
-            (dih.install_row p.dih x.view.number).effects.sends
-            (coordinator_installs_speak N N p.coordinator x.view) (epochs_install_speak N N p.dih x.view.number))
+        between_fits : IsCoordinatorOf member between.coordinator
+        between_fits =
+            between_so tc_kind (λ (q : TcPart). IsCoordinatorOf member q.coordinator) p own_stood x between own_view
+            step.does.front step.does.enters (λ still. fits)
+            (λ above seen. coordinator_of_installed member p.coordinator x.view fits)
 
         module _ (stands : own_view.number ≡ current_number start new) where
           view_is : own_view ≡ current start new
@@ -275,7 +244,7 @@ module _ (start : Start) where
             where
               by : (b : BlockId) → x.to.block ≡ b → AreSpoken N N (tc_row between b x).effects.sends
               by block.Tc to =
-                  coordinator_speaks N N member between.coordinator (between_fits step.does.enters) x
+                  coordinator_speaks N N member between.coordinator between_fits x
                   (λ tx shown. led tx shown.own) (λ tx shown. led tx shown.own)
               by block.Takeover to =
                   rests_quiet N N between.takeover x (was_rests step.does.enters)
@@ -285,19 +254,13 @@ module _ (start : Start) where
               by _ to = tt
 
           tc_speaks : AreSpoken N N own_sends
-          tc_speaks = by step.does.sent
-            where
-              rest : PartTakes tc_kind start.shape between own_view x step.does.own step.does.rest
-                  → AreSpoken N N step.does.rest
-              rest (ignores same none) = subst (AreSpoken N N) (sym none) tt
-              rest (handles passed same is) = subst (AreSpoken N N) (sym is) (row_speaks same)
-
-              by : (own_sends ≡ step.does.front ++ step.does.rest) ⊎ (own_sends ≡ []) → AreSpoken N N own_sends
-              by (inl is) =
-                  subst (AreSpoken N N) (sym is)
-                  (each_append (IsSpoken N N) step.does.front step.does.rest (front_speaks step.does.enters)
-                  (rest step.does.takes))
-              by (inr is) = subst (AreSpoken N N) (sym is) tt
+          tc_speaks =
+              part_each_by tc_kind (IsSpoken N N) start.shape p own_stood x _ own_view own_sends step.does
+              (λ above.
+              each_append (IsSpoken N N) (install_row p.coordinator x.view).effects.sends
+              (dih.install_row p.dih x.view.number).effects.sends
+              (coordinator_installs_speak N N p.coordinator x.view) (epochs_install_speak N N p.dih x.view.number))
+              (λ passed same all. row_speaks same)
 
       sends_speak : view.number ≡ current_number start new → AreSpoken N N sends
       sends_speak stands = by (part_host start e.host (host_low start all e es moment))

@@ -1,10 +1,12 @@
 -- Until a takeover is at work in a view, whoever was reported in it to be only prepared, and has no coordinator in it,
 -- has such a record at a replica.
-use Rattle.std.proofs.Common.{◌≡◌, ◌⊎◌, ◌++◌, ◌∙◌, ◌<◌, ℕ, false, filter, List, [], ◌∷◌, inl, inr, map, sym, ap, subst, arith}
+use Rattle.std.proofs.Common.{◌≡◌, ◌⊎◌, ◌∙◌, ◌<◌, ℕ, false, filter, List, [], ◌∷◌, inl, inr, map, sym, ap, subst, arith}
 use Rattle.std.specs.Prelude.{Option, None, Some}
 use Rattle.run_theory.specs.Links.{sent}
 use Rattle.run_theory.specs.Lists.{Each, IsIn}
-use Rattle.run_theory.proofs.Pasts.{each_append, each_map}
+use Rattle.run_theory.proofs.Pasts.{each_map}
+use Rattle.commit_laws.proofs.commits.Places.{in_at}
+use Rattle.commit_laws.proofs.hosts.PartEach.{part_each}
 use Rattle.frag_map.specs.Layout.{chain_of}
 use Rattle.sig_core.specs.declared.member.Member.{Member}
 use Rattle.sig_core.specs.declared.member.TxId.{TxId}
@@ -31,7 +33,7 @@ use Rattle.world_views.specs.Machine.{step_after}
 use Rattle.view_laws.specs.Order.{sound_machine}
 use Rattle.view_laws.specs.Runs.{view_after}
 use Rattle.moment_laws.specs.Moments.{IsMoment, current, logs_of}
-use Rattle.moment_laws.specs.PartSteps.{PartEnters, PartTakes, handles, ignores, installs, remains, tc_kind}
+use Rattle.moment_laws.specs.PartSteps.{tc_kind}
 use Rattle.moment_laws.specs.Places.{ldm_of}
 use Rattle.moment_laws.proofs.MomentHosts.{ldm_member, part_some}
 use Rattle.moment_laws.proofs.MomentMembers.{current_host}
@@ -51,9 +53,9 @@ use Rattle.commit_laws.proofs.gathering.OrphanStays.{record_same}
 use Rattle.commit_laws.proofs.records.Once.{rows_once}
 use Rattle.commit_laws.proofs.records.Placed.{records_are_at_replicas}
 use Rattle.commit_laws.proofs.records.Replicas.{replica_made}
-use Rattle.commit_laws.proofs.hosts.RowsTurn.{IsBetween, IsTakenAt, RowsGo, as_was, enter, entered, rest, rows_go, take}
+use Rattle.commit_laws.proofs.hosts.RowsTurn.{IsBetween, IsTakenAt, as_was, entered, rows_each}
 use Rattle.commit_laws.proofs.takeover.Reports.{AreFated, Fated, IsFated, all_aside_fated, tc_enters_fated, tc_fated}
-use Rattle.commit_laws.proofs.takeover.Told.{in_cell, in_get, once_found}
+use Rattle.commit_laws.proofs.takeover.Told.{in_cell, once_found}
 
 module _ (start : Start) (logs : ℕ → List HostStep) (tx : TxId) where
   -- of the transaction nothing is told, or that it is committed, or it is prepared
@@ -160,17 +162,13 @@ module _ (start : Start) (all : ℕ → List HostStep) (e : HostStep) (es : List
 
       -- what its rows tell is so
       rows_prepared : e.host ≡ ldm_of start member → AreFated If sends
-      rows_prepared at = by (rows_go start all e es moment member there)
+      rows_prepared at =
+          subst (AreFated If) (sym (ap (λ k. (step_after start k (old k) e).effects.sends) at))
+          (rows_each start all e es moment member there (IsFated If)
+          (λ s between taken.
+          each_map (λ (o : Outgoing). TellsTruly s o.body) (IsFated If) (replica_row s x).effects.sends
+          (λ o tells. told s between taken o.body tells) (reports_are_true s x)) at)
         where
-          own : List Outgoing
-          own = (step_after start (ldm_of start member) (old (ldm_of start member)) e).effects.sends
-
-          same : sends ≡ own
-          same = ap (λ k. (step_after start k (old k) e).effects.sends) at
-
-          nothing : own ≡ [] → AreFated If sends
-          nothing is = subst (AreFated If) (sym (same ∙ is)) tt
-
           pending_was : (s : ReplicaState) → IsBetween start all e es moment member there s
               → s.lqh.rows.pending ≡ rows.lqh.rows.pending
           pending_was s (as_was is still) = ap (λ (q : ReplicaState). q.lqh.rows.pending) is
@@ -181,7 +179,7 @@ module _ (start : Start) (all : ℕ → List HostStep) (e : HostStep) (es : List
               → HasRecord s other key false → other ≡ tx → IsPreparedSomewhere start new tx
           has_prepared s between taken other key has is =
               record_prepared (full_now at taken.now.stands) has.one
-              (subst (IsIn has.one) (pending_was s between) (in_get s.lqh.rows.pending has.at has.one has.there))
+              (subst (IsIn has.one) (pending_was s between) (in_at s.lqh.rows.pending has.at has.one has.there))
               (has.is_tx ∙ is) has.is_committed
 
           told : (s : ReplicaState) → IsBetween start all e es moment member there s
@@ -194,39 +192,12 @@ module _ (start : Start) (all : ℕ → List HostStep) (e : HostStep) (es : List
               λ untold is. let no : Some epoch ≡ None = untold in absurd cc
           told s between taken body tells = tt
 
-          by : RowsGo start all e es moment member there → AreFated If sends
-          by (rest is quiet) = nothing (quiet at).sends
-          by (enter set is quiet) = nothing (quiet at).sends
-          by (take s between taken) = sent_by taken.sent
-            where
-              all_told : AreFated If (replica_row s x).effects.sends
-              all_told =
-                  each_map (λ (o : Outgoing). TellsTruly s o.body) (IsFated If) (replica_row s x).effects.sends
-                  (λ o tells. told s between taken o.body tells) (reports_are_true s x)
-
-              sent_by : (own ≡ (replica_row s x).effects.sends) ⊎ (own ≡ []) → AreFated If sends
-              sent_by (inl is) = subst (AreFated If) (sym (same ∙ is)) all_told
-              sent_by (inr is) = nothing is
-
     -- and other hosts tell nothing
     tc_tells : TcStep start e.host (old e.host) e → AreFated If sends
-    tc_tells step = by step.does.sent
-      where
-        front : PartEnters tc_kind step.own (view_after start e.host (old e.host)) x step.does.between view
-            step.does.front → AreFated If step.does.front
-        front (remains same stands nothing) = subst (AreFated If) (sym nothing) tt
-        front (installs above same stands is) = subst (AreFated If) (sym is) (tc_enters_fated If step.own x.view)
-
-        others : PartTakes tc_kind start.shape step.does.between view x step.does.own step.does.rest
-            → AreFated If step.does.rest
-        others (ignores same nothing) = subst (AreFated If) (sym nothing) tt
-        others (handles passed same is) = subst (AreFated If) (sym is) (tc_fated If step.does.between x x.to.block)
-
-        by : (sends ≡ step.does.front ++ step.does.rest) ⊎ (sends ≡ []) → AreFated If sends
-        by (inl is) =
-            subst (AreFated If) (sym is)
-            (each_append (IsFated If) step.does.front step.does.rest (front step.does.enters) (others step.does.takes))
-        by (inr is) = subst (AreFated If) (sym is) tt
+    tc_tells step =
+        part_each tc_kind (IsFated If) start.shape step.own (view_after start e.host (old e.host)) x _ view sends
+        step.does (λ above. tc_enters_fated If step.own x.view)
+        (λ passed. tc_fated If step.does.between x x.to.block)
 
     sends_fated : AreFated If sends
     sends_fated = by (part_host start e.host (host_low start all e es moment))

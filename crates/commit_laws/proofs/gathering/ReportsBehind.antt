@@ -8,7 +8,8 @@ use Rattle.run_theory.specs.Logs.{IsRunning}
 use Rattle.run_theory.specs.Runs.{Happens}
 use Rattle.run_theory.proofs.Links.{sent_more}
 use Rattle.run_theory.proofs.Pasts.{each_map, in_past}
-use Rattle.run_theory.proofs.Runs.{log_of-other, log_of-own}
+use Rattle.run_theory.proofs.Runs.{log_of-own}
+use Rattle.run_theory.proofs.EventCases.{event_cases}
 use Rattle.sig_core.specs.declared.member.Member.{Member}
 use Rattle.sig_core.specs.declared.member.TxId.{TxId}
 use Rattle.sig_core.specs.declared.outs.Outgoing.{Outgoing}
@@ -291,12 +292,10 @@ module _ (start : Start) (all : ℕ → List HostStep) (one : Member) (there : I
           own_behind (take_now s between which taken) = taken_behind s between taken
 
         pub step_behind : IsBehind (logs_of start (e ∷ es) (ldm_of start one))
-        step_behind = by (cases_eq e.host h)
-          where
-            by : (e.host ≡ h) ⊎ (e.host ≢ h) → IsBehind (new h)
-            by (inl at) =
-                subst IsBehind (sym (own_log at)) (own_behind at (rows_turn start all e es moment one there))
-            by (inr other) = subst IsBehind (sym (log_of-other (machine start) e es h other)) was
+        step_behind =
+            event_cases (machine start) e es h IsBehind
+            (λ at. own_behind at (rows_turn start all e es moment one there))
+            (λ off. was)
 
     -- in a view that is new nothing was sent
     new_view : (es : List HostStep) → IsMoment start all es → current_number start (logs_of start es) < view.number

@@ -1,13 +1,14 @@
 -- What a takeover was told in the current view is noted while it gathers.
-use Rattle.std.proofs.Common.{◌≡◌, ◌≢◌, ◌≤◌, ◌⊎◌, ◌&&◌, ◌||◌, ◌==◌, ◌∙◌, ℕ, Bool, true, false, List, [], ◌∷◌, inl, inr, refl, sym, ap, subst, arith}
-use Rattle.std.proofs.lemmas.Bool.{cases_eq, true≢false}
+use Rattle.std.proofs.Common.{◌≡◌, ◌≢◌, ◌≤◌, ◌&&◌, ◌||◌, ◌==◌, ◌∙◌, ℕ, Bool, true, false, List, [], ◌∷◌, inl, inr, refl, sym, ap, subst, arith}
+use Rattle.std.proofs.lemmas.Bool.{true≢false}
 use Rattle.std.specs.Prelude.{if◌then◌else◌, not, None}
 use Rattle.run_theory.specs.Links.{is_from, taken}
 use Rattle.run_theory.specs.Lists.{IsIn}
 use Rattle.run_theory.specs.Logs.{IsRunning}
 use Rattle.run_theory.specs.Machine.{Machine}
 use Rattle.run_theory.specs.Runs.{Happens}
-use Rattle.run_theory.proofs.Runs.{log_of-other, log_of-own}
+use Rattle.run_theory.proofs.EventCases.{event_cases}
+use Rattle.commit_laws.proofs.hosts.OwnTaken.{tc_taken}
 use Rattle.sig_core.specs.declared.member.Member.{Member}
 use Rattle.sig_core.specs.declared.member.TxId.{TxId}
 use Rattle.sig_core.specs.declared.place.BlockId.{BlockId}
@@ -27,7 +28,7 @@ use Rattle.node_views.specs.Parts.{tc_row}
 use Rattle.node_views.specs.WellFormed.{is_well_formed}
 use Rattle.world_core.specs.Start.{Start, made}
 use Rattle.world_core.specs.Steps.{Addressed, HostStep}
-use Rattle.world_views.specs.Machine.{after, machine, step_after, stops_by}
+use Rattle.world_views.specs.Machine.{machine, step_after, stops_by}
 use Rattle.view_laws.specs.Order.{sound_machine}
 use Rattle.view_laws.specs.Runs.{view_after}
 use Rattle.moment_laws.specs.Moments.{IsMoment, current, logs_of}
@@ -37,8 +38,7 @@ use Rattle.moment_laws.specs.Places.{tc_of}
 use Rattle.moment_laws.proofs.MomentHosts.{part_some, tc_low}
 use Rattle.moment_laws.proofs.MomentTurns.{current_rises, old_current}
 use Rattle.moment_laws.proofs.MomentViews.{current_above, current_number, moment_less, number_in}
-use Rattle.moment_laws.proofs.PartKinds.{tc_is}
-use Rattle.moment_laws.proofs.PartTaken.{IsTakenNow, handled_now}
+use Rattle.moment_laws.proofs.PartTaken.{IsTakenNow}
 use Rattle.request_laws.specs.Blocks.{takeover_after}
 use Rattle.request_laws.proofs.phases.AlongLogs.{told_some}
 use Rattle.request_laws.proofs.routes.Headers.{takeover_fenced}
@@ -144,18 +144,7 @@ module _ (first : OrdersComeFirst) (placed : TellingsAreForTakeovers) (start : S
 
               taken_by : (b : BlockId) → x.to.block ≡ b → IsPassed start.shape (part.Tc between) view x
                   → IsTakenNow start all e es moment b
-              taken_by b to passed =
-                  handled_now start all e es moment tc_kind tc_is own.own
-                  (subst (λ k. (after start k (old k)).parts ≡ part.Tc own.own) (sym at) own.runs) between
-                  own.does.front
-                  (subst
-                  (λ k. PartEnters tc_kind own.own (view_after start k (old k)) x between
-                  (view_after start k (e ∷ old k))
-                  own.does.front)
-                  (sym at) own.does.enters)
-                  (subst (λ k. IsPassed start.shape (part.Tc between) (view_after start k (e ∷ old k)) x) (sym at)
-                  passed)
-                  b to
+              taken_by b to passed = tc_taken start all e es moment h at own passed b to
 
               unordered : x.to.block ≡ block.Takeover → IsPassed start.shape (part.Tc between) view x
                   → x.body ≡ Takeover TakeoverOrd → ⊥
@@ -242,22 +231,12 @@ module _ (first : OrdersComeFirst) (placed : TellingsAreForTakeovers) (start : S
               (ap (λ (z : Addressed). z.signal) is)
 
     pub tellings_next : TellingsNoted start (logs_of start (e ∷ es)) member
-    tellings_next stands runs i y inside tx key tells = by (cases_eq e.host h)
-      where
-        Noted : TakeoverState → Type 0
-        Noted s = NotedAt tx key (told_epoch tells.told tells.epoch ≡ None → ⊥) s
-
-        by : (e.host ≡ h) ⊎ (e.host ≢ h) → Noted (takeover_at start new member)
-        by (inl at) =
-            let own = log_of-own (machine start) e es h at in
-            subst (λ l. Noted (takeover_after start member l)) (sym own)
-            (both at (subst (λ l. (view_after start h l).number ≡ current_number start new) own stands) y tx key tells i
-            (is_from n i e) refl (subst (IsRunning n) own runs) (subst (λ l. IsIn y (taken n i l)) own inside))
-        by (inr other) =
-            let same = log_of-other (machine start) e es h other in
-            subst (λ l. Noted (takeover_after start member l)) (sym same)
-            (was y tx key tells (subst (λ l. (view_after start h l).number ≡ current_number start new) same stands)
-            (subst (IsRunning n) same runs) i (subst (λ l. IsIn y (taken n i l)) same inside))
+    tellings_next stands runs i y inside tx key tells =
+        event_cases (machine start) e es h
+        (λ log. (view_after start h log).number ≡ current_number start new → IsRunning n log → IsIn y (taken n i log)
+        → NotedAt tx key (told_epoch tells.told tells.epoch ≡ None → ⊥) (takeover_after start member log))
+        (λ at stood ran there. both at stood y tx key tells i (is_from n i e) refl ran there)
+        (λ off stood ran there. was y tx key tells stood ran i there) stands runs inside
 
 -- so it is at each moment
 pub tellings_noted : OrdersComeFirst → TellingsAreForTakeovers → (start : Start) (all : ℕ → List HostStep)

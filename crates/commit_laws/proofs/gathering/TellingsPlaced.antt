@@ -1,5 +1,5 @@
 -- What is told takeovers of transactions is for takeovers.
-use Rattle.std.proofs.Common.{◌≡◌, ◌⊎◌, ◌∙◌, ℕ, Bool, true, false, List, [], ◌∷◌, inl, inr, refl, sym, ap, subst}
+use Rattle.std.proofs.Common.{◌≡◌, ◌∙◌, ℕ, Bool, true, false, List, [], ◌∷◌, refl, sym, ap, subst}
 use Rattle.std.specs.Prelude.{Option, None, Some}
 use Rattle.run_theory.specs.Lists.{Each, IsIn}
 use Rattle.sig_core.specs.declared.outs.Outgoing.{Outgoing}
@@ -38,7 +38,7 @@ use Rattle.request_laws.proofs.routes.PartSteps.{TcStep, tc_step}
 use Rattle.commit_laws.specs.Telling.{TellingsAreForTakeovers}
 use Rattle.node_views.specs.Parts.{tc_entered, tc_row}
 use Rattle.commit_laws.proofs.hosts.PartEach.{part_each}
-use Rattle.commit_laws.proofs.hosts.RowsTurn.{RowsGo, enter, rest, rows_go, take}
+use Rattle.commit_laws.proofs.hosts.RowsTurn.{rows_each}
 use Rattle.commit_laws.proofs.takeover.Reports.{Fated, AreFated, IsFated, all_aside_fated, tc_enters_fated, tc_fated}
 
 -- the body tells of a transaction, and is for a takeover
@@ -153,22 +153,9 @@ module _ (start : Start) (all : ℕ → List HostStep) (e : HostStep) (es : List
         (tc_fated Nothing step.does.between x x.to.block))
 
     own_placed : (member : Member) → IsIn member (made start) → e.host ≡ ldm_of start member → ArePlaced sends
-    own_placed member there at = by (rows_go start all e es moment member there)
-      where
-        own : List Outgoing
-        own = (step_after start (ldm_of start member) (old (ldm_of start member)) e).effects.sends
-
-        same : sends ≡ own
-        same = ap (λ k. (step_after start k (old k) e).effects.sends) at
-
-        by : RowsGo start all e es moment member there → ArePlaced sends
-        by (rest is quiet) = subst ArePlaced (sym (same ∙ (quiet at).sends)) tt
-        by (enter set is quiet) = subst ArePlaced (sym (same ∙ (quiet at).sends)) tt
-        by (take s between taken) = sent_by taken.sent
-          where
-            sent_by : (own ≡ (replica_row s x).effects.sends) ⊎ (own ≡ []) → ArePlaced sends
-            sent_by (inl is) = subst ArePlaced (sym (same ∙ is)) (rows_placed s x)
-            sent_by (inr is) = subst ArePlaced (sym (same ∙ is)) tt
+    own_placed member there at =
+        subst ArePlaced (sym (ap (λ k. (step_after start k (old k) e).effects.sends) at))
+        (rows_each start all e es moment member there IsPlaced (λ s between taken. rows_placed s x) at)
 
     sends_placed : ArePlaced sends
     sends_placed = by (part_host start e.host (host_low start all e es moment))

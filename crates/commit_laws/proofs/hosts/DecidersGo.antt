@@ -4,6 +4,7 @@ use Rattle.std.proofs.lemmas.Bool.{true≢false}
 use Rattle.run_theory.proofs.Pasts.{each_append, each_in}
 use Rattle.run_theory.specs.Lists.{Each, IsIn}
 use Rattle.run_theory.specs.Runs.{Happens}
+use Rattle.commit_laws.proofs.forth.DecidedStay.{decided_mark}
 use Rattle.sig_core.specs.declared.mark.Mark.{Mark}
 use Rattle.sig_core.specs.declared.mark.Mark.TheVariants.{Decided}
 use Rattle.sig_core.specs.declared.member.Member.{Member}
@@ -27,7 +28,7 @@ use Rattle.commit_laws.proofs.forth.All.{forth_is_known}
 use Rattle.commit_laws.proofs.fates.Decided.{decides_now}
 use Rattle.commit_laws.proofs.led.Entries.{new_there}
 use Rattle.commit_laws.proofs.hosts.MarkReasons.{tc_marks_each}
-use Rattle.commit_laws.proofs.settled.OfFullCoordinators.{any_decided, decided_now}
+use Rattle.commit_laws.proofs.settled.OfFullCoordinators.{decided_now}
 
 abbrev IsGoing : Mark → Type 0
 IsGoing mark = is_stop mark ≡ false
@@ -45,7 +46,7 @@ module _ (start : Start) (all : ℕ → List HostStep) (e : HostStep) (es : List
   log = logs_of start es (tc_of start (coordinator_member tx))
 
   decided : is_decided start (logs_of start (e ∷ es)) tx ≡ true
-  decided = decided_now start all e es moment tx (any_decided tx epoch e.step.marks there)
+  decided = decided_now start all e es moment tx (decided_mark tx epoch e.step.marks there)
 
   own : IsIn member (made start)
   own = decided_made start all (e ∷ es) moment tx decided
@@ -53,7 +54,7 @@ module _ (start : Start) (all : ℕ → List HostStep) (e : HostStep) (es : List
   home : e.host ≡ tc_of start member
   home =
       (decides_now forth_is_known start all e es moment tx decided
-      (new_there start all e es moment tx [] (any_decided tx epoch e.step.marks there))).at
+      (new_there start all e es moment tx [] (decided_mark tx epoch e.step.marks there))).at
 
   marks_are : e.step.marks ≡ (step_after start (tc_of start member) log e).effects.marks
   marks_are =

@@ -5,6 +5,9 @@ use Rattle.std.proofs.lemmas.Bool.{true≢false}
 use Rattle.std.specs.Prelude.{if◌then◌else◌, not, Option, None, Some}
 use Rattle.run_theory.specs.Lists.{Each, IsIn}
 use Rattle.run_theory.proofs.Pasts.{each_in, in_append, each_map}
+use Rattle.node_views.proofs.WordWalk.{parts_speak}
+use Rattle.node_views.specs.Words.{parts_marks}
+use Rattle.commit_laws.proofs.hosts.Words.{OfKind}
 use Rattle.sig_core.specs.declared.mark.Mark.{Mark}
 use Rattle.sig_core.specs.declared.mark.Mark.TheVariants.{Installed}
 use Rattle.sig_core.specs.declared.member.HostId.{HostId}
@@ -13,27 +16,19 @@ use Rattle.sig_core.specs.declared.outcome.StopCause.{StopCause}
 use Rattle.sig_core.specs.declared.place.BlockId.{BlockId}
 use Rattle.sig_core.specs.declared.place.BlockId.TheVariants as block
 use Rattle.sig_core.specs.declared.signal.Body.{Body}
-use Rattle.sig_core.specs.declared.signal.Body.TheVariants.{Host, Membership}
+use Rattle.sig_core.specs.declared.signal.Body.TheVariants.{Host}
 use Rattle.sig_core.specs.declared.signal.Signal.{Signal}
 use Rattle.sig_core.specs.declared.signal.host.HostSignal.TheVariants.{Closed, Cut, Kill}
-use Rattle.sig_core.specs.declared.signal.membership.MembershipSignal.TheVariants.{ArbitReq}
 use Rattle.sig_core.specs.declared.view.View.{View}
 use Rattle.sig_core.specs.Step.{Effects, Step}
-use Rattle.api_views.specs.Client.{client_row}
 use Rattle.api_views.specs.Members.{same_member}
-use Rattle.api_views.specs.State.{ClientState}
-use Rattle.arbiter_block.specs.Arbiter.{ArbiterState, arbit_if, arbit_row, arbiter_row, arbiter_table, is_granted}
 use Rattle.gcp_master.specs.Master.{master_row}
 use Rattle.node_views.specs.Blocks.{parts_entered, parts_row, settled_at}
 use Rattle.node_views.specs.declared.host.Host as hosts
-use Rattle.node_views.specs.declared.ldm_part.LdmPart.{LdmPart}
 use Rattle.node_views.specs.declared.main_part.MainPart.{MainPart}
 use Rattle.node_views.specs.declared.parts.Parts.{Parts}
 use Rattle.node_views.specs.declared.parts.Parts.TheVariants.{Ldm, Main, Shell, Tc}
-use Rattle.node_views.specs.declared.shell_part.ShellPart.{ShellPart}
-use Rattle.node_views.specs.declared.tc_part.TcPart.{TcPart}
-use Rattle.node_views.specs.Parts.{ldm_row, main_row, main_settled, may_settle, qmgr_settled, settled, settled_if}
-use Rattle.node_views.specs.Parts.{shell_row, tc_row}
+use Rattle.node_views.specs.Parts.{main_row, main_settled, may_settle, qmgr_settled, settled, settled_if}
 use Rattle.node_views.specs.Row.{blocks_row, closed_if, counted_row, cut_if, entered, entering_if, headed_if}
 use Rattle.node_views.specs.Row.{headed_row, host_row, host_table, is_barred, is_cut, is_excluded, killed_after}
 use Rattle.node_views.specs.Row.{passed_if, passed_row, settle, standing_at, taken_if, with_parts}
@@ -51,10 +46,7 @@ use Rattle.view_laws.proofs.follow.Memberships.{settles_on}
 use Rattle.view_laws.proofs.ballots.MadeSets.{in_front}
 use Rattle.view_laws.proofs.memberships.Outstanding.{Does, does_answer, does_hear, does_propose, does_rest, does_settle}
 use Rattle.view_laws.proofs.memberships.Outstanding.{is_settling, table_does}
-use Rattle.outcome_laws.proofs.client.Turns.{client_turns}
 use Rattle.outcome_laws.proofs.order.BeforeInLists.{in_either}
-use Rattle.lqh_views.proofs.Walk.{replica_marks_each}
-use Rattle.commit_laws.proofs.hosts.MarkReasons.{tc_marks_each}
 use Rattle.gcp_master.specs.Words.{is_master_mark}
 use Rattle.gcp_master.proofs.Walk.{master_words}
 use Rattle.step_forms.specs.Does.{IsAmong}
@@ -79,57 +71,22 @@ one_installed : (set view : View) → IsIn (Installed view) (Installed set ∷ [
 one_installed set view (inl same) = one_mark set view same
 one_installed set view (inr none) = absurd none
 
--- blocks but a membership install none
-arbiter_installs : (s : ArbiterState) (x : Signal) → Each InstallsNone (arbiter_row s x).effects.marks
-unfolding arbit_row
-arbiter_installs s x = by x.body
-  where
-    asked : (number : ℕ) (members : List Member) (b : Bool)
-        → Each InstallsNone (arbit_if s x.member.node number members b).effects.marks
-    asked number members true = tt
-    asked number members false = tt
+-- nobody but a main part marks one
+abbrev IsNoMain : Parts → Type 0
+IsNoMain parts = OfKind (Unit {0}) ⊥ (Unit {0}) (Unit {0}) parts
 
-    by : (body : Body) → Each InstallsNone (arbiter_table s x.member.node body).effects.marks
-    by (Membership (ArbitReq number members joining)) = asked number members (is_granted s number members joining)
-    by _ = tt
+plain_mark : (parts : Parts) → IsNoMain parts → (mark : Mark) → parts_marks parts mark ≡ true → InstallsNone mark
+plain_mark (Main p) other mark is = absurd other
+plain_mark (Shell p) other (Installed view) is = absurd (true≢false (sym is))
+plain_mark (Tc p) other (Installed view) is = absurd (true≢false (sym is))
+plain_mark (Ldm p) other (Installed view) is = absurd (true≢false (sym is))
+plain_mark parts other mark is = refl
 
-client_installs : (s : ClientState) (x : Signal) → Each InstallsNone (client_row s x).effects.marks
-client_installs s x =
-    client_turns s x (λ opened sends marks. Each InstallsNone marks) (record {
-      keeps = λ sends plain. tt;
-      opens = λ name node op sends plain. tt;
-      begins = λ p at f u name tx sends is has plain. tt;
-      changes = λ p at f u sends same doing plain. tt;
-      wishes = λ p at f u tx is same was now. tt;
-      drops = λ p at f sends plain. tt;
-      commits = λ p at f tx epoch sends is told plain. (refl, tt);
-      commits_late = λ p at f tx epoch sends is told plain. (refl, tt);
-      aborts = λ p at f tx why sends is told plain. (refl, tt);
-      fails = λ p at f tx number sends is plain. (refl, tt);
-      goes_down = λ p at f tx sends is was plain. (refl, tt);
-      loses = λ p at f tx sends is plain. (refl, tt);
-    })
-
-shell_installs : (p : ShellPart) (b : BlockId) (x : Signal) → Each InstallsNone (shell_row p b x).effects.marks
-unfolding shell_row
-shell_installs p block.Api x = client_installs p.client x
-shell_installs p block.Arbiter x = arbiter_installs p.arbiter x
-shell_installs p _ x = tt
-
-tc_installs : (p : TcPart) (b : BlockId) (x : Signal) → Each InstallsNone (tc_row p b x).effects.marks
-tc_installs p b x = tc_marks_each InstallsNone (λ tx epoch. refl) p b x
-
-ldm_installs : (p : LdmPart) (b : BlockId) (x : Signal) → Each InstallsNone (ldm_row p b x).effects.marks
-unfolding ldm_row
-ldm_installs p block.Lqh x =
-    replica_marks_each p.replica x InstallsNone (record {
-      prepared = λ tx key. refl;
-      applied = λ tx key epoch chain at committed is first there. refl;
-      completed = λ tx key chain at is. refl;
-      given_up = λ tx key is there. refl;
-      expired = λ tx key. refl;
-    })
-ldm_installs p _ x = tt
+others_install_none : (parts : Parts) → IsNoMain parts → (x : Signal)
+    → Each InstallsNone (parts_row parts x).effects.marks
+others_install_none parts other x =
+    each_map (IsAmong (parts_marks parts)) InstallsNone (parts_row parts x).effects.marks (plain_mark parts other)
+    (parts_speak parts x).1
 
 master_installs : (p : MainPart) (x : Signal) → Each InstallsNone (master_row p.master x).effects.marks
 master_installs p x =
@@ -212,20 +169,17 @@ main_settle p x = record { forth = forth x.to.block; back = back x.to.block }
         subst (IsIn (Installed view)) (sym (settles_on p.qmgr x view is).marks) (inl refl)
     back _ view is = absurd cc
 
+others_settle : (parts : Parts) → IsNoMain parts → (x : Signal) → settled_at parts x ≡ None → Settle parts x
+others_settle parts other x none = record {
+  forth = λ view there. absurd (none_installed _ (others_install_none parts other x) view there);
+  back = λ view is. absurd (let both : None ≡ Some view = sym none ∙ is in cc);
+}
+
 parts_settle : (parts : Parts) (x : Signal) → Settle parts x
 parts_settle (Main p) x = main_settle p x
-parts_settle (Shell p) x = record {
-  forth = λ view there. absurd (none_installed _ (shell_installs p x.to.block x) view there);
-  back = λ view is. absurd cc;
-}
-parts_settle (Tc p) x = record {
-  forth = λ view there. absurd (none_installed _ (tc_installs p x.to.block x) view there);
-  back = λ view is. absurd cc;
-}
-parts_settle (Ldm p) x = record {
-  forth = λ view there. absurd (none_installed _ (ldm_installs p x.to.block x) view there);
-  back = λ view is. absurd cc;
-}
+parts_settle (Shell p) x = others_settle (Shell p) tt x refl
+parts_settle (Tc p) x = others_settle (Tc p) tt x refl
+parts_settle (Ldm p) x = others_settle (Ldm p) tt x refl
 
 -- A step marks the views that these events install.
 pub record Tells (t : Step hosts.Host) (events : List Event) : Type 0 where

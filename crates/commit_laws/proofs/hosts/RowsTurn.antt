@@ -1,10 +1,13 @@
 -- What becomes of the rows of a member at an event: nothing, or a view is installed, or they take the signal of the
 -- event, which then is of the current view, if it is of a kind that fences stop.
-use Rattle.std.proofs.Common.{◌≡◌, ◌≢◌, ◌⊎◌, ◌++◌, ◌∙◌, ℕ, false, List, [], ◌∷◌, append-nil, refl, sym, ap, subst, inl, inr, arith}
-use Rattle.std.proofs.lemmas.Bool.{cases_eq, true≢false}
-use Rattle.run_theory.specs.Lists.{IsIn}
+use Rattle.std.proofs.Common.{◌≡◌, ◌≢◌, ◌⊎◌, ◌++◌, ◌∙◌, ℕ, false, List, [], ◌∷◌, refl, sym, ap, subst, inl, inr, arith}
+use Rattle.std.proofs.lemmas.Bool.{true≢false}
+use Rattle.run_theory.specs.Lists.{IsIn, Each}
 use Rattle.run_theory.proofs.Runs.{log_of-other, log_of-own}
 use Rattle.run_theory.specs.Runs.{Happens}
+use Rattle.run_theory.proofs.EventCases.{event_cases}
+use Rattle.run_theory.proofs.Pasts.{each_append}
+use Rattle.commit_laws.proofs.hosts.OwnTaken.{taken_at}
 use Rattle.sig_core.specs.declared.mark.Mark.{Mark}
 use Rattle.sig_core.specs.declared.member.Member.{Member}
 use Rattle.sig_core.specs.declared.outs.Outgoing.{Outgoing}
@@ -27,17 +30,17 @@ use Rattle.view_laws.specs.Order.{sound_machine}
 use Rattle.view_laws.specs.Runs.{view_after}
 use Rattle.moment_laws.specs.Moments.{IsMoment, current, logs_of}
 use Rattle.moment_laws.specs.Parts.{IsPassed}
-use Rattle.moment_laws.specs.PartSteps.{PartEnters, installs, ldm_kind, remains}
+use Rattle.moment_laws.specs.PartSteps.{installs, ldm_kind, remains}
 use Rattle.moment_laws.specs.Places.{ldm_of}
 use Rattle.moment_laws.proofs.MomentHosts.{part_some}
 use Rattle.moment_laws.proofs.MomentTurns.{taker_stands}
 use Rattle.moment_laws.proofs.PartKinds.{ldm_is}
-use Rattle.moment_laws.proofs.PartTaken.{IsTakenNow, handled_now}
+use Rattle.moment_laws.proofs.PartTaken.{IsTakenNow}
 use Rattle.request_laws.specs.Blocks.{rows_after}
 use Rattle.request_laws.proofs.phases.AlongLogs.{told_some}
 use Rattle.request_laws.proofs.routes.PartSteps.{LdmStep, own_ldm, rows_are}
 use Rattle.commit_laws.specs.Traces.{rows_at}
-use Rattle.commit_laws.proofs.hosts.RowsGo.{AreUnapplied, Entering, Goes, StopsSilent, ldm_goes, leaves, takes}
+use Rattle.commit_laws.proofs.hosts.RowsGo.{AreUnapplied, Entering, Goes, StopsSilent, ldm_goes, leaves, takes, is_row_mark}
 
 module _ (start : Start) (all : ℕ → List HostStep) (e : HostStep) (es : List HostStep)
     (moment : IsMoment start all (e ∷ es)) (member : Member) (there : IsIn member (made start))
@@ -60,7 +63,7 @@ module _ (start : Start) (all : ℕ → List HostStep) (e : HostStep) (es : List
       as_was : s ≡ rows_at start old member → view_after start h (e ∷ old h) ≡ view_after start h (old h) → IsBetween s
       entered : (view : View) → s ≡ installed (rows_at start old member) view → IsBetween s
 
-    -- what the host of the rows sends is what these send, or nothing; and its marks are theirs, behind some that mark
+    -- what the host of the rows sends is what these send, or nothing; and its marks are theirs, among some that mark
     -- nothing to be applied
     pub record IsTakenAt (s : ReplicaState) : Type 0 where
       pub at : e.host ≡ h
@@ -72,8 +75,10 @@ module _ (start : Start) (all : ℕ → List HostStep) (e : HostStep) (es : List
       pub goes : stops_by e.step.marks ≡ false
           → (step_after start h (old h) e).effects.sends ≡ (replica_row s x).effects.sends
       pub front : List Mark
+      pub back : List Mark
       pub unapplied : AreUnapplied front
-      pub marks_are : e.step.marks ≡ front ++ (replica_row s x).effects.marks
+      pub unapplied_behind : AreUnapplied back
+      pub marks_are : e.step.marks ≡ front ++ ((replica_row s x).effects.marks ++ back)
 
     -- where the rows take nothing, their host sends nothing, and marks nothing to be applied
     pub record IsQuiet : Type 0 where
@@ -178,14 +183,11 @@ module _ (start : Start) (all : ℕ → List HostStep) (e : HostStep) (es : List
       passed_to : (between : LdmPart) (seen : View) → Entering p view_was x between seen
           → step.state.standing.view ≡ seen → IsPassed start.shape (part.Ldm between) seen x → x.to.block ≡ block.Lqh
           → IsTakenNow start all e es moment block.Lqh
-      passed_to between seen entering stood passed to =
-          handled_now start all e es moment ldm_kind ldm_is p
-          (subst (λ k. (after start k (old k)).parts ≡ part.Ldm p) (sym at) own.runs) between []
-          (subst (λ k. PartEnters ldm_kind p (view_after start k (old k)) x between (view_after start k (e ∷ old k)) [])
-          (sym at) (subst (λ (v : View). Entering p view_was x between v) (sym (view_is seen stood)) entering))
-          (subst (λ k. IsPassed start.shape (part.Ldm between) (view_after start k (e ∷ old k)) x) (sym at)
-          (subst (λ (v : View). IsPassed start.shape (part.Ldm between) v x) (sym (view_is seen stood)) passed))
-          block.Lqh to
+      passed_to between seen entering stood passed =
+          taken_at start all e es moment h at ldm_kind ldm_is p between [] own.runs
+          (subst (λ (v : View). Entering p view_was x between v) (sym (view_is seen stood)) entering)
+          (subst (λ (v : View). IsPassed start.shape (part.Ldm between) v x) (sym (view_is seen stood)) passed)
+          block.Lqh
 
       own_turn : RowsTurn
       unfolding ldm_row
@@ -195,9 +197,9 @@ module _ (start : Start) (all : ℕ → List HostStep) (e : HostStep) (es : List
               → IsPassed start.shape (part.Ldm between) seen x → step.state.standing.view ≡ seen → (b : BlockId)
               → x.to.block ≡ b → step.state.parts ≡ part.Ldm (ldm_row between b x).state
               → (step.effects.sends ≡ (ldm_row between b x).effects.sends) ⊎ StopsSilent step.effects
-              → (front : List Mark) → AreUnapplied front
-              → step.effects.marks ≡ front ++ (ldm_row between b x).effects.marks → RowsTurn
-          taking between seen entering passed stood block.Lqh to parts sends front none marks =
+              → (front back : List Mark) → AreUnapplied front → AreUnapplied back
+              → step.effects.marks ≡ front ++ ((ldm_row between b x).effects.marks ++ back) → RowsTurn
+          taking between seen entering passed stood block.Lqh to parts sends front back none none_behind marks =
               take_now between.replica (between_is between seen entering stood)
               (which_is between seen entering stood) (record {
                 at = at;
@@ -206,7 +208,9 @@ module _ (start : Start) (all : ℕ → List HostStep) (e : HostStep) (es : List
                 sent = sent_or sends;
                 goes = λ on. sent_on on sends;
                 front = front;
+                back = back;
                 unapplied = none;
+                unapplied_behind = none_behind;
                 marks_are = marks_of ∙ marks;
               })
             where
@@ -223,31 +227,51 @@ module _ (start : Start) (all : ℕ → List HostStep) (e : HostStep) (es : List
               sent_on on (inl is) = is
               sent_on on (inr silent) =
                   absurd (true≢false (sym (ap stops_by marks_of ∙ silent.stops) ∙ on))
-          taking between seen entering passed stood _ to parts sends front none marks =
+          taking between seen entering passed stood _ to parts sends front back none none_behind marks =
               idle between seen entering stood (now_is between parts) (record {
                 sends = quiet sends;
-                marks = subst AreUnapplied (sym (marks_of ∙ (marks ∙ append-nil front))) none;
+                marks =
+                    subst AreUnapplied (sym (marks_of ∙ marks))
+                    (each_append (λ mark. is_row_mark mark ≡ false) front back none none_behind);
               })
             where
               quiet : (step.effects.sends ≡ []) ⊎ StopsSilent step.effects → step.effects.sends ≡ []
               quiet (inl is) = is
               quiet (inr silent) = silent.sends
 
-          by : Goes start.shape p view_was x step → RowsTurn
+          by : Goes start.shape p view_was x step.state.parts step.state.standing.view step.effects.sends
+              step.effects.marks → RowsTurn
           by (leaves between seen entering parts stood sends marks) =
               idle between seen entering stood (now_is between parts)
               (record { sends = sends; marks = subst AreUnapplied (sym marks_of) marks })
-          by (takes between seen entering passed parts stood sends front none marks) =
-              taking between seen entering passed stood x.to.block refl parts sends front none marks
+          by (takes between seen entering passed parts stood sends front back none none_behind marks) =
+              taking between seen entering passed stood x.to.block refl parts sends front back none none_behind marks
 
     pub rows_turn : RowsTurn
-    rows_turn = by (cases_eq e.host h)
-      where
-        by : (e.host ≡ h) ⊎ (e.host ≢ h) → RowsTurn
-        by (inl at) = own_turn at
-        by (inr other) =
-            rest_now (ap (rows_after start member) (log_of-other (machine start) e es h other))
-            (λ here. absurd (other here)) (λ here. absurd (other here))
+    rows_turn =
+        event_cases (machine start) e es h (λ log. RowsTurn) own_turn
+        (λ other.
+        rest_now (ap (rows_after start member) (log_of-other (machine start) e es h other))
+        (λ here. absurd (other here))
+        (λ here. absurd (other here)))
 
     pub rows_go : RowsGo
     rows_go = forgets rows_turn
+
+    -- what is so of all that its rows send at a signal that they take is so of all that their host sends
+    pub rows_each : (Q : Outgoing → Type 0)
+        → ((s : ReplicaState) → IsBetween s → IsTakenAt s → Each Q (replica_row s e.step.taken).effects.sends)
+        → e.host ≡ ldm_of start member
+        → Each Q (step_after start (ldm_of start member) (logs_of start es (ldm_of start member)) e).effects.sends
+    rows_each Q did at = by rows_go
+      where
+        by : RowsGo → Each Q (step_after start h (old h) e).effects.sends
+        by (rest is quiet) = subst (Each Q) (sym (quiet at).sends) tt
+        by (enter view is quiet) = subst (Each Q) (sym (quiet at).sends) tt
+        by (take s between taken) = sent taken.sent
+          where
+            sent : ((step_after start h (old h) e).effects.sends ≡ (replica_row s x).effects.sends)
+                ⊎ ((step_after start h (old h) e).effects.sends ≡ [])
+                → Each Q (step_after start h (old h) e).effects.sends
+            sent (inl is) = subst (Each Q) (sym is) (did s between taken)
+            sent (inr is) = subst (Each Q) (sym is) tt

@@ -1,13 +1,13 @@
 -- Along a run whose end is fixed each key is led to what the history makes of it.
-use Rattle.std.proofs.Common.{◌≡◌, ◌≢◌, ◌⊎◌, ◌||◌, ℕ, Bool, true, false, List, [], ◌∷◌, ◌++◌, filter, reverse, refl, sym, ap, ◌∙◌, subst, inl, inr}
-use Rattle.std.proofs.lemmas.Bool.{cases_eq}
+use Rattle.std.proofs.Common.{◌≡◌, ◌≢◌, ◌||◌, ℕ, Bool, true, false, List, [], ◌∷◌, ◌++◌, filter, reverse, refl, sym, ap, ◌∙◌, subst, inl, inr}
 use Rattle.std.proofs.lemmas.List.{reverse-append}
 use Rattle.std.proofs.Math.Path.{fun_ext}
 use Rattle.std.specs.List.{list_any}
 use Rattle.std.specs.Prelude.{if◌then◌else◌, None, Some}
 use Rattle.run_theory.specs.Lists.{Each, IsIn, IsPast}
 use Rattle.run_theory.proofs.Pasts.{past_less}
-use Rattle.run_theory.proofs.Runs.{log_of-other, log_of-own}
+use Rattle.run_theory.proofs.Runs.{log_of-own}
+use Rattle.run_theory.proofs.EventCases.{event_cases}
 use Rattle.row_locks.specs.declared.mode.Mode.TheVariants.{Exclusive}
 use Rattle.row_locks.specs.Holders.{holds_enough}
 use Rattle.sig_core.specs.declared.entry.Entry.{Entry}
@@ -141,16 +141,11 @@ module _ (owed : AreOwed) (start : Start) (all : ℕ → List HostStep) (end : L
 
     decided_next : decided_at start end (e ∷ es) ≡ decided_with e.step.marks (decided_at start end es)
     decided_next =
-        fun_ext (λ v. by v (cases_eq e.host (tc_of start (coordinator_member v)))
+        fun_ext (λ v.
+        event_cases (machine start) e es (tc_of start (coordinator_member v))
+        (λ log. has_mark (is_decision v) log ≡ (list_any (is_decision v) e.step.marks || decided_at start end es v))
+        (λ at. refl) (λ off. sym (ap (λ b. b || decided_at start end es v) (none_of v off e.step.marks decides_here)))
         ∙ sym (decided_among e.step.marks (decided_at start end es) v))
-      where
-        by : (v : TxId) → (e.host ≡ tc_of start (coordinator_member v)) ⊎ (e.host ≢ tc_of start (coordinator_member v))
-            → decided_at start end (e ∷ es) v ≡ (list_any (is_decision v) e.step.marks || decided_at start end es v)
-        by v (inl at) =
-            ap (has_mark (is_decision v)) (log_of-own (machine start) e es (tc_of start (coordinator_member v)) at)
-        by v (inr off) =
-            ap (has_mark (is_decision v)) (log_of-other (machine start) e es (tc_of start (coordinator_member v)) off)
-            ∙ sym (ap (λ b. b || decided_at start end es v) (none_of v off e.step.marks decides_here))
 
     -- one decision
     module _ (decided : TxId → Bool) (list : List Entry) (good : Good (logs_of start es) decided (kept_among list))

@@ -3,8 +3,10 @@ use Rattle.std.proofs.Common.{◌≡◌, ◌≢◌, ◌⊎◌, ◌||◌, ◌<◌
 use Rattle.std.proofs.lemmas.Bool.{cases_eq, or_left, or_right, true≢false}
 use Rattle.std.specs.List.{list_any}
 use Rattle.std.specs.Prelude.{if◌then◌else◌}
-use Rattle.run_theory.proofs.Runs.{log_of-other, log_of-own}
+use Rattle.run_theory.proofs.Runs.{log_of-own}
 use Rattle.run_theory.specs.Lists.{IsIn}
+use Rattle.commit_laws.proofs.markers.Lists.{in_filter}
+use Rattle.commit_laws.proofs.hosts.MarkCases.{mark_cases, marked_cases}
 use Rattle.sig_core.proofs.Keys.{same_tx-self}
 use Rattle.sig_core.specs.declared.entry.Entry.{Entry}
 use Rattle.sig_core.specs.declared.mark.Mark.{Mark}
@@ -40,7 +42,7 @@ use Rattle.commit_laws.proofs.markers.AppliedMarks.{marks_of_commit}
 use Rattle.commit_laws.proofs.fates.Committed.{decision_in}
 use Rattle.commit_laws.proofs.forth.DecidedStay.{applied_more, decided_more, ops_same, written_more}
 use Rattle.commit_laws.proofs.views.AtEvents.{any_of}
-use Rattle.commit_laws.proofs.led.Entries.{decision_stays, in_filter}
+use Rattle.commit_laws.proofs.led.Entries.{decision_stays}
 use Rattle.commit_laws.proofs.led.Replicas.{moment_at}
 use Rattle.commit_laws.proofs.links.TakenChains.{commit_kept}
 
@@ -54,13 +56,10 @@ applied_written : ForthIsKnownAlways → AllStandAlways → (start : Start) (all
     → WritesKey start (logs_of start es) v key
 applied_written forth stand start all [] moment v key applied = absurd applied.marked
 applied_written forth stand start all (e ∷ es) moment v key applied =
-    by (cases_eq e.host h)
+    more (marked_cases start e es (ldm_of start applied.member) (Applied v key) new
     (λ older. applied_written forth stand start all es before v key
-    (record { member = applied.member; is_made = applied.is_made; marked = older }))
+    (record { member = applied.member; is_made = applied.is_made; marked = older })) applied.marked)
   where
-    h : ℕ
-    h = ldm_of start applied.member
-
     before : IsMoment start all es
     before = moment_less start all e es moment
 
@@ -70,7 +69,8 @@ applied_written forth stand start all (e ∷ es) moment v key applied =
       written = written_more start all e es moment v key old.decided old.written;
     }
 
-    new : e.host ≡ h → IsIn (Applied v key) e.step.marks → WritesKey start (logs_of start es) v key
+    new : e.host ≡ ldm_of start applied.member → IsIn (Applied v key) e.step.marks
+        → WritesKey start (logs_of start es) v key
     new at marked =
         let c = marks_of_commit start all e es moment applied.member applied.is_made v key at marked in
         let stood = stand start all es before in
@@ -82,17 +82,6 @@ applied_written forth stand start all (e ∷ es) moment v key applied =
           decided = kept.decided;
           written = (stood.commits.records v kept applied.member applied.is_made key c.own c.record_is).0;
         }
-
-    by : (e.host ≡ h) ⊎ (e.host ≢ h)
-        → (IsMarked (Applied v key) (logs_of start es h) → WritesKey start (logs_of start es) v key)
-        → WritesKey start (logs_of start (e ∷ es)) v key
-    by (inl at) rest = own (subst (IsMarked (Applied v key)) (log_of-own (machine start) e es h at) applied.marked)
-      where
-        own : IsMarked (Applied v key) (e ∷ logs_of start es h) → WritesKey start (logs_of start (e ∷ es)) v key
-        own (inl now) = more (new at now)
-        own (inr older) = more (rest older)
-    by (inr other) rest =
-        more (rest (subst (IsMarked (Applied v key)) (log_of-other (machine start) e es h other) applied.marked))
 
 -- it stays applied
 applied_past : (start : Start) (all : ℕ → List HostStep) (newer es : List HostStep) → IsMoment start all (newer ++ es)
@@ -148,17 +137,10 @@ entry_of_decided start all (e ∷ es) moment v is =
     h : ℕ
     h = tc_of start (coordinator_member v)
 
-    or_off : (a b : Bool) → b ≡ false → (a || b) ≡ true → a ≡ true
-    or_off true b off is = refl
-    or_off false b off is = absurd (true≢false (sym is ∙ off))
-
-    new : is_decided start (logs_of start es) v ≡ false → (e.host ≡ h) ⊎ (e.host ≢ h) → HasEntryOf start (e ∷ es) v
-    new off (inr other) =
-        absurd (true≢false (sym is ∙ (ap (has_mark (is_decision v)) (log_of-other (machine start) e es h other) ∙ off)))
-    new off (inl at) =
-        let marked =
-        or_off (list_any (is_decision v) e.step.marks) (is_decided start (logs_of start es) v) off
-        (sym (ap (has_mark (is_decision v)) (log_of-own (machine start) e es h at)) ∙ is) in
+    new : is_decided start (logs_of start es) v ≡ false → HasEntryOf start (e ∷ es) v
+    new off =
+        mark_cases start e es h (is_decision v)
+        (λ at marked.
         let d = decision_in v e.step.marks marked in
         record {
           entry = entry_of e.host e.step.stamp (e ∷ logs_of start es e.host) v d.epoch;
@@ -169,7 +151,8 @@ entry_of_decided start all (e ∷ es) moment v is =
           ops_is =
               ap (λ k. ops_of v (e ∷ logs_of start es k)) at ∙ sym
               (ap (ops_of v) (log_of-own (machine start) e es h at));
-        }
+        })
+        (λ was. absurd (true≢false (sym was ∙ off))) is
 
     by : (b : Bool) → is_decided start (logs_of start es) v ≡ b
         → (is_decided start (logs_of start es) v ≡ true → HasEntryOf start es v) → HasEntryOf start (e ∷ es) v
@@ -183,7 +166,7 @@ entry_of_decided start all (e ∷ es) moment v is =
           tx_is = old.tx_is;
           ops_is = old.ops_is ∙ sym (ops_same start all e es moment v was);
         }
-    by false off rest = new off (cases_eq e.host h)
+    by false off rest = new off
 
 -- marks that are there
 any_mark : (v : TxId) (key : List ℕ) (marks : List Mark) → IsIn (Applied v key) marks

@@ -1,11 +1,13 @@
 -- A transaction is decided once, so that its entry takes effect just where it is final.
-use Rattle.std.proofs.Common.{◌≡◌, ◌≢◌, ◌≤◌, ◌+◌, ◌⊎◌, ◌||◌, cond, ℕ, Bool, true, false, List, [], ◌∷◌, ◌++◌, filter, reverse, refl, sym, ap, ◌∙◌, subst, inl, inr, arith}
+use Rattle.std.proofs.Common.{◌≡◌, ◌≢◌, ◌≤◌, ◌+◌, ◌⊎◌, ◌||◌, ℕ, Bool, true, false, List, [], ◌∷◌, ◌++◌, reverse, refl, sym, ap, ◌∙◌, subst, inl, inr, arith}
 use Rattle.std.proofs.lemmas.Bool.{cases_eq, true≢false}
 use Rattle.std.proofs.lemmas.List.{reverse-reverse}
 use Rattle.std.specs.List.{count_by, list_any}
-use Rattle.run_theory.proofs.Pasts.{each_in}
-use Rattle.run_theory.proofs.Runs.{log_of-other, log_of-own}
+use Rattle.run_theory.proofs.Pasts.{each_in, in_append}
+use Rattle.run_theory.proofs.Runs.{log_of-own}
 use Rattle.run_theory.specs.Lists.{IsIn, IsPast}
+use Rattle.run_theory.proofs.EventCases.{event_cases}
+use Rattle.commit_laws.proofs.markers.Lists.{in_filter}
 use Rattle.sig_core.proofs.Keys.{same_tx-self}
 use Rattle.sig_core.proofs.TxLemmas.{same_tx-swap}
 use Rattle.sig_core.specs.declared.entry.Entry.{Entry}
@@ -159,7 +161,10 @@ decisions_count : (start : Start) (all : ℕ → List HostStep) (es : List HostS
     ≡ marks_in (is_decision tx) (logs_of start es (tc_of start (coordinator_member tx)))
 decisions_count start all [] moment tx = refl
 decisions_count start all (e ∷ es) moment tx =
-    by (cases_eq e.host h) (decisions_count start all es (moment_less start all e es moment) tx)
+    let rest = decisions_count start all es (moment_less start all e es moment) tx in
+    event_cases (machine start) e es h
+    (λ log. count_by (λ (a : Entry). same_tx a.tx tx) (decisions start (e ∷ es)) ≡ marks_in (is_decision tx) log)
+    (λ at. omega (arith, more, rest)) (λ off. omega (arith, more, rest, step_elsewhere start all e es moment tx off))
   where
     h : ℕ
     h = tc_of start (coordinator_member tx)
@@ -167,18 +172,6 @@ decisions_count start all (e ∷ es) moment tx =
     more : count_by (λ (a : Entry). same_tx a.tx tx) (decisions start (e ∷ es))
         ≡ count_by (is_decision tx) e.step.marks + count_by (λ (a : Entry). same_tx a.tx tx) (decisions start es)
     more = step_entries tx e.host e.step.stamp (e ∷ logs_of start es e.host) e.step.marks (decisions start es)
-
-    by : (e.host ≡ h) ⊎ (e.host ≢ h)
-        → count_by (λ (a : Entry). same_tx a.tx tx) (decisions start es) ≡ marks_in (is_decision tx)
-        (logs_of start es h)
-        → count_by (λ (a : Entry). same_tx a.tx tx) (decisions start (e ∷ es))
-        ≡ marks_in (is_decision tx) (logs_of start (e ∷ es) h)
-    by (inl at) rest =
-        let own = ap (marks_in (is_decision tx)) (log_of-own (machine start) e es h at) in
-        omega (arith, more, rest, own)
-    by (inr off) rest =
-        let own = ap (marks_in (is_decision tx)) (log_of-other (machine start) e es h off) in
-        omega (arith, more, rest, own, step_elsewhere start all e es moment tx off)
 
 pub decisions_once : (start : Start) (all : ℕ → List HostStep) (es : List HostStep) → IsMoment start all es
     → AreOnce (decisions start es)
@@ -204,27 +197,13 @@ one_entry (x ∷ xs) a b once (inr rest) (inl other) same =
     absurd (true≢false (sym same ∙ (ap (λ (c : Entry). same_tx a.tx c.tx) other ∙ off)))
 one_entry (x ∷ xs) a b once (inr left) (inr right) same = one_entry xs a b once.1 left right same
 
-pub in_filter : {A : Type 0} (p : A → Bool) (x : A) (xs : List A) → IsIn x xs → p x ≡ true → IsIn x (filter p xs)
-in_filter p x [] inside is = absurd inside
-in_filter p x (y ∷ ys) (inl same) is =
-    subst (λ b. IsIn x (cond b (y ∷ filter p ys) (filter p ys))) (sym (ap p (sym same) ∙ is)) (inl same)
-in_filter {A} p x (y ∷ ys) (inr rest) is = by (p y) (in_filter p x ys rest is)
-  where
-    by : (b : Bool) → IsIn x (filter p ys) → IsIn x (cond b (y ∷ filter p ys) (filter p ys))
-    by true more = inr more
-    by false more = more
-
-in_past : {A : Type 0} (x : A) (newer xs : List A) → IsIn x xs → IsIn x (newer ++ xs)
-in_past x [] xs there = there
-in_past x (y ∷ newer) xs there = inr (in_past x newer xs there)
-
 -- a decision up to some time is one up to the end
 pub decision_stays : (start : Start) (all : ℕ → List HostStep) (end es : List HostStep) → IsAlong start all end es
     → (z : Entry) → IsIn z (decisions start es) → IsIn z (decisions start end)
 decision_stays start all end es along z there =
     let past = decisions_past start along.past.newer es in
     subst (λ list. IsIn z (decisions start list)) (sym along.past.is)
-    (subst (IsIn z) (sym past.is) (in_past z past.newer (decisions start es) there))
+    (subst (IsIn z) (sym past.is) (in_append z past.newer (decisions start es) there))
 
 pub entries_final : EntriesAreFinal
 entries_final start all end es along z there = by (is_final_entry start end z) refl (is_final start end z.tx) refl

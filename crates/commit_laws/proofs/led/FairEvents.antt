@@ -1,10 +1,10 @@
 -- What comes to a key at its replicas is fair to it.
 use Rattle.std.proofs.Common.{◌≡◌, ◌≢◌, ◌⊎◌, ◌||◌, ◌==◌, ◌≤◌, ◌∙◌, ℕ, Bool, true, false, List, [], ◌∷◌, filter, map, refl, sym, ap, subst, inl, inr, arith}
-use Rattle.std.proofs.lemmas.Bool.{and_left, and_right, cases_eq, eq-eqb, true≢false}
+use Rattle.std.proofs.lemmas.Bool.{and_left, and_right, eq-eqb, true≢false}
 use Rattle.std.specs.Prelude.{if◌then◌else◌, Option, None, Some}
 use Rattle.run_theory.proofs.Pasts.{each_from, each_map, past_less}
-use Rattle.run_theory.proofs.Runs.{log_of-other}
 use Rattle.run_theory.specs.Lists.{Each, IsIn}
+use Rattle.run_theory.proofs.EventCases.{event_cases}
 use Rattle.row_locks.specs.Rounds.{expired}
 use Rattle.sig_core.proofs.Keys.{same_tx-self}
 use Rattle.row_records.proofs.KeyLemmas.{same}
@@ -142,19 +142,15 @@ module _ (forth : ForthIsKnownAlways) (stand : AllStandAlways) (forward : Finals
 
     -- who is decided was so before: the host runs rows, and no coordinator
     was_decided : (v : TxId) → decided v ≡ true → is_decided start old v ≡ true
-    was_decided v is = by (cases_eq e.host (tc_of start (coordinator_member v)))
-      where
-        by : (e.host ≡ tc_of start (coordinator_member v)) ⊎ (e.host ≢ tc_of start (coordinator_member v))
-            → is_decided start old v ≡ true
-        by (inl at) =
-            let rows = ldm_step start member there e.host taken.at (old e.host) e in
-            let coordinates =
-            tc_step start (coordinator_member v) (decided_made start all (e ∷ es) moment v is) e.host at
-            (old e.host) e in
-            absurd (let both : part.Ldm rows.own ≡ part.Tc coordinates.own = sym rows.runs ∙ coordinates.runs in cc)
-        by (inr off) =
-            sym (ap (has_mark (is_decision v))
-            (log_of-other (machine start) e es (tc_of start (coordinator_member v)) off)) ∙ is
+    was_decided v is =
+        event_cases (machine start) e es (tc_of start (coordinator_member v))
+        (λ log. has_mark (is_decision v) log ≡ true → is_decided start old v ≡ true)
+        (λ at here.
+        let rows = ldm_step start member there e.host taken.at (old e.host) e in
+        let coordinates =
+        tc_step start (coordinator_member v) (decided_made start all (e ∷ es) moment v is) e.host at (old e.host) e in
+        absurd (let both : part.Ldm rows.own ≡ part.Tc coordinates.own = sym rows.runs ∙ coordinates.runs in cc))
+        (λ off was. was) is
 
     now_decided : (v : TxId) → is_decided start old v ≡ true → decided v ≡ true
     now_decided v is = decided_more start all e es moment v is

@@ -3,6 +3,7 @@ use Rattle.std.proofs.Common.{◌≡◌, ◌⊎◌, ℕ, Bool, true, false, List
 use Rattle.std.proofs.lemmas.Bool.{true≢false}
 use Rattle.std.specs.List.{list_any}
 use Rattle.std.specs.Prelude.{Option, None}
+use Rattle.commit_laws.proofs.parts.Performs.{row_unwritten}
 use Rattle.sig_core.specs.declared.entry.Entry.{Entry}
 use Rattle.sig_core.specs.declared.member.Member.{Member}
 use Rattle.sig_core.specs.declared.member.TxId.{TxId}
@@ -23,7 +24,7 @@ use Rattle.commit_laws.specs.Owed.{HasPrimary}
 use Rattle.commit_laws.specs.Settled.{HasImageIf, IsSettledWith, row_behind}
 use Rattle.commit_laws.specs.Traces.{IsReplicaOf, record_at, replica_at}
 use Rattle.commit_laws.proofs.led.Decisions.{AreKeptWhoLetGo, decision_leads, more_tidy, row_is_value, unkept_decision_leads}
-use Rattle.commit_laws.proofs.led.Histories.{end_last, none_done, right_last}
+use Rattle.commit_laws.proofs.led.Histories.{end_last, right_last}
 
 module _ (start : Start) (final : TxId → Bool) (first : Option (List ℕ)) (key : List ℕ) (logs : ℕ → List HostStep) where
   abbrev pub backup : Member → Backup
@@ -100,7 +101,7 @@ module _ (start : Start) (final : TxId → Bool) (first : Option (List ℕ)) (ke
                 waits = image.1.1.0;
                 image_is = image.1.1.1 ∙ ap (λ row. row_after_all row own) same;
               })
-          by false e image on = inr (image, none_done value own right_ops e)
+          by false e image on = inr (image, row_unwritten value own right_ops e)
 
       -- the history with its entry behind is right, and the key is led to the new value
       pub kept_good : (z : Entry) → z.ops ≡ ops → IsGood (ended_too decided tx) (history ++ z ∷ [])

@@ -3,6 +3,8 @@ use Rattle.std.proofs.Common.{◌≡◌, ◌∙◌, ◌++◌, not, ◌&&◌, ℕ
 use Rattle.std.proofs.lemmas.Bool.{eq-eqb, true≢false}
 use Rattle.run_theory.proofs.Pasts.{past_less}
 use Rattle.run_theory.specs.Lists.{IsIn}
+use Rattle.commit_laws.proofs.forth.DecidedStay.{decided_mark}
+use Rattle.commit_laws.proofs.forth.Grows.{grows}
 use Rattle.lqh_block.specs.Views.{was_begun_by}
 use Rattle.sig_core.specs.declared.mark.Mark.TheVariants.{Decided}
 use Rattle.sig_core.specs.declared.place.Part.TheVariants.{Tc}
@@ -29,7 +31,6 @@ use Rattle.commit_laws.specs.Together.{AllStandAlways}
 use Rattle.commit_laws.specs.Transit.{MomentsHaveTransit}
 use Rattle.commit_laws.specs.Values.{KeysAreLed, is_final}
 use Rattle.commit_laws.proofs.fates.Committed.{decided_made, forth_made}
-use Rattle.commit_laws.proofs.forth.DecidedStay.{log_grows}
 use Rattle.commit_laws.proofs.views.AtEvents.{any_of, full_was}
 use Rattle.commit_laws.proofs.fates.Decided.{decides_now}
 use Rattle.commit_laws.proofs.forth.All.{forth_is_known}
@@ -40,18 +41,16 @@ use Rattle.commit_laws.proofs.led.Entries.{decisions_fresh, entries_final, new_t
 use Rattle.commit_laws.proofs.led.Replicas.{moment_at, keys_have_primaries, replicas_were_so, who_let_go_are_final}
 use Rattle.commit_laws.proofs.led.Rows.{events_lead}
 use Rattle.commit_laws.proofs.fates.LostStays.{lost_stay}
-use Rattle.commit_laws.proofs.settled.OfFullCoordinators.{any_decided, decided_now, decisions_are_settled}
+use Rattle.commit_laws.proofs.settled.OfFullCoordinators.{decided_now, decisions_are_settled}
 
 -- who was given up stays so
 back_past : (start : Start) (all : ℕ → List HostStep) (newer es : List HostStep) → IsMoment start all (newer ++ es)
     → (v : TxId) → is_back start (logs_of start es) v ≡ true → is_back start (logs_of start (newer ++ es)) v ≡ true
 back_past start all [] es moment v is = is
 back_past start all (e ∷ newer) es moment v is =
-    log_grows start all e (newer ++ es) moment
-    (λ log. has_gone_back start (coordinator_member v) v log ≡ true) (tc_of start (coordinator_member v))
-    (λ at was.
-    gone_stays start (coordinator_member v) v is_aborting (tells_abort v)
-    (logs_of start (newer ++ es) (tc_of start (coordinator_member v))) e was)
+    grows start e (newer ++ es) (λ log. has_gone_back start (coordinator_member v) v log ≡ true)
+    (tc_of start (coordinator_member v))
+    (λ log was. gone_stays start (coordinator_member v) v is_aborting (tells_abort v) log e was)
     (back_past start all newer es (moment_less start all e (newer ++ es) moment) v is)
 
 pub finals_go_forward : FinalsAreForth → FinalsGoForward
@@ -107,7 +106,7 @@ module _ (forth : FinalsAreForth) (going : DecidersGoOn) (start : Start) (all : 
   moment = moment_at start all end (e ∷ es) along
 
   decided : is_decided start (logs_of start (e ∷ es)) tx ≡ true
-  decided = decided_now start all e es moment tx (any_decided tx epoch e.step.marks there)
+  decided = decided_now start all e es moment tx (decided_mark tx epoch e.step.marks there)
 
   made_own : IsIn (coordinator_member tx) (made start)
   made_own = decided_made start all (e ∷ es) moment tx decided
@@ -115,7 +114,7 @@ module _ (forth : FinalsAreForth) (going : DecidersGoOn) (start : Start) (all : 
   home : e.host ≡ tc_of start (coordinator_member tx)
   home =
       (decides_now forth_is_known start all e es moment tx decided
-      (new_there start all e es moment tx [] (any_decided tx epoch e.step.marks there))).at
+      (new_there start all e es moment tx [] (decided_mark tx epoch e.step.marks there))).at
 
   full_now : IsIn (coordinator_member tx) (current start (logs_of start (e ∷ es))).full
   full_now =

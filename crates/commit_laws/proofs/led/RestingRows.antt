@@ -1,12 +1,13 @@
 -- At rest a live replica of a key has no record of it, and so has the row that the history leaves.
-use Rattle.std.proofs.Common.{◌≡◌, ◌≢◌, ◌⊎◌, ◌||◌, ◌++◌, ◌<◌, ◌+◌, ◌-◌, ◌*◌, ◌∙◌, ℕ, zero, suc, Bool, true, false, length, List, [], ◌∷◌, refl, sym, ap, subst, arith, inl, inr}
+use Rattle.std.proofs.Common.{◌≡◌, ◌≢◌, ◌||◌, ◌++◌, ◌<◌, ◌+◌, ◌-◌, ◌*◌, ◌∙◌, ℕ, zero, suc, Bool, true, false, length, List, [], ◌∷◌, refl, sym, ap, subst, arith, inl, inr}
 use Rattle.std.proofs.Math.Path.{fun_ext}
-use Rattle.std.proofs.lemmas.Bool.{cases_eq, or_from, true≢false}
+use Rattle.std.proofs.lemmas.Bool.{or_from, true≢false}
 use Rattle.std.specs.List.{list_any}
 use Rattle.std.specs.Prelude.{if◌then◌else◌, is_some, Option, None, Some}
-use Rattle.run_theory.proofs.Runs.{log_of-other, log_of-own}
+use Rattle.run_theory.proofs.Runs.{log_of-own}
 use Rattle.run_theory.specs.Lists.{IsIn}
 use Rattle.run_theory.specs.Ranks.{in_order}
+use Rattle.run_theory.proofs.EventCases.{event_cases}
 use Rattle.frag_map.proofs.FirstReplicas.{first_all}
 use Rattle.frag_map.specs.Laws.{HasReplica, first_chain}
 use Rattle.frag_map.specs.Fragment.{frag_of}
@@ -62,7 +63,7 @@ use Rattle.commit_laws.proofs.forth.All.{forth_is_known}
 use Rattle.commit_laws.proofs.views.Greatest.{greatest_current}
 use Rattle.commit_laws.proofs.records.KeyGoes.{TakesNow}
 use Rattle.commit_laws.proofs.led.AllLed.{followed_histories}
-use Rattle.commit_laws.proofs.hosts.RowsGo.{AreUnapplied, is_row_mark}
+use Rattle.commit_laws.proofs.hosts.RowsGo.{AreUnapplied, is_row_mark, any_front}
 use Rattle.commit_laws.proofs.led.Begins.{replicas_begin_at_rest}
 use Rattle.commit_laws.proofs.records.Moves.{found_own, now_by}
 use Rattle.commit_laws.proofs.records.Once.{rows_once}
@@ -145,22 +146,19 @@ module _ (start : Start) (all : ℕ → List HostStep) (e : HostStep) (es : List
 
   carries : (e.host ≡ h → list_any (is_done_mark v key) e.step.marks ≡ false) → IsUnfinished key v (old h)
       → IsUnfinished key v (new h)
-  carries none one = by (cases_eq e.host h)
-    where
-      by : (e.host ≡ h) ⊎ (e.host ≢ h) → IsUnfinished key v (new h)
-      by (inl at) =
-          subst (IsUnfinished key v) (sym (log_of-own (machine start) e es h at))
-          (record {
-            newer = e ∷ one.newer;
-            step = one.step;
-            older = one.older;
-            is = ap (λ w. e ∷ w) one.is;
-            prepared = one.prepared;
-            undone =
-                or_from (list_any (is_done_mark v key) e.step.marks) (has_mark (is_done_mark v key) one.newer)
-                (none at) one.undone;
-          })
-      by (inr off) = subst (IsUnfinished key v) (sym (log_of-other (machine start) e es h off)) one
+  carries none one =
+      event_cases (machine start) e es h (IsUnfinished key v)
+      (λ at. record {
+        newer = e ∷ one.newer;
+        step = one.step;
+        older = one.older;
+        is = ap (λ w. e ∷ w) one.is;
+        prepared = one.prepared;
+        undone =
+            or_from (list_any (is_done_mark v key) e.step.marks) (has_mark (is_done_mark v key) one.newer) (none at)
+            one.undone;
+      })
+      (λ off. one)
 
   module _ (s : ReplicaState) (between : IsBetween start all e es moment member there s)
       (taken : IsTakenAt start all e es moment member there s) where
@@ -190,9 +188,10 @@ module _ (start : Start) (all : ℕ → List HostStep) (e : HostStep) (es : List
           is = refl;
           prepared =
               ap (list_any (is_prepared v key)) taken.marks_are
-              ∙ any_behind (is_prepared v key) taken.front own_marks
+              ∙ any_behind (is_prepared v key) taken.front (own_marks ++ taken.back)
+              (any_front (is_prepared v key) own_marks taken.back
               (record_marked v key s e.step.taken (well start all e es moment member there takes)
-              (sym (ap is_some now_is) ∙ is) (found_is ∙ none));
+              (sym (ap is_some now_is) ∙ is) (found_is ∙ none)));
           undone = refl;
         })
 
@@ -252,9 +251,10 @@ module _ (start : Start) (all : ℕ → List HostStep) (e : HostStep) (es : List
     stays is y there_y =
         carries (λ at.
         ap (list_any (is_done_mark v key)) taken.marks_are
-        ∙ none_both (is_done_mark v key) taken.front own_marks
+        ∙ none_both (is_done_mark v key) taken.front (own_marks ++ taken.back)
         (unapplied_undone v key taken.front taken.unapplied)
-        (by (list_any (is_done_mark v key) own_marks) refl))
+        (none_both (is_done_mark v key) own_marks taken.back (by (list_any (is_done_mark v key) own_marks) refl)
+        (unapplied_undone v key taken.back taken.unapplied_behind)))
       where
         ended : Ends v key s e.step.taken → now ≡ None
         ended (completes_it chain at about) = completed_gone chain at about y there_y

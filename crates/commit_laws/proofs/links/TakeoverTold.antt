@@ -5,6 +5,7 @@ use Rattle.std.proofs.lemmas.Bool.{and_parts, or_cases, or_parts, true≢false}
 use Rattle.std.specs.Prelude.{None}
 use Rattle.run_theory.specs.Links.{sent}
 use Rattle.run_theory.specs.Lists.{Each, IsIn}
+use Rattle.commit_laws.proofs.parts.Quiet.{not_and}
 use Rattle.sig_core.specs.declared.member.TxId.{TxId}
 use Rattle.sig_core.specs.declared.outs.Outgoing.{Outgoing}
 use Rattle.sig_core.specs.declared.signal.Body.TheVariants.{Takeover}
@@ -61,10 +62,6 @@ has_sound_header start h view = is_sender start.shape (member_at (made start) h)
 abbrev pub IsShut : Start → ℕ → List HostStep → View → ℕ → Type 0
 IsShut start h log view j = (has_cut start h log j ≡ true) ⊎ (has_sound_header start h view ≡ false)
 
-and_false : (a b : Bool) → (a && b) ≡ false → b ≡ true → a ≡ false
-and_false true b is so = absurd (true≢false (sym so ∙ is))
-and_false false b is so = refl
-
 form_is : (start : Start) (x : Signal)
     → is_well_formed start.shape x
     ≡ (is_sender start.shape x.member && is_view start.shape x.view && is_body_sound start.shape x.body)
@@ -101,9 +98,6 @@ module _ (tx : TxId) (key : List ℕ) (Marked : Type 0) (start : Start) (node_is
     abbrev sends : List Outgoing
     sends = (step_after start h log e).effects.sends
 
-    abbrev before : List Addressed
-    before = sent (sound_machine start) h j log
-
     abbrev now : List Addressed
     now = sent (sound_machine start) h j (e ∷ log)
 
@@ -116,7 +110,7 @@ module _ (tx : TxId) (key : List ℕ) (Marked : Type 0) (start : Start) (node_is
     shut_header : (n : ℕ) (o : Outgoing) → is_body_sound start.shape o.body ≡ true
         → is_sound start (made_of n o) ≡ false → has_sound_header start h view ≡ false
     shut_header n o so off =
-        and_false (has_sound_header start h view) (is_body_sound start.shape o.body)
+        not_and (has_sound_header start h view) (is_body_sound start.shape o.body)
         (sym (form_is start (made_of n o).signal) ∙ off) so
 
     module _ (to : ℕ) (reaches : reached (made start) h (view_after start h (e ∷ log)) (takeover to) ≡ j) where

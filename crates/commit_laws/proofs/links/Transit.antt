@@ -1,7 +1,7 @@
 -- What is in transit at a moment, link by link: of the signals that aren't closings, those that were sent and
 -- weren't taken.
 use Rattle.std.proofs.Common.{◌≡◌, ◌≢◌, ◌⊎◌, ◌==◌, ◌&&◌, ◌||◌, ℕ, Bool, true, false, List, [], ◌∷◌, ◌++◌, refl, sym, ap, ◌∙◌, subst, inl, inr}
-use Rattle.std.proofs.lemmas.Bool.{cases_eq, eq-eqb, ne_eqb}
+use Rattle.std.proofs.lemmas.Bool.{cases_eq, eq-eqb, ne_eqb, and_right}
 use Rattle.std.proofs.lemmas.List.{append_assoc, append_cancel_right}
 use Rattle.std.specs.Prelude.{if◌then◌else◌, not}
 use Rattle.run_theory.proofs.Links.{sent_by_each}
@@ -44,10 +44,6 @@ chosen_append {A} p (x ∷ xs) ys = by (p x) (chosen_append p xs ys)
 
 off_link : (a b c : Bool) → (a && b) ≡ false → ((a && b) && c) ≡ false
 off_link a b c off = ap (λ d. d && c) off
-
-and_off : (a b : Bool) → b ≡ false → (a && b) ≡ false
-and_off true b off = off
-and_off false b off = refl
 
 module _ (start : Start) where
   abbrev pub n : Machine HostStep Addressed
@@ -205,7 +201,7 @@ module _ (start : Start) where
             by : (from ≡ i) ⊎ (from ≢ i) → (h ≡ j) ⊎ (h ≢ j) → Linked i j
             by (inl is) (inl at) = subst (λ k. Linked i k) at (subst (λ k. Linked k h) is links_on)
             by (inl is) (inr off) =
-                links_off i j (and_off (from == i) (h == j) (ne_eqb h j off)) (taken_same i j (λ at. absurd (off at)))
+                links_off i j (and_right (from == i) (h == j) (ne_eqb h j off)) (taken_same i j (λ at. absurd (off at)))
             by (inr off) there =
                 links_off i j (ap (λ b. b && (h == j)) (ne_eqb from i off))
                 (taken_same i j (λ at. ap (chosen counts) (taken-other n i e (old h) off)))

@@ -1,10 +1,10 @@
 -- At each moment each commit at a member is marked or acknowledged, and so a trace of it stays.
-use Rattle.std.proofs.Common.{◌≡◌, ◌≢◌, ◌⊎◌, ◌∙◌, ◌||◌, ℕ, Bool, true, false, List, [], ◌∷◌, refl, sym, ap, subst, inl, inr}
-use Rattle.std.proofs.lemmas.Bool.{cases_eq, or_left, or_right}
+use Rattle.std.proofs.Common.{◌≡◌, ◌⊎◌, ◌∙◌, ◌||◌, ℕ, Bool, true, false, List, [], ◌∷◌, refl, sym, ap, subst, inl, inr}
+use Rattle.std.proofs.lemmas.Bool.{or_left, or_right}
 use Rattle.std.specs.List.{list_any}
 use Rattle.run_theory.proofs.Pasts.{each_in, each_map}
-use Rattle.run_theory.proofs.Runs.{log_of-other, log_of-own}
 use Rattle.run_theory.specs.Lists.{Each, IsIn}
+use Rattle.run_theory.proofs.EventCases.{event_cases}
 use Rattle.sig_core.specs.declared.member.Member.{Member}
 use Rattle.sig_core.specs.declared.member.TxId.{TxId}
 use Rattle.sig_core.specs.declared.rows.PendingRecord.{PendingRecord}
@@ -83,18 +83,11 @@ module _ (start : Start) (all : ℕ → List HostStep) (e : HostStep) (es : List
 
       -- so markers stay that aren't acknowledged, and commits are marked behind the event
       pub kept : AreKept K (rows_at start old member).lqh (rows_at start new member).lqh
-      kept = by (cases_eq e.host (ldm_of start member))
-        where
-          by : (e.host ≡ ldm_of start member) ⊎ (e.host ≢ ldm_of start member)
-              → AreKept K (rows_at start old member).lqh (rows_at start new member).lqh
-          by (inl at) =
-              subst (λ log. AreKept K (rows_at start old member).lqh (rows_after start member log).lqh)
-              (sym (log_of-own (machine start) e es (ldm_of start member) at))
-              (rows_step start member there (old (ldm_of start member)) e K acks still)
-          by (inr other) =
-              subst (λ log. AreKept K (rows_at start old member).lqh (rows_after start member log).lqh)
-              (sym (log_of-other (machine start) e es (ldm_of start member) other))
-              (all_stay K (rows_at start old member).lqh.markers, still)
+      kept =
+          event_cases (machine start) e es (ldm_of start member)
+          (λ log. AreKept K (rows_at start old member).lqh (rows_after start member log).lqh)
+          (λ at. rows_step start member there (old (ldm_of start member)) e K acks still)
+          (λ off. (all_stay K (rows_at start old member).lqh.markers, still))
 
       -- a marker of a transaction stays
       marker_stays : (tx : TxId) (m : Marker) → IsIn m (rows_at start old member).lqh.markers → m.tx ≡ tx

@@ -6,6 +6,7 @@ use Rattle.std.proofs.lemmas.Bool.{eqb-true, true≢false}
 use Rattle.std.specs.Prelude.{Option, None, Some}
 use Rattle.run_theory.specs.Lists.{Each, IsIn}
 use Rattle.run_theory.proofs.Pasts.{each_in}
+use Rattle.outcome_laws.proofs.knowledge.CommitsWereDecided.{in_front}
 use Rattle.sig_core.specs.declared.mark.Mark.{Mark}
 use Rattle.sig_core.specs.declared.mark.Mark.TheVariants.{Applied}
 use Rattle.sig_core.specs.declared.member.Member.{Member}
@@ -102,11 +103,13 @@ module _ (start : Start) (all : ℕ → List HostStep) (e : HostStep) (es : List
         → record_at start (logs_of start es) member key tx ≡ Some own → IsIn (Applied tx key) e.step.marks
     applied_marked takes epoch chain about own is =
         subst (IsIn (Applied tx key)) (sym takes.taken.marks_are)
-        (in_back (Applied tx key) takes.taken.front (replica_row takes.rows e.step.taken).effects.marks
+        (in_back (Applied tx key) takes.taken.front
+        ((replica_row takes.rows e.step.taken).effects.marks ++ takes.taken.back)
+        (in_front (Applied tx key) (replica_row takes.rows e.step.taken).effects.marks takes.taken.back
         (subst (IsIn (Applied tx key))
         (sym (commit_marks takes.rows e.step.taken tx key epoch chain about own.committed
         (state_was takes ∙ ap state_by is)))
-        (inl refl)))
+        (inl refl))))
 
     -- rows take a commit of a record at the first place
     pub record IsOfCommit : Type 0 where
@@ -159,13 +162,23 @@ module _ (start : Start) (all : ℕ → List HostStep) (e : HostStep) (es : List
         by (rest is quiet) = absurd (none (quiet at).marks)
         by (enter view is quiet) = absurd (none (quiet at).marks)
         by (take s between taken) =
-            either (in_either (Applied tx key) taken.front (replica_row s e.step.taken).effects.marks
+            either (in_either (Applied tx key) taken.front ((replica_row s e.step.taken).effects.marks ++ taken.back)
             (subst (IsIn (Applied tx key)) taken.marks_are marked))
           where
-            either : IsIn (Applied tx key) taken.front
-                ⊎ IsIn (Applied tx key) (replica_row s e.step.taken).effects.marks
-                → IsOfCommit
-            either (inl front) =
+            unmarked : (marks : List Mark) → Each (λ mark. is_row_mark mark ≡ false) marks
+                → IsIn (Applied tx key) marks → IsOfCommit
+            unmarked marks all there =
                 absurd (not_applied (Applied tx key)
-                (each_in (λ mark. is_row_mark mark ≡ false) (Applied tx key) taken.front taken.unapplied front) refl)
-            either (inr inside) = from_rows s between taken inside
+                (each_in (λ mark. is_row_mark mark ≡ false) (Applied tx key) marks all there) refl)
+
+            row_or_behind : IsIn (Applied tx key) (replica_row s e.step.taken).effects.marks
+                ⊎ IsIn (Applied tx key) taken.back → IsOfCommit
+            row_or_behind (inl inside) = from_rows s between taken inside
+            row_or_behind (inr behind) = unmarked taken.back taken.unapplied_behind behind
+
+            either : IsIn (Applied tx key) taken.front
+                ⊎ IsIn (Applied tx key) ((replica_row s e.step.taken).effects.marks ++ taken.back) → IsOfCommit
+            either (inl front) = unmarked taken.front taken.unapplied front
+            either (inr later) =
+                row_or_behind
+                (in_either (Applied tx key) (replica_row s e.step.taken).effects.marks taken.back later)

@@ -8,6 +8,7 @@ use Rattle.run_theory.specs.Lists.{Each, IsIn}
 use Rattle.run_theory.proofs.EachSent.{each_removed, each_set}
 use Rattle.run_theory.proofs.Focus.{taken_at}
 use Rattle.run_theory.proofs.Pasts.{each_append, each_map, in_append}
+use Rattle.outcome_laws.proofs.knowledge.CommitsWereDecided.{in_front}
 use Rattle.sig_core.specs.declared.member.TxId.{TxId}
 use Rattle.sig_core.specs.declared.rows.PendingRecord.{PendingRecord}
 use Rattle.sig_core.specs.declared.signal.Body.{Body}
@@ -35,17 +36,11 @@ use Rattle.lqh_block.proofs.LqhForms.{Applies, GivesUp, LqhForms, lqh_forms, per
 use Rattle.lqh_views.proofs.ListsKept.{both}
 use Rattle.commit_laws.proofs.hosts.SomePasses.{passed, passing}
 
--- an entry stays in front of more, and where the entries are kept that pass
-in_front : {A : Type 0} (x : A) (xs ys : List A) → IsIn x xs → IsIn x (xs ++ ys)
-in_front x [] ys there = absurd there
-in_front x (y ∷ xs) ys (inl same) = inl same
-in_front x (y ∷ xs) ys (inr there) = inr (in_front x xs ys there)
-
-filtered : {A : Type 0} (p : A → Bool) (x : A) (xs : List A) → IsIn x xs → p x ≡ true → IsIn x (filter p xs)
-filtered p x [] there is = absurd there
-filtered p x (y ∷ xs) (inl same) is =
+pub in_filter : {A : Type 0} (p : A → Bool) (x : A) (xs : List A) → IsIn x xs → p x ≡ true → IsIn x (filter p xs)
+in_filter p x [] there is = absurd there
+in_filter p x (y ∷ xs) (inl same) is =
     subst (λ b. IsIn x (cond b (y ∷ filter p xs) (filter p xs))) (sym (ap p (sym same) ∙ is)) (inl same)
-filtered p x (y ∷ xs) (inr there) is = by (p y) (filtered p x xs there is)
+in_filter p x (y ∷ xs) (inr there) is = by (p y) (in_filter p x xs there is)
   where
     by : (b : Bool) → IsIn x (filter p xs) → IsIn x (cond b (y ∷ filter p xs) (filter p xs))
     by true more = inr more
@@ -284,7 +279,7 @@ module _ (K : TxId → Bool) where
           where
             by : (b : Bool) → same_tx m.tx tx ≡ b → IsIn m (filter (is_other tx) s.markers) ⊎ (K m.tx ≡ true)
             by true same = inr (subst (λ v. K v ≡ true) (sym (same_tx-is m.tx tx same)) known)
-            by false off = inl (filtered (is_other tx) m s.markers there (ap not off))
+            by false off = inl (in_filter (is_other tx) m s.markers there (ap not off))
 
     -- whatever the rows take, where what they are told to forget is acknowledged
     pub lists_kept : (body : Body) → ((tx : TxId) → body ≡ Client (TcCommitAck tx) → K tx ≡ true)

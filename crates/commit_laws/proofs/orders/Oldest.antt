@@ -1,15 +1,15 @@
 -- The host of the oldest member's membership comes to a view before all others, and by no header, if it is the one that
 -- settles on it.
-use Rattle.std.proofs.Common.{◌≡◌, ◌≢◌, ◌≤◌, ◌<◌, ◌⊎◌, ◌++◌, ℕ, Bool, true, false, List, [], ◌∷◌, inl, inr, refl, sym, ap, subst, arith}
-use Rattle.std.proofs.lemmas.Bool.{cases_eq}
+use Rattle.std.proofs.Common.{◌≡◌, ◌≤◌, ◌<◌, ◌⊎◌, ◌++◌, ℕ, Bool, true, false, List, [], ◌∷◌, inl, inr, refl, sym, ap, subst, arith}
 use Rattle.run_theory.specs.Along.{Comes, IsKept}
 use Rattle.run_theory.specs.Lists.{IsIn, IsPast}
 use Rattle.run_theory.specs.Runs.{IsWithin, log_of}
 use Rattle.run_theory.proofs.Along.{along_signals_of_logs}
 use Rattle.run_theory.proofs.Pasts.{each_map}
-use Rattle.run_theory.proofs.Runs.{log_of-other, log_of-own, logs_of_run}
+use Rattle.run_theory.proofs.Runs.{log_of-own, logs_of_run}
 use Rattle.frag_map.specs.Shape.{IsShape}
 use Rattle.run_theory.proofs.Pasts.{past_self}
+use Rattle.run_theory.proofs.EventCases.{event_moves, event_each, event_cases}
 use Rattle.world_views.specs.Machine.{comes_rightly}
 use Rattle.world_views.specs.Sending.{is_asked}
 use Rattle.view_laws.proofs.standing.Oldest.{ViewsComeRightly}
@@ -79,18 +79,10 @@ module _ (come_rightly : ViewsComeRightly) (start : Start) (is_shape : IsShape s
     new = log_of (machine start) (e ∷ es)
 
     reach_more : (me : Member) → reach me old ≤ reach me new
-    reach_more me = by (cases_eq e.host (main_of start me))
-      where
-        by : (e.host ≡ main_of start me) ⊎ (e.host ≢ main_of start me) → reach me old ≤ reach me new
-        by (inl at) =
-            let own = ap (λ log. (view_after start (main_of start me) log).number)
-            (log_of-own (machine start) e es (main_of start me) at) in
-            let rises = view_rises start (main_of start me) (old (main_of start me)) e in
-            omega (arith, own, rises)
-        by (inr off) =
-            let same = ap (λ log. (view_after start (main_of start me) log).number)
-            (log_of-other (machine start) e es (main_of start me) off) in
-            omega (arith, same)
+    reach_more me =
+        event_moves (machine start) e es (λ h was log. (view_after start h was).number ≤
+        (view_after start h log).number)
+        (view_rises start e.host (old e.host) e) (λ h log. omega arith) (main_of start me)
 
     more : (view : View) → IsAhead old view → IsAhead new view
     more view ahead me there is =
@@ -148,33 +140,21 @@ module _ (come_rightly : ViewsComeRightly) (start : Start) (is_shape : IsShape s
                 omega (arith, same, own)
 
         views_now : (h : ℕ) → h < hosts start → IsAhead new (view_after start h (new h))
-        views_now h under = by (cases_eq e.host h)
-          where
-            by : (e.host ≡ h) ⊎ (e.host ≢ h) → IsAhead new (view_after start h (new h))
-            by (inl at) =
-                subst (λ h. IsAhead new (view_after start h (new h))) at
-                (subst (λ log. IsAhead new (view_after start e.host log))
-                (sym (log_of-own (machine start) e es e.host refl)) own_ahead)
-            by (inr off) =
-                subst (λ log. IsAhead new (view_after start h log)) (sym (log_of-other (machine start) e es h off))
-                (more (view_after start h (old h)) (before.views h under))
+        views_now =
+            event_each (machine start) e es (λ h log. h < hosts start → IsAhead new (view_after start h log))
+            (λ under. own_ahead) (λ h off under. more (view_after start h (old h)) (before.views h under))
 
         young_now : (me : Member) → IsIn me (made start) → AreYoung me (new (main_of start me))
-        young_now me there = by (cases_eq e.host (main_of start me))
+        young_now me there =
+            event_cases (machine start) e es (main_of start me) (AreYoung me)
+            (λ at. (unless (is_oldest_of me e.step.taken.view.full) refl, before.young me there))
+            (λ off. before.young me there)
           where
             unless : (b : Bool) → is_oldest_of me e.step.taken.view.full ≡ b
                 → (view_after start (main_of start me) (old (main_of start me))).number < e.step.taken.view.number
                 → b ≡ false
             unless true is above = let reached = taken me there is in absurd (omega (arith, reached, above))
             unless false is above = refl
-
-            by : (e.host ≡ main_of start me) ⊎ (e.host ≢ main_of start me) → AreYoung me (new (main_of start me))
-            by (inl at) =
-                subst (AreYoung me) (sym (log_of-own (machine start) e es (main_of start me) at))
-                (unless (is_oldest_of me e.step.taken.view.full) refl, before.young me there)
-            by (inr off) =
-                subst (AreYoung me) (sym (log_of-other (machine start) e es (main_of start me) off))
-                (before.young me there)
 
         now : AreAhead new
         now = record { views = views_now; young = young_now }

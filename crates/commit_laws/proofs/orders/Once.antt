@@ -7,6 +7,7 @@ use Rattle.std.specs.Prelude.{if◌then◌else◌}
 use Rattle.run_theory.specs.Counts.{one_if as plain_one, total}
 use Rattle.run_theory.specs.Lists.{IsIn}
 use Rattle.run_theory.proofs.Pasts.{each_past}
+use Rattle.run_theory.proofs.EventCases.{event_keeps}
 use Rattle.host_laws.proofs.hosts.Sums.{total_add, total_le, total_zero, unit_few, total_same}
 use Rattle.sig_core.specs.declared.member.Member.{Member}
 use Rattle.sig_core.specs.declared.outs.Outgoing.{Outgoing}
@@ -24,7 +25,7 @@ use Rattle.qmgr_block.specs.Sets.{members_of}
 use Rattle.world_core.specs.Hosts.{hosts}
 use Rattle.world_core.specs.Start.{Start, made}
 use Rattle.world_core.specs.Steps.{HostStep}
-use Rattle.world_views.specs.Machine.{step_after}
+use Rattle.world_views.specs.Machine.{step_after, machine}
 use Rattle.view_laws.specs.Order.{sound_machine}
 use Rattle.view_laws.specs.Runs.{WasInstalled, view_after}
 use Rattle.view_laws.specs.Votes.{main_of}
@@ -34,7 +35,7 @@ use Rattle.view_laws.proofs.runs.AllSound.{have_orderly}
 use Rattle.view_laws.proofs.runs.ChosenViews.{one_view}
 use Rattle.view_laws.proofs.memberships.SetTests.{same_is}
 use Rattle.moment_laws.specs.Moments.{IsMoment, logs_of}
-use Rattle.moment_laws.proofs.MomentTurns.{host_low, other_log, own_log}
+use Rattle.moment_laws.proofs.MomentTurns.{host_low}
 use Rattle.moment_laws.proofs.MomentViews.{moment_less}
 use Rattle.outcome_laws.specs.Counts.{one_if}
 use Rattle.request_laws.specs.Tokens.{all_sent, all_taken, sent_along, taken_along}
@@ -253,16 +254,9 @@ module _ (others : OthersAreQuiet) (first : OldestGoFirst) (start : Start) (all 
 
     hosts_few : (es : List HostStep) → IsMoment start all es → (h : ℕ) → Few h (logs_of start es h)
     hosts_few [] moment h = omega arith
-    hosts_few (e ∷ es) moment h = by (cases_eq e.host h) (hosts_few es (moment_less start all e es moment))
-      where
-        own : Few e.host (logs_of start es e.host) → Few e.host (e ∷ logs_of start es e.host)
-        own was_few = let gain = gains e es moment in omega (arith, was_few, gain)
-
-        by : (e.host ≡ h) ⊎ (e.host ≢ h) → ((h : ℕ) → Few h (logs_of start es h)) → Few h (logs_of start (e ∷ es) h)
-        by (inl at) before =
-            subst (λ h. Few h (logs_of start (e ∷ es) h)) at
-            (subst (Few e.host) (sym (own_log start all e es moment)) (own (before e.host)))
-        by (inr off) before = subst (Few h) (sym (other_log start all e es moment h off)) (before h)
+    hosts_few (e ∷ es) moment h =
+        event_keeps (machine start) e es Few (λ few. let gain = gains e es moment in omega (arith, few, gain)) h
+        (hosts_few es (moment_less start all e es moment) h)
 
     module _ (es : List HostStep) (moment : IsMoment start all es) where
       abbrev logs : ℕ → List HostStep

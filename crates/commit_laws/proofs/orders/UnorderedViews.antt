@@ -1,12 +1,15 @@
 -- In a view in which no takeover was ordered yet takeovers rest, no report of rows is under way, and none of its
 -- signals asks rows for what they have or tells a takeover of it.
-use Rattle.std.proofs.Common.{◌≡◌, ◌≢◌, ◌≤◌, ◌⊎◌, ◌++◌, ◌∙◌, ℕ, false, List, [], ◌∷◌, inl, inr, refl, sym, ap, arith, subst}
-use Rattle.std.proofs.lemmas.Bool.{cases_eq, true≢false}
+use Rattle.std.proofs.Common.{◌≡◌, ◌≢◌, ◌≤◌, ◌⊎◌, ◌∙◌, ℕ, false, List, [], ◌∷◌, inl, inr, refl, sym, ap, arith, subst}
+use Rattle.std.proofs.lemmas.Bool.{true≢false}
 use Rattle.std.specs.Prelude.{None}
 use Rattle.outcome_laws.specs.Counts.{one_if}
 use Rattle.run_theory.specs.Lists.{IsIn}
-use Rattle.run_theory.proofs.Pasts.{each_append, each_from, each_in}
-use Rattle.run_theory.proofs.Runs.{log_of-other, log_of-own}
+use Rattle.run_theory.proofs.Pasts.{each_from, each_in}
+use Rattle.run_theory.proofs.Runs.{log_of-own}
+use Rattle.run_theory.proofs.EventCases.{event_cases}
+use Rattle.commit_laws.proofs.hosts.OwnTaken.{tc_taken}
+use Rattle.commit_laws.proofs.hosts.PartEach.{part_each_by}
 use Rattle.sig_core.specs.declared.member.Member.{Member}
 use Rattle.sig_core.specs.declared.outs.Outgoing.{Outgoing}
 use Rattle.sig_core.specs.declared.place.BlockId.{BlockId}
@@ -31,7 +34,7 @@ use Rattle.node_views.specs.declared.tc_part.TcPart.{TcPart}
 use Rattle.node_views.specs.Parts.{tc_row}
 use Rattle.world_core.specs.Start.{Start, made}
 use Rattle.world_core.specs.Steps.{Addressed, HostStep}
-use Rattle.world_views.specs.Machine.{IsOwnWork, after, machine, step_after}
+use Rattle.world_views.specs.Machine.{IsOwnWork, machine, step_after}
 use Rattle.view_laws.specs.Runs.{view_after}
 use Rattle.moment_laws.specs.Moments.{IsMoment, logs_of}
 use Rattle.moment_laws.specs.Parts.{IsPassed}
@@ -41,9 +44,8 @@ use Rattle.moment_laws.proofs.MomentHosts.{ldm_started, tc_started}
 use Rattle.moment_laws.proofs.MomentSignals.{EachSent, sent_next, taken_told}
 use Rattle.moment_laws.proofs.MomentTurns.{host_low}
 use Rattle.moment_laws.proofs.MomentViews.{current_number, moment_less, number_in}
-use Rattle.moment_laws.proofs.PartKinds.{tc_is}
-use Rattle.moment_laws.proofs.PartTaken.{IsTakenNow, handled_now}
-use Rattle.request_laws.specs.Blocks.{no_replica, rows_in, takeover_after, takeover_in}
+use Rattle.moment_laws.proofs.PartTaken.{IsTakenNow}
+use Rattle.request_laws.specs.Blocks.{no_replica, rows_in, takeover_after, takeover_in, rows_after}
 use Rattle.request_laws.specs.Tokens.{all_taken}
 use Rattle.request_laws.proofs.routes.Headers.{sent_so, takeover_fenced}
 use Rattle.request_laws.proofs.routes.Hosts.{PartHost, coordinates, is_beside, keeps_rows, part_host}
@@ -157,15 +159,7 @@ module _ (start : Start) (all : ℕ → List HostStep) (e : HostStep) (es : List
 
         taken_by : (b : BlockId) → x.to.block ≡ b → IsPassed start.shape (part.Tc between) view x
             → IsTakenNow start all e es moment b
-        taken_by b to passed =
-            handled_now start all e es moment tc_kind tc_is own.own
-            (subst (λ k. (after start k (old k)).parts ≡ part.Tc own.own) (sym at) own.runs) between own.does.front
-            (subst
-            (λ k. PartEnters tc_kind own.own (view_after start k (old k)) x between (view_after start k (e ∷ old k))
-            own.does.front)
-            (sym at) own.does.enters)
-            (subst (λ k. IsPassed start.shape (part.Tc between) (view_after start k (e ∷ old k)) x) (sym at) passed)
-            b to
+        taken_by b to passed = tc_taken start all e es moment h at own passed b to
 
         between_rests : PartEnters tc_kind own.own stood x between view own.does.front
             → between.takeover.stage ≡ Resting
@@ -175,10 +169,6 @@ module _ (start : Start) (all : ℕ → List HostStep) (e : HostStep) (es : List
             ∙ (sym (ap (λ (s : TakeoverState). s.stage) (takeover_is start member h log refl own.own own.runs))
             ∙ before.rests member there (sym same_number ∙ stands))
         between_rests (installs above same stays sent) = ap (λ (q : TcPart). q.takeover.stage) same
-
-        front_none : PartEnters tc_kind own.own stood x between view own.does.front → AreNoReports own.does.front
-        front_none (remains same stays nothing) = subst AreNoReports (sym nothing) tt
-        front_none (installs above same stays sent) = subst AreNoReports (sym sent) (enters_no_reports own.own x.view)
 
         -- the takeover rests behind it, and nothing is sent
         abbrev Rests : TcPart → List Outgoing → Type 0
@@ -201,31 +191,22 @@ module _ (start : Start) (all : ℕ → List HostStep) (e : HostStep) (es : List
         row passed _ to = (between_rests own.does.enters, tt)
 
         takes : PartTakes tc_kind start.shape between view x own.does.own own.does.rest
-            → Rests own.does.own own.does.rest
-        takes (ignores same nothing) = (
-          ap (λ (q : TcPart). q.takeover.stage) same ∙ between_rests own.does.enters,
-          subst AreNoReports (sym nothing) tt,
-        )
+            → own.does.own.takeover.stage ≡ Resting
+        takes (ignores same nothing) =
+            ap (λ (q : TcPart). q.takeover.stage) same ∙ between_rests own.does.enters
         takes (handles passed same sent) =
-            let comes = row passed x.to.block refl in
-            (ap (λ (q : TcPart). q.takeover.stage) same ∙ comes.0, subst AreNoReports (sym sent) comes.1)
+            ap (λ (q : TcPart). q.takeover.stage) same ∙ (row passed x.to.block refl).0
 
         tc_rests : (takeover_after start member (e ∷ log)).stage ≡ Resting
         tc_rests =
             ap (λ (s : TakeoverState). s.stage)
             (takeover_is start member h (e ∷ log) refl own.does.own own.does.is)
-            ∙ (takes own.does.takes).0
+            ∙ takes own.does.takes
 
         tc_sends : AreNoReports (sends_at (tc_of start member))
-        tc_sends = by own.does.sent
-          where
-            by : (sends_at (tc_of start member) ≡ own.does.front ++ own.does.rest)
-                ⊎ (sends_at (tc_of start member) ≡ []) → AreNoReports (sends_at (tc_of start member))
-            by (inl is) =
-                subst AreNoReports (sym is)
-                (each_append IsNoReport own.does.front own.does.rest (front_none own.does.enters)
-                (takes own.does.takes).1)
-            by (inr is) = subst AreNoReports (sym is) tt
+        tc_sends =
+            part_each_by tc_kind IsNoReport start.shape own.own stood x _ view (sends_at (tc_of start member)) own.does
+            (λ above. enters_no_reports own.own x.view) (λ passed same all. (row passed x.to.block refl).1)
 
     -- the host of rows
     module _ (member : Member) (there : IsIn member (made start)) (at : e.host ≡ ldm_of start member)
@@ -283,39 +264,21 @@ module _ (start : Start) (all : ℕ → List HostStep) (e : HostStep) (es : List
           (λ (v : View) (to : Place) (body : Body). v.number ≡ number → is_of_reports body ≡ false)
           (each_from _ (sends_at e.host)
           (λ sent inside stands. each_in IsNoReport sent (sends_at e.host) (event_sends stands) inside)));
-      rests = λ member there. tc_by member there (cases_eq e.host (tc_of start member));
-      reports = λ member there. ldm_by member there (cases_eq e.host (ldm_of start member));
+      rests = λ member there.
+          event_cases (machine start) e es (tc_of start member)
+          (λ log. (view_after start (tc_of start member) log).number ≡ number
+          → (takeover_after start member log).stage ≡ Resting)
+          (tc_rests member there) (λ off. before.rests member there);
+      reports = λ member there.
+          event_cases (machine start) e es (ldm_of start member)
+          (λ log. (view_after start (ldm_of start member) log).number ≡ number
+          → (rows_after start member log).report ≡ None)
+          (λ at stands.
+          sym (ap (λ log. (rows_after start member log).report)
+          (log_of-own (machine start) e es (ldm_of start member) at))
+          ∙ (own_rows member there at stands (rows_turn start all e es moment member there)).0)
+          (λ off. before.reports member there);
     }
-      where
-        tc_by : (member : Member) → IsIn member (made start)
-            → (e.host ≡ tc_of start member) ⊎ (e.host ≢ tc_of start member)
-            → number_in start (logs_of start (e ∷ es)) (tc_of start member) ≡ number
-            → (takeover_at start (logs_of start (e ∷ es)) member).stage ≡ Resting
-        tc_by member there (inl at) stands =
-            let own = log_of-own (machine start) e es (tc_of start member) at in
-            ap (λ l. (takeover_after start member l).stage) own
-            ∙ tc_rests member there at
-            (sym (ap (λ l. (view_after start (tc_of start member) l).number) own) ∙ stands)
-        tc_by member there (inr other) stands =
-            let same = log_of-other (machine start) e es (tc_of start member) other in
-            ap (λ l. (takeover_after start member l).stage) same
-            ∙ before.rests member there
-            (sym (ap (λ l. (view_after start (tc_of start member) l).number) same) ∙ stands)
-
-        ldm_by : (member : Member) → IsIn member (made start)
-            → (e.host ≡ ldm_of start member) ⊎ (e.host ≢ ldm_of start member)
-            → number_in start (logs_of start (e ∷ es)) (ldm_of start member) ≡ number
-            → (rows_at start (logs_of start (e ∷ es)) member).report ≡ None
-        ldm_by member there (inl at) stands =
-            let own = log_of-own (machine start) e es (ldm_of start member) at in
-            (own_rows member there at
-            (sym (ap (λ l. (view_after start (ldm_of start member) l).number) own) ∙ stands)
-            (rows_turn start all e es moment member there)).0
-        ldm_by member there (inr other) stands =
-            let same = log_of-other (machine start) e es (ldm_of start member) other in
-            ap (λ l. (rows_in (no_replica start member) (after start (ldm_of start member) l).parts).report) same
-            ∙ before.reports member there
-            (sym (ap (λ l. (view_after start (ldm_of start member) l).number) same) ∙ stands)
 
 -- so it is at each moment until one is ordered in the view
 pub unordered_views : (start : Start) (all : ℕ → List HostStep) (es : List HostStep) → IsMoment start all es

@@ -16,7 +16,7 @@ use Rattle.lqh_block.specs.declared.request.Request.{Request}
 use Rattle.lqh_views.specs.Replica.{installed}
 use Rattle.lqh_views.specs.State.{ReplicaState}
 use Rattle.key_laws.specs.Replica.{Replica, asks_for, at_key, key_after}
-use Rattle.run_laws.proofs.tokens.Signals.{Token, event_tokens}
+use Rattle.run_laws.proofs.tokens.Signals.{Token}
 use Rattle.run_laws.proofs.tokens.Signals as token
 use Rattle.run_laws.proofs.circle.OthersStay.{is_of}
 use Rattle.world_core.specs.Start.{Start, made}
@@ -66,9 +66,6 @@ module _ (start : Start) (all : ℕ → List HostStep) (e : HostStep) (es : List
 
     abbrev rows_old : ReplicaState
     rows_old = rows_at start old me
-
-    abbrev Does : Type 0
-    Does = MemberDoes start all e es follows xs left transit takes same tx u hale led me there at
 
     abbrev WaitsTold : List ℕ → ReplicaState → Type 0
     WaitsTold key s =

@@ -1,6 +1,7 @@
 -- In the current view each event keeps the parts of operations that are under way true, and other keys settled.
-use Rattle.std.proofs.Common.{◌≡◌, ◌≢◌, ◌⊎◌, ℕ, List, ◌∷◌, sym, subst, inl, inr}
-use Rattle.std.proofs.lemmas.Bool.{cases_eq}
+use Rattle.std.proofs.Common.{◌≡◌, ℕ, List, ◌∷◌, sym, subst}
+use Rattle.run_theory.proofs.EventCases.{event_cases}
+use Rattle.world_views.specs.Machine.{machine}
 use Rattle.sig_core.specs.declared.member.TxId.{TxId}
 use Rattle.tc_block.specs.declared.transaction.Transaction.{Transaction}
 use Rattle.world_core.specs.Start.{Start}
@@ -25,17 +26,15 @@ module _ (start : Start) (all : ℕ → List HostStep) (e : HostStep) (es : List
     parts_of : (xs left : List Addressed) (transit : AreInTransit start es xs) (takes : Takes start e xs left)
         (tx : TxId) (u : Transaction) → IsHale start (logs_of start (e ∷ es)) tx u
         → PartsOf start all e es follows xs left transit takes same tx u
-    parts_of xs left transit takes tx u hale = by (cases_eq e.host (tc_of start (coordinator_member tx)))
-      where
-        by : (e.host ≡ tc_of start (coordinator_member tx)) ⊎ (e.host ≢ tc_of start (coordinator_member tx))
-            → PartsOf start all e es follows xs left transit takes same tx u
-        by (inl home) =
-            home_parts start all e es follows xs left transit takes same tx home u hale begun_have_none
-        by (inr off) =
-            aside_parts start all e es follows xs left transit takes same tx u hale off
-            (λ me there at.
-            rows_parts start all e es follows xs left transit takes same tx u
-            (hale_same start all e es follows xs left transit takes same tx u hale off) hale.full me there at)
+    parts_of xs left transit takes tx u hale =
+        event_cases (machine start) e es (tc_of start (coordinator_member tx))
+        (λ log. PartsOf start all e es follows xs left transit takes same tx u)
+        (λ home. home_parts start all e es follows xs left transit takes same tx home u hale begun_have_none)
+        (λ off.
+        aside_parts start all e es follows xs left transit takes same tx u hale off
+        (λ me there at.
+        rows_parts start all e es follows xs left transit takes same tx u
+        (hale_same start all e es follows xs left transit takes same tx u hale off) hale.full me there at))
 
     pub parts_kept : (ys : List Addressed) → AreInTransit start (e ∷ es) ys
         → PartsStand start (logs_of start (e ∷ es)) ys

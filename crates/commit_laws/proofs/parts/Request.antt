@@ -1,11 +1,12 @@
 -- The parts of a transaction's operations behind an event at which rows take a request of it, in the current view.
 use Rattle.std.proofs.Common.{◌≡◌, ◌≢◌, ◌⊎◌, ◌&&◌, ◌==◌, ◌||◌, ◌∙◌, ℕ, Bool, true, false, cond, filter, List, [], ◌∷◌, eq-eqb, refl, sym, ap, subst, inl, inr}
-use Rattle.std.proofs.lemmas.Bool.{cases_eq, true≢false}
+use Rattle.std.proofs.lemmas.Bool.{true≢false}
 use Rattle.std.specs.List.{slice_get}
 use Rattle.std.specs.Prelude.{if◌then◌else◌, Some}
 use Rattle.run_theory.proofs.Pasts.{each_append, each_map}
 use Rattle.run_theory.proofs.Runs.{log_of-other}
 use Rattle.run_theory.specs.Lists.{Each, IsIn}
+use Rattle.run_theory.proofs.EventCases.{event_cases}
 use Rattle.frag_map.specs.Layout.{chain_of}
 use Rattle.row_locks.specs.declared.mode.Lock.{Lock}
 use Rattle.row_locks.specs.declared.mode.Lock.TheVariants.{Granted, Queued}
@@ -264,16 +265,21 @@ module _ (start : Start) (all : ℕ → List HostStep) (e : HostStep) (es : List
           → Each (λ (z : Request). same_tx z.tx tx ≡ true → same_key (work_key z.work) key ≡ true
           → Tells start (logs_of start (e ∷ es)) key tx t (performs z.work z.at))
           (rows_at start (logs_of start (e ∷ es)) m).lqh.waiting
-      request_waits m among stands = by (cases_eq e.host (ldm_of start m))
+      request_waits m among stands =
+          event_cases (machine start) e es (ldm_of start m) (λ log. Waits m)
+          (λ here. subst Waits (ldm_same start me m there among (sym taken.at ∙ here)) own) other
         where
-          own : Each (λ (z : Request). same_tx z.tx tx ≡ true → same_key (work_key z.work) key ≡ true
-              → Tells start new key tx t (performs z.work z.at)) (rows_at start new me).lqh.waiting
+          Waits : Member → Type 0
+          Waits k =
+              Each (λ (z : Request). same_tx z.tx tx ≡ true → same_key (work_key z.work) key ≡ true
+              → Tells start new key tx t (performs z.work z.at)) (rows_at start new k).lqh.waiting
+
+          own : Waits me
           own = each_map _ _ (rows_at start new me).lqh.waiting (λ z waits mine here. waits here mine) me_waits
 
-          other : new (ldm_of start m) ≡ old (ldm_of start m)
-              → Each (λ (z : Request). same_tx z.tx tx ≡ true → same_key (work_key z.work) key ≡ true
-              → Tells start new key tx t (performs z.work z.at)) (rows_at start new m).lqh.waiting
-          other log_is =
+          other : e.host ≢ ldm_of start m → Waits m
+          other off =
+              let log_is = log_of-other (machine start) e es (ldm_of start m) off in
               subst
               (λ (z : ReplicaState). Each (λ (one : Request). same_tx one.tx tx ≡ true
               → same_key (work_key one.work) key ≡ true
@@ -286,16 +292,6 @@ module _ (start : Start) (all : ℕ → List HostStep) (e : HostStep) (es : List
               (eq-eqb _ (number_now start new)
               (ap (λ log. (view_after start (ldm_of start m) log).number) (sym log_is) ∙ stands)))
               ∙ alone.waits m among)))
-
-          by : (e.host ≡ ldm_of start m) ⊎ (e.host ≢ ldm_of start m)
-              → Each (λ (z : Request). same_tx z.tx tx ≡ true → same_key (work_key z.work) key ≡ true
-              → Tells start new key tx t (performs z.work z.at)) (rows_at start new m).lqh.waiting
-          by (inl here) =
-              subst
-              (λ k. Each (λ (z : Request). same_tx z.tx tx ≡ true → same_key (work_key z.work) key ≡ true
-              → Tells start new key tx t (performs z.work z.at)) (rows_at start new k).lqh.waiting)
-              (ldm_same start me m there among (sym taken.at ∙ here)) own
-          by (inr off) = other (log_of-other (machine start) e es (ldm_of start m) off)
 
     -- so all of it tells the truth
     pub request_parts : PartsOf start all e es follows xs left transit takes same tx t

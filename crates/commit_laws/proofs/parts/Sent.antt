@@ -92,7 +92,7 @@ places_sent start h log e Q all =
     (subst (Q one.sent.to) (sym one.body) (each_in (λ (o : Outgoing). Q o.to o.body) one.sent _ all one.there)))
     (each_sent start h log e)))
 
-both_each : {A : Type 0} (P Q R : A → Type 0) (xs : List A) → ((x : A) → P x → Q x → R x) → Each P xs → Each Q xs
+pub both_each : {A : Type 0} (P Q R : A → Type 0) (xs : List A) → ((x : A) → P x → Q x → R x) → Each P xs → Each Q xs
     → Each R xs
 both_each P Q R [] f ps qs = tt
 both_each P Q R (x ∷ xs) f ps qs = (f x ps.0 qs.0, both_each P Q R xs f ps.1 qs.1)

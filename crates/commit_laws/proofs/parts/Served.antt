@@ -1,12 +1,13 @@
 -- The parts of a transaction's operations behind an event at which rows perform a request of it that waited, in the
 -- current view.
-use Rattle.std.proofs.Common.{◌≡◌, ◌≢◌, ◌⊎◌, ◌≤◌, ◌+◌, ◌==◌, ◌∙◌, ℕ, Bool, true, false, List, ◌∷◌, eq-eqb, refl, sym, ap, subst, inl, inr, arith}
-use Rattle.std.proofs.lemmas.Bool.{cases_eq, true≢false}
+use Rattle.std.proofs.Common.{◌≡◌, ◌≢◌, ◌⊎◌, ◌≤◌, ◌+◌, ◌==◌, ◌∙◌, ℕ, Bool, true, false, List, ◌∷◌, eq-eqb, refl, sym, ap, subst, arith}
+use Rattle.std.proofs.lemmas.Bool.{true≢false}
 use Rattle.std.specs.List.{count_by, slice_get}
 use Rattle.std.specs.Prelude.{if◌then◌else◌, Option, None, Some}
 use Rattle.run_theory.proofs.Pasts.{each_map}
 use Rattle.run_theory.proofs.Runs.{log_of-other}
 use Rattle.run_theory.specs.Lists.{Each, IsIn}
+use Rattle.run_theory.proofs.EventCases.{event_cases}
 use Rattle.frag_map.specs.Layout.{chain_of}
 use Rattle.sig_core.specs.Chain.{node_of}
 use Rattle.sig_core.specs.declared.member.Member.{Member}
@@ -267,17 +268,22 @@ module _ (start : Start) (all : ℕ → List HostStep) (e : HostStep) (es : List
           → (view_after start (ldm_of start m) (new (ldm_of start m))).number ≡ (current start new).number
           → Each (λ (z : Request). same_tx z.tx tx ≡ true → same_key (work_key z.work) key ≡ true
           → Tells start new key tx u (performs z.work z.at)) (rows_at start new m).lqh.waiting
-      served_waits m among stands = by (cases_eq e.host (ldm_of start m))
+      served_waits m among stands =
+          event_cases (machine start) e es (ldm_of start m) (λ log. Waits m)
+          (λ here. subst Waits (ldm_same start me m there among (sym taken.at ∙ here)) ours) other
         where
-          ours : Each (λ (z : Request). same_tx z.tx tx ≡ true → same_key (work_key z.work) key ≡ true
-              → Tells start new key tx u (performs z.work z.at)) (rows_at start new me).lqh.waiting
+          Waits : Member → Type 0
+          Waits k =
+              Each (λ (z : Request). same_tx z.tx tx ≡ true → same_key (work_key z.work) key ≡ true
+              → Tells start new key tx u (performs z.work z.at)) (rows_at start new k).lqh.waiting
+
+          ours : Waits me
           ours =
               each_map _ _ (rows_at start new me).lqh.waiting (λ z none mine here. absurd (none here mine)) none_waits
 
-          other : e.host ≢ ldm_of start m → new (ldm_of start m) ≡ old (ldm_of start m)
-              → Each (λ (z : Request). same_tx z.tx tx ≡ true → same_key (work_key z.work) key ≡ true
-              → Tells start new key tx u (performs z.work z.at)) (rows_at start new m).lqh.waiting
-          other off log_is =
+          other : e.host ≢ ldm_of start m → Waits m
+          other off =
+              let log_is = log_of-other (machine start) e es (ldm_of start m) off in
               subst
               (λ (z : ReplicaState). Each (λ (one : Request). same_tx one.tx tx ≡ true
               → same_key (work_key one.work) key ≡ true
@@ -290,16 +296,6 @@ module _ (start : Start) (all : ℕ → List HostStep) (e : HostStep) (es : List
               (eq-eqb _ now
               (ap (λ log. (view_after start (ldm_of start m) log).number) (sym log_is) ∙ (stands ∙ number_is))))
               ∙ alone.elsewhere m among (λ at. off (taken.at ∙ ap (ldm_of start) (sym at))))))
-
-          by : (e.host ≡ ldm_of start m) ⊎ (e.host ≢ ldm_of start m)
-              → Each (λ (z : Request). same_tx z.tx tx ≡ true → same_key (work_key z.work) key ≡ true
-              → Tells start new key tx u (performs z.work z.at)) (rows_at start new m).lqh.waiting
-          by (inl here) =
-              subst
-              (λ k. Each (λ (z : Request). same_tx z.tx tx ≡ true → same_key (work_key z.work) key ≡ true
-              → Tells start new key tx u (performs z.work z.at)) (rows_at start new k).lqh.waiting)
-              (ldm_same start me m there among (sym taken.at ∙ here)) ours
-          by (inr off) = other off (log_of-other (machine start) e es (ldm_of start m) off)
 
     pub served_parts : PartsOf start all e es follows xs left transit takes same tx u
     served_parts = record {

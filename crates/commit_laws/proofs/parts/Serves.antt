@@ -5,6 +5,7 @@ use Rattle.std.proofs.lemmas.Bool.{not-true}
 use Rattle.std.specs.Prelude.{if◌then◌else◌, Option, Some}
 use Rattle.run_theory.specs.Links.{sent_by}
 use Rattle.run_theory.specs.Lists.{Each, IsIn}
+use Rattle.commit_laws.proofs.records.LockKeeps.{first_passes}
 use Rattle.frag_map.specs.Layout.{chain_of}
 use Rattle.row_locks.specs.declared.mode.Mode.TheVariants.{Exclusive}
 use Rattle.row_locks.specs.Holders.{holds_enough}
@@ -52,16 +53,6 @@ use Rattle.commit_laws.proofs.records.Attended.{attended_between, rows_attended}
 use Rattle.commit_laws.proofs.parts.Takes.{performed_told}
 use Rattle.commit_laws.proofs.parts.Sent.{sent_parts}
 use Rattle.commit_laws.proofs.hosts.RowsTurn.{IsBetween, IsTakenAt}
-
--- the first that passes a test does
-first_passes : {A : Type 0} (p : A → Bool) (xs : List A) (x : A) → first p xs ≡ Some x → p x ≡ true
-first_passes p [] x is = absurd cc
-first_passes p (y ∷ ys) x is = by (p y) refl is (first_passes p ys x)
-  where
-    by : (b : Bool) → p y ≡ b → (if b then Some y else first p ys) ≡ Some x → (first p ys ≡ Some x → p x ≡ true)
-        → p x ≡ true
-    by true e is more = let one : y ≡ x = cc in ap p (sym one) ∙ e
-    by false e is more = more is
 
 module _ (start : Start) (all : ℕ → List HostStep) (e : HostStep) (es : List HostStep)
     (follows : Follows start all e es)

@@ -1,10 +1,10 @@
 -- The parts of a transaction's operations behind an event of the rows of a member, in the current view, by what the
 -- member keeps and sends.
-use Rattle.std.proofs.Common.{◌≡◌, ◌≢◌, ◌⊎◌, ◌∙◌, ℕ, true, List, ◌∷◌, refl, sym, ap, subst, inl, inr}
-use Rattle.std.proofs.lemmas.Bool.{cases_eq}
+use Rattle.std.proofs.Common.{◌≡◌, ◌∙◌, ℕ, true, List, ◌∷◌, refl, sym, ap, subst}
 use Rattle.run_theory.proofs.Pasts.{each_map}
 use Rattle.run_theory.proofs.Runs.{log_of-other}
 use Rattle.run_theory.specs.Lists.{Each, IsIn}
+use Rattle.run_theory.proofs.EventCases.{event_cases}
 use Rattle.sig_core.specs.declared.member.Member.{Member}
 use Rattle.sig_core.specs.declared.member.TxId.{TxId}
 use Rattle.sig_core.specs.Same.{same_key, same_tx}
@@ -73,18 +73,17 @@ module _ (start : Start) (all : ℕ → List HostStep) (e : HostStep) (es : List
     module _ (does : MemberDoes) where
       all_keep : (key : List ℕ) (m : Member) → IsIn m (made start)
           → KeepsFor tx (replica_at start old m key) (replica_at start new m key)
-      all_keep key m among = by (cases_eq e.host (ldm_of start m))
-        where
-          by : (e.host ≡ ldm_of start m) ⊎ (e.host ≢ ldm_of start m)
-              → KeepsFor tx (replica_at start old m key) (replica_at start new m key)
-          by (inl here) =
-              subst (λ k. KeepsFor tx (replica_at start old k key) (replica_at start new k key))
-              (ldm_same start me m there among (sym at ∙ here)) (does.keeps key)
-          by (inr off) =
-              subst (KeepsFor tx (replica_at start old m key))
-              (ap (λ log. at_key key (rows_after start m log).lqh)
-              (sym (log_of-other (machine start) e es (ldm_of start m) off)))
-              (keeps_self tx (replica_at start old m key))
+      all_keep key m among =
+          event_cases (machine start) e es (ldm_of start m)
+          (λ log. KeepsFor tx (replica_at start old m key) (replica_at start new m key))
+          (λ here.
+          subst (λ k. KeepsFor tx (replica_at start old k key) (replica_at start new k key))
+          (ldm_same start me m there among (sym at ∙ here)) (does.keeps key))
+          (λ off.
+          subst (KeepsFor tx (replica_at start old m key))
+          (ap (λ log. at_key key (rows_after start m log).lqh)
+          (sym (log_of-other (machine start) e es (ldm_of start m) off)))
+          (keeps_self tx (replica_at start old m key)))
 
       told_on : (key : List ℕ) (x : Addressed)
           → (x.signal.view.number ≡ (current start old).number → Told start old key tx u (part_of tx key x.signal.body))
@@ -108,29 +107,25 @@ module _ (start : Start) (all : ℕ → List HostStep) (e : HostStep) (es : List
           → Each (λ (q : Request). same_tx q.tx tx ≡ true → same_key (work_key q.work) key ≡ true
           → Tells start new key tx u (performs q.work q.at)) (rows_at start new m).lqh.waiting
       still_waits key m among stands =
-          each_map _ _ (rows_at start new m).lqh.waiting (wait_on key) (by (cases_eq e.host (ldm_of start m)))
+          each_map _ _ (rows_at start new m).lqh.waiting (wait_on key)
+          (event_cases (machine start) e es (ldm_of start m) (λ log. Each Waits (rows_at start new m).lqh.waiting)
+          (λ here.
+          let is : m ≡ me = sym (ldm_same start me m there among (sym at ∙ here)) in
+          subst (λ k. Each Waits (rows_at start new k).lqh.waiting) (sym is)
+          (does.waits key
+          (subst
+          (λ k. (view_after start (ldm_of start k) (new (ldm_of start k))).number ≡ (current start new).number) is
+          stands)))
+          (λ off.
+          let log_is = log_of-other (machine start) e es (ldm_of start m) off in
+          subst (λ (s : ReplicaState). Each Waits s.lqh.waiting) (ap (rows_after start m) (sym log_is))
+          (parts.waits tx u hale key m among
+          (ap (λ log. (view_after start (ldm_of start m) log).number) (sym log_is) ∙ (stands ∙ number_is)))))
         where
-          by : (e.host ≡ ldm_of start m) ⊎ (e.host ≢ ldm_of start m)
-              → Each (λ (q : Request). same_tx q.tx tx ≡ true → same_key (work_key q.work) key ≡ true
-              → Tells start old key tx u (performs q.work q.at)) (rows_at start new m).lqh.waiting
-          by (inl here) =
-              let is : m ≡ me = sym (ldm_same start me m there among (sym at ∙ here)) in
-              subst
-              (λ k. Each (λ (q : Request). same_tx q.tx tx ≡ true → same_key (work_key q.work) key ≡ true
-              → Tells start old key tx u (performs q.work q.at)) (rows_at start new k).lqh.waiting) (sym is)
-              (does.waits key
-              (subst
-              (λ k. (view_after start (ldm_of start k) (new (ldm_of start k))).number ≡ (current start new).number) is
-              stands))
-          by (inr off) =
-              let log_is = log_of-other (machine start) e es (ldm_of start m) off in
-              subst
-              (λ (s : ReplicaState). Each (λ (q : Request). same_tx q.tx tx ≡ true
-              → same_key (work_key q.work) key ≡ true
-              → Tells start old key tx u (performs q.work q.at)) s.lqh.waiting)
-              (ap (rows_after start m) (sym log_is))
-              (parts.waits tx u hale key m among
-              (ap (λ log. (view_after start (ldm_of start m) log).number) (sym log_is) ∙ (stands ∙ number_is)))
+          Waits : Request → Type 0
+          Waits q =
+              same_tx q.tx tx ≡ true → same_key (work_key q.work) key ≡ true
+              → Tells start old key tx u (performs q.work q.at)
 
       pub still_parts : PartsOf start all e es follows xs left transit takes same tx u
       still_parts = record {

@@ -1,11 +1,10 @@
 -- Where rows perform a part of a transaction's operation on a key at an event, what they send for it tells the truth.
-use Rattle.std.proofs.Common.{◌≡◌, ◌≢◌, ◌⊎◌, ◌∙◌, ℕ, Bool, true, List, [], ◌∷◌, refl, sym, ap, subst, inl, inr}
-use Rattle.std.proofs.lemmas.Bool.{cases_eq}
+use Rattle.std.proofs.Common.{◌≡◌, ◌⊎◌, ◌∙◌, ℕ, Bool, true, List, [], ◌∷◌, refl, sym, ap, subst, inl, inr}
 use Rattle.std.specs.List.{slice_get}
 use Rattle.std.specs.Prelude.{Some}
-use Rattle.run_theory.proofs.Runs.{log_of-other}
 use Rattle.run_theory.specs.Links.{sent_by}
 use Rattle.run_theory.specs.Lists.{Each, IsIn}
+use Rattle.run_theory.proofs.EventCases.{event_cases}
 use Rattle.frag_map.specs.Layout.{chain_of}
 use Rattle.row_locks.specs.declared.mode.Mode.TheVariants.{Exclusive}
 use Rattle.row_locks.specs.Holders.{holds_enough}
@@ -75,14 +74,10 @@ module _ (start : Start) (all : ℕ → List HostStep) (e : HostStep) (es : List
     -- other members have what they had
     pub others_same : (m : Member) → IsIn m (made start)
         → (m ≡ me) ⊎ (replica_at start (logs_of start (e ∷ es)) m key ≡ replica_at start (logs_of start es) m key)
-    others_same m among = by (cases_eq e.host (ldm_of start m))
-      where
-        by : (e.host ≡ ldm_of start m) ⊎ (e.host ≢ ldm_of start m)
-            → (m ≡ me) ⊎ (replica_at start new m key ≡ replica_at start old m key)
-        by (inl at) = inl (ldm_same start m me among there (sym at ∙ taken.at))
-        by (inr off) =
-            inr (ap (λ log. at_key key (rows_after start m log).lqh)
-            (log_of-other (machine start) e es (ldm_of start m) off))
+    others_same m among =
+        event_cases (machine start) e es (ldm_of start m)
+        (λ log. (m ≡ me) ⊎ (at_key key (rows_after start m log).lqh ≡ replica_at start old m key))
+        (λ here. inl (ldm_same start m me among there (sym here ∙ taken.at))) (λ off. inr refl)
 
     chain_made : (place : ℕ) (m : Member) → slice_get chain_old place ≡ Some m
         → IsReplicaOf start old key m × IsIn m (made start)

@@ -1,10 +1,11 @@
 -- Records of a transaction on a key agree, unless an operation of it on that key is unanswered, or it is lost. Where
 -- something of it is unanswered in the current view what is settled tells so; else no event changes an image.
 use Rattle.std.proofs.Common.{◌≡◌, ◌≢◌, ◌⊎◌, ◌≤◌, ◌==◌, ◌∙◌, ℕ, Bool, true, false, List, [], ◌∷◌, eq-eqb, refl, sym, ap, subst, inl, inr, arith}
-use Rattle.std.proofs.lemmas.Bool.{cases_eq, eqb-true, true≢false}
+use Rattle.std.proofs.lemmas.Bool.{eqb-true, true≢false}
 use Rattle.std.specs.Prelude.{Option, None, Some, is_some}
 use Rattle.run_theory.specs.Lists.{IsIn}
 use Rattle.run_theory.proofs.Runs.{log_of-other, log_of-own}
+use Rattle.run_theory.proofs.EventCases.{event_cases}
 use Rattle.sig_core.specs.declared.member.Member.{Member}
 use Rattle.sig_core.specs.declared.member.TxId.{TxId}
 use Rattle.sig_core.specs.declared.place.BlockId.TheVariants as block
@@ -290,15 +291,12 @@ module _ (start : Start) (all : ℕ → List HostStep) (e : HostStep) (es : List
     agree_behind : Agree start (logs_of start (e ∷ es)) tx key
     agree_behind = by (own_live start old tx) refl
       where
-        by_host : (t : Transaction) → own_live start old tx ≡ Some t → (asked : Asked) → t.asked ≡ Some asked
-            → (e.host ≡ h) ⊎ (e.host ≢ h) → Agree start new tx key
-        by_host t is asked some (inl at) = home_agree t is asked some at
-        by_host t is asked some (inr off) = away_agree t is asked some off
-
         by_asked : (t : Transaction) → own_live start old tx ≡ Some t → (o : Option Asked) → t.asked ≡ o
             → Agree start new tx key
         by_asked t is None none = calm_agree (ap has_asked is ∙ ap is_some none)
-        by_asked t is (Some asked) some = by_host t is asked some (cases_eq e.host h)
+        by_asked t is (Some asked) some =
+            event_cases (machine start) e es h (λ log. Agree start new tx key) (home_agree t is asked some)
+            (away_agree t is asked some)
 
         by : (o : Option Transaction) → own_live start old tx ≡ o → Agree start new tx key
         by None is = calm_agree (ap has_asked is)

@@ -37,7 +37,7 @@ use Rattle.request_laws.specs.Waiting.{AreAttended}
 use Rattle.commit_laws.proofs.records.Moves.{found_own, now_by}
 
 -- the first that passes a test does
-first_passes : {A : Type 0} (p : A → Bool) (xs : List A) (x : A) → first p xs ≡ Some x → p x ≡ true
+pub first_passes : {A : Type 0} (p : A → Bool) (xs : List A) (x : A) → first p xs ≡ Some x → p x ≡ true
 first_passes p [] x is = absurd cc
 first_passes p (y ∷ ys) x is = by (p y) refl is (first_passes p ys x)
   where

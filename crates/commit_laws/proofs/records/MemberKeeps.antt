@@ -31,7 +31,7 @@ use Rattle.world_core.specs.Start.{Start, made}
 use Rattle.world_core.specs.Steps.{HostStep}
 use Rattle.moment_laws.specs.Moments.{IsMoment, current, logs_of}
 use Rattle.moment_laws.specs.Places.{ldm_of}
-use Rattle.request_laws.specs.Replicas.{event_under, key_installed}
+use Rattle.request_laws.specs.Replicas.{event_under}
 use Rattle.request_laws.proofs.replicas.KeyEvents.{installations_are_events, installations_keep_well, signals_are_events}
 use Rattle.commit_laws.specs.Fates.{is_led_by_full}
 use Rattle.commit_laws.specs.Traces.{replica_at, rows_at}
@@ -93,9 +93,6 @@ keeps_self tx r =
 module _ (s : ReplicaState) (view : View) (key : List ℕ) (well : IsWell s.lqh) where
   abbrev stays : TxId → Bool
   stays = goes_on_holding s.lqh.rows view.full key
-
-  abbrev behind : Replica
-  behind = key_installed (goes_on_holding s.lqh.rows view.full key) (at_key key s.lqh)
 
   pub installed_keeps : (tx : TxId) → is_coordinated view.full tx ≡ true
       → KeepsFor tx (at_key key s.lqh) (at_key key (installed s view).lqh)

@@ -22,9 +22,8 @@ use Rattle.lqh_block.specs.Expire.{aged}
 use Rattle.lqh_block.specs.Lqh.{lqh_table}
 use Rattle.lqh_block.specs.Operate.{is_granted}
 use Rattle.lqh_block.specs.State.{LqhState, storage_of}
-use Rattle.lqh_views.specs.Replica.{installed, replica_row}
+use Rattle.lqh_views.specs.Replica.{replica_row}
 use Rattle.lqh_views.specs.State.{ReplicaState}
-use Rattle.sig_core.specs.declared.view.View.{View}
 use Rattle.key_laws.specs.Records.{AreOnce, as_committed, edited, found, if_committed, put_back, unless_committed}
 use Rattle.key_laws.specs.Replica.{Event, Replica, aborts as gives_up, ages, asks, asks_for, at_key, commits as makes_so, completes as ends, event_at, expired_by, expires, expires_if, if_on, is_let_in, is_refused, key_after, rests, serves, serves_if}
 use Rattle.key_laws.proofs.RecordLemmas.{KeepsTx, committed_keeps, if_keeps, unless_keeps}
@@ -211,7 +210,3 @@ module _ (tx : TxId) (key : List ℕ) where
       by (inr same) =
           subst (λ (l : LqhState). RecordMoves x.body (record_in s.lqh) (record_in l)) (sym same)
           (lqh_moves s.lqh well once x.body idle)
-
-  -- an installation moves no record
-  pub record_installed : (s : ReplicaState) (view : View) → record_in (installed s view).lqh ≡ record_in s.lqh
-  record_installed s view = refl

@@ -1,13 +1,14 @@
 -- Whoever is reported aborted aborts: the client's side is told so by who speaks truly, or a takeover is complete in a
 -- view without the coordinator, and has told before of each commit that members know.
 use Rattle.std.proofs.Common.{◌≡◌, ◌≢◌, ◌⊎◌, ◌∙◌, ℕ, true, List, [], ◌∷◌, ◌++◌, inl, inr, refl, sym, ap, subst, arith}
-use Rattle.std.proofs.lemmas.Bool.{cases_eq, true≢false}
+use Rattle.std.proofs.lemmas.Bool.{true≢false}
 use Rattle.std.specs.Prelude.{Option, None, Some}
 use Rattle.run_theory.specs.Lists.{IsIn}
 use Rattle.run_theory.specs.Logs.{IsRunning}
 use Rattle.run_theory.specs.Runs.{Happens}
 use Rattle.run_theory.proofs.Pasts.{each_in}
-use Rattle.run_theory.proofs.Runs.{log_of-other, log_of-own}
+use Rattle.run_theory.proofs.EventCases.{event_cases}
+use Rattle.commit_laws.proofs.hosts.MarkCases.{marked_cases}
 use Rattle.sig_core.proofs.Keys.{same_tx-self}
 use Rattle.sig_core.specs.declared.mark.Mark.{Mark}
 use Rattle.sig_core.specs.declared.mark.Mark.TheVariants.{Reported}
@@ -125,14 +126,16 @@ module _ (stand : AllStandAlways) (list : GatheringsList) (start : Start) (all :
             tells_next list start all e es on (moves e es moment) member there (was.tells member there);
         last = completes_next list start all e es on (moves e es moment) was.tells was.last;
         client = λ runs.
-            client_next start all e es on (moves e es moment) was.last (was.client (ran (cases_eq e.host 0) runs)) runs;
+            client_next start all e es on (moves e es moment) was.last (was.client (ran runs)) runs;
       }
         where
-          ran : (e.host ≡ 0) ⊎ (e.host ≢ 0) → IsRunning (sound_machine start) (logs_of start (e ∷ es) 0)
+          ran : IsRunning (sound_machine start) (logs_of start (e ∷ es) 0)
               → IsRunning (sound_machine start) (logs_of start es 0)
-          ran (inl at) runs = subst (λ k. IsRunning (sound_machine start) (logs_of start es k)) at happens.step.runs
-          ran (inr other) runs =
-              subst (IsRunning (sound_machine start)) (log_of-other (machine start) e es 0 other) runs
+          ran =
+              event_cases (machine start) e es 0
+              (λ log. IsRunning (sound_machine start) log → IsRunning (sound_machine start) (logs_of start es 0))
+              (λ at runs. subst (λ k. IsRunning (sound_machine start) (logs_of start es k)) at happens.step.runs)
+              (λ off runs. runs)
 
   module _ (e : HostStep) (es : List HostStep) (moment : IsMoment start all (e ∷ es)) (at : e.host ≡ 0) (tx : TxId)
       (why : AbortCause) (not_down : why ≢ cause.Down)
@@ -225,21 +228,8 @@ module _ (stand : AllStandAlways) (list : GatheringsList) (start : Start) (all :
   reported [] moment tx why not_down marked = absurd marked
   reported (e ∷ es) moment tx why not_down marked =
       (moves e es moment tx).aborting
-      (by (cases_eq e.host 0) (reported es (moment_less start all e es moment) tx why not_down))
-    where
-      by : (e.host ≡ 0) ⊎ (e.host ≢ 0)
-          → (IsMarked (Reported tx (Aborted why)) (logs_of start es 0) → fate start (logs_of start es) tx ≡ aborts)
-          → fate start (logs_of start es) tx ≡ aborts
-      by (inr other) rest =
-          rest (subst (IsMarked (Reported tx (Aborted why))) (log_of-other (machine start) e es 0 other) marked)
-      by (inl at) rest =
-          which (subst (IsMarked (Reported tx (Aborted why))) (log_of-own (machine start) e es 0 at) marked)
-        where
-          which : IsIn (Reported tx (Aborted why)) e.step.marks
-              ⊎ IsMarked (Reported tx (Aborted why)) (logs_of start es 0)
-              → fate start (logs_of start es) tx ≡ aborts
-          which (inl now) = now_aborts e es moment at tx why not_down now
-          which (inr older) = rest older
+      (marked_cases start e es 0 (Reported tx (Aborted why)) (λ at now. now_aborts e es moment at tx why not_down now)
+      (reported es (moment_less start all e es moment) tx why not_down) marked)
 
 pub reported_abort : AllStandAlways → GatheringsList → ReportedAbort
 reported_abort stand list start all es moment tx why not_down marked =

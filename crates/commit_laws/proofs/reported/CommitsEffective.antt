@@ -1,16 +1,17 @@
 -- Whoever is reported committed takes effect: it was decided with the epoch that is reported, and the client's side is
 -- told of a commit when all that was written is committed.
-use Rattle.std.proofs.Common.{◌≡◌, ◌≢◌, ◌⊎◌, ◌||◌, ◌∙◌, ℕ, Bool, true, false, List, [], ◌∷◌, filter, reverse, refl, sym, ap, subst, inl, inr, arith}
-use Rattle.std.proofs.lemmas.Bool.{cases_eq, or_left, or_right, true≢false}
+use Rattle.std.proofs.Common.{◌≡◌, ◌≢◌, ◌∙◌, ℕ, Bool, true, false, List, [], ◌∷◌, filter, reverse, refl, sym, ap, subst, inl, inr, arith}
+use Rattle.std.proofs.lemmas.Bool.{or_left, or_right, true≢false}
 use Rattle.std.proofs.lemmas.List.{reverse-reverse}
 use Rattle.std.specs.List.{list_any}
 use Rattle.std.specs.Prelude.{if◌then◌else◌}
 use Rattle.run_theory.proofs.Pasts.{each_in}
-use Rattle.run_theory.proofs.Runs.{log_of-other, log_of-own}
 use Rattle.run_theory.specs.Links.{sent}
 use Rattle.run_theory.specs.Lists.{Each, IsIn}
 use Rattle.run_theory.specs.Ranks.{in_order}
 use Rattle.run_theory.specs.Runs.{Happens}
+use Rattle.commit_laws.proofs.markers.Lists.{in_filter}
+use Rattle.commit_laws.proofs.hosts.MarkCases.{mark_cases}
 use Rattle.sig_core.proofs.Keys.{same_key-self, same_tx-self}
 use Rattle.sig_core.proofs.TxLemmas.{same_tx-is}
 use Rattle.sig_core.specs.declared.entry.Entry.{Entry}
@@ -37,7 +38,7 @@ use Rattle.world_core.specs.Marks.{has_mark, have_mark}
 use Rattle.world_core.specs.Start.{Start}
 use Rattle.world_core.specs.Steps.{Addressed, HostStep}
 use Rattle.world_views.specs.Hosts.{started}
-use Rattle.world_views.specs.Machine.{IsOwnWork, machine}
+use Rattle.world_views.specs.Machine.{IsOwnWork}
 use Rattle.view_laws.proofs.eras.Entries.{stand_in_order}
 use Rattle.view_laws.proofs.eras.Order.{run_in_views}
 use Rattle.view_laws.specs.Order.{by_views, decisions, sound_machine}
@@ -62,7 +63,7 @@ use Rattle.commit_laws.proofs.views.AtEvents.{any_of, some_of}
 use Rattle.commit_laws.proofs.forth.All.{forth_is_known}
 use Rattle.commit_laws.proofs.forth.Client.{IsToldOf, by_coordinator, by_takeover}
 use Rattle.commit_laws.proofs.led.Applied.{HasEntryOf, entry_of_decided, has_applied, have_it}
-use Rattle.commit_laws.proofs.led.Entries.{decisions_once, in_filter, one_entry}
+use Rattle.commit_laws.proofs.led.Entries.{decisions_once, one_entry}
 use Rattle.commit_laws.proofs.hosts.MarkReasons.{HasReason, RunsIf, marks_have_reasons}
 
 -- it is decided, and applied on each key that it wrote
@@ -145,30 +146,14 @@ module _ (stand : AllStandAlways) (start : Start) (all : ℕ → List HostStep) 
           (was.applied key (written_before start all e es moment v key was.decided written));
     }
 
-or_either : (a b : Bool) → (a || b) ≡ true → (a ≡ true) ⊎ (b ≡ true)
-or_either true b is = inl refl
-or_either false b is = inr is
-
 pub reported_effect : AllStandAlways → (start : Start) (all : ℕ → List HostStep) (es : List HostStep)
     → IsMoment start all es → (v : TxId) (h : ℕ) → has_mark (is_reported v) (logs_of start es h) ≡ true
     → TookEffect start (logs_of start es) v
 reported_effect stand start all [] moment v h is = absurd (true≢false (sym is))
 reported_effect stand start all (e ∷ es) moment v h is =
     effect_more stand start all e es moment v
-    (by (cases_eq e.host h) (reported_effect stand start all es (moment_less start all e es moment) v h))
-  where
-    by : (e.host ≡ h) ⊎ (e.host ≢ h)
-        → (has_mark (is_reported v) (logs_of start es h) ≡ true → TookEffect start (logs_of start es) v)
-        → TookEffect start (logs_of start es) v
-    by (inl at) rest =
-        either (or_either (list_any (is_reported v) e.step.marks) (has_mark (is_reported v) (logs_of start es h))
-        (sym (ap (has_mark (is_reported v)) (log_of-own (machine start) e es h at)) ∙ is))
-      where
-        either : (list_any (is_reported v) e.step.marks ≡ true) ⊎ (has_mark (is_reported v) (logs_of start es h) ≡ true)
-            → TookEffect start (logs_of start es) v
-        either (inl now) = reported_now stand start all e es moment v now
-        either (inr older) = rest older
-    by (inr other) rest = rest (sym (ap (has_mark (is_reported v)) (log_of-other (machine start) e es h other)) ∙ is)
+    (mark_cases start e es h (is_reported v) (λ at now. reported_now stand start all e es moment v now)
+    (reported_effect stand start all es (moment_less start all e es moment) v h) is)
 
 -- marks that are there
 any_report : (v : TxId) (epoch : ℕ) (marks : List Mark) → IsIn (Reported v (Committed epoch)) marks

@@ -8,6 +8,7 @@ use Rattle.run_theory.specs.Links.{put, sent, sent_by}
 use Rattle.run_theory.specs.Lists.{Each, IsIn, IsPast}
 use Rattle.run_theory.specs.Machine.{Machine}
 use Rattle.run_theory.proofs.Pasts.{each_in, past_more, past_self, past_trans}
+use Rattle.commit_laws.proofs.markers.Lists.{in_filter}
 use Rattle.sig_core.specs.declared.member.Member.{Member}
 use Rattle.sig_core.specs.declared.outcome.StopCause.{StopCause}
 use Rattle.sig_core.specs.declared.outs.Outgoing.{Outgoing}
@@ -30,7 +31,6 @@ use Rattle.view_laws.proofs.follow.Senders.{IsSentBy, each_sent}
 use Rattle.view_laws.specs.Order.{is_sound, sound_machine}
 use Rattle.view_laws.specs.Runs.{view_after}
 use Rattle.outcome_laws.proofs.order.BeforeInLists.{kept_in}
-use Rattle.commit_laws.proofs.led.Entries.{in_filter}
 
 -- a list of signals on a link, with newer ones in front, up to one of them
 module _ (n : Machine HostStep Addressed) (j : ℕ) where

@@ -1,6 +1,6 @@
 -- A takeover that is complete in a view has told the client's side of each commit of which only members know.
 use Rattle.std.proofs.Common.{◌≡◌, ◌≢◌, ◌⊎◌, ◌∙◌, ◌≤◌, ◌<◌, ◌==◌, ◌+◌, ◌++◌, ℕ, Bool, true, false, append-nil, nat_lt, length, List, [], ◌∷◌, inl, inr, refl, sym, ap, subst, arith}
-use Rattle.std.proofs.lemmas.Bool.{cases_eq, eqb-true, true≢false}
+use Rattle.std.proofs.lemmas.Bool.{eqb-true, true≢false}
 use Rattle.std.proofs.lemmas.Bool.Decides.{nat_tests}
 use Rattle.std.specs.Prelude.{if◌then◌else◌, Option, None, Some, slice_get}
 use Rattle.run_theory.specs.Links.{sent, sent_by}
@@ -10,7 +10,9 @@ use Rattle.run_theory.specs.Machine.{Machine}
 use Rattle.run_theory.specs.Runs.{Happens}
 use Rattle.run_theory.proofs.Links.{sent_more}
 use Rattle.run_theory.proofs.Pasts.{each_in, each_map, in_append, in_past, past_self}
-use Rattle.run_theory.proofs.Runs.{log_of-other, log_of-own}
+use Rattle.run_theory.proofs.EventCases.{event_cases}
+use Rattle.commit_laws.proofs.fates.Moves.{begun_by}
+use Rattle.commit_laws.proofs.forth.Grows.{known_grows}
 use Rattle.sig_core.specs.declared.member.Member.{Member}
 use Rattle.sig_core.specs.declared.member.TxId.{TxId}
 use Rattle.sig_core.specs.declared.outs.Outgoing.{Outgoing}
@@ -73,7 +75,6 @@ use Rattle.commit_laws.specs.Traces.{has_trace, is_known}
 use Rattle.commit_laws.proofs.fates.Committed.{decided_made}
 use Rattle.commit_laws.proofs.reported.CompleteOthers.{apart_say_none, blocks_say_none, installs_say_none}
 use Rattle.commit_laws.proofs.reported.CompleteWords.{AreNoWords, is_no_word}
-use Rattle.commit_laws.proofs.forth.DecidedStay.{known_more}
 use Rattle.commit_laws.proofs.fates.Forth.{fate_decided}
 use Rattle.commit_laws.proofs.views.AtEvents.{some_of}
 use Rattle.commit_laws.proofs.hosts.Goes.{HostGoes, halts, host_goes, leaves, takes}
@@ -97,9 +98,6 @@ led_fate false true forth lost trace is = refl
 led_fate false false forth lost true is = absurd cc
 led_fate false false forth lost false is = absurd cc
 
-begun_is : (tx : TxId) (m : Member) → was_begun_by tx m ≡ true → m ≡ coordinator_member tx
-begun_is tx m is = grind (arith, nat_tests, is)
-
 unsound_aborts : (start : Start) (all : ℕ → List HostStep) (es : List HostStep) → IsMoment start all es → (tx : TxId)
     → is_tx start.shape tx ≡ false → fate start (logs_of start es) tx ≡ aborts
 unsound_aborts start all es moment tx off = by (fate start (logs_of start es) tx) refl
@@ -117,7 +115,7 @@ unsound_aborts start all es moment tx off = by (fate start (logs_of start es) tx
         (is_forth start (logs_of start es) tx) (is_lost start (logs_of start es) tx)
         (has_trace start (logs_of start es) tx) is in
         let one = some_of (was_begun_by tx) (current start (logs_of start es)).full full in
-        absurd (not_made (subst (λ (m : Member). IsIn m (made start)) (begun_is tx one.one one.passes)
+        absurd (not_made (subst (λ (m : Member). IsIn m (made start)) (begun_by tx one.one one.passes)
         (current_made start all es moment one.one one.there)))
 
 -- a view with a member counts some
@@ -179,7 +177,7 @@ module _ (list : GatheringsList) (start : Start) (all : ℕ → List HostStep) (
     -- what was said is said behind the event
     said_more : (tx : TxId) (ys zs : List Addressed) → IsPast ys zs → IsSaid start old tx ys → IsSaid start new tx zs
     said_more tx ys zs past (aborted is) = aborted ((moves tx).aborting is)
-    said_more tx ys zs past (known is) = known (known_more start all e es moment tx is)
+    said_more tx ys zs past (known is) = known (known_grows start e es tx is)
     said_more tx ys zs past (told one) = longer start new tx ys zs past (told one)
 
     module _ (member : Member) (there : IsIn member (made start))
@@ -531,24 +529,12 @@ module _ (list : GatheringsList) (start : Start) (all : ℕ → List HostStep) (
 
       -- so it is behind each event
       pub tells_next : TakeoverTells start (logs_of start (e ∷ es)) member
-      tells_next stands runs can = by (cases_eq e.host h)
-        where
-          by : (e.host ≡ h) ⊎ (e.host ≢ h)
-              → TellsAll O (λ tx. IsSaid start new tx (sent n h 0 (new h))) (takeover_at start new member)
-          by (inl at) =
-              let same = log_of-own (machine start) e es h at in
-              subst
-              (λ l. TellsAll O (λ tx. IsSaid start new tx (sent n h 0 l)) (takeover_after start member l)) (sym same)
-              (tells_now at (subst (CanTell start h) same can)
-              (subst (λ l. (view_after start h l).number ≡ current_number start new) same stands)
-              (subst (IsRunning n) same runs))
-          by (inr other) =
-              let same = log_of-other (machine start) e es h other in
-              let number = ap (λ (l : List HostStep). (view_after start h l).number) same in
-              subst
-              (λ l. TellsAll O (λ tx. IsSaid start new tx (sent n h 0 l)) (takeover_after start member l)) (sym same)
-              (was (still_by (number_in start new h) stands (omega (arith, number))) (subst (IsRunning n) same runs)
-              (subst (CanTell start h) same can))
+      tells_next =
+          event_cases (machine start) e es h
+          (λ log. (view_after start h log).number ≡ current_number start new → IsRunning n log → CanTell start h log
+          → TellsAll O (λ tx. IsSaid start new tx (sent n h 0 log)) (takeover_after start member log))
+          (λ at stands runs can. tells_now at can stands runs)
+          (λ off stands. was (still_by (number_in start old h) stands (omega arith)))
 
     -- and so it is of each word that a takeover is complete
     module _ (tells : (member : Member) → IsIn member (made start) → TakeoverTells start (logs_of start es) member)
@@ -598,19 +584,15 @@ module _ (list : GatheringsList) (start : Start) (all : ℕ → List HostStep) (
                         (subst (λ (v : View). IsOrphan v tx) one.by.view_is orphan)))
 
         pub completes_next : CompletesLast start (logs_of start (e ∷ es))
-        completes_next i y newer older is body tx orphan = by (cases_eq e.host i)
+        completes_next i y newer older is body tx orphan =
+            event_cases (machine start) e es i
+            (λ log. sent n i 0 log ≡ newer ++ y ∷ older → IsSaid start new tx older)
+            (λ at now. which at (put_at n 0 (sent_by n i (old i) e) (sent n i 0 (old i)) y newer older now))
+            (λ off was. said_more tx older older (past_self older) (last i y newer older was body tx orphan)) is
           where
-            by : (e.host ≡ i) ⊎ (e.host ≢ i) → IsSaid start new tx older
-            by (inr other) =
-                said_more tx older older (past_self older)
-                (last i y newer older (sym (ap (sent n i 0) (log_of-other (machine start) e es i other)) ∙ is) body tx
-                orphan)
-            by (inl at) =
-                which (put_at n 0 (sent_by n i (old i) e) (sent n i 0 (old i)) y newer older
-                (sym (ap (sent n i 0) (log_of-own (machine start) e es i at)) ∙ is))
-              where
-                which : IsPutAt n 0 (sent_by n i (old i) e) (sent n i 0 (old i)) y older → IsSaid start new tx older
-                which (was_there front there) =
-                    said_more tx older older (past_self older) (last i y front older there body tx orphan)
-                which (comes_now inside to past) =
-                    longer start new tx (sent n i 0 (old i)) older past (comes i y older body tx orphan at inside to)
+            which : e.host ≡ i → IsPutAt n 0 (sent_by n i (old i) e) (sent n i 0 (old i)) y older
+                → IsSaid start new tx older
+            which at (was_there front there) =
+                said_more tx older older (past_self older) (last i y front older there body tx orphan)
+            which at (comes_now inside to past) =
+                longer start new tx (sent n i 0 (old i)) older past (comes i y older body tx orphan at inside to)

@@ -1,6 +1,6 @@
 -- What the client's side has noted at a moment: the commits that it is told of, and which takeovers are complete.
 use Rattle.std.proofs.Common.{◌≡◌, ◌≢◌, ◌≤◌, ◌<◌, ◌⊎◌, ◌∙◌, ◌||◌, ◌&&◌, ◌==◌, ◌+◌, ℕ, Bool, true, false, List, [], ◌∷◌, inl, inr, nat_lt, refl, sym, ap, subst, arith}
-use Rattle.std.proofs.lemmas.Bool.{cases_eq, cases_lt, or_left, true≢false}
+use Rattle.std.proofs.lemmas.Bool.{cases_lt, or_left, true≢false}
 use Rattle.std.proofs.lemmas.Bool.Decides.{nat_tests}
 use Rattle.std.specs.List.{count_by}
 use Rattle.std.specs.Prelude.{if◌then◌else◌, not, Option, None, Some}
@@ -13,6 +13,10 @@ use Rattle.run_theory.specs.Runs.{Happens}
 use Rattle.run_theory.proofs.Links.{put_each, sent_by_each}
 use Rattle.run_theory.proofs.Pasts.{each_in, each_map, each_past}
 use Rattle.run_theory.proofs.Runs.{log_of-other, log_of-own}
+use Rattle.run_theory.proofs.EventCases.{event_cases}
+use Rattle.commit_laws.proofs.forth.TellersFull.{untold_off}
+use Rattle.commit_laws.proofs.gathering.TellingsNoted.{sound_of}
+use Rattle.commit_laws.proofs.forth.Grows.{known_grows}
 use Rattle.sig_core.proofs.TxLemmas.{same_tx-is}
 use Rattle.sig_core.specs.declared.member.Member.{Member}
 use Rattle.sig_core.specs.declared.member.TxId.{TxId}
@@ -60,7 +64,6 @@ use Rattle.view_laws.specs.Runs.{WasInstalled, view_after}
 use Rattle.moment_laws.specs.Moments.{IsMoment, logs_of}
 use Rattle.moment_laws.proofs.MomentViews.{moment_less}
 use Rattle.outcome_laws.proofs.client.ReportsAndWishes.{reports_few}
-use Rattle.outcome_laws.proofs.knowledge.TellsNothing.{AreUntold, IsUntold}
 use Rattle.outcome_laws.proofs.knowledge.Parts.{arbiter_tells_nothing}
 use Rattle.outcome_laws.proofs.once.DecidesAndReports.{IsShell, client_light, in_client, of_client, reports_client}
 use Rattle.outcome_laws.proofs.once.CoordinatorScale.{no_body}
@@ -76,7 +79,6 @@ use Rattle.commit_laws.specs.Together.{FatesMove, Follows}
 use Rattle.commit_laws.specs.Traces.{has_sent, is_acknowledgement, is_known}
 use Rattle.commit_laws.proofs.forth.ClientReports.{TakesWord, acknowledges_some, drops, notes, takes_word, tally_counts, word_noted}
 use Rattle.commit_laws.proofs.hosts.ShellViews.{client_notes}
-use Rattle.commit_laws.proofs.forth.DecidedStay.{known_more}
 use Rattle.commit_laws.proofs.views.AtEvents.{any_of, some_of}
 use Rattle.commit_laws.proofs.forth.Client.{Answers, IsToldOf, by_coordinator, by_takeover, client_acknowledges}
 use Rattle.commit_laws.proofs.hosts.Goes.{IsOff, is_for_host}
@@ -114,22 +116,6 @@ sent_members start i j (e ∷ log) =
   where
     IsOwn : Addressed → Type 0
     IsOwn = λ y. y.signal.member ≡ member_at (made start) i
-
--- a signal that a link gave is sound
-sound_of : (asked sound from : Bool) → (not (asked || not sound) && from) ≡ true → sound ≡ true
-sound_of true sound from is = absurd (true≢false (sym is))
-sound_of false true from is = refl
-sound_of false false from is = absurd (true≢false (sym is))
-
--- what tells nothing acknowledges nothing
-untold_off : (tx : TxId) (sends : List Outgoing) → AreUntold sends → is_sent (is_acknowledgement tx) sends ≡ false
-untold_off tx [] none = refl
-untold_off tx (o ∷ sends) none =
-    ap (λ b. b || is_sent (is_acknowledgement tx) sends) (by o.body none.0) ∙ untold_off tx sends none.1
-  where
-    by : (body : Body) → IsUntold (record o { body = body }) → is_acknowledgement tx body ≡ false
-    by (Client (TcCommitAck other)) off = absurd cc
-    by body off = refl
 
 -- a word of a commit begins nothing
 word_begins : (tx : TxId) (body : Body) → IsToldOf tx body → is_begin tx body ≡ false
@@ -185,7 +171,7 @@ module _ (start : Start) (all : ℕ → List HostStep) (e : HostStep) (es : List
     ended_more : (tx : TxId) → (fate start old tx ≡ aborts) ⊎ (is_known start old tx ≡ true)
         → (fate start new tx ≡ aborts) ⊎ (is_known start new tx ≡ true)
     ended_more tx (inl is) = inl ((moves tx).aborting is)
-    ended_more tx (inr is) = inr (known_more start all e es moment tx is)
+    ended_more tx (inr is) = inr (known_grows start e es tx is)
 
     -- where another host steps
     module _ (other : e.host ≢ 0) where
@@ -207,7 +193,7 @@ module _ (start : Start) (all : ℕ → List HostStep) (e : HostStep) (es : List
           by : (tx : TxId) (z : Addressed)
               → (is_known start old tx ≡ true) ⊎ (is_member (view_after start 0 (old 0)) z.signal.member ≡ false)
               → (is_known start new tx ≡ true) ⊎ (is_member (view_after start 0 (new 0)) z.signal.member ≡ false)
-          by tx z (inl is) = inl (known_more start all e es moment tx is)
+          by tx z (inl is) = inl (known_grows start e es tx is)
           by tx z (inr out) =
               inr (subst (λ l. is_member (view_after start 0 l) z.signal.member ≡ false) (sym same) out)
 
@@ -349,7 +335,7 @@ module _ (start : Start) (all : ℕ → List HostStep) (e : HostStep) (es : List
             where
               which : (is_known start old tx ≡ true) ⊎ (is_member stood z.signal.member ≡ false)
                   → (is_known start new tx ≡ true) ⊎ (is_member view z.signal.member ≡ false)
-              which (inl is) = inl (known_more start all e es moment tx is)
+              which (inl is) = inl (known_grows start e es tx is)
               which (inr out) = inr (still_out z.signal.member out)
 
           newest : is_from n i e ≡ true → z.signal ≡ x
@@ -635,8 +621,6 @@ module _ (start : Start) (all : ℕ → List HostStep) (e : HostStep) (es : List
     -- so it is behind each event
     pub client_next : IsRunning (sound_machine start) (logs_of start (e ∷ es) 0)
         → ClientStands start (logs_of start (e ∷ es))
-    client_next runs = by (cases_eq e.host 0)
-      where
-        by : (e.host ≡ 0) ⊎ (e.host ≢ 0) → ClientStands start new
-        by (inl at) = stands_here at (subst (IsRunning n) (log_of-own (machine start) e es 0 at) runs)
-        by (inr other) = stands_beside other
+    client_next =
+        event_cases (machine start) e es 0 (λ log. IsRunning n log → ClientStands start new) stands_here
+        (λ other runs. stands_beside other)

@@ -14,7 +14,6 @@ use Rattle.sig_core.specs.declared.op.Op.{Op}
 use Rattle.sig_core.specs.declared.signal.Body.{Body}
 use Rattle.sig_core.proofs.Keys.{same_tx-self}
 use Rattle.tc_block.specs.declared.phase.Phase.{Phase}
-use Rattle.tc_block.specs.declared.transaction.Transaction.{Transaction}
 use Rattle.tc_block.specs.Doom.{is_among, is_undecided}
 use Rattle.host_laws.proofs.coordinator.OfLive.{each_found}
 use Rattle.world_core.specs.Entries.{else_of, ops_of, verified_by}
@@ -129,9 +128,6 @@ module _ (forth : ForthIsKnownAlways) (transit : MomentsHaveTransit) (start : St
             → WaitsWith start (coordinator_member tx) log tx (ops_of tx (e ∷ log))
         by (inl gone) = absurd (not_gone gone)
         by (inr with_it) = with_it
-
-    abbrev t : Transaction
-    t = waits.transaction
 
     answered : waits.transaction.asked ≡ None
     answered =

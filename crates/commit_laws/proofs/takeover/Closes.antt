@@ -1,7 +1,7 @@
 -- When all members have ended, whoever none of them told to be committed aborts, and of each that commits all keys are
 -- gathered.
-use Rattle.std.proofs.Common.{◌≡◌, ◌⊎◌, ◌∙◌, ◌||◌, ◌&&◌, ◌<◌, ℕ, Bool, true, false, List, [], ◌∷◌, inl, inr, length, refl, sym, ap, subst, arith}
-use Rattle.std.proofs.lemmas.Bool.{and_parts, true≢false}
+use Rattle.std.proofs.Common.{◌≡◌, ◌⊎◌, ◌∙◌, ◌||◌, ◌&&◌, ◌<◌, ℕ, true, false, List, [], ◌∷◌, inl, inr, length, refl, sym, ap, subst, arith}
+use Rattle.std.proofs.lemmas.Bool.{and_parts, true≢false, or_cases, false_from_ne_true}
 use Rattle.std.specs.List.{list_any}
 use Rattle.std.specs.Prelude.{None, is_some}
 use Rattle.run_theory.specs.Links.{sent}
@@ -30,7 +30,7 @@ use Rattle.commit_laws.specs.Gathering.{AllIsTold, IsPreparedSomewhere}
 use Rattle.commit_laws.specs.Going.{is_forth, is_lost}
 use Rattle.commit_laws.specs.Takeovers.{HasAllKeys, IsOrphan, takeover_at}
 use Rattle.commit_laws.specs.Traces.{IsReplicaOf, has_marker_at, has_trace, is_committed_by, is_committed_of, is_known, is_marker_of, leave_trace, members_now, rows_at}
-use Rattle.commit_laws.proofs.fates.Reasons.{known_commits, none_aborts, not_both}
+use Rattle.commit_laws.proofs.fates.Cases.{known_commits, none_aborts, not_both}
 use Rattle.commit_laws.proofs.fates.Forth.{fate_decided}
 use Rattle.commit_laws.proofs.forth.Client.{IsToldOf, by_coordinator, by_takeover}
 use Rattle.commit_laws.proofs.forth.KnownTold.{WasTold, known_told}
@@ -38,7 +38,6 @@ use Rattle.commit_laws.proofs.markers.All.{commits_are_remembered}
 use Rattle.commit_laws.proofs.hosts.SomePasses.{passed, passing}
 use Rattle.commit_laws.proofs.records.Replicas.{chain_replica, member_made, members_full, replica_made}
 use Rattle.commit_laws.proofs.takeover.Words.{IsRight}
-use Rattle.commit_laws.proofs.hosts.Joined.{either, not_true}
 
 -- a list that isn't empty has an entry
 record HasOne (xs : List Member) : Type 0 where
@@ -54,9 +53,6 @@ module _ (start : Start) (all : ℕ → List HostStep) (es : List HostStep) (mom
   where
     abbrev logs : ℕ → List HostStep
     logs = logs_of start es
-
-    abbrev F : TxId → Bool
-    F tx = is_known start (logs_of start es) tx
 
     -- whoever is known is done
     pub known_done : (tx : TxId) → is_known start (logs_of start es) tx ≡ true → IsDone start (logs_of start es) tx
@@ -82,7 +78,8 @@ module _ (start : Start) (all : ℕ → List HostStep) (es : List HostStep) (mom
     -- so none of its records at a replica is only prepared
     pub prepared_unknown : (tx : TxId) → IsPreparedSomewhere start (logs_of start es) tx
         → is_known start (logs_of start es) tx ≡ false
-    prepared_unknown tx p = not_true (is_known start logs tx) (λ is. true≢false (sym (committed is) ∙ p.prepared))
+    prepared_unknown tx p =
+        false_from_ne_true (is_known start logs tx) (λ is. true≢false (sym (committed is) ∙ p.prepared))
       where
         kept : is_known start logs tx ≡ true → IsKept start logs tx
         kept is = record {
@@ -123,12 +120,12 @@ module _ (start : Start) (all : ℕ → List HostStep) (es : List HostStep) (mom
 
         -- so there is no trace
         traceless : g.epoch ≡ None → has_trace start logs g.tx ≡ false
-        traceless none = not_true (has_trace start logs g.tx) found
+        traceless none = false_from_ne_true (has_trace start logs g.tx) found
           where
             left : (one : Member) → IsIn one (members_now start logs) → leave_trace g.tx (rows_at start logs one) ≡ true
                 → ⊥
             left one there_one is =
-                by (either (list_any (is_committed_of g.tx) (rows_at start logs one).lqh.rows.pending)
+                by (or_cases (list_any (is_committed_of g.tx) (rows_at start logs one).lqh.rows.pending)
                 (list_any (is_marker_of g.tx) (rows_at start logs one).lqh.markers) is)
               where
                 full : IsIn one (current start logs).full
@@ -137,7 +134,7 @@ module _ (start : Start) (all : ℕ → List HostStep) (es : List HostStep) (mom
                 of_record : (r : PendingRecord) → r.tx ≡ g.tx
                     → (has_marker_at start logs one r.key r.tx || is_known start logs r.tx) ≡ true → ⊥
                 of_record r own marked =
-                    which (either (has_marker_at start logs one r.key r.tx) (is_known start logs r.tx) marked)
+                    which (or_cases (has_marker_at start logs one r.key r.tx) (is_known start logs r.tx) marked)
                   where
                     which : (has_marker_at start logs one r.key r.tx ≡ true) ⊎ (is_known start logs r.tx ≡ true) → ⊥
                     which (inl there_marker) =

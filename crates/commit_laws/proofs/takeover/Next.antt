@@ -1,8 +1,7 @@
 -- What stands of takeovers stands behind each event.
-use Rattle.std.proofs.Common.{◌≡◌, ◌≢◌, ◌⊎◌, ◌∙◌, ◌≤◌, ℕ, true, List, ◌∷◌, inl, inr, refl, sym, ap, subst, arith}
-use Rattle.std.proofs.lemmas.Bool.{cases_eq}
+use Rattle.std.proofs.Common.{◌≡◌, ◌∙◌, ◌≤◌, ℕ, true, List, ◌∷◌, refl, sym, ap, subst, arith}
 use Rattle.run_theory.specs.Lists.{Each, IsIn}
-use Rattle.run_theory.proofs.Runs.{log_of-other, log_of-own}
+use Rattle.run_theory.proofs.EventCases.{event_cases}
 use Rattle.sig_core.specs.declared.member.Member.{Member}
 use Rattle.sig_core.specs.declared.member.TxId.{TxId}
 use Rattle.sig_core.specs.declared.place.BlockId.{BlockId}
@@ -72,9 +71,6 @@ module _ (whole : GatheringsAreWhole) (start : Start) (all : ℕ → List HostSt
 
     abbrev x : Signal
     x = e.step.taken
-
-    abbrev W : Gathered → Type 0
-    W = IsRight start (logs_of start (e ∷ es))
 
     abbrev Has : TakeoverState → Type 0
     Has s = TakeoverIs (Aborts start new) (Commits start new) (IsRight start new) s
@@ -185,19 +181,13 @@ module _ (whole : GatheringsAreWhole) (start : Start) (all : ℕ → List HostSt
           (own_has stands step.does.takes)
 
     next_has : number_in start new h ≡ current_number start new → Has (takeover_at start new member)
-    next_has stands = by (cases_eq e.host h)
-      where
-        by : (e.host ≡ h) ⊎ (e.host ≢ h) → Has (takeover_at start new member)
-        by (inl at) =
-            let own = log_of-own (machine start) e es h at in
-            subst (λ l. Has (takeover_after start member l)) (sym own)
-            (own_next at (subst (λ l. (view_after start h l).number ≡ current_number start new) own stands))
-        by (inr other) =
-            let same = log_of-other (machine start) e es h other in
-            let number = ap (λ (l : List HostStep). (view_after start h l).number) same in
-            subst (λ l. Has (takeover_after start member l)) (sym same)
-            (stands_on start all e es follows moves member there
-            (still_by (number_in start new h) stands (omega (arith, number))))
+    next_has =
+        event_cases (machine start) e es h
+        (λ log. (view_after start h log).number ≡ current_number start new → Has (takeover_after start member log))
+        own_next
+        (λ off stands.
+        stands_on start all e es follows moves member there
+        (still_by (number_in start old h) stands (omega arith)))
 
     -- the takeover has the layout of the view in which its host stands
     laid : (takeover_at start new member).layout.view ≡ view_after start (tc_of start member) (new (tc_of start member))

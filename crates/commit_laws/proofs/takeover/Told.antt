@@ -1,11 +1,13 @@
 -- What takeovers are told stays true behind each event, and what they are told by it is true.
-use Rattle.std.proofs.Common.{◌≡◌, ◌⊎◌, ◌++◌, ◌∙◌, ℕ, Bool, true, false, List, [], ◌∷◌, filter, inl, inr, map, refl, sym, ap, subst, arith}
+use Rattle.std.proofs.Common.{◌≡◌, ◌⊎◌, ◌∙◌, ℕ, Bool, true, false, List, [], ◌∷◌, filter, inl, inr, map, refl, sym, ap, subst, arith}
 use Rattle.std.specs.List.{list_any}
-use Rattle.std.specs.Prelude.{if◌then◌else◌, cond, Option, None, Some, slice_get}
+use Rattle.std.specs.Prelude.{if◌then◌else◌, cond, Option, None, Some}
 use Rattle.run_theory.specs.Links.{sent}
 use Rattle.run_theory.specs.Lists.{Each, IsIn}
-use Rattle.run_theory.proofs.EachSent.{each_get}
-use Rattle.run_theory.proofs.Pasts.{each_append, each_from, each_in, each_map}
+use Rattle.run_theory.proofs.Pasts.{each_from, each_in, each_map}
+use Rattle.std.proofs.lemmas.Bool.{and_from, or_cases, or_left, or_right}
+use Rattle.commit_laws.proofs.commits.Places.{in_at}
+use Rattle.commit_laws.proofs.hosts.PartEach.{part_each}
 use Rattle.sig_core.specs.declared.member.Member.{Member}
 use Rattle.sig_core.specs.declared.member.TxId.{TxId}
 use Rattle.sig_core.specs.declared.outs.Outgoing.{Outgoing}
@@ -32,7 +34,7 @@ use Rattle.world_views.specs.Machine.{step_after}
 use Rattle.view_laws.specs.Order.{sound_machine}
 use Rattle.view_laws.specs.Runs.{view_after}
 use Rattle.moment_laws.specs.Moments.{IsMoment, current, logs_of}
-use Rattle.moment_laws.specs.PartSteps.{PartEnters, PartTakes, handles, ignores, installs, remains, tc_kind}
+use Rattle.moment_laws.specs.PartSteps.{tc_kind}
 use Rattle.moment_laws.specs.Places.{ldm_of}
 use Rattle.moment_laws.proofs.MomentHosts.{ldm_member, part_some}
 use Rattle.moment_laws.proofs.MomentMembers.{current_host}
@@ -52,20 +54,15 @@ use Rattle.commit_laws.specs.Takeovers.{IsOrphan, IsTrueReport, TellsFate}
 use Rattle.commit_laws.specs.Together.{FatesMove, Follows}
 use Rattle.commit_laws.specs.Traces.{has_trace, is_committed_of, is_known, is_marker_of, leave_trace, members_now, record_at, rows_at}
 use Rattle.commit_laws.proofs.forth.DecidedStay.{forth_decided, written_more}
-use Rattle.commit_laws.proofs.fates.Reasons.{known_commits, trace_commits}
+use Rattle.commit_laws.proofs.fates.Cases.{known_commits, trace_commits}
 use Rattle.commit_laws.proofs.fates.Forth.{commits_more, left_forth}
 use Rattle.commit_laws.proofs.markers.All.{traces_stay}
 use Rattle.commit_laws.proofs.hosts.SomePasses.{passed}
 use Rattle.commit_laws.proofs.records.Once.{rows_once}
 use Rattle.commit_laws.proofs.records.Replicas.{members_full}
-use Rattle.commit_laws.proofs.hosts.RowsTurn.{IsBetween, IsTakenAt, RowsGo, as_was, enter, entered, rest, rows_go, take}
+use Rattle.commit_laws.proofs.hosts.RowsTurn.{IsBetween, IsTakenAt, as_was, entered, rows_each}
 use Rattle.commit_laws.proofs.takeover.Reports.{AreFated, Fated, HasTrace, IsFated, TracesIf, all_aside_fated, by_marker, by_record, rows_trace, tc_enters_fated, tc_fated}
 use Rattle.commit_laws.proofs.takeover.Words.{Commits}
-use Rattle.commit_laws.proofs.hosts.Joined.{both, either, or_left, or_right}
-
--- what stands at a place of a list is in it
-pub in_get : {A : Type 0} (xs : List A) (at : ℕ) (x : A) → slice_get xs at ≡ Some x → IsIn x xs
-in_get xs at x is = each_get (λ y. IsIn y xs) xs at x (each_from (λ y. IsIn y xs) xs (λ y there. there)) is
 
 -- a record on a key is in its cell
 pub in_cell : (key : List ℕ) (r : PendingRecord) (xs : List PendingRecord) → IsIn r xs → is_on key r ≡ true
@@ -136,11 +133,11 @@ module _ (start : Start) (all : ℕ → List HostStep) (e : HostStep) (es : List
         trace_left : HasTrace tx rows → leave_trace tx rows ≡ true
         trace_left (by_record at r is own committed) =
             or_left (list_any (is_committed_of tx) rows.lqh.rows.pending) (list_any (is_marker_of tx) rows.lqh.markers)
-            (passed (is_committed_of tx) r rows.lqh.rows.pending (in_get rows.lqh.rows.pending at r is)
-            (both (same_tx r.tx tx) r.committed (ap (λ v. same_tx v tx) own ∙ same_tx-self tx) committed))
+            (passed (is_committed_of tx) r rows.lqh.rows.pending (in_at rows.lqh.rows.pending at r is)
+            (and_from (same_tx r.tx tx) r.committed (ap (λ v. same_tx v tx) own ∙ same_tx-self tx) committed))
         trace_left (by_marker at m is own) =
             or_right (list_any (is_committed_of tx) rows.lqh.rows.pending) (list_any (is_marker_of tx) rows.lqh.markers)
-            (passed (is_marker_of tx) m rows.lqh.markers (in_get rows.lqh.markers at m is)
+            (passed (is_marker_of tx) m rows.lqh.markers (in_at rows.lqh.markers at m is)
             (ap (λ v. same_tx v tx) own ∙ same_tx-self tx))
 
         record TraceOn : Type 0 where
@@ -155,15 +152,15 @@ module _ (start : Start) (all : ℕ → List HostStep) (e : HostStep) (es : List
               (ap (λ v. record_at start old member r.key v) (sym own)
               ∙ once_found (map without_epoch (filter (is_on r.key) rows.lqh.rows.pending))
               (rows_once start member there (old (ldm_of start member)) r.key) (without_epoch r)
-              (in_cell r.key r rows.lqh.rows.pending (in_get rows.lqh.rows.pending at r is) (same_key-self r.key)))
+              (in_cell r.key r rows.lqh.rows.pending (in_at rows.lqh.rows.pending at r is) (same_key-self r.key)))
               committed;
         }
         trace_on (by_marker at m is own) = record {
           key = m.key;
           leaves =
               marked_there
-              (passed (is_marker tx m.key) m rows.lqh.markers (in_get rows.lqh.markers at m is)
-              (both (same_tx m.tx tx) (same_key m.key m.key) (ap (λ v. same_tx v tx) own ∙ same_tx-self tx)
+              (passed (is_marker tx m.key) m rows.lqh.markers (in_at rows.lqh.markers at m is)
+              (and_from (same_tx m.tx tx) (same_key m.key m.key) (ap (λ v. same_tx v tx) own ∙ same_tx-self tx)
               (same_key-self m.key)));
         }
 
@@ -171,7 +168,7 @@ module _ (start : Start) (all : ℕ → List HostStep) (e : HostStep) (es : List
         traced : IsIn member (members_now start new) → IsOrphan (current start new) tx → HasTrace tx rows
             → Commits start new tx
         traced inside orphan has = (
-          by (either (leave_trace tx (rows_at start new member)) (is_known start new tx)
+          by (or_cases (leave_trace tx (rows_at start new member)) (is_known start new tx)
               (traces_stay start all e es moment member there tx (trace_left has))),
           record { key = on.key; written = written_more start all e es moment tx on.key decided written },
         )
@@ -212,17 +209,13 @@ module _ (start : Start) (all : ℕ → List HostStep) (e : HostStep) (es : List
 
       -- what its rows tell is true
       rows_fated : e.host ≡ ldm_of start member → AreFated If sends
-      rows_fated at = by (rows_go start all e es moment member there)
+      rows_fated at =
+          subst (AreFated If) (sym (ap (λ k. (step_after start k (old k) e).effects.sends) at))
+          (rows_each start all e es moment member there (IsFated If)
+          (λ s between taken.
+          each_map (IsFated (TracesIf s)) (IsFated If) (replica_row s x).effects.sends
+          (λ o fated. told s between taken o.body fated) (rows_trace s x)) at)
         where
-          own : List Outgoing
-          own = (step_after start (ldm_of start member) (old (ldm_of start member)) e).effects.sends
-
-          same : sends ≡ own
-          same = ap (λ k. (step_after start k (old k) e).effects.sends) at
-
-          none : own ≡ [] → AreFated If sends
-          none is = subst (AreFated If) (sym (same ∙ is)) tt
-
           has_was : (s : ReplicaState) → IsBetween start all e es moment member there s → (tx : TxId) → HasTrace tx s
               → HasTrace tx rows
           has_was s (as_was is still) tx has = subst (HasTrace tx) is has
@@ -242,39 +235,11 @@ module _ (start : Start) (all : ℕ → List HostStep) (e : HostStep) (es : List
                   traced tx (inside_now at taken.now.stands) orphan (has_was s between tx traces)
           told s between taken body fated = tt
 
-          by : RowsGo start all e es moment member there → AreFated If sends
-          by (rest is quiet) = none (quiet at).sends
-          by (enter set is quiet) = none (quiet at).sends
-          by (take s between taken) = sent_by taken.sent
-            where
-              all_told : AreFated If (replica_row s x).effects.sends
-              all_told =
-                  each_map (IsFated (TracesIf s)) (IsFated If) (replica_row s x).effects.sends
-                  (λ o fated. told s between taken o.body fated) (rows_trace s x)
-
-              sent_by : (own ≡ (replica_row s x).effects.sends) ⊎ (own ≡ []) → AreFated If sends
-              sent_by (inl is) = subst (AreFated If) (sym (same ∙ is)) all_told
-              sent_by (inr is) = none is
-
     tc_tells : TcStep start e.host (old e.host) e → AreFated If sends
-    tc_tells step = by step.does.sent
-      where
-        front : PartEnters tc_kind step.own (view_after start e.host (old e.host)) x step.does.between view
-            step.does.front
-            → AreFated If step.does.front
-        front (remains same stands none) = subst (AreFated If) (sym none) tt
-        front (installs above same stands is) = subst (AreFated If) (sym is) (tc_enters_fated If step.own x.view)
-
-        others : PartTakes tc_kind start.shape step.does.between view x step.does.own step.does.rest
-            → AreFated If step.does.rest
-        others (ignores same none) = subst (AreFated If) (sym none) tt
-        others (handles passed same is) = subst (AreFated If) (sym is) (tc_fated If step.does.between x x.to.block)
-
-        by : (sends ≡ step.does.front ++ step.does.rest) ⊎ (sends ≡ []) → AreFated If sends
-        by (inl is) =
-            subst (AreFated If) (sym is)
-            (each_append (IsFated If) step.does.front step.does.rest (front step.does.enters) (others step.does.takes))
-        by (inr is) = subst (AreFated If) (sym is) tt
+    tc_tells step =
+        part_each tc_kind (IsFated If) start.shape step.own (view_after start e.host (old e.host)) x _ view sends
+        step.does (λ above. tc_enters_fated If step.own x.view)
+        (λ passed. tc_fated If step.does.between x x.to.block)
 
     sends_fated : AreFated If sends
     sends_fated = by (part_host start e.host (host_low start all e es moment))

@@ -104,7 +104,3 @@ module _ (start : Start) (all : ℕ → List HostStep) (e : HostStep) (es : List
 
     pub member_full : (member : Member) → IsIn member (members_now start old) → IsIn member (current start old).full
     member_full member there = subst (IsIn member) (full_only start all es (moment_less start all e es moment)) there
-
-    pub full_member : (member : Member) → IsIn member (current start old).full → IsIn member (members_now start old)
-    full_member member there =
-        subst (IsIn member) (sym (full_only start all es (moment_less start all e es moment))) there

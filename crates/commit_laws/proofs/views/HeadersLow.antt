@@ -1,16 +1,16 @@
 -- No host takes a signal of a greater view than the current one, but for what isn't well formed and so changes nothing:
 -- so a host without a membership comes to no greater view than that.
-use Rattle.std.proofs.Common.{◌≡◌, ◌≢◌, ◌≤◌, ◌<◌, ◌⊎◌, ◌&&◌, ◌||◌, ◌==◌, ◌∙◌, ℕ, zero, suc, Bool, true, false, List, [], ◌∷◌, refl, sym, ap, subst, inl, inr, arith}
-use Rattle.std.proofs.lemmas.Bool.{cases_eq, true≢false}
-use Rattle.std.specs.Prelude.{if◌then◌else◌, not, None}
+use Rattle.std.proofs.Common.{◌≡◌, ◌≢◌, ◌≤◌, ◌<◌, ◌⊎◌, ◌||◌, ◌∙◌, ℕ, zero, suc, Bool, true, false, List, [], ◌∷◌, refl, sym, ap, subst, inl, inr, arith}
+use Rattle.std.proofs.lemmas.Bool.{true≢false}
+use Rattle.std.specs.Prelude.{not, None}
 use Rattle.run_theory.specs.Links.{IsGiven, sent}
 use Rattle.run_theory.specs.Lists.{Each}
 use Rattle.run_theory.proofs.Pasts.{each_past}
 use Rattle.run_theory.specs.Runs.{Happens}
-use Rattle.sig_core.specs.declared.signal.Body.{Body}
+use Rattle.run_theory.proofs.EventCases.{event_each}
+use Rattle.world_views.proofs.TakeDriven.{not_own}
 use Rattle.sig_core.specs.declared.signal.Body.TheVariants.{Host}
 use Rattle.sig_core.specs.declared.signal.Signal.{Signal}
-use Rattle.sig_core.specs.declared.signal.host.HostSignal.TheVariants.{Closed}
 use Rattle.sig_core.specs.declared.view.View.{View}
 use Rattle.sig_core.specs.Step.{Step, stay}
 use Rattle.node_views.specs.declared.host.Host as node
@@ -18,8 +18,8 @@ use Rattle.node_views.specs.WellFormed.{is_well_formed}
 use Rattle.node_views.proofs.LawLemmas.{malformed_signals_change_nothing}
 use Rattle.world_core.specs.Start.{Start}
 use Rattle.world_core.specs.Steps.{Addressed, HostStep}
-use Rattle.world_views.specs.Machine.{IsOwn, after, closes, closing_view, comes_rightly, own_stop, step_by, step_if, stops_by, told}
-use Rattle.world_views.specs.Sending.{is_asked, is_own_work}
+use Rattle.world_views.specs.Machine.{IsOwn, after, closing_view, comes_rightly, step_by, step_if, stops_by, told, machine}
+use Rattle.world_views.specs.Sending.{is_asked}
 use Rattle.view_laws.specs.Order.{sound_machine}
 use Rattle.view_laws.specs.Runs.{view_after}
 use Rattle.view_laws.specs.Votes.{membership_in}
@@ -28,27 +28,14 @@ use Rattle.view_laws.proofs.follow.Views.{others_move}
 use Rattle.view_laws.proofs.runs.ChosenViews.{of_greater}
 use Rattle.moment_laws.specs.Moments.{IsMoment, logs_of}
 use Rattle.moment_laws.proofs.MomentSignals.{sent_below}
-use Rattle.moment_laws.proofs.MomentTurns.{current_rises, host_low, own_behind, own_log}
-use Rattle.moment_laws.proofs.MomentTurns as moments
+use Rattle.moment_laws.proofs.MomentTurns.{current_rises, host_low, own_behind}
 use Rattle.moment_laws.proofs.MomentViews.{current_above, current_number, moment_less}
-
--- a host stops itself by nothing that it doesn't ask of itself
-pub no_own_stop : (h : ℕ) (x : Signal) → is_asked h x ≡ false → own_stop h x ≡ None
-no_own_stop h x unasked = none (x.from.0 == h) x.body unasked
-  where
-    no_close : (body : Body) → is_own_work body ≡ false → closes body ≡ None
-    no_close (Host (Closed cause)) off = absurd (true≢false off)
-    no_close body off = refl
-
-    none : (b : Bool) (body : Body) → (b && is_own_work body) ≡ false → (if b then closes body else None) ≡ None
-    none true body off = no_close body off
-    none false body off = refl
 
 -- what it doesn't ask of itself, and isn't well formed, changes nothing
 pub malformed_stays : (h : ℕ) (s : node.Host) (x : Signal) → is_asked h x ≡ false
     → is_well_formed s.standing.shape x ≡ false → step_by h s x ≡ stay s
 malformed_stays h s x unasked off =
-    ap (step_if s x) (no_own_stop h x unasked) ∙ malformed_signals_change_nothing s x off
+    ap (step_if s x) (not_own h x unasked) ∙ malformed_signals_change_nothing s x off
 
 pub told_stands : (h : ℕ) (s : node.Host) → (told h (stay s)).standing.view ≡ s.standing.view
 told_stands zero s = refl
@@ -143,16 +130,9 @@ module _ (start : Start) (all : ℕ → List HostStep) (e : HostStep) (es : List
           λ is. let was = low is in let rises = current_rises start all e es moment in omega (arith, was, rises)
 
       stops_next : (h : ℕ) → StopsLow start (current_number start new) h (new h)
-      stops_next h = by (cases_eq e.host h)
-        where
-          by : (e.host ≡ h) ⊎ (e.host ≢ h) → StopsLow start (current_number start new) h (new h)
-          by (inl at) =
-              subst (λ k. StopsLow start (current_number start new) k (new k)) at
-              (subst (StopsLow start (current_number start new) e.host) (sym (own_log start all e es moment)) own_stops)
-          by (inr other) =
-              subst (StopsLow start (current_number start new) h)
-              (sym (moments.other_log start all e es moment h other))
-              (older_stops h (old h) (stops h))
+      stops_next =
+          event_each (machine start) e es (StopsLow start (current_number start new)) own_stops
+          (λ h off. older_stops h (old h) (stops h))
 
       -- a host without a membership doesn't come to a greater view than the current one
       pub own_low : membership_in s.parts ≡ None

@@ -25,7 +25,7 @@ use Rattle.outcome_laws.specs.Counts.{coordinator_member}
 use Rattle.outcome_laws.proofs.knowledge.CommitsWereDecided.{in_front}
 use Rattle.request_laws.specs.Blocks.{coordinator_after}
 use Rattle.request_laws.specs.Routed.{layout_in}
-use Rattle.request_laws.specs.Routes.{HasRoutes, IsTouchedRouted, touched_chain}
+use Rattle.request_laws.specs.Routes.{IsTouchedRouted, touched_chain}
 use Rattle.request_laws.specs.Strays.{KeepsTo}
 use Rattle.request_laws.proofs.routes.ChainsStay.{any_in}
 use Rattle.request_laws.proofs.strays.KeptToInstalled.{fenced_keep}
@@ -113,7 +113,3 @@ module _ (start : Start) (all : ℕ → List HostStep) (es : List HostStep) (mom
   all_inside [] routed = refl
   all_inside (u ∷ us) routed =
       ap (λ b. b || list_any (strays view) us) (touched_inside u u.written routed.0) ∙ all_inside us routed.1
-
-  pub routed_keeps : (t : Transaction) → HasRoutes (layout_in start (current start (logs_of start es))) t
-      → KeepsTo (current start (logs_of start es)) t
-  routed_keeps t routes = all_inside t.touched routes.touched

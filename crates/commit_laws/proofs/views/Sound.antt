@@ -1,12 +1,14 @@
 -- At each moment memberships have taken what is true, and each host stands in a view that was chosen by then.
 use Rattle.std.proofs.Common.{◌≡◌, ◌≢◌, ◌⊎◌, ◌||◌, ◌++◌, ◌∙◌, ℕ, Bool, true, false, List, [], ◌∷◌, refl, sym, ap, subst, inl, inr}
-use Rattle.std.proofs.lemmas.Bool.{cases_eq, true≢false}
+use Rattle.std.proofs.lemmas.Bool.{true≢false}
 use Rattle.std.specs.Prelude.{not}
 use Rattle.run_theory.specs.Links.{IsGiven, sent}
 use Rattle.run_theory.specs.Lists.{Each, IsPast}
 use Rattle.run_theory.proofs.Pasts.{each_map, each_past}
 use Rattle.run_theory.proofs.Runs.{log_of-past}
 use Rattle.run_theory.specs.Runs.{Happens}
+use Rattle.run_theory.proofs.EventCases.{event_keeps, event_leaves, event_each}
+use Rattle.world_views.proofs.TakeDriven.{not_own}
 use Rattle.sig_core.specs.declared.place.BlockId.{BlockId}
 use Rattle.sig_core.specs.declared.signal.Signal.{Signal}
 use Rattle.sig_core.specs.Step.{Step, stay}
@@ -29,14 +31,14 @@ use Rattle.view_laws.proofs.runs.Step.{sound_next, sound_start}
 use Rattle.view_laws.proofs.runs.ChosenViews.{of_greater}
 use Rattle.moment_laws.specs.Moments.{IsMoment, logs_of}
 use Rattle.moment_laws.proofs.MomentSignals.{EachSent, sent_next}
-use Rattle.moment_laws.proofs.MomentTurns.{host_low, other_log, own_log}
+use Rattle.moment_laws.proofs.MomentTurns.{host_low, own_log}
 use Rattle.moment_laws.proofs.MomentViews.{moment_less, moment_within}
-use Rattle.commit_laws.proofs.views.HeadersLow.{malformed_stays, no_own_stop, told_stands}
+use Rattle.commit_laws.proofs.views.HeadersLow.{malformed_stays, told_stands}
 
 pub no_events : (mine : BlockId → Bool) (h : ℕ) (s : node.Host) (x : Signal) → is_asked h x ≡ false
     → is_well_formed s.standing.shape x ≡ false → events_at mine h s x ≡ []
 no_events mine h s x unasked off =
-    ap (events_by mine s x) (no_own_stop h x unasked) ∙ ap (sound_events mine s x) off
+    ap (events_by mine s x) (not_own h x unasked) ∙ ap (sound_events mine s x) off
 
 module _ (start : Start) (logs : ℕ → List HostStep) where
   -- the closings of a host that has stopped have a view that was chosen
@@ -122,29 +124,15 @@ module _ (start : Start) (all : ℕ → List HostStep) (e : HostStep) (es : List
 
       plain_views : (h : ℕ) → IsGood start new (view_after start h (old h))
           → IsGood start new (view_after start h (new h))
-      plain_views h good = by (cases_eq e.host h)
-        where
-          by : (e.host ≡ h) ⊎ (e.host ≢ h) → IsGood start new (view_after start h (new h))
-          by (inl at) =
-              subst (λ k. IsGood start new (view_after start k (old k)) → IsGood start new (view_after start k (new k)))
-              at
-              (λ good.
-              subst (λ log. IsGood start new (view_after start e.host log)) (sym (own_log start all e es moment))
-              (subst (IsGood start new) (sym same_view) good)) good
-          by (inr other) =
-              subst (λ log. IsGood start new (view_after start h log)) (sym (other_log start all e es moment h other))
-              good
+      plain_views =
+          event_keeps (machine start) e es (λ h log. IsGood start new (view_after start h log))
+          (subst (IsGood start new) (sym same_view))
 
       plain_events : (mine : BlockId → Bool) (h : ℕ) → events_of mine start h (new h) ≡ events_of mine start h (old h)
-      plain_events mine h = by (cases_eq e.host h)
-        where
-          by : (e.host ≡ h) ⊎ (e.host ≢ h) → events_of mine start h (new h) ≡ events_of mine start h (old h)
-          by (inl at) =
-              subst (λ k. events_of mine start k (new k) ≡ events_of mine start k (old k)) at
-              (ap (events_of mine start e.host) (own_log start all e es moment)
-              ∙ ap (λ events. events ++ events_of mine start e.host (old e.host))
-              (no_events mine e.host s x plain.0 plain.1))
-          by (inr other) = ap (events_of mine start h) (other_log start all e es moment h other)
+      plain_events mine =
+          event_leaves (machine start) e es (λ h log. events_of mine start h log)
+          (ap (λ events. events ++ events_of mine start e.host (old e.host))
+          (no_events mine e.host s x plain.0 plain.1))
 
       plain_next : AreSoundLogs start new
       plain_next = record {
@@ -198,15 +186,9 @@ module _ (start : Start) (all : ℕ → List HostStep) (e : HostStep) (es : List
     older_stops h (f ∷ log) good = λ is. good_more start old new more (closing_view start h log f) (good is)
 
     stops_next : (h : ℕ) → StopsGood start new h (new h)
-    stops_next h = by (cases_eq e.host h)
-      where
-        by : (e.host ≡ h) ⊎ (e.host ≢ h) → StopsGood start new h (new h)
-        by (inl at) =
-            subst (λ k. StopsGood start new k (new k)) at
-            (subst (StopsGood start new e.host) (sym (own_log start all e es moment)) own_stops)
-        by (inr other) =
-            subst (StopsGood start new h) (sym (other_log start all e es moment h other))
-            (older_stops h (old h) (was.stops h))
+    stops_next =
+        event_each (machine start) e es (λ h log. StopsGood start new h log) own_stops
+        (λ h off. older_stops h (old h) (was.stops h))
 
     all_next : AllSound start new
     all_next = record { are = are_next; sent_so = sent_sound; stops = stops_next }
