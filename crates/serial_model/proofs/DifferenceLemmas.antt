@@ -17,7 +17,8 @@ abbrev IsAnswered : Rows → Op × Answer → Type 0
 IsAnswered rows op = op.1 ≡ (perform op.0 rows).answer
 
 -- what is answered isn't wrong
-not_wrong : (rows : Rows) (ops : List (Op × Answer)) (op : ℕ) (stored found : Answer) → AreAnswered rows ops → IsFirstWrong rows ops op stored found → ⊥
+not_wrong : (rows : Rows) (ops : List (Op × Answer)) (op : ℕ) (stored found : Answer) → AreAnswered rows ops
+    → IsFirstWrong rows ops op stored found → ⊥
 not_wrong rows ops op stored found answered wrong =
     wrong.differs (fine_there rows_after IsAnswered rows wrong.first (wrong.asked, stored) wrong.rest
     (subst (λ xs. AreAnswered rows xs) wrong.whole answered) ∙ sym wrong.gets)
@@ -26,7 +27,8 @@ not_wrong rows ops op stored found answered wrong =
 pub no_difference : LegalListsHaveNoDifference
 no_difference rows entries entry op stored found legal is =
     not_wrong (fold rows is.before) is.at.ops op stored found
-    (fine_there (λ r e. after_ops r e.ops) (λ r e. AreAnswered r e.ops) rows is.before is.at is.behind (subst (λ xs. IsLegal rows xs) is.whole legal))
+    (fine_there (λ r e. after_ops r e.ops) (λ r e. AreAnswered r e.ops) rows is.before is.at is.behind
+    (subst (λ xs. IsLegal rows xs) is.whole legal))
     is.wrong
 
 -- one operation at most is the first that is wrong
@@ -40,14 +42,16 @@ one_wrong rows ops op1 op2 stored1 stored2 found1 found2 a b =
     (λ is. a.differs (is ∙ sym a.gets)) (λ is. b.differs (is ∙ sym b.gets)) in (
       sym a.place ∙ ap length same.0 ∙ b.place,
       ap (λ x. x.1) same.1,
-      a.gets ∙ ap (λ xs. (perform a.asked (after_ops rows xs)).answer) same.0 ∙ ap (λ x. (perform x.0 (after_ops rows b.first)).answer) same.1 ∙ sym b.gets,
+      a.gets ∙ ap (λ xs. (perform a.asked (after_ops rows xs)).answer) same.0
+          ∙ ap (λ x. (perform x.0 (after_ops rows b.first)).answer) same.1 ∙ sym b.gets,
     )
 
 -- and so one entry at most, and one operation of it
 pub one_difference : FirstDifferencesAreOne
 one_difference rows entries entry1 entry2 op1 op2 stored1 stored2 found1 found2 a b =
     let same : (a.before ≡ b.before) × (a.at ≡ b.at) =
-    first_is_one (λ r e. after_ops r e.ops) (λ r e. AreAnswered r e.ops) rows a.before b.before a.at b.at a.behind b.behind
+    first_is_one (λ r e. after_ops r e.ops) (λ r e. AreAnswered r e.ops) rows a.before b.before a.at b.at a.behind
+    b.behind
     (sym a.whole ∙ b.whole) a.legal b.legal
     (λ is. not_wrong (fold rows a.before) a.at.ops op1 stored1 found1 is a.wrong)
     (λ is. not_wrong (fold rows b.before) b.at.ops op2 stored2 found2 is b.wrong) in

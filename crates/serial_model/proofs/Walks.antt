@@ -25,7 +25,8 @@ module _ {S A : Type 0} (next : S → A → S) (Fine : S → A → Type 0) where
   tail_is x y xs ys e = ap (λ zs. drop 1 zs) e
 
   -- there is one item at most that is the first that isn't fine
-  pub first_is_one : (s : S) (xs ys : List A) (x y : A) (behind1 behind2 : List A) → xs ++ x ∷ behind1 ≡ ys ++ y ∷ behind2
+  pub first_is_one : (s : S) (xs ys : List A) (x y : A) (behind1 behind2 : List A)
+      → xs ++ x ∷ behind1 ≡ ys ++ y ∷ behind2
       → AreFine s xs → AreFine s ys → (Fine (after s xs) x → ⊥) → (Fine (after s ys) y → ⊥) → (xs ≡ ys) × (x ≡ y)
   first_is_one s [] [] x y behind1 behind2 e fine1 fine2 wrong1 wrong2 = (refl, head_is x y behind1 behind2 e)
   first_is_one s [] (z ∷ ys) x y behind1 behind2 e fine1 fine2 wrong1 wrong2 =

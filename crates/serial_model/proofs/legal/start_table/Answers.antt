@@ -7,4 +7,5 @@ pub loop-row-preserved : goal.loop-row-preserved
 loop-row-preserved c =
     c.in_ok-insert.ensures.ok
     ∙ ap (λ rows. map.insert rows c.row-item.result.0 c.row-item.result.1) c.loop-row.invariant
-    ∙ sym (rows_more map.empty c.args.start.now c.loop-row.row-index c.row-item.result c.loop-row-test.true c.row-item.is)
+    ∙ sym (rows_more map.empty c.args.start.now c.loop-row.row-index c.row-item.result c.loop-row-test.true
+    c.row-item.is)
