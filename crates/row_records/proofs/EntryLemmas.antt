@@ -52,10 +52,6 @@ module _ {K V : Type 0} (test : K → Bool) where
           ∙ sym (position-cons test entry.0 (keys_of entries)) ∙ place)) is in
           record { key = found.key; there = found.there; passes = found.passes }
 
-  -- the look-up finds what stands there, or nothing
-  pub value_found : (entries : List (K × V)) (at : ℕ) (value : V) → position test (keys_of entries) ≡ Some at
-      → slice_get (values_of entries) at ≡ Some value → lookup test entries ≡ Some value
-  value_found entries at value place is = (Found-position test entries at place).value ∙ is
-
+  -- the look-up finds nothing where nothing stands
   pub none_found : (entries : List (K × V)) → position test (keys_of entries) ≡ None → lookup test entries ≡ None
   none_found entries place = (Missing-position test entries place).value

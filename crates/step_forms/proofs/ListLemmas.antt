@@ -14,7 +14,3 @@ pub flat_in : {A B : Type 0} (P : B → Type 0) (f : A → List B) (xs : List A)
 flat_in P f [] all = tt
 flat_in P f (x ∷ xs) all =
     each_append P (f x) (flat_map f xs) (all x (inl refl)) (flat_in P f xs (λ y there. all y (inr there)))
-
--- what is so of each entry, as it is one of them, is so of each
-pub each_own : {A : Type 0} (P : A → Type 0) (xs : List A) → Each (λ x. IsIn x xs → P x) xs → Each P xs
-each_own P xs all = each_from P xs (λ x there. each_in (λ y. IsIn y xs → P y) x xs all there there)
