@@ -141,7 +141,8 @@ lookup-left stays q (e ∷ es) = by (is_at (key_cmp q) e.0) refl (lookup-left st
     by : (b : Bool) → is_at (key_cmp q) e.0 ≡ b
         → lookup (is_at (key_cmp q)) (map (λ e. (e.0, left_to (stays e.0) e.1)) es)
         ≡ option_map (left_to (stays q)) (lookup (is_at (key_cmp q)) es)
-        → cond b (Some (left_to (stays e.0) e.1)) (lookup (is_at (key_cmp q)) (map (λ e. (e.0, left_to (stays e.0) e.1)) es))
+        → cond b (Some (left_to (stays e.0) e.1))
+        (lookup (is_at (key_cmp q)) (map (λ e. (e.0, left_to (stays e.0) e.1)) es))
         ≡ option_map (left_to (stays q)) (cond b (Some e.1) (lookup (is_at (key_cmp q)) es))
     by true is rest =
         ap (λ k. Some (left_to (stays k) e.1))
@@ -206,6 +207,7 @@ left_used stays q (Some x) l e = by (used (left_to (stays q) x)) refl e
 pub keep_orderly : (m : Locks) (stays : List ℕ → TxId → Bool) → AreOrderly m → AreOrderly (all_left_to stays m)
 keep_orderly m stays are =
     record {
-      each = λ q. subst (λ l. IsOrderly l) (sym (lock-left stays m q)) (left_orderly (stays q) (lock_at m q) (are.each q));
+      each = λ q. subst (λ l. IsOrderly l) (sym (lock-left stays m q))
+          (left_orderly (stays q) (lock_at m q) (are.each q));
       used = λ q l e. left_used stays q (finite.get m q) l (sym (get-left stays m q) ∙ e);
     }

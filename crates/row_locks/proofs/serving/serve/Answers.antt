@@ -15,7 +15,8 @@ returns-in-Shared c =
     let may : may_hold w hs ≡ true = grind (arith, common_steps) in
     let all = served-shared hs ws w some c.index-first.ensures c.in-Shared.is may c.requires.once c.requires.in_need in
     record {
-      holders = c.share.ensures.holders ∙ ap (λ n. hs ++ map granted_to (take n ws)) c.share.ensures.granted ∙ sym (ap (λ s. s.lock.holders) all);
+      holders = c.share.ensures.holders ∙ ap (λ n. hs ++ map granted_to (take n ws)) c.share.ensures.granted
+          ∙ sym (ap (λ s. s.lock.holders) all);
       queue = c.share.ensures.queue ∙ ap (λ n. drop n ws) c.share.ensures.granted ∙ sym (ap (λ s. s.lock.queue) all);
       granted = c.share.ensures.granted ∙ sym (zero-add (shared_run ws)) ∙ sym (ap (λ s. s.granted) all);
       room = c.share.ensures.room;

@@ -9,5 +9,6 @@ use Rattle.row_locks.proofs.table.age_rows.Goals as goal
 -- each lock was changed where it stood
 pub returns : goal.returns
 returns c =
-    ap (λ es. from_entries {R = key_cmp} es) (map_same_pairs _ grown_old _ (λ k v b w f' t. search rules) _ _ c.retain.ensures.filtered)
+    ap (λ es. from_entries {R = key_cmp} es)
+    (map_same_pairs _ grown_old _ (λ k v b w f' t. search rules) _ _ c.retain.ensures.filtered)
     ∙ mapped-locks grown_old c.args.rows.now.entries

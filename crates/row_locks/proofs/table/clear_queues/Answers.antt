@@ -12,4 +12,5 @@ use Rattle.row_locks.proofs.table.clear_queues.Goals as goal
 pub returns : goal.returns
 returns c =
     ap (λ es. from_entries {R = key_cmp} es) (retained _ _ (λ k v b w f' t. search rules) _ _ c.retain.ensures.filtered)
-    ∙ ap (λ es. from_entries {R = key_cmp} (filter is_used (map (λ e. (e.0, unqueued e.1)) es))) (sym (entries-locks c.args.rows.now c.retain.ensures.was_ordered))
+    ∙ ap (λ es. from_entries {R = key_cmp} (filter is_used (map (λ e. (e.0, unqueued e.1)) es)))
+    (sym (entries-locks c.args.rows.now c.retain.ensures.was_ordered))
