@@ -19,6 +19,7 @@ pub fn steps_are_alike()
 {}
 
 /// The hosts of a life that begins without rows begin alike.
+#[tactic(auto, using(crate::proofs::lives::Beginnings::begin_alike))]
 pub fn hosts_begin_alike()
     ensures { HostsBeginAlike }
 {}

@@ -35,7 +35,8 @@ use Rattle.calm_laws.specs.Plain.{is_beating, is_main}
 use Rattle.calm_laws.specs.Resting.{IsResting, IsRestingPart, LivesBeginAtRest}
 use Rattle.calm_laws.specs.Steps.{ComesCalmly}
 use Rattle.calm_laws.proofs.plain_steps.Ease.{ease_parts, has_calm_block}
-use Rattle.calm_laws.proofs.plain_steps.Resting.{StaysAtRest, beats, heartbeat_renews, heartbeat_stays, ring, round_stays}
+use Rattle.calm_laws.proofs.plain_steps.Resting.{StaysAtRest, beats, heartbeat_renews, heartbeat_stays, ring}
+use Rattle.calm_laws.proofs.plain_steps.Resting.{round_stays}
 
 -- a main part takes what is for its membership
 membership_block : (of : Part) (to : BlockId) → is_main of ≡ true → is_in of to ≡ true → to ≡ Qmgr
