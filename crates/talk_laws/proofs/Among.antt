@@ -1,6 +1,6 @@
 -- Lists of which one has the entries of the other, in their order, and maybe more.
-use Rattle.std.proofs.Common.{◌≡◌, ◌≤◌, ◌∙◌, ◌⊎◌, List, [], ◌∷◌, ◌++◌, length, ap, arith, inl, inr, refl, subst, sym}
-use Rattle.run_theory.specs.Lists.{IsIn, IsPast}
+use Rattle.std.proofs.Common.{◌≡◌, ◌≤◌, ◌∙◌, ◌⊎◌, List, [], ◌∷◌, length, ap, arith, inl, inr, refl, subst}
+use Rattle.run_theory.specs.Lists.{IsIn}
 
 -- the entries of the first are among those of the second, in their order
 abbrev pub AreAmong : {A : Type 0} → List A → List A → Type 0
@@ -45,17 +45,6 @@ module _ {A : Type 0} where
   pub among_none : (xs ys : List A) → AreAmong xs ys → ys ≡ [] → xs ≡ []
   among_none [] ys among none = refl
   among_none (x ∷ xs) ys among none = absurd (subst (λ (zs : List A). AreAmong (x ∷ xs) zs) none among)
-
-  pub among_front : (zs xs ys : List A) → AreAmong xs ys → AreAmong (zs ++ xs) (zs ++ ys)
-  among_front [] xs ys among = among
-  among_front (z ∷ zs) xs ys among = inl (refl, among_front zs xs ys among)
-
-  pub among_behind : (zs xs ys : List A) → AreAmong xs ys → AreAmong xs (zs ++ ys)
-  among_behind [] xs ys among = among
-  among_behind (z ∷ zs) xs ys among = among_more z xs (zs ++ ys) (among_behind zs xs ys among)
-
-  pub among_past : (xs ys : List A) → IsPast xs ys → AreAmong xs ys
-  among_past xs ys past = subst (AreAmong xs) (sym past.is) (among_behind past.newer xs xs (among_same xs))
 
   pub among_in : (x : A) (xs ys : List A) → AreAmong xs ys → IsIn x xs → IsIn x ys
   among_in x [] ys among there = absurd there

@@ -1,5 +1,6 @@
 -- Along the log of the shell's host: how many operations of a transaction it asked for and how many answers it told.
-use Rattle.std.proofs.Common.{◌≡◌, ◌≤◌, ◌+◌, ◌∙◌, ◌++◌, ◌⊎◌, Bool, true, false, List, [], ◌∷◌, length, reverse, ap, arith, inl, inr, refl, subst, sym}
+use Rattle.std.proofs.Common.{◌≡◌, ◌≤◌, ◌+◌, ◌∙◌, ◌++◌, ◌⊎◌, Bool, true, false, List, [], ◌∷◌, length, reverse, ap}
+use Rattle.std.proofs.Common.{arith, inl, inr, refl, subst, sym}
 use Rattle.std.proofs.lemmas.List.{length-append, length-reverse}
 use Rattle.std.specs.List.{cons_option, count_by}
 use Rattle.std.specs.Prelude.{if◌then◌else◌, Option, None, Some}
@@ -19,10 +20,12 @@ use Rattle.api_views.specs.Client.{client_row}
 use Rattle.node_views.specs.declared.host.Host.{Host}
 use Rattle.node_views.specs.declared.parts.Parts.{Parts}
 use Rattle.node_views.specs.declared.parts.Parts.TheVariants as part
-use Rattle.outcome_laws.specs.Counts.{count_open, count_sent, count_unwished, is_begin, is_report, is_unwished, is_wish, one_if}
+use Rattle.outcome_laws.specs.Counts.{count_open, count_sent, count_unwished, is_begin, is_report, is_unwished, is_wish}
+use Rattle.outcome_laws.specs.Counts.{one_if}
 use Rattle.outcome_laws.specs.Once.{takes_in}
 use Rattle.outcome_laws.proofs.client.ReportsAndWishes.{noted_unwished, wishes_few}
-use Rattle.outcome_laws.proofs.once.DecidesAndReports.{IsOfClient, IsShell, client_light, in_client, of_client, reports_client}
+use Rattle.outcome_laws.proofs.once.DecidesAndReports.{IsOfClient, IsShell, client_light, in_client, of_client}
+use Rattle.outcome_laws.proofs.once.DecidesAndReports.{reports_client}
 use Rattle.outcome_laws.proofs.once.Counted.{is_counted, uncounted_wish}
 use Rattle.outcome_laws.proofs.once.CoordinatorScale.{no_body, no_mark, no_marks}
 use Rattle.outcome_laws.proofs.once.Scales.{step_light}

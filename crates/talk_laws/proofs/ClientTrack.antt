@@ -1,7 +1,8 @@
 -- The client's side asks for one operation of a transaction at a time: while one is unanswered there is one answer
 -- fewer
 -- than it asked for, and none is missing where it has asked for the commit.
-use Rattle.std.proofs.Common.{◌≡◌, ◌≤◌, ◌+◌, ◌∙◌, ◌++◌, ◌&&◌, ℕ, Bool, true, false, List, [], ◌∷◌, length, ap, arith, refl, subst, sym}
+use Rattle.std.proofs.Common.{◌≡◌, ◌≤◌, ◌+◌, ◌∙◌, ◌++◌, ◌&&◌, ℕ, Bool, true, false, List, [], ◌∷◌, length, ap, arith}
+use Rattle.std.proofs.Common.{refl, subst, sym}
 use Rattle.std.specs.List.{count_by}
 use Rattle.std.specs.Prelude.{if◌then◌else◌, not, remove, slice_set, Option, None, Some}
 use Rattle.run_theory.specs.Lists.{Each}
@@ -15,14 +16,16 @@ use Rattle.sig_core.specs.declared.reply.ApiReply.{ApiReply}
 use Rattle.sig_core.specs.declared.reply.ApiReply.TheVariants.{Answered, Ended}
 use Rattle.sig_core.specs.declared.signal.Body.{Body}
 use Rattle.sig_core.specs.declared.signal.Body.TheVariants.{Client}
-use Rattle.sig_core.specs.declared.signal.client.ClientSignal.TheVariants.{TcBeginConf, TcCommitReq, TcKeyConf, TcKeyReq}
+use Rattle.sig_core.specs.declared.signal.client.ClientSignal.TheVariants.{TcBeginConf, TcCommitReq, TcKeyConf}
+use Rattle.sig_core.specs.declared.signal.client.ClientSignal.TheVariants.{TcKeyReq}
 use Rattle.sig_core.specs.Place.{coordinator_of}
 use Rattle.sig_core.specs.Same.{same_tx}
 use Rattle.sig_core.specs.Step.{to_place}
 use Rattle.api_block.specs.declared.opened.Doing.{Doing}
 use Rattle.api_block.specs.declared.opened.Doing.TheVariants as doing
 use Rattle.api_block.specs.declared.opened.OpenTransaction.{OpenTransaction}
-use Rattle.api_block.specs.Opened.{answered, asked_for, begins_at, begun as has_begun, begun_operating, behind, committing, has_tx}
+use Rattle.api_block.specs.Opened.{answered, asked_for, begins_at, begun as has_begun, begun_operating, behind}
+use Rattle.api_block.specs.Opened.{committing, has_tx}
 use Rattle.api_block.specs.Opened.{is_named, is_tx, operating}
 use Rattle.api_block.proofs.Walk.{own_is}
 use Rattle.report_laws.specs.Answered.{answers_among, is_answered}

@@ -1,6 +1,7 @@
 -- Where an entry comes from: a step of a host's log decided its transaction, with the operations of the request for an
 -- epoch that the host had taken.
-use Rattle.std.proofs.Common.{◌≡◌, ◌≤◌, ◌+◌, ◌⊎◌, ◌∙◌, ℕ, zero, suc, Bool, true, false, List, [], ◌∷◌, ap, arith, inl, inr, refl, sym}
+use Rattle.std.proofs.Common.{◌≡◌, ◌≤◌, ◌+◌, ◌⊎◌, ◌∙◌, ℕ, zero, suc, Bool, true, false, List, [], ◌∷◌, ap, arith, inl}
+use Rattle.std.proofs.Common.{inr, refl, sym}
 use Rattle.std.specs.List.{cons_option}
 use Rattle.std.specs.Prelude.{if◌then◌else◌, None, Some}
 use Rattle.run_theory.specs.Lists.{IsIn, IsPast}
@@ -12,7 +13,8 @@ use Rattle.sig_core.specs.declared.signal.Body.{Body}
 use Rattle.sig_core.specs.declared.signal.Body.TheVariants.{Epoch}
 use Rattle.sig_core.specs.declared.signal.epoch.EpochSignal.TheVariants.{DiVerifyReq}
 use Rattle.sig_core.specs.Same.{same_tx}
-use Rattle.world_core.specs.Entries.{else_of, entries, entries_in, entries_of, entry_of, insert, insert_all, is_before, ops_of, verified_by}
+use Rattle.world_core.specs.Entries.{else_of, entries, entries_in, entries_of, entry_of, insert, insert_all, is_before}
+use Rattle.world_core.specs.Entries.{ops_of, verified_by}
 use Rattle.world_core.specs.Steps.{HostStep}
 use Rattle.outcome_laws.specs.Counts.{is_asking, one_if}
 use Rattle.outcome_laws.specs.Once.{takes_in}

@@ -1,5 +1,6 @@
 -- What a host takes of a kind, its sender has sent, in that order, where one host alone sends it there.
-use Rattle.std.proofs.Common.{◌≡◌, ◌≢◌, ◌+◌, ◌⊎◌, ◌∙◌, ◌&&◌, ◌==◌, ℕ, Bool, true, false, List, [], ◌∷◌, ◌++◌, ap, arith, inl, inr, refl, sym, subst}
+use Rattle.std.proofs.Common.{◌≡◌, ◌≢◌, ◌+◌, ◌⊎◌, ◌∙◌, ◌&&◌, ◌==◌, ℕ, Bool, true, false, List, [], ◌∷◌, ◌++◌, ap, arith}
+use Rattle.std.proofs.Common.{inl, inr, refl, sym, subst}
 use Rattle.std.proofs.lemmas.Bool.{cases_eq}
 use Rattle.std.specs.List.{cons_option}
 use Rattle.std.specs.Prelude.{if◌then◌else◌, Option, None, Some}
@@ -18,7 +19,8 @@ use Rattle.world_core.specs.Steps.{Addressed, HostStep}
 use Rattle.world_views.specs.declared.sender.Sender.{Sender}
 use Rattle.world_views.specs.Hosts.{reached}
 use Rattle.world_views.specs.Machine.{after, machine, routed_after, sender, sent_count, signals_of, step_after}
-use Rattle.world_views.specs.Sending.{Routed, all_addressed, is_asked, is_kept_back, is_own_work, routed, routed_all, routed_if}
+use Rattle.world_views.specs.Sending.{Routed, all_addressed, is_asked, is_kept_back, is_own_work, routed, routed_all}
+use Rattle.world_views.specs.Sending.{routed_if}
 use Rattle.outcome_laws.specs.Counts.{one_if}
 use Rattle.outcome_laws.proofs.once.AlongLogs.{count_on}
 use Rattle.outcome_laws.proofs.coordinators.Lists.{count_more}

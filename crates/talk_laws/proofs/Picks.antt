@@ -53,11 +53,6 @@ module _ {X A : Type 0} (f : X → Option A) where
   picked_none (x ∷ xs) before none =
       ap (λ o. picked f xs (cons_option o before)) none.0 ∙ picked_none xs before none.1
 
-  pub picked_among : (xs : List X) (few all : List A) → AreAmong few all → AreAmong (picked f xs few) (picked f xs all)
-  picked_among [] few all among = among
-  picked_among (x ∷ xs) few all among =
-      picked_among xs (cons_option (f x) few) (cons_option (f x) all) (cons_both (f x) few all among)
-
   pub picked_more : (xs : List X) (few all : List A) → AreAmong few all → AreAmong few (picked f xs all)
   picked_more [] few all among = among
   picked_more (x ∷ xs) few all among =

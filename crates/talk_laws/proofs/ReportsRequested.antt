@@ -16,7 +16,8 @@ use Rattle.sig_core.specs.Place.{coordinator_of}
 use Rattle.sig_core.specs.Step.{to_place}
 use Rattle.api_block.specs.declared.opened.Doing.TheVariants.{Beginning, Committing, Ready}
 use Rattle.api_block.specs.declared.opened.OpenTransaction.{OpenTransaction}
-use Rattle.api_block.specs.Opened.{answered, asked_for, begun, begun_operating, behind, committing, is_beginning, operating}
+use Rattle.api_block.specs.Opened.{answered, asked_for, begun, begun_operating, behind, committing, is_beginning}
+use Rattle.api_block.specs.Opened.{operating}
 use Rattle.report_laws.specs.Requested.{AsksAsRequested, IsRequested, alone, by_name}
 use Rattle.world_core.specs.Requests.{request_in}
 use Rattle.world_core.specs.Start.{Start}

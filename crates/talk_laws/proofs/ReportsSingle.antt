@@ -1,6 +1,7 @@
 -- No more answers are told of a transaction than operations of it were asked for: each answer ends an operation that is
 -- under way, and none is under way that wasn't asked for.
-use Rattle.std.proofs.Common.{◌≡◌, ◌≤◌, ◌+◌, ◌&&◌, ◌++◌, ℕ, Bool, true, false, List, [], ◌∷◌, length, ap, arith, refl, ◌∙◌}
+use Rattle.std.proofs.Common.{◌≡◌, ◌≤◌, ◌+◌, ◌&&◌, ◌++◌, ℕ, Bool, true, false, List, [], ◌∷◌, length, ap, arith, refl}
+use Rattle.std.proofs.Common.{◌∙◌}
 use Rattle.std.specs.List.{count_by}
 use Rattle.std.specs.Prelude.{if◌then◌else◌, Option, None, Some, remove, slice_set}
 use Rattle.run_theory.proofs.Focus.{IsFocus}
@@ -18,7 +19,8 @@ use Rattle.sig_core.specs.Same.{same_tx}
 use Rattle.sig_core.specs.Step.{to_place}
 use Rattle.api_block.specs.declared.opened.Doing.TheVariants as doing
 use Rattle.api_block.specs.declared.opened.OpenTransaction.{OpenTransaction}
-use Rattle.api_block.specs.Opened.{answered, asked_for, begins_at, begun, begun_operating, behind, committing, has_tx, is_named, is_tx, operating}
+use Rattle.api_block.specs.Opened.{answered, asked_for, begins_at, begun, begun_operating, behind, committing, has_tx}
+use Rattle.api_block.specs.Opened.{is_named, is_tx, operating}
 use Rattle.api_block.proofs.Walk.{own_is}
 use Rattle.outcome_laws.specs.Counts.{count_sent, one_if}
 use Rattle.outcome_laws.proofs.coordinators.Lists.{count_between, count_both, count_more}

@@ -31,7 +31,9 @@ use Rattle.node_views.specs.declared.shell_part.ShellPart.{ShellPart}
 use Rattle.node_views.specs.declared.standing.Standing.{Standing}
 use Rattle.node_views.specs.Parts.{shell_entered, shell_row}
 use Rattle.node_views.specs.Replies.{replies_in}
-use Rattle.node_views.specs.Row.{blocks_row, closed_if, counted_row, cut_if, entered, entering_if, headed_if, headed_row, host_row, host_table, in_view, is_barred, is_cut, is_excluded, is_stop, kill_row, killed_after, passed_if, passed_row, taken_if, unless_stopped}
+use Rattle.node_views.specs.Row.{blocks_row, closed_if, counted_row, cut_if, entered, entering_if, headed_if}
+use Rattle.node_views.specs.Row.{headed_row, host_row, host_table, in_view, is_barred, is_cut, is_excluded, is_stop}
+use Rattle.node_views.specs.Row.{kill_row, killed_after, passed_if, passed_row, taken_if, unless_stopped}
 use Rattle.node_views.specs.WellFormed.{is_first, is_well_formed}
 use Rattle.outcome_laws.proofs.knowledge.TellsNothing.{untold_uncounted}
 use Rattle.outcome_laws.proofs.knowledge.Parts.{arbiter_tells_nothing}

@@ -1,7 +1,8 @@
 -- A coordinator asks for no operations, and answers only those of its own transactions; so of the hosts only that of
 -- the
 -- coordinator which began a transaction answers its operations, and only the shell's asks for them.
-use Rattle.std.proofs.Common.{◌≡◌, ◌≢◌, ◌≤◌, ◌<◌, ◌⊎◌, ◌∙◌, ℕ, zero, suc, Bool, true, false, List, ◌∷◌, ap, arith, inl, inr, refl, subst, sym}
+use Rattle.std.proofs.Common.{◌≡◌, ◌≢◌, ◌≤◌, ◌<◌, ◌⊎◌, ◌∙◌, ℕ, zero, suc, Bool, true, false, List, ◌∷◌, ap, arith, inl}
+use Rattle.std.proofs.Common.{inr, refl, subst, sym}
 use Rattle.std.proofs.lemmas.Bool.{cases_lt}
 use Rattle.run_theory.specs.Lists.{Each, IsIn}
 use Rattle.run_theory.proofs.Pasts.{each_after, each_append, each_map}
@@ -43,7 +44,8 @@ use Rattle.outcome_laws.proofs.once.Scales.{AreLight}
 use Rattle.outcome_laws.proofs.coordinators.Steps.{coordinator_each}
 use Rattle.talk_laws.proofs.ClientLogs.{uncounted_key}
 use Rattle.talk_laws.proofs.ClientTrack.{is_key}
-use Rattle.talk_laws.proofs.TcTalks.{AreMute, IsMute, Talks, answers, asks, is_talk, more_mute, operates, rests, resume_talks, turn_talks}
+use Rattle.talk_laws.proofs.TcTalks.{AreMute, IsMute, Talks, answers, asks, is_talk, more_mute, operates, rests}
+use Rattle.talk_laws.proofs.TcTalks.{resume_talks, turn_talks}
 
 abbrev pub IsOwnTalk : Member → Body → Type 0
 IsOwnTalk me (Client (TcKeyConf tx answer)) = coordinator_member tx ≡ me

@@ -28,7 +28,8 @@ use Rattle.outcome_laws.proofs.coordinators.Lists.{count_more, keys_once}
 use Rattle.outcome_laws.proofs.coordinators.Steps.{coordinator_each, inner}
 use Rattle.talk_laws.proofs.Picks.{pick_sends, picked_both}
 use Rattle.talk_laws.proofs.TcTalks.{AreMute, Talks, more_mute, resume_talks, turn_talks}
-use Rattle.talk_laws.proofs.TcTrack.{Gives, IsFit, Says, SaysBy, Talked, begins_says, mute_picks, mute_told, mute_verified, quiet_says, told_by, turned_says}
+use Rattle.talk_laws.proofs.TcTrack.{Gives, IsFit, Says, SaysBy, Talked, begins_says, mute_picks, mute_told}
+use Rattle.talk_laws.proofs.TcTrack.{mute_verified, quiet_says, told_by, turned_says}
 
 module _ (tx : TxId) where
   -- requests for epochs, counted and picked
@@ -147,9 +148,3 @@ module _ (tx : TxId) where
                 (subst (Talked tx (install_row s view).state told took)
                 (sym (mute_picks tx (verified_by tx) (mute_verified tx) sends gave mute))
                 (record { unborn = talked.unborn; fits = talked.fits; gives = talked.gives; few = talked.few }))
-
-  pub installs_verify_none : (s : CoordinatorState) (view : View) (gave : List (List (Op × Answer)))
-      → pick_sends (verified_by tx) (install_row s view).effects.sends gave ≡ gave
-  unfolding install_row
-  installs_verify_none s view gave =
-      mute_picks tx (verified_by tx) (mute_verified tx) (go_on_if s.tc.node _) gave (more_mute s.tc.node _)

@@ -1,6 +1,7 @@
 -- Whoever is decided has the operations that its client asked for, and the answers that it was told: all, and no
 -- others.
-use Rattle.std.proofs.Common.{◌≡◌, ◌≤◌, ◌<◌, ◌+◌, ◌⊎◌, ◌∙◌, ◌++◌, ℕ, zero, suc, Bool, true, false, List, [], ◌∷◌, length, map, reverse, ap, append-nil, arith, inl, inr, refl, subst, sym}
+use Rattle.std.proofs.Common.{◌≡◌, ◌≤◌, ◌<◌, ◌+◌, ◌⊎◌, ◌∙◌, ◌++◌, ℕ, zero, suc, Bool, true, false, List, [], ◌∷◌}
+use Rattle.std.proofs.Common.{length, map, reverse, ap, append-nil, arith, inl, inr, refl, subst, sym}
 use Rattle.std.proofs.lemmas.Bool.{cases_lt}
 use Rattle.std.specs.List.{count_by}
 use Rattle.std.specs.Prelude.{if◌then◌else◌, Option, None, Some}
@@ -35,7 +36,8 @@ use Rattle.moment_laws.specs.Places.{tc_of}
 use Rattle.moment_laws.proofs.MomentHosts.{TcHost, of_none, of_tc, tc_host_is}
 use Rattle.outcome_laws.specs.Counts.{coordinator_member, is_asking, is_decision, is_wish, one_if}
 use Rattle.outcome_laws.specs.Once.{takes_in}
-use Rattle.outcome_laws.proofs.once.Begins.{asks_elsewhere, begin_once, no_tc_sends, nowhere_sends, only_asks, tc_begins}
+use Rattle.outcome_laws.proofs.once.Begins.{asks_elsewhere, begin_once, no_tc_sends, nowhere_sends, only_asks}
+use Rattle.outcome_laws.proofs.once.Begins.{tc_begins}
 use Rattle.outcome_laws.proofs.once.DecidedOnce.{decides_asked}
 use Rattle.outcome_laws.proofs.downfall.NeverDecided.{nodes_wish}
 use Rattle.outcome_laws.proofs.once.NobodyElse.{asking_coordinators}

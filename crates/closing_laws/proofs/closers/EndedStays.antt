@@ -1,6 +1,7 @@
 -- A member that has ended an epoch has ended it for good, since what it counts from then on has a later one; and what
 -- it reports to be ended has ended.
-use Rattle.std.proofs.Common.{◌≡◌, ◌<◌, ◌||◌, ℕ, Bool, true, false, nat_le, nat_lt, List, [], ◌∷◌, ◌++◌, length, refl, subst, arith}
+use Rattle.std.proofs.Common.{◌≡◌, ◌<◌, ◌||◌, ℕ, Bool, true, false, nat_le, nat_lt, List, [], ◌∷◌, ◌++◌, length, refl}
+use Rattle.std.proofs.Common.{subst, arith}
 use Rattle.std.proofs.lemmas.Bool.{leb-false, leb-true, or_parts}
 use Rattle.std.specs.Prelude.{Some, remove}
 use Rattle.run_theory.proofs.Pasts.{each_append}
@@ -16,7 +17,8 @@ use Rattle.dih_node.specs.declared.dih.Report.{Report}
 use Rattle.dih_node.specs.Dih.{dih_row}
 use Rattle.dih_node.specs.Orders.{committed, install_row, serving}
 use Rattle.dih_node.specs.State.{DihState, can_serve, go_on_if, is_unfinished}
-use Rattle.dih_node.proofs.Walk.{IsEnded, ReportOutcomes, dih_outcomes, ordered, reporting, was_counted, was_held, was_unknown}
+use Rattle.dih_node.proofs.Walk.{IsEnded, ReportOutcomes, dih_outcomes, ordered, reporting, was_counted, was_held}
+use Rattle.dih_node.proofs.Walk.{was_unknown}
 use Rattle.epoch_laws.specs.Alike.{IsPast, IsSound}
 use Rattle.epoch_laws.proofs.DihRows.{IsOrderPast, Rises, dih_never_falls, still_past}
 use Rattle.run_theory.proofs.EachSent.{each_removed}

@@ -1,5 +1,6 @@
 -- An epoch is closed by the president of the current view, where each full member has ended it and takeover is over.
-use Rattle.std.proofs.Common.{◌≡◌, ◌≤◌, ◌⊎◌, ℕ, zero, suc, Bool, true, false, List, [], ◌∷◌, refl, sym, ap, subst, ◌∙◌, inl, inr, arith}
+use Rattle.std.proofs.Common.{◌≡◌, ◌≤◌, ◌⊎◌, ℕ, zero, suc, Bool, true, false, List, [], ◌∷◌, refl, sym, ap, subst, ◌∙◌}
+use Rattle.std.proofs.Common.{inl, inr, arith}
 use Rattle.std.proofs.lemmas.Bool.{true≢false}
 use Rattle.frag_map.specs.Layout.{first_layout}
 use Rattle.run_theory.proofs.Pasts.{each_append, each_in, each_map}
@@ -41,7 +42,8 @@ use Rattle.epoch_laws.proofs.MasterHears.{all_by_one, same_member-is, same_membe
 use Rattle.epoch_laws.proofs.MasterMoves.{HaveAll, voice_of, with_one}
 use Rattle.epoch_laws.proofs.MasterSpeaks.{installed}
 use Rattle.epoch_laws.proofs.StandAll.{epochs_stand}
-use Rattle.epoch_laws.proofs.StandKinds.{RunsMain, Whose, of_main, of_rows, of_shell, of_tc, runs_main, runs_rows, runs_shell, whose}
+use Rattle.epoch_laws.proofs.StandKinds.{RunsMain, Whose, of_main, of_rows, of_shell, of_tc, runs_main, runs_rows}
+use Rattle.epoch_laws.proofs.StandKinds.{runs_shell, whose}
 use Rattle.epoch_laws.proofs.StandMarks.{marks_are}
 use Rattle.epoch_laws.proofs.StandMasters.{master_view}
 use Rattle.epoch_laws.proofs.StepKinds.{RunsTc, runs_tc}

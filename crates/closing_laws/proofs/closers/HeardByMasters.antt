@@ -29,7 +29,8 @@ use Rattle.epoch_laws.specs.Masters.{EachHeard}
 use Rattle.epoch_laws.specs.Members.{epochs_of, master_in, master_of}
 use Rattle.epoch_laws.specs.Stand.{AllStand}
 use Rattle.epoch_laws.proofs.MasterMoves.{BeginsFrom, IsLate, Moved, voice_of}
-use Rattle.epoch_laws.proofs.MasterMoves.{closes, closes_owed, commits, ends, goes_late, hears_finished, hears_prepared, is_ordered, learns, resumes, stays, takes_up}
+use Rattle.epoch_laws.proofs.MasterMoves.{closes, closes_owed, commits, ends, goes_late, hears_finished, hears_prepared}
+use Rattle.epoch_laws.proofs.MasterMoves.{is_ordered, learns, resumes, stays, takes_up}
 use Rattle.epoch_laws.proofs.MasterRows.{master_goes}
 use Rattle.epoch_laws.proofs.MasterSpeaks.{installed}
 use Rattle.epoch_laws.proofs.MomentEvents.{MasterDoes, enters, enters_takes, installs, master_does, takes, unmoved}

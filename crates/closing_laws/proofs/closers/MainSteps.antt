@@ -1,6 +1,7 @@
 -- What a step of a main host comes to for its master of checkpoints, with its marks: the master takes the signal, and
 -- what it marks is marked; or it leaves it alone, or a view is installed in it, and no closing is marked.
-use Rattle.std.proofs.Common.{◌≡◌, ◌≤◌, ◌<◌, ◌||◌, ◌++◌, ◌∙◌, ℕ, zero, suc, Bool, true, false, nat_lt, List, [], ◌∷◌, refl, sym, ap, subst, arith}
+use Rattle.std.proofs.Common.{◌≡◌, ◌≤◌, ◌<◌, ◌||◌, ◌++◌, ◌∙◌, ℕ, zero, suc, Bool, true, false, nat_lt, List, [], ◌∷◌}
+use Rattle.std.proofs.Common.{refl, sym, ap, subst, arith}
 use Rattle.std.proofs.lemmas.Bool.{ltb-false, ltb-true}
 use Rattle.std.specs.Prelude.{not, Option, None, Some}
 use Rattle.run_theory.specs.Lists.{Each}
@@ -28,7 +29,9 @@ use Rattle.node_views.specs.declared.main_part.MainPart.{MainPart}
 use Rattle.node_views.specs.declared.parts.Parts.TheVariants as part
 use Rattle.node_views.specs.declared.standing.Standing.{Standing}
 use Rattle.node_views.specs.Parts.{main_entered, main_row, main_settled}
-use Rattle.node_views.specs.Row.{blocks_row, closed_if, counted_row, cut_if, entered, entering_if, headed_if, headed_row, host_row, host_table, hushed, in_view, is_barred, is_cut, is_excluded, kill_row, killed_after, passed_if, passed_row, settle, taken_if, with_parts}
+use Rattle.node_views.specs.Row.{blocks_row, closed_if, counted_row, cut_if, entered, entering_if, headed_if}
+use Rattle.node_views.specs.Row.{headed_row, host_row, host_table, hushed, in_view, is_barred, is_cut, is_excluded}
+use Rattle.node_views.specs.Row.{kill_row, killed_after, passed_if, passed_row, settle, taken_if, with_parts}
 use Rattle.node_views.specs.WellFormed.{is_first, is_well_formed}
 use Rattle.qmgr_block.specs.Qmgr.{qmgr_installed, qmgr_row}
 use Rattle.world_core.specs.Start.{Start}

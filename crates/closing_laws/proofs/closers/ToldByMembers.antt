@@ -1,8 +1,8 @@
 -- A member that has ended an epoch has ended it behind each event, and whatever was reported to be ended has ended.
-use Rattle.std.proofs.Common.{◌≡◌, ◌≢◌, ◌≤◌, ◌⊎◌, ◌++◌, ℕ, false, filter, List, [], ◌∷◌, refl, sym, ap, subst, ◌∙◌, inl, inr}
-use Rattle.std.proofs.lemmas.Bool.{cases_eq}
+use Rattle.std.proofs.Common.{◌≡◌, ◌≤◌, ◌⊎◌, ◌++◌, ℕ, false, filter, List, [], ◌∷◌, refl, sym, ap, subst, ◌∙◌, inl, inr}
 use Rattle.run_theory.proofs.Pasts.{each_append, each_in, each_map}
 use Rattle.run_theory.specs.Lists.{Each, IsIn}
+use Rattle.run_theory.proofs.EventCases.{event_cases}
 use Rattle.sig_core.specs.declared.member.Member.{Member}
 use Rattle.sig_core.specs.declared.outs.Outgoing.{Outgoing}
 use Rattle.sig_core.specs.declared.place.BlockId.{BlockId}
@@ -29,7 +29,7 @@ use Rattle.world_core.specs.Hosts.{member_at}
 use Rattle.world_core.specs.Start.{Start, made}
 use Rattle.world_core.specs.Steps.{Addressed, HostStep}
 use Rattle.world_views.specs.Hosts.{started}
-use Rattle.world_views.specs.Machine.{after, signals_of, step_after}
+use Rattle.world_views.specs.Machine.{after, machine, signals_of, step_after}
 use Rattle.view_laws.specs.Order.{is_sound}
 use Rattle.view_laws.specs.Runs.{view_after}
 use Rattle.view_laws.specs.Votes.{main_of}
@@ -40,7 +40,7 @@ use Rattle.moment_laws.specs.PartSteps.{PartEnters, PartTakes, TcDoes, handles, 
 use Rattle.moment_laws.specs.Places.{ldm_of, tc_of}
 use Rattle.moment_laws.proofs.MomentHosts.{part_some, tc_member, tc_started}
 use Rattle.moment_laws.proofs.MomentSignals.{EachSent, sent_next}
-use Rattle.moment_laws.proofs.MomentTurns.{host_low, other_log, own_log}
+use Rattle.moment_laws.proofs.MomentTurns.{host_low, own_log}
 use Rattle.moment_laws.proofs.PartKinds.{tc_after, tc_is}
 use Rattle.moment_laws.proofs.PartTaken.{IsTakenNow, handled_now, taken_now}
 use Rattle.epoch_laws.specs.Alike.{IsSound}
@@ -55,7 +55,8 @@ use Rattle.epoch_laws.proofs.SentMembership.{Orders, OrdersBy}
 use Rattle.epoch_laws.proofs.SentNone.{AreNoOrders, IsNoOrder, is_order}
 use Rattle.epoch_laws.proofs.SentParts.{entered_none, rows_send, shell_sends_none}
 use Rattle.epoch_laws.proofs.SentRows.{IsOfRows, IsOfRowsBy}
-use Rattle.epoch_laws.proofs.StandKinds.{RunsMain, RunsRows, RunsShell, Whose, of_main, of_rows, of_shell, of_tc, runs_main, runs_rows, runs_shell, whose}
+use Rattle.epoch_laws.proofs.StandKinds.{RunsMain, RunsRows, RunsShell, Whose, of_main, of_rows, of_shell, of_tc}
+use Rattle.epoch_laws.proofs.StandKinds.{runs_main, runs_rows, runs_shell, whose}
 use Rattle.epoch_laws.proofs.StandTakes.{taken_rises}
 use Rattle.epoch_laws.proofs.StepKinds.{RunsTc, runs_tc}
 use Rattle.epoch_laws.proofs.StepMain.{IsStepOfMain, main_steps}
@@ -121,7 +122,13 @@ module _ (start : Start) (all : ℕ → List HostStep) (e : HostStep) (es : List
             subst P (sym row) (takes between (taken_now start all e es moment block.Dih taken) is)
 
         pub epochs_keep : (member : Member) → P (epochs_of start old member) → P (epochs_of start new member)
-        epochs_keep member is = by (cases_eq e.host (tc_of start member))
+        epochs_keep member is =
+            event_cases (machine start) e es h (λ log. P (dih_in fresh_epochs (after start h log).parts))
+            (λ at.
+            let moves = own e.host at in
+            took moves.between (dih_in fresh_epochs (after start h (e ∷ old h)).parts) moves.comes
+            (entered (epochs_of start old member) moves.between moves.entered is))
+            (λ other. is)
           where
             h : ℕ
             h = tc_of start member
@@ -133,18 +140,6 @@ module _ (start : Start) (all : ℕ → List HostStep) (e : HostStep) (es : List
                 subst (λ k. EpochsMove start.shape (epochs_of start old member) x (view_after start k (e ∷ old k))
                 (dih_in fresh_epochs (after start h (e ∷ old h)).parts)) (sym at)
                 (host_epochs start fresh_epochs h (part_some start Tc member) (old h) e)
-
-            by : (e.host ≡ h) ⊎ (e.host ≢ h) → P (epochs_of start new member)
-            by (inl at) =
-                let log : new h ≡ e ∷ old h =
-                subst (λ k. new k ≡ e ∷ old k) at (own_log start all e es moment) in
-                let moves = own e.host at in
-                subst (λ log. P (dih_in fresh_epochs (after start h log).parts)) (sym log)
-                (took moves.between (dih_in fresh_epochs (after start h (e ∷ old h)).parts) moves.comes
-                (entered (epochs_of start old member) moves.between moves.entered is))
-            by (inr other) =
-                subst (λ log. P (dih_in fresh_epochs (after start h log).parts))
-                (sym (other_log start all e es moment h other)) is
 
     pub keeps_ended : (epoch : ℕ) (member : Member) → HasEnded epoch (epochs_of start old member)
         → HasEnded epoch (epochs_of start new member)

@@ -1,5 +1,6 @@
 -- Whose count is ended, the coordinator has forgotten it, for ever.
-use Rattle.std.proofs.Common.{◌≡◌, ◌⊎◌, ◌∙◌, ◌++◌, ◌<◌, ℕ, Bool, true, false, List, [], ◌∷◌, arith, refl, sym, ap, subst, inl, inr}
+use Rattle.std.proofs.Common.{◌≡◌, ◌⊎◌, ◌∙◌, ◌++◌, ◌<◌, ℕ, Bool, true, false, List, [], ◌∷◌, arith, refl, sym, ap}
+use Rattle.std.proofs.Common.{subst, inl, inr}
 use Rattle.std.proofs.lemmas.Bool.{leb-false, leb-true, true≢false}
 use Rattle.std.specs.Prelude.{nat_le, None, Some}
 use Rattle.run_theory.specs.Lists.{Each, IsIn}
@@ -25,7 +26,7 @@ use Rattle.node_views.specs.declared.tc_part.TcPart.{TcPart}
 use Rattle.node_views.specs.Parts.{tc_row}
 use Rattle.world_core.specs.Start.{Start, made}
 use Rattle.world_core.specs.Steps.{Addressed, HostStep}
-use Rattle.world_views.specs.Machine.{step_after}
+use Rattle.world_views.specs.Machine.{machine, step_after}
 use Rattle.view_laws.specs.Runs.{view_after}
 use Rattle.moment_laws.specs.Moments.{IsMoment, logs_of}
 use Rattle.moment_laws.specs.PartSteps.{PartEnters, PartTakes, handles, ignores, installs, remains, tc_kind}
@@ -43,9 +44,10 @@ use Rattle.request_laws.proofs.phases.TurnSends.{IsSpared}
 use Rattle.request_laws.proofs.routes.Headers.{sent_so}
 use Rattle.request_laws.proofs.routes.PartSteps.{TcStep, coordinator_is}
 use Rattle.commit_laws.specs.Going.{own_coordinator, own_live}
-use Rattle.commit_laws.proofs.forth.DecidedStay.{log_grows}
+use Rattle.run_theory.proofs.EventCases.{event_cases}
 use Rattle.commit_laws.proofs.drive.Foreign.{between_of, step}
-use Rattle.closing_laws.proofs.counted.OtherHosts.{coordinator_installs_counting, dih_counting, dih_installs_counting, others_count, takeover_counting}
+use Rattle.closing_laws.proofs.counted.OtherHosts.{coordinator_installs_counting, dih_counting, dih_installs_counting}
+use Rattle.closing_laws.proofs.counted.OtherHosts.{others_count, takeover_counting}
 use Rattle.closing_laws.proofs.counted.Turns.{AreCounting, Forgets, is_uncounting, uncounted_step}
 
 -- its coordinator has begun and forgotten the transaction
@@ -125,8 +127,9 @@ module _ (start : Start) (all : ℕ → List HostStep) (e : HostStep) (es : List
         where
           both : Out (new (tc_of start (coordinator_member tx)))
           both =
-              log_grows start all e es moment Out (tc_of start (coordinator_member tx))
-              (λ at. out_next was.is_made (old (tc_of start (coordinator_member tx)))) (was.forgotten, was.born)
+              event_cases (machine start) e es (tc_of start (coordinator_member tx)) Out
+              (λ at. out_next was.is_made (old (tc_of start (coordinator_member tx))) (was.forgotten, was.born))
+              (λ off. (was.forgotten, was.born))
 
     says_more : (body : Body) → SaysOut start old body → SaysOut start new body
     says_more (Epoch (DiVerifyEnd tx)) out = out_more tx out

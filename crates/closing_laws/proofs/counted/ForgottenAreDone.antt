@@ -1,13 +1,15 @@
 -- Whoever was committed and is forgotten is done: its coordinator has heard that its last key is completed, or nothing
 -- was written.
-use Rattle.std.proofs.Common.{◌≡◌, ◌≢◌, ◌≤◌, ◌⊎◌, ◌==◌, ◌∙◌, ◌++◌, ℕ, true, false, List, [], ◌∷◌, arith, inl, inr, refl, sym, ap, subst}
-use Rattle.std.proofs.lemmas.Bool.{cases_eq, eqb-true, true≢false}
+use Rattle.std.proofs.Common.{◌≡◌, ◌≤◌, ◌⊎◌, ◌==◌, ◌∙◌, ◌++◌, ℕ, true, false, List, [], ◌∷◌, arith, inl, inr, refl, sym}
+use Rattle.std.proofs.Common.{ap, subst}
+use Rattle.std.proofs.lemmas.Bool.{eqb-true, true≢false}
 use Rattle.std.specs.Prelude.{if◌then◌else◌, None, Option, Some}
 use Rattle.run_theory.specs.Links.{sent}
 use Rattle.run_theory.specs.Lists.{IsIn, IsPast}
 use Rattle.run_theory.proofs.Links.{sent_more}
 use Rattle.run_theory.proofs.Pasts.{each_append, each_from, each_in, each_map, in_past, past_self}
-use Rattle.run_theory.proofs.Runs.{log_of-other, log_of-own}
+use Rattle.run_theory.proofs.Runs.{log_of-own}
+use Rattle.run_theory.proofs.EventCases.{event_cases, event_moves}
 use Rattle.host_laws.proofs.coordinator.OfLive.{each_found}
 use Rattle.sig_core.specs.declared.mark.Mark.TheVariants.{Decided}
 use Rattle.sig_core.specs.declared.member.Member.{Member}
@@ -146,16 +148,11 @@ module _ (start : Start) (all : ℕ → List HostStep) (e : HostStep) (es : List
 
     -- what was sent stays sent
     sent_stays : (i j : ℕ) → IsPast (sent (sound_machine start) i j (old i)) (sent (sound_machine start) i j (new i))
-    sent_stays i j = by (cases_eq e.host i)
-      where
-        by : (e.host ≡ i) ⊎ (e.host ≢ i)
-            → IsPast (sent (sound_machine start) i j (old i)) (sent (sound_machine start) i j (new i))
-        by (inl at) =
-            subst (λ log. IsPast (sent (sound_machine start) i j (old i)) (sent (sound_machine start) i j log))
-            (sym (log_of-own (machine start) e es i at)) (sent_more (sound_machine start) i j (old i) e)
-        by (inr other) =
-            subst (λ log. IsPast (sent (sound_machine start) i j (old i)) (sent (sound_machine start) i j log))
-            (sym (log_of-other (machine start) e es i other)) (past_self (sent (sound_machine start) i j (old i)))
+    sent_stays i j =
+        event_moves (machine start) e es
+        (λ i before now. IsPast (sent (sound_machine start) i j before) (sent (sound_machine start) i j now))
+        (sent_more (sound_machine start) e.host j (old e.host) e)
+        (λ i log. past_self (sent (sound_machine start) i j log)) i
 
     ended_stays : is_decided start old tx ≡ true → HasEnded start old tx → HasEnded start new tx
     ended_stays decided (nothing none) =
@@ -400,19 +397,13 @@ module _ (start : Start) (all : ℕ → List HostStep) (e : HostStep) (es : List
 
     ended_next : (is_forth start old tx ≡ true → own_live start old tx ≡ None → HasEnded start old tx)
         → is_forth start new tx ≡ true → own_live start new tx ≡ None → HasEnded start new tx
-    ended_next rest forth gone = by (cases_eq e.host (tc_of start me))
-      where
-        by : (e.host ≡ tc_of start me) ⊎ (e.host ≢ tc_of start me) → HasEnded start new tx
-        by (inl at) =
-            let is : new (tc_of start me) ≡ e ∷ log = log_of-own (machine start) e es (tc_of start me) at in
-            own_ended (forth_made start all (e ∷ es) moment tx forth) at
-            (subst (λ one. has_gone_forth start me tx one ≡ true) is forth)
-            (subst (λ one. entry_of (coordinator_after start me one) tx ≡ None) is gone) rest
-        by (inr other) =
-            let is : new (tc_of start me) ≡ log = log_of-other (machine start) e es (tc_of start me) other in
-            let was : is_forth start old tx ≡ true = subst (λ one. has_gone_forth start me tx one ≡ true) is forth in
-            ended_stays (forth_decided start all es (moment_less start all e es moment) tx was)
-            (rest was (subst (λ one. entry_of (coordinator_after start me one) tx ≡ None) is gone))
+    ended_next rest forth gone =
+        event_cases (machine start) e es (tc_of start me)
+        (λ one. has_gone_forth start me tx one ≡ true → entry_of (coordinator_after start me one) tx ≡ None
+        → HasEnded start new tx)
+        (λ at here left. own_ended (forth_made start all (e ∷ es) moment tx forth) at here left rest)
+        (λ other was left.
+        ended_stays (forth_decided start all es (moment_less start all e es moment) tx was) (rest was left)) forth gone
 
 forgotten_ended : (start : Start) (all : ℕ → List HostStep) (es : List HostStep) → IsMoment start all es → (tx : TxId)
     → is_forth start (logs_of start es) tx ≡ true → own_live start (logs_of start es) tx ≡ None

@@ -1,5 +1,6 @@
 -- Whoever was decided is counted, or its coordinator has forgotten it.
-use Rattle.std.proofs.Common.{◌≡◌, ◌≢◌, ◌⊎◌, ◌∙◌, ◌++◌, ◌||◌, ℕ, Bool, true, false, List, [], ◌∷◌, refl, sym, ap, subst, inl, inr}
+use Rattle.std.proofs.Common.{◌≡◌, ◌≢◌, ◌⊎◌, ◌∙◌, ◌++◌, ◌||◌, ℕ, Bool, true, false, List, [], ◌∷◌, refl, sym, ap, subst}
+use Rattle.std.proofs.Common.{inl, inr}
 use Rattle.std.proofs.lemmas.Bool.{cases_eq, true≢false}
 use Rattle.std.specs.List.{list_any}
 use Rattle.std.specs.Prelude.{None}
@@ -37,7 +38,8 @@ use Rattle.outcome_laws.specs.Counts.{coordinator_member, is_decision}
 use Rattle.outcome_laws.proofs.takeovers.NoMarks.{takeover_marks_nothing}
 use Rattle.outcome_laws.proofs.coordinators.NoMarks.{coordinator_marks_none}
 use Rattle.request_laws.proofs.phases.AlongLogs.{IsRun, runs_tc, told_some}
-use Rattle.request_laws.proofs.phases.HostSteps.{AreNoDecisions, Goes, IsEntered, is_decided_mark, leaves, takes, tc_goes}
+use Rattle.request_laws.proofs.phases.HostSteps.{AreNoDecisions, Goes, IsEntered, is_decided_mark, leaves, takes}
+use Rattle.request_laws.proofs.phases.HostSteps.{tc_goes}
 use Rattle.epoch_laws.specs.Members.{dih_in}
 use Rattle.commit_laws.specs.Going.{is_decided, own_live}
 use Rattle.closing_laws.specs.Ended.{UncountedAreForgotten, is_counted}

@@ -1,6 +1,7 @@
 -- A coordinator ends the count of a transaction where it forgets it, and there alone: it is given up, has written
 -- nothing, or its last key is completed.
-use Rattle.std.proofs.Common.{◌≡◌, ◌⊎◌, ◌==◌, ◌+◌, ◌∙◌, ℕ, Bool, true, false, List, [], ◌∷◌, drop, inl, inr, length, nat_lt, refl, sym, ap, subst, take}
+use Rattle.std.proofs.Common.{◌≡◌, ◌⊎◌, ◌==◌, ◌+◌, ◌∙◌, ℕ, Bool, true, false, List, [], ◌∷◌, drop, inl, inr, length}
+use Rattle.std.proofs.Common.{nat_lt, refl, sym, ap, subst, take}
 use Rattle.std.proofs.lemmas.Bool.{true≢false}
 use Rattle.std.specs.List.{flat_map}
 use Rattle.std.specs.Prelude.{if◌then◌else◌, None, Option, Some}
@@ -29,7 +30,8 @@ use Rattle.tc_block.specs.Doom.{is_undecided}
 use Rattle.tc_block.specs.Part.{part_effects, rest_if}
 use Rattle.tc_block.specs.Phases.{is_decided}
 use Rattle.tc_block.specs.Resume.{anew_if, resume_row}
-use Rattle.tc_block.specs.Sends.{abort_of, aborts_of, complete_if, entering, front_sends, key_sends, phase_sends, wait_of, waits_of}
+use Rattle.tc_block.specs.Sends.{abort_of, aborts_of, complete_if, entering, front_sends, key_sends, phase_sends}
+use Rattle.tc_block.specs.Sends.{wait_of, waits_of}
 use Rattle.tc_block.specs.Turn.{Turn, asking}
 use Rattle.tc_block.specs.declared.phase.Phase.{Phase}
 use Rattle.tc_block.specs.declared.phase.Phase.TheVariants.{Aborting, Committing, Completing, Open, Verifying}
@@ -47,7 +49,8 @@ use Rattle.outcome_laws.proofs.coordinators.Steps as walk
 use Rattle.outcome_laws.proofs.coordinators.Steps.{ResumeForms}
 use Rattle.request_laws.specs.Ways.{entry_of}
 use Rattle.request_laws.proofs.phases.TurnSends.{AreSpared, IsSpared}
-use Rattle.request_laws.proofs.phases.Steps.{Walks, begins, coordinator_walks, is_about, left_of, passes, resumes, stays, turns}
+use Rattle.request_laws.proofs.phases.Steps.{Walks, begins, coordinator_walks, is_about, left_of, passes, resumes}
+use Rattle.request_laws.proofs.phases.Steps.{stays, turns}
 use Rattle.commit_laws.proofs.commits.EndTurns.{HasEpoch, before, by_now}
 use Rattle.commit_laws.proofs.forth.Speaks.{gives_epoch}
 

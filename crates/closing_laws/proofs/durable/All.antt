@@ -1,11 +1,13 @@
 -- A durable epoch was closed before, in every closed cut.
-use Rattle.std.proofs.Common.{◌≡◌, ◌≢◌, ◌≤◌, ◌<◌, ◌⊎◌, ℕ, Bool, true, false, filter, List, [], ◌∷◌, refl, sym, subst, inl, inr, arith}
+use Rattle.std.proofs.Common.{◌≡◌, ◌≢◌, ◌≤◌, ◌<◌, ◌⊎◌, ℕ, Bool, true, false, filter, List, [], ◌∷◌, refl, sym, subst}
+use Rattle.std.proofs.Common.{inl, inr, arith}
 use Rattle.std.proofs.lemmas.Bool.{cases_eq}
 use Rattle.std.proofs.Math.Path.{fun_ext}
 use Rattle.frag_map.specs.Layout.{first_layout}
 use Rattle.run_theory.proofs.Pasts.{each_in, each_map}
 use Rattle.run_theory.specs.Lists.{Each, IsIn}
 use Rattle.run_theory.specs.Ranks.{in_order}
+use Rattle.run_theory.proofs.EventCases.{event_cases}
 use Rattle.sig_core.specs.declared.mark.Mark.TheVariants.{Durable}
 use Rattle.sig_core.specs.declared.member.Member.{Member}
 use Rattle.sig_core.specs.declared.outs.Outgoing.{Outgoing}
@@ -16,7 +18,7 @@ use Rattle.node_views.specs.declared.host.Host as node
 use Rattle.world_core.specs.Hosts.{hosts}
 use Rattle.world_core.specs.Start.{Start, made}
 use Rattle.world_core.specs.Steps.{Addressed, HostStep}
-use Rattle.world_views.specs.Machine.{after, signals_of, step_after}
+use Rattle.world_views.specs.Machine.{after, machine, signals_of, step_after}
 use Rattle.view_laws.specs.Order.{by_views, is_sound}
 use Rattle.view_laws.specs.Runs.{view_after}
 use Rattle.view_laws.specs.Votes.{main_of}
@@ -29,7 +31,7 @@ use Rattle.moment_laws.specs.Places.{tc_of}
 use Rattle.moment_laws.proofs.MomentHosts.{tc_started}
 use Rattle.moment_laws.proofs.MomentRuns.{are_moments}
 use Rattle.moment_laws.proofs.MomentSignals.{sent_next}
-use Rattle.moment_laws.proofs.MomentTurns.{host_low, other_log, own_log}
+use Rattle.moment_laws.proofs.MomentTurns.{host_low, other_log}
 use Rattle.moment_laws.proofs.MomentViews.{moment_less}
 use Rattle.outcome_laws.specs.Decided.{IsMarked}
 use Rattle.epoch_laws.specs.Members.{dih_in, epochs_of, master_in, master_of}
@@ -40,7 +42,8 @@ use Rattle.closing_laws.specs.Closed.{DurableWereClosed, WasClosed}
 use Rattle.closing_laws.proofs.durable.BehindClosed.{AllReached, all_reached}
 use Rattle.closing_laws.proofs.durable.Hosts.{ldm_said, main_good, main_said, shell_said, tc_noted, tc_said}
 use Rattle.closing_laws.proofs.durable.Marks.{closing_marked}
-use Rattle.closing_laws.proofs.durable.Statement.{AllNoted, AllSaid, HasNoted, IsGoodPhase, IsSaidTruly, IsTrulySaid, closed_grows, has_grows, phase_grows, said_grows}
+use Rattle.closing_laws.proofs.durable.Statement.{AllNoted, AllSaid, HasNoted, IsGoodPhase, IsSaidTruly, IsTrulySaid}
+use Rattle.closing_laws.proofs.durable.Statement.{closed_grows, has_grows, phase_grows, said_grows}
 
 module _ (start : Start) (all : ℕ → List HostStep) (e : HostStep) (es : List HostStep)
     (moment : IsMoment start all (e ∷ es)) (stand : AllStand start (logs_of start es))
@@ -110,19 +113,15 @@ module _ (start : Start) (all : ℕ → List HostStep) (e : HostStep) (es : List
         (subst (IsGoodPhase start old) by.is.phase (noted.masters by.member by.there))
 
     durables_next : (h epoch : ℕ) → h < hosts start → IsMarked (Durable epoch) (new h) → WasClosed start new epoch
-    durables_next h epoch low marked = closed_grows start all e es moment epoch (by (cases_eq e.host h))
+    durables_next h epoch low marked =
+        closed_grows start all e es moment epoch
+        (event_cases (machine start) e es h (λ log. IsMarked (Durable epoch) log → WasClosed start old epoch)
+        (λ at. own)
+        (λ other. noted.durables h epoch low) marked)
       where
-        own : IsIn (Durable epoch) e.step.marks ⊎ IsMarked (Durable epoch) (old e.host) → WasClosed start old epoch
+        own : IsIn (Durable epoch) e.step.marks ⊎ IsMarked (Durable epoch) (old h) → WasClosed start old epoch
         own (inl now) = durable_now epoch now
-        own (inr was) = noted.durables e.host epoch (host_low start all e es moment) was
-
-        by : (e.host ≡ h) ⊎ (e.host ≢ h) → WasClosed start old epoch
-        by (inl at) =
-            own (subst (IsMarked (Durable epoch)) (own_log start all e es moment)
-            (subst (λ k. IsMarked (Durable epoch) (new k)) (sym at) marked))
-        by (inr other) =
-            noted.durables h epoch low
-            (subst (IsMarked (Durable epoch)) (other_log start all e es moment h other) marked)
+        own (inr was) = noted.durables h epoch low was
 
     pub noted_next : AllNoted start new
     noted_next = record {

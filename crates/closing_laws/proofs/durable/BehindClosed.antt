@@ -1,14 +1,14 @@
 -- Each full member of the current view has reached every epoch that was closed.
-use Rattle.std.proofs.Common.{◌≡◌, ◌≢◌, ◌≤◌, ◌<◌, ◌⊎◌, ℕ, List, [], ◌∷◌, refl, sym, subst, inl, inr}
-use Rattle.std.proofs.lemmas.Bool.{cases_eq}
+use Rattle.std.proofs.Common.{◌≤◌, ◌<◌, ◌⊎◌, ℕ, List, [], ◌∷◌, refl, subst, inl, inr}
 use Rattle.run_theory.specs.Lists.{IsIn}
+use Rattle.run_theory.proofs.EventCases.{event_cases}
+use Rattle.world_views.specs.Machine.{machine}
 use Rattle.sig_core.specs.declared.mark.Mark.TheVariants.{Closed}
 use Rattle.sig_core.specs.declared.member.Member.{Member}
 use Rattle.world_core.specs.Hosts.{hosts}
 use Rattle.world_core.specs.Start.{Start, made}
 use Rattle.world_core.specs.Steps.{HostStep}
 use Rattle.moment_laws.specs.Moments.{IsMoment, logs_of}
-use Rattle.moment_laws.proofs.MomentTurns.{host_low, other_log, own_log}
 use Rattle.moment_laws.proofs.MomentViews.{moment_less}
 use Rattle.outcome_laws.specs.Decided.{IsMarked}
 use Rattle.epoch_laws.specs.Alike.{EachFull}
@@ -46,20 +46,15 @@ module _ (start : Start) (all : ℕ → List HostStep) (e : HostStep) (es : List
 
     closed_next : (h epoch : ℕ) → h < hosts start → IsMarked (Closed epoch) (new h)
         → EachFull start new (HasReached epoch)
-    closed_next h epoch low marked = each_reached_next start all e es moment stand epoch (by (cases_eq e.host h))
+    closed_next h epoch low marked =
+        each_reached_next start all e es moment stand epoch
+        (event_cases (machine start) e es h (λ log. IsMarked (Closed epoch) log → EachFull start old (HasReached epoch))
+        (λ at. own)
+        (λ other. reached.closed h epoch low) marked)
       where
-        own : IsIn (Closed epoch) e.step.marks ⊎ IsMarked (Closed epoch) (old e.host)
-            → EachFull start old (HasReached epoch)
+        own : IsIn (Closed epoch) e.step.marks ⊎ IsMarked (Closed epoch) (old h) → EachFull start old (HasReached epoch)
         own (inl now) = closed_now epoch now
-        own (inr was) = reached.closed e.host epoch (host_low start all e es moment) was
-
-        by : (e.host ≡ h) ⊎ (e.host ≢ h) → EachFull start old (HasReached epoch)
-        by (inl at) =
-            own (subst (IsMarked (Closed epoch)) (own_log start all e es moment)
-            (subst (λ k. IsMarked (Closed epoch) (new k)) (sym at) marked))
-        by (inr other) =
-            reached.closed h epoch low
-            (subst (IsMarked (Closed epoch)) (other_log start all e es moment h other) marked)
+        own (inr was) = reached.closed h epoch low was
 
     reached_next : AllReached start new
     reached_next = record {

@@ -1,5 +1,6 @@
 -- What the hosts of an event make of closed and durable epochs: what each notes, and tells.
-use Rattle.std.proofs.Common.{◌≡◌, ◌≤◌, ◌⊎◌, ◌++◌, ℕ, zero, suc, true, List, [], ◌∷◌, refl, sym, ap, subst, ◌∙◌, inl, inr, arith}
+use Rattle.std.proofs.Common.{◌≡◌, ◌≤◌, ◌⊎◌, ◌++◌, ℕ, zero, suc, true, List, [], ◌∷◌, refl, sym, ap, subst, ◌∙◌, inl}
+use Rattle.std.proofs.Common.{inr, arith}
 use Rattle.frag_map.specs.Layout.{first_layout}
 use Rattle.run_theory.proofs.Pasts.{each_append, each_in, each_map, in_append}
 use Rattle.run_theory.specs.Lists.{IsIn}
@@ -69,7 +70,10 @@ use Rattle.closing_laws.specs.Closed.{WasClosed}
 use Rattle.closing_laws.proofs.durable.BehindClosed.{AllReached}
 use Rattle.closing_laws.proofs.durable.Noted.{dih_installs_note, dih_notes}
 use Rattle.closing_laws.proofs.durable.Reached.{HasReached, reached_stays}
-use Rattle.closing_laws.proofs.durable.Statement.{AllNoted, AllSaid, HasNoted, IsGoodPhase, IsSaidTruly, IsTrulySaid, closed_grows, dih_noted, dih_said, has_grows, installed_noted, master_said, none_said, orders_said, phase_grows, rows_said, told_truly}
+use Rattle.closing_laws.proofs.durable.Statement.{AllNoted, AllSaid, HasNoted, IsGoodPhase, IsSaidTruly, IsTrulySaid}
+use Rattle.closing_laws.proofs.durable.Statement.{closed_grows, dih_noted, dih_said, has_grows, installed_noted}
+use Rattle.closing_laws.proofs.durable.Statement.{master_said, none_said, orders_said, phase_grows, rows_said}
+use Rattle.closing_laws.proofs.durable.Statement.{told_truly}
 use Rattle.closing_laws.proofs.durable.Tells.{TellsNoted, dih_tells_noted}
 use Rattle.closing_laws.proofs.durable.WereClosed.{IsKnownTruly, copying_closed, learned_truly, nothing_truly}
 use Rattle.closing_laws.proofs.closers.MainSteps.{Entering, Goes, Left, enters, leaves, main_goes, stays, takes}

@@ -20,7 +20,9 @@ use Rattle.gcp_master.specs.Resume.{knowing, learned_if}
 use Rattle.gcp_master.specs.Sends.{listing, marking}
 use Rattle.gcp_master.specs.State.{MasterState, at_phase}
 use Rattle.gcp_master.specs.Voices.{is_among}
-use Rattle.gcp_master.proofs.Outcomes.{BeginOutcomes, Begins, Resumes, a_global, a_micro, at_end, beginning, heard_one, known_with, master_outcomes, not_owing, nothing_asked, stopping, to_commit, to_copy, to_prepare}
+use Rattle.gcp_master.proofs.Outcomes.{BeginOutcomes, Begins, Resumes, a_global, a_micro, at_end, beginning, heard_one}
+use Rattle.gcp_master.proofs.Outcomes.{known_with, master_outcomes, not_owing, nothing_asked, stopping, to_commit}
+use Rattle.gcp_master.proofs.Outcomes.{to_copy, to_prepare}
 use Rattle.gcp_master.proofs.Walk.{listing_state}
 use Rattle.epoch_laws.proofs.MasterMoves.{state_body, voice_of}
 

@@ -32,7 +32,8 @@ use Rattle.epoch_laws.specs.Members.{master_in, master_of}
 use Rattle.epoch_laws.specs.Stand.{AllStand}
 use Rattle.epoch_laws.proofs.MasterMoves.{voice_of}
 use Rattle.epoch_laws.proofs.MasterSpeaks.{installed}
-use Rattle.epoch_laws.proofs.StandKinds.{RunsMain, Whose, of_main, of_rows, of_shell, of_tc, runs_main, runs_rows, runs_shell, whose}
+use Rattle.epoch_laws.proofs.StandKinds.{RunsMain, Whose, of_main, of_rows, of_shell, of_tc, runs_main, runs_rows}
+use Rattle.epoch_laws.proofs.StandKinds.{runs_shell, whose}
 use Rattle.epoch_laws.proofs.StandMarks.{marks_are, runs_epochs}
 use Rattle.closing_laws.proofs.closers.NoClosings.{is_closing, not_among}
 use Rattle.closing_laws.proofs.closers.Others.{HasNoMaster, others_close_none}

@@ -1,5 +1,6 @@
 -- Each full member of the current view has reached the epoch of the run that a master commits.
-use Rattle.std.proofs.Common.{◌≡◌, ◌≤◌, ◌<◌, ◌⊎◌, ◌∙◌, ℕ, Bool, true, false, List, [], ◌∷◌, refl, sym, ap, subst, inl, inr, arith}
+use Rattle.std.proofs.Common.{◌≡◌, ◌≤◌, ◌<◌, ◌⊎◌, ◌∙◌, ℕ, Bool, true, false, List, [], ◌∷◌, refl, sym, ap, subst, inl}
+use Rattle.std.proofs.Common.{inr, arith}
 use Rattle.frag_map.specs.Layout.{first_layout}
 use Rattle.run_theory.proofs.Pasts.{each_from, each_in}
 use Rattle.run_theory.specs.Lists.{IsIn}
@@ -33,8 +34,10 @@ use Rattle.epoch_laws.specs.Members.{IsFirst, IsPresident, IsStanding, epochs_of
 use Rattle.epoch_laws.specs.Stand.{AllStand}
 use Rattle.epoch_laws.specs.Told.{IsTrueOf}
 use Rattle.epoch_laws.proofs.MasterKeeps.{IsBefore, keeps}
-use Rattle.epoch_laws.proofs.MasterMoves.{BeginsFrom, GoesOn, IsLate, IsNew, Moved, from_commit, from_copy, from_prepare, known_with, state_body, voice_of, with_none, with_one}
-use Rattle.epoch_laws.proofs.MasterMoves.{closes, closes_owed, commits, ends, goes_late, hears_finished, hears_prepared, is_ordered, learns, resumes, stays, takes_up}
+use Rattle.epoch_laws.proofs.MasterMoves.{BeginsFrom, GoesOn, IsLate, IsNew, Moved, from_commit, from_copy}
+use Rattle.epoch_laws.proofs.MasterMoves.{from_prepare, known_with, state_body, voice_of, with_none, with_one}
+use Rattle.epoch_laws.proofs.MasterMoves.{closes, closes_owed, commits, ends, goes_late, hears_finished, hears_prepared}
+use Rattle.epoch_laws.proofs.MasterMoves.{is_ordered, learns, resumes, stays, takes_up}
 use Rattle.epoch_laws.proofs.MasterRows.{master_goes}
 use Rattle.epoch_laws.proofs.MasterSpeaks.{installed}
 use Rattle.epoch_laws.proofs.MomentEvents.{MasterDoes, enters, enters_takes, installs, master_does, takes, unmoved}

@@ -1,7 +1,8 @@
 -- What members have noted of closed and durable epochs, what is told of that, and how it grows with the logs.
-use Rattle.std.proofs.Common.{◌≡◌, ◌≢◌, ◌≤◌, ◌<◌, ◌⊎◌, ℕ, false, List, ◌∷◌, sym, subst, inl, inr, arith}
-use Rattle.std.proofs.lemmas.Bool.{cases_eq}
+use Rattle.std.proofs.Common.{◌≡◌, ◌≤◌, ◌<◌, ◌⊎◌, ℕ, false, List, ◌∷◌, sym, subst, inl, inr, arith}
 use Rattle.run_theory.specs.Lists.{Each, IsIn}
+use Rattle.run_theory.proofs.EventCases.{event_keeps}
+use Rattle.world_views.specs.Machine.{machine}
 use Rattle.sig_core.specs.declared.mark.Mark.{Mark}
 use Rattle.sig_core.specs.declared.mark.Mark.TheVariants.{Durable}
 use Rattle.sig_core.specs.declared.member.Member.{Member}
@@ -23,7 +24,6 @@ use Rattle.world_core.specs.Steps.{Addressed, HostStep}
 use Rattle.world_views.specs.Hosts.{epoch_before}
 use Rattle.moment_laws.specs.Moments.{IsMoment, logs_of}
 use Rattle.moment_laws.proofs.MomentSignals.{EachSent}
-use Rattle.moment_laws.proofs.MomentTurns.{other_log, own_log}
 use Rattle.outcome_laws.specs.Decided.{IsMarked}
 use Rattle.epoch_laws.specs.Members.{epochs_of, master_of}
 use Rattle.epoch_laws.proofs.DihMoves.{Moves, Stays}
@@ -163,14 +163,7 @@ module _ (start : Start) (all : ℕ → List HostStep) (e : HostStep) (es : List
     new = logs_of start (e ∷ es)
 
     pub marked_grows : (mark : Mark) (h : ℕ) → IsMarked mark (old h) → IsMarked mark (new h)
-    marked_grows mark h is = by (cases_eq e.host h)
-      where
-        own : IsMarked mark (old e.host) → IsMarked mark (new e.host)
-        own was = subst (IsMarked mark) (sym (own_log start all e es moment)) (inr was)
-
-        by : (e.host ≡ h) ⊎ (e.host ≢ h) → IsMarked mark (new h)
-        by (inl at) = subst (λ k. IsMarked mark (old k) → IsMarked mark (new k)) at own is
-        by (inr other) = subst (IsMarked mark) (sym (other_log start all e es moment h other)) is
+    marked_grows mark = event_keeps (machine start) e es (λ h. IsMarked mark) (λ was. inr was)
 
     pub closed_grows : (epoch : ℕ) → WasClosed start old epoch → WasClosed start new epoch
     closed_grows epoch is =

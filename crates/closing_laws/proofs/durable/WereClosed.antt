@@ -1,12 +1,14 @@
 -- Epochs that were closed, or lie behind the start of a life.
-use Rattle.std.proofs.Common.{◌≡◌, ◌≤◌, ◌<◌, ◌⊎◌, ℕ, Bool, true, false, List, refl, subst, sym, ◌∙◌, arith, inl, inr, eq-eqb}
+use Rattle.std.proofs.Common.{◌≡◌, ◌≤◌, ◌<◌, ◌⊎◌, ℕ, Bool, true, false, List, refl, subst, sym, ◌∙◌, arith, inl, inr}
+use Rattle.std.proofs.Common.{eq-eqb}
 use Rattle.std.proofs.lemmas.Bool.{ltb-false, ltb-true, true≢false}
 use Rattle.std.specs.Prelude.{◌-◌, ◌^◌, ◌==◌, ◌&&◌, if◌then◌else◌, nat_lt}
 use Rattle.gcp_master.specs.declared.known.Known.{Known}
 use Rattle.gcp_master.specs.declared.known.Told.{Told}
 use Rattle.gcp_master.specs.declared.phase.Phase.TheVariants.{Committing, Copying, Preparing, Resting}
 use Rattle.gcp_master.specs.declared.phase.Run.{Run}
-use Rattle.gcp_master.specs.Known.{greater, last_run, learned, learned_of_epochs, learned_of_rows, lesser, nothing_known, resumed}
+use Rattle.gcp_master.specs.Known.{greater, last_run, learned, learned_of_epochs, learned_of_rows, lesser}
+use Rattle.gcp_master.specs.Known.{nothing_known, resumed}
 use Rattle.gcp_master.specs.Numbers.{is_first}
 use Rattle.world_core.specs.Start.{Start}
 use Rattle.world_core.specs.Steps.{HostStep}

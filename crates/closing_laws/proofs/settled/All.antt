@@ -1,6 +1,7 @@
 -- Closed epochs stay closed: where an epoch is closed, whoever has it, or one before it, and takes effect in a later
 -- cut, is decided and done, or aborts for ever.
-use Rattle.std.proofs.Common.{◌≡◌, ◌≤◌, ◌<◌, ◌⊎◌, ◌&&◌, ◌∙◌, ◌++◌, ℕ, Bool, true, false, List, [], ◌∷◌, eq-eqb, refl, sym, ap, subst, inl, inr, arith}
+use Rattle.std.proofs.Common.{◌≡◌, ◌≤◌, ◌<◌, ◌⊎◌, ◌&&◌, ◌∙◌, ◌++◌, ℕ, Bool, true, false, List, [], ◌∷◌, eq-eqb, refl}
+use Rattle.std.proofs.Common.{sym, ap, subst, inl, inr, arith}
 use Rattle.std.proofs.lemmas.Bool.{cases_lt, true≢false}
 use Rattle.std.specs.List.{list_any}
 use Rattle.run_theory.proofs.Pasts.{past_nil, past_self}

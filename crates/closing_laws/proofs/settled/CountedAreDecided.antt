@@ -1,19 +1,21 @@
 -- Whomever a member counts it has decided, in the epoch with which it is counted.
-use Rattle.std.proofs.Common.{◌≡◌, ◌≢◌, ◌⊎◌, ◌==◌, ◌∙◌, ◌+◌, ℕ, Bool, true, false, List, [], ◌∷◌, length, nat_le, nat_lt, refl, sym, ap, subst, inl, inr}
-use Rattle.std.proofs.lemmas.Bool.{cases_eq}
+use Rattle.std.proofs.Common.{◌≡◌, ◌==◌, ◌∙◌, ◌+◌, ℕ, Bool, true, false, List, [], ◌∷◌, length, nat_le, nat_lt, refl}
+use Rattle.std.proofs.Common.{sym, ap, subst, inl, inr}
 use Rattle.std.specs.Prelude.{Option, None, Some, position, remove, slice_get}
 use Rattle.run_theory.proofs.EachSent.{each_removed}
 use Rattle.run_theory.proofs.Pasts.{each_append, each_map, in_append}
-use Rattle.run_theory.proofs.Runs.{log_of-other, log_of-own}
 use Rattle.run_theory.specs.Lists.{Each, IsIn}
 use Rattle.run_theory.specs.Runs.{Happens}
+use Rattle.run_theory.proofs.EventCases.{event_cases}
 use Rattle.dih_node.specs.declared.dih.Counted.{Counted}
 use Rattle.dih_node.specs.declared.dih.Report.{Report}
 use Rattle.dih_node.specs.declared.dih.TheConstants.{TRANSACTIONS}
 use Rattle.dih_node.specs.Dih.{dih_row, dih_table, epoch_table, fresh_dih}
-use Rattle.dih_node.specs.Orders.{close_row, commit_if, commit_row, committed, copy_row, done_row, fence_row, install_row, prepare_row, prepared_if, state_row}
+use Rattle.dih_node.specs.Orders.{close_row, commit_if, commit_row, committed, copy_row, done_row, fence_row}
+use Rattle.dih_node.specs.Orders.{install_row, prepare_row, prepared_if, state_row}
 use Rattle.dih_node.specs.State.{DihState, gives, is_unfinished}
-use Rattle.dih_node.specs.Verify.{end_row, ended, ended_by, given, held_by, is_of, report_by, report_if, reported, serve_by, serve_if, serve_row, take_if, verify_if, verify_row}
+use Rattle.dih_node.specs.Verify.{end_row, ended, ended_by, given, held_by, is_of, report_by, report_if, reported}
+use Rattle.dih_node.specs.Verify.{serve_by, serve_if, serve_row, take_if, verify_if, verify_row}
 use Rattle.sig_core.specs.declared.mark.Mark.{Mark}
 use Rattle.sig_core.specs.declared.mark.Mark.TheVariants.{Decided}
 use Rattle.sig_core.specs.declared.member.Member.{Member}
@@ -25,7 +27,9 @@ use Rattle.sig_core.specs.declared.signal.Body.{Body}
 use Rattle.sig_core.specs.declared.signal.Body.TheVariants.{Epoch, Host, Membership}
 use Rattle.sig_core.specs.declared.signal.Signal.{Signal}
 use Rattle.sig_core.specs.declared.signal.epoch.EpochSignal.{EpochSignal}
-use Rattle.sig_core.specs.declared.signal.epoch.EpochSignal.TheVariants.{CopyGciReq, DiVerifyEnd, DiVerifyReq, GcpClosed, GcpCommit, GcpDone, GcpPrepare, GcpStateReq}
+use Rattle.sig_core.specs.declared.signal.epoch.EpochSignal.TheVariants.{CopyGciReq, DiVerifyEnd, DiVerifyReq}
+use Rattle.sig_core.specs.declared.signal.epoch.EpochSignal.TheVariants.{GcpClosed, GcpCommit, GcpDone, GcpPrepare}
+use Rattle.sig_core.specs.declared.signal.epoch.EpochSignal.TheVariants.{GcpStateReq}
 use Rattle.sig_core.specs.declared.signal.host.HostSignal.TheVariants.{Continue}
 use Rattle.sig_core.specs.declared.signal.host.Work.TheVariants.{Held}
 use Rattle.sig_core.specs.declared.signal.membership.MembershipSignal.TheVariants.{FenceReq}
@@ -221,16 +225,12 @@ module _ (start : Start) (all : ℕ → List HostStep) (me : Member) (there : Is
       subst (λ (s : node.Host). Each (IsDecidedIn []) (dih_in fresh s.parts).counted)
       (sym (tc_started start me there)) tt
   counted_are_decided (e ∷ es) moment =
-      by (cases_eq e.host h) (counted_are_decided es (moment_less start all e es moment))
-    where
-      log : List HostStep
-      log = logs_of start es h
-
-      by : (e.host ≡ h) ⊎ (e.host ≢ h) → AreDecided (logs_of start es h) → AreDecided (logs_of start (e ∷ es) h)
-      by (inl at) decided =
-          let happens : Happens (sound_machine start) es e = moment.run.1 in
-          subst AreDecided (sym (log_of-own (machine start) e es h at))
-          (step_counts log e
-          (subst (λ k. e.step.marks ≡ (step_after start k (logs_of start es k) e).effects.marks) at
-          happens.step.fits.marks) decided)
-      by (inr other) decided = subst AreDecided (sym (log_of-other (machine start) e es h other)) decided
+      let log = logs_of start es h in
+      let decided = counted_are_decided es (moment_less start all e es moment) in
+      event_cases (machine start) e es h AreDecided
+      (λ at.
+      let happens : Happens (sound_machine start) es e = moment.run.1 in
+      step_counts log e
+      (subst (λ k. e.step.marks ≡ (step_after start k (logs_of start es k) e).effects.marks) at
+      happens.step.fits.marks) decided)
+      (λ other. decided)

@@ -1,13 +1,13 @@
 -- A cut of the cluster's logs is a moment of its own run, with all that comes later in the greater one; and each part
 -- of a host's log is that of some moment.
-use Rattle.std.proofs.Common.{◌≡◌, ◌≢◌, ◌⊎◌, ◌∙◌, ◌++◌, ℕ, List, [], ◌∷◌, refl, sym, ap, subst, inl, inr}
+use Rattle.std.proofs.Common.{◌≡◌, ◌⊎◌, ◌∙◌, ◌++◌, ℕ, List, [], ◌∷◌, refl, sym, ap, inl, inr}
 use Rattle.std.proofs.Math.Path.{fun_ext}
-use Rattle.std.proofs.lemmas.Bool.{cases_eq}
 use Rattle.run_theory.proofs.Pasts.{past_cases, past_self, past_trans}
-use Rattle.run_theory.proofs.Runs.{log_of-other, log_of-own}
+use Rattle.run_theory.proofs.Runs.{log_of-own, log_of-past}
 use Rattle.run_theory.specs.Cuts.{IsCut}
 use Rattle.run_theory.specs.Lists.{IsIn, IsPast}
 use Rattle.run_theory.specs.Ranks.{in_order}
+use Rattle.run_theory.proofs.EventCases.{event_cases}
 use Rattle.sig_core.specs.declared.mark.Mark.{Mark}
 use Rattle.world_core.specs.Start.{Start}
 use Rattle.world_core.specs.Steps.{HostStep}
@@ -74,19 +74,16 @@ module _ (start : Start) where
 
   pub has_log : (h : ℕ) (log es : List HostStep) → IsPast log (logs_of start es h) → HasLogAt h log es
   has_log h log [] past = record { newer = []; older = []; is = refl; log_is = sym (past_none log past) }
-  has_log h log (e ∷ es) past = by (cases_eq e.host h) (has_log h log es)
+  has_log h log (e ∷ es) past =
+      let rest = has_log h log es in
+      event_cases (machine start) e es h (λ all. IsPast log all → HasLogAt h log (e ∷ es))
+      (λ at past. own at (past_cases e past) rest) (λ other past. one_more h log e es (rest past)) past
     where
       own : (e.host ≡ h) → (e ∷ logs_of start es h ≡ log) ⊎ IsPast log (logs_of start es h)
           → (IsPast log (logs_of start es h) → HasLogAt h log es) → HasLogAt h log (e ∷ es)
       own at (inl whole) rest =
           record { newer = []; older = e ∷ es; is = refl; log_is = log_of-own (machine start) e es h at ∙ whole }
       own at (inr part) rest = one_more h log e es (rest part)
-
-      by : (e.host ≡ h) ⊎ (e.host ≢ h) → (IsPast log (logs_of start es h) → HasLogAt h log es)
-          → HasLogAt h log (e ∷ es)
-      by (inl at) rest = own at (past_cases e (subst (IsPast log) (log_of-own (machine start) e es h at) past)) rest
-      by (inr other) rest =
-          one_more h log e es (rest (subst (IsPast log) (log_of-other (machine start) e es h other) past))
 
   -- the event at which a host has made a mark
   pub record MarksAt (h : ℕ) (mark : Mark) (es : List HostStep) : Type 0 where
@@ -99,7 +96,10 @@ module _ (start : Start) where
 
   pub marks_at : (h : ℕ) (mark : Mark) (es : List HostStep) → IsMarked mark (logs_of start es h) → MarksAt h mark es
   marks_at h mark [] is = absurd is
-  marks_at h mark (e ∷ es) is = by (cases_eq e.host h) (marks_at h mark es)
+  marks_at h mark (e ∷ es) is =
+      let rest = marks_at h mark es in
+      event_cases (machine start) e es h (λ log. IsMarked mark log → MarksAt h mark (e ∷ es))
+      (λ at is. own at is rest) (λ other is. more (rest is)) is
     where
       more : MarksAt h mark es → MarksAt h mark (e ∷ es)
       more has = record {
@@ -117,17 +117,7 @@ module _ (start : Start) where
           record { newer = []; event = e; older = es; is = refl; at = at; there = now }
       own at (inr old) rest = more (rest old)
 
-      by : (e.host ≡ h) ⊎ (e.host ≢ h) → (IsMarked mark (logs_of start es h) → MarksAt h mark es)
-          → MarksAt h mark (e ∷ es)
-      by (inl at) rest = own at (subst (IsMarked mark) (log_of-own (machine start) e es h at) is) rest
-      by (inr other) rest = more (rest (subst (IsMarked mark) (log_of-other (machine start) e es h other) is))
-
   -- the log of a host up to a moment is a part of that at each later one
   pub log_past : (h : ℕ) (newer es : List HostStep) → IsPast (logs_of start es h) (logs_of start (newer ++ es) h)
   log_past h [] es = past_self (logs_of start es h)
-  log_past h (e ∷ newer) es = past_trans (log_past h newer es) (by (cases_eq e.host h))
-    where
-      by : (e.host ≡ h) ⊎ (e.host ≢ h)
-          → IsPast (logs_of start (newer ++ es) h) (logs_of start (e ∷ newer ++ es) h)
-      by (inl at) = record { newer = e ∷ []; is = log_of-own (machine start) e (newer ++ es) h at }
-      by (inr other) = record { newer = []; is = log_of-other (machine start) e (newer ++ es) h other }
+  log_past h (e ∷ newer) es = past_trans (log_past h newer es) (log_of-past (machine start) e (newer ++ es) h)

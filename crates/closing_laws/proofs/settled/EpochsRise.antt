@@ -36,7 +36,7 @@ use Rattle.epoch_laws.proofs.StandTakes.{taken_rises}
 use Rattle.epoch_laws.proofs.StepKinds.{RunsTc}
 use Rattle.epoch_laws.specs.Members.{dih_in, epochs_of}
 use Rattle.epoch_laws.specs.Stand.{AllStand}
-use Rattle.commit_laws.proofs.settled.OfFullCoordinators.{any_decided}
+use Rattle.commit_laws.proofs.forth.DecidedStay.{decided_mark}
 use Rattle.closing_laws.proofs.settled.Cuts.{MarksAt, goes_on, has_log, log_past, marks_at}
 
 -- a signal that rises moves it to no lesser epoch
@@ -160,7 +160,7 @@ module _ (start : Start) (all : ℕ → List HostStep) (some : 1 ≤ start.epoch
     decides : has_mark (is_decision tx) (found.event ∷ logs_of start found.older (tc_of start me)) ≡ true
     decides =
         or_left (list_any (is_decision tx) d.step.marks) (has_mark (is_decision tx) (logs_of start found.older h))
-        (any_decided tx epoch d.step.marks found.there)
+        (decided_mark tx epoch d.step.marks found.there)
 
     whole : IsPast (found.event ∷ logs_of start found.older (tc_of start me)) (logs_of start end (tc_of start me))
     whole =

@@ -1,5 +1,6 @@
 -- Whoever is decided in a cut, and applied there, has its entry in the history of that cut.
-use Rattle.std.proofs.Common.{◌≡◌, ◌⊎◌, ◌∙◌, ◌++◌, cond, ℕ, zero, suc, Bool, true, false, List, [], ◌∷◌, filter, sym, ap, subst, inl, inr}
+use Rattle.std.proofs.Common.{◌≡◌, ◌⊎◌, ◌∙◌, ◌++◌, cond, ℕ, zero, suc, Bool, true, false, List, [], ◌∷◌, filter, sym}
+use Rattle.std.proofs.Common.{ap, subst, inl, inr}
 use Rattle.std.proofs.lemmas.Bool.{true≢false}
 use Rattle.std.specs.List.{list_any}
 use Rattle.run_theory.proofs.Pasts.{each_in, in_past, past_self, past_trans}
@@ -33,7 +34,8 @@ use Rattle.commit_laws.proofs.settled.All.{all_stand}
 use Rattle.commit_laws.proofs.views.AtEvents.{any_of, some_of}
 use Rattle.commit_laws.proofs.forth.All.{forth_is_known}
 use Rattle.commit_laws.proofs.led.Applied.{HasEntryOf, applied_are_final, entry_of_decided}
-use Rattle.commit_laws.proofs.led.Entries.{entries_final, in_filter}
+use Rattle.commit_laws.proofs.led.Entries.{entries_final}
+use Rattle.commit_laws.proofs.markers.Lists.{in_filter}
 use Rattle.closing_laws.proofs.settled.Cuts.{cut_moment, events_of, logs_are}
 
 -- an entry at its place, and those beside it

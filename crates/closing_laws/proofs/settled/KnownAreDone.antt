@@ -1,8 +1,8 @@
 -- Whatever comes to be known to the client's side was done, and committed by its coordinator, before.
-use Rattle.std.proofs.Common.{◌≡◌, ◌≢◌, ◌⊎◌, ◌||◌, ◌∙◌, ℕ, Bool, true, false, List, ◌∷◌, refl, sym, ap, subst, inl, inr}
-use Rattle.std.proofs.lemmas.Bool.{cases_eq, true≢false}
+use Rattle.std.proofs.Common.{◌≡◌, ◌||◌, ◌∙◌, ℕ, Bool, true, false, List, ◌∷◌, refl, sym, subst}
+use Rattle.std.proofs.lemmas.Bool.{true≢false}
 use Rattle.run_theory.proofs.Pasts.{each_in}
-use Rattle.run_theory.proofs.Runs.{log_of-other, log_of-own}
+use Rattle.run_theory.proofs.EventCases.{event_cases}
 use Rattle.sig_core.proofs.TxLemmas.{same_tx-is}
 use Rattle.sig_core.specs.declared.member.TxId.{TxId}
 use Rattle.sig_core.specs.declared.outs.Outgoing.{Outgoing}
@@ -62,21 +62,16 @@ module _ (start : Start) (all : ℕ → List HostStep) (e : HostStep) (es : List
     module _ (tx : TxId) (off : is_known start (logs_of start es) tx ≡ false)
         (is : is_known start (logs_of start (e ∷ es)) tx ≡ true) where
       acknowledges : is_sent (is_acknowledgement tx) sends ≡ true
-      acknowledges = by (cases_eq e.host 0)
+      acknowledges =
+          event_cases (machine start) e es 0
+          (λ log. has_sent start (is_acknowledgement tx) 0 log ≡ true → is_sent (is_acknowledgement tx) sends ≡ true)
+          (λ at. sent at (is_sent (is_acknowledgement tx) sends) refl)
+          (λ other is. absurd (true≢false (sym is ∙ off))) is
         where
           sent : e.host ≡ 0 → (b : Bool) → is_sent (is_acknowledgement tx) sends ≡ b
               → (b || has_sent start (is_acknowledgement tx) 0 (logs_of start es 0)) ≡ true → b ≡ true
           sent at true here is = refl
           sent at false here is = absurd (true≢false (sym is ∙ off))
-
-          by : (e.host ≡ 0) ⊎ (e.host ≢ 0) → is_sent (is_acknowledgement tx) sends ≡ true
-          by (inl at) =
-              sent at (is_sent (is_acknowledgement tx) sends) refl
-              (subst (λ log. has_sent start (is_acknowledgement tx) 0 log ≡ true)
-              (log_of-own (machine start) e es 0 at) is)
-          by (inr other) =
-              absurd (true≢false (sym is
-              ∙ (ap (has_sent start (is_acknowledgement tx) 0) (log_of-other (machine start) e es 0 other) ∙ off)))
 
       word : TakesWord tx
       word =

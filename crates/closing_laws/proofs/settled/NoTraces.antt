@@ -1,5 +1,6 @@
 -- Where a transaction aborts, and has no full coordinator, no full member had a trace of it on the way there.
-use Rattle.std.proofs.Common.{◌≡◌, ◌⊎◌, ◌||◌, ◌&&◌, ◌∙◌, ◌++◌, ℕ, Bool, true, false, List, [], ◌∷◌, refl, sym, ap, subst, inl, inr}
+use Rattle.std.proofs.Common.{◌≡◌, ◌⊎◌, ◌||◌, ◌&&◌, ◌∙◌, ◌++◌, ℕ, Bool, true, false, List, [], ◌∷◌, refl, sym, ap}
+use Rattle.std.proofs.Common.{subst, inl, inr}
 use Rattle.std.proofs.lemmas.Bool.{and_parts, or_cases, or_left, or_right, true≢false}
 use Rattle.std.specs.List.{list_any}
 use Rattle.std.specs.Prelude.{Option, None, Some}
@@ -18,7 +19,8 @@ use Rattle.moment_laws.specs.Places.{ldm_of}
 use Rattle.request_laws.specs.Blocks.{rows_after}
 use Rattle.commit_laws.specs.Fates.{aborts, fate, is_led_by_full}
 use Rattle.commit_laws.specs.Going.{is_forth, is_lost}
-use Rattle.commit_laws.specs.Traces.{has_marker_at, has_trace, is_committed_at, is_committed_by, is_committed_of, is_known, is_marker_of, leave_trace, members_now, record_at, rows_at}
+use Rattle.commit_laws.specs.Traces.{has_marker_at, has_trace, is_committed_at, is_committed_by, is_committed_of}
+use Rattle.commit_laws.specs.Traces.{is_known, is_marker_of, leave_trace, members_now, record_at, rows_at}
 use Rattle.commit_laws.proofs.commits.Remain.{record_there}
 use Rattle.commit_laws.proofs.fates.Cases.{known_commits, not_both, trace_commits}
 use Rattle.commit_laws.proofs.views.AtEvents.{any_of, full_only}

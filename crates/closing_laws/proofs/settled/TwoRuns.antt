@@ -1,6 +1,7 @@
 -- Two moments of different runs: where a host has entered a view on the way to one, and the hosts of the rows of its
 -- full members stand in it there, the other run, as it comes to that view, has no more of their logs.
-use Rattle.std.proofs.Common.{◌≡◌, ◌≢◌, ◌≤◌, ◌<◌, ◌⊎◌, ◌∙◌, ◌++◌, ℕ, List, [], ◌∷◌, append_assoc, refl, sym, ap, subst, inl, inr, arith, zero, suc}
+use Rattle.std.proofs.Common.{◌≡◌, ◌≢◌, ◌≤◌, ◌<◌, ◌⊎◌, ◌∙◌, ◌++◌, ℕ, List, [], ◌∷◌, append_assoc, refl, sym, ap, subst}
+use Rattle.std.proofs.Common.{inl, inr, arith, zero, suc}
 use Rattle.std.proofs.lemmas.Bool.{cases_eq, cases_lt}
 use Rattle.std.specs.Prelude.{Some}
 use Rattle.run_theory.proofs.Pasts.{past_cases, past_self, past_trans}

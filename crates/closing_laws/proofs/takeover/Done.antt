@@ -1,13 +1,15 @@
 -- Once a takeover is over, whoever commits and has no coordinator in the current view is done.
-use Rattle.std.proofs.Common.{◌≡◌, ◌≢◌, ◌≤◌, ◌⊎◌, ◌==◌, ◌+◌, ◌∙◌, nat_lt, ℕ, true, false, List, [], ◌∷◌, arith, inl, inr, length, refl, sym, ap, subst}
-use Rattle.std.proofs.lemmas.Bool.{cases_eq, eqb-true}
+use Rattle.std.proofs.Common.{◌≡◌, ◌≤◌, ◌⊎◌, ◌==◌, ◌+◌, ◌∙◌, nat_lt, ℕ, true, false, List, [], ◌∷◌, arith, inl, inr}
+use Rattle.std.proofs.Common.{length, refl, sym, ap, subst}
+use Rattle.std.proofs.lemmas.Bool.{eqb-true}
 use Rattle.std.specs.Prelude.{Option, None, Some, slice_get}
 use Rattle.run_theory.specs.Links.{sent, sent_by, taken}
 use Rattle.run_theory.specs.Lists.{Each, IsIn}
 use Rattle.run_theory.specs.Machine.{Machine}
 use Rattle.run_theory.proofs.Links.{put_each, sent_by_each}
 use Rattle.run_theory.proofs.Pasts.{each_from, each_in, each_map}
-use Rattle.run_theory.proofs.Runs.{log_of-other, log_of-own, logs_of_run}
+use Rattle.run_theory.proofs.Runs.{logs_of_run}
+use Rattle.run_theory.proofs.EventCases.{event_cases}
 use Rattle.sig_core.specs.declared.member.Member.{Member}
 use Rattle.sig_core.specs.declared.member.TxId.{TxId}
 use Rattle.sig_core.specs.declared.outs.Outgoing.{Outgoing}
@@ -346,22 +348,14 @@ module _ (start : Start) (all : ℕ → List HostStep) (e : HostStep) (es : List
             (λ o beside is stands. row_all stands passed to (beside is)) (takeover_together between.takeover x))
 
       work_next : number_in start new h ≡ current_number start new → TellsAll O S (takeover_at start new member)
-      work_next stands = by (cases_eq e.host h)
-        where
-          by : (e.host ≡ h) ⊎ (e.host ≢ h) → TellsAll O S (takeover_at start new member)
-          by (inl at) =
-              let own = log_of-own (machine start) e es h at in
-              subst (λ l. TellsAll O S (takeover_after start member l)) (sym own)
-              (subst (λ k. TellsAll O S (takeover_after start member (e ∷ old k))) at
-              (tells_here at
-              (subst (λ k. (view_after start k (e ∷ old k)).number ≡ current_number start new) (sym at)
-              (subst (λ l. (view_after start h l).number ≡ current_number start new) own stands))))
-          by (inr other) =
-              let same = log_of-other (machine start) e es h other in
-              let number : number_in start new h ≡ number_in start old h =
-              ap (λ (l : List HostStep). (view_after start h l).number) same in
-              subst (λ l. TellsAll O S (takeover_after start member l)) (sym same)
-              (was_tells (still_by (number_in start new h) stands (omega (arith, number))))
+      work_next =
+          event_cases (machine start) e es h
+          (λ l. (view_after start h l).number ≡ current_number start new → TellsAll O S (takeover_after start member l))
+          (λ at stands.
+          subst (λ k. TellsAll O S (takeover_after start member (e ∷ old k))) at
+          (tells_here at
+          (subst (λ k. (view_after start k (e ∷ old k)).number ≡ current_number start new) (sym at) stands)))
+          (λ other stands. was_tells (still_by (number_in start old h) stands (omega arith)))
 
       abbrev Told : Addressed → Type 0
       Told y =
@@ -384,7 +378,10 @@ module _ (start : Start) (all : ℕ → List HostStep) (e : HostStep) (es : List
           (was.over member there j) inside body (number ∙ same_number)))
 
       over_next : (j : ℕ) → Each Told (sent n h j (new h))
-      over_next j = by (cases_eq e.host h)
+      over_next j =
+          event_cases (machine start) e es h (λ l. Each Told (sent n h j l))
+          (λ at. put_each n Told j (sent_by n h (old h) e) (sent n h j (old h)) (now at) (old_over j))
+          (λ other. old_over j)
         where
           now : (at : e.host ≡ h) → Each Told (sent_by n h (old h) e)
           now at =
@@ -394,13 +391,6 @@ module _ (start : Start) (all : ℕ → List HostStep) (e : HostStep) (es : List
               sent_so start e.host (old e.host) e
               (λ (v : View) (to : Place) (body : Body).
               body ≡ Takeover TakeoverEnd → v.number ≡ current_number start new → AreSeenTo start new) (all_seen at)))
-
-          by : (e.host ≡ h) ⊎ (e.host ≢ h) → Each Told (sent n h j (new h))
-          by (inl at) =
-              subst (λ l. Each Told (sent n h j l)) (sym (log_of-own (machine start) e es h at))
-              (put_each n Told j (sent_by n h (old h) e) (sent n h j (old h)) (now at) (old_over j))
-          by (inr other) =
-              subst (λ l. Each Told (sent n h j l)) (sym (log_of-other (machine start) e es h other)) (old_over j)
 
     sees_next : SeesToAll start old → SeesToAll start new
     sees_next was = record {

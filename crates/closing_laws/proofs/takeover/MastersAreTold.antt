@@ -1,13 +1,15 @@
 -- A master owes no takeover in the first view, and later where it was told, in its view, that the takeover of its
 -- member is
 -- over.
-use Rattle.std.proofs.Common.{◌≡◌, ◌≢◌, ◌≤◌, ◌⊎◌, ◌||◌, ◌==◌, ◌&&◌, ℕ, Bool, true, false, List, [], ◌∷◌, refl, sym, ap, subst, ◌∙◌, inl, inr, eq-eqb}
-use Rattle.std.proofs.lemmas.Bool.{cases_eq, true≢false}
+use Rattle.std.proofs.Common.{◌≡◌, ◌≤◌, ◌⊎◌, ◌||◌, ◌==◌, ◌&&◌, ℕ, Bool, true, false, List, [], ◌∷◌, refl, sym, ap}
+use Rattle.std.proofs.Common.{subst, ◌∙◌, inl, inr, eq-eqb}
+use Rattle.std.proofs.lemmas.Bool.{true≢false}
 use Rattle.std.specs.Prelude.{if◌then◌else◌, not}
 use Rattle.frag_map.specs.Layout.{first_layout}
 use Rattle.run_theory.specs.Links.{taken}
 use Rattle.run_theory.specs.Lists.{IsIn}
 use Rattle.run_theory.specs.Machine.{Machine}
+use Rattle.run_theory.proofs.EventCases.{event_keeps}
 use Rattle.sig_core.specs.declared.member.Member.{Member}
 use Rattle.sig_core.specs.declared.place.BlockId.{BlockId}
 use Rattle.sig_core.specs.declared.place.BlockId.TheVariants as block
@@ -24,7 +26,7 @@ use Rattle.node_views.specs.Fence.{is_body_fenced, is_fenced}
 use Rattle.node_views.specs.WellFormed.{is_well_formed}
 use Rattle.world_core.specs.Start.{Start, made}
 use Rattle.world_core.specs.Steps.{Addressed, HostStep}
-use Rattle.world_views.specs.Machine.{IsOwnWork}
+use Rattle.world_views.specs.Machine.{IsOwnWork, machine}
 use Rattle.world_views.specs.Sending.{is_asked, is_own_work}
 use Rattle.view_laws.specs.Order.{sound_machine}
 use Rattle.view_laws.specs.Runs.{view_after}
@@ -33,7 +35,7 @@ use Rattle.view_laws.proofs.follow.Hosts.{main_started}
 use Rattle.moment_laws.specs.Moments.{IsMoment, current, logs_of}
 use Rattle.moment_laws.specs.Places.{tc_of}
 use Rattle.moment_laws.proofs.MomentSignals.{EachSent, taken_told}
-use Rattle.moment_laws.proofs.MomentTurns.{other_log, own_behind, own_log}
+use Rattle.moment_laws.proofs.MomentTurns.{own_behind, own_log}
 use Rattle.moment_laws.proofs.MomentViews.{moment_less}
 use Rattle.moment_laws.proofs.PartTaken.{IsTakenNow}
 use Rattle.epoch_laws.specs.Members.{master_in, master_of}
@@ -119,20 +121,12 @@ module _ (own : EndsAreOwn) (start : Start) (all : ℕ → List HostStep) (e : H
       told_still : (number : ℕ) → IsToldOver start old member number → IsToldOver start new member number
       told_still number told = record {
         signal = told.signal;
-        there = by (cases_eq e.host h);
+        there =
+            event_keeps (machine start) e es (λ k log. IsIn told.signal (taken n (tc_of start member) log))
+            (λ was. taken_more n (tc_of start member) (old e.host) e told.signal was) h told.there;
         body = told.body;
         number_is = told.number_is;
       }
-        where
-          by : (e.host ≡ h) ⊎ (e.host ≢ h)
-              → IsIn told.signal (taken n (tc_of start member) (new (main_of start member)))
-          by (inl at) =
-              subst (λ log. IsIn told.signal (taken n (tc_of start member) log))
-              (sym (subst (λ k. new k ≡ e ∷ old k) at (own_log start all e es moment)))
-              (taken_more n (tc_of start member) (old h) e told.signal told.there)
-          by (inr other) =
-              subst (λ log. IsIn told.signal (taken n (tc_of start member) log))
-              (sym (other_log start all e es moment h other)) told.there
 
       pub still : (view : View) → IsOverIn start old member view → IsOverIn start new member view
       still view (inl first) = inl first
@@ -202,9 +196,6 @@ module _ (own : EndsAreOwn) (start : Start) (all : ℕ → List HostStep) (e : H
           → IsOverIn start new member (master_of start new member).view
       over_next none = by (master_does start all e es moment member)
         where
-          owes : MasterState → Type 0
-          owes s = s.owed ≡ false
-
           took : e.host ≡ main_of start member → IsTakenNow start all e es moment block.GcpMaster
               → (between : MasterState) → master_of start new member ≡ (master_row between x).state
               → (between.owed ≡ false → IsOverIn start old member between.view)

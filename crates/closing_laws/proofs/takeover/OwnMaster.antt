@@ -1,5 +1,6 @@
 -- The takeover of a member tells the master of that member alone that it is over, and nobody else tells a master so.
-use Rattle.std.proofs.Common.{◌≡◌, ◌≤◌, ◌⊎◌, ◌++◌, ℕ, zero, suc, Bool, true, false, List, [], ◌∷◌, refl, sym, ap, subst, ◌∙◌, inl, inr, arith, ⊎_elim}
+use Rattle.std.proofs.Common.{◌≡◌, ◌≤◌, ◌⊎◌, ◌++◌, ℕ, zero, suc, false, List, [], ◌∷◌, refl, sym, ap, subst}
+use Rattle.std.proofs.Common.{◌∙◌, inl, inr, arith}
 use Rattle.std.proofs.lemmas.Bool.{true≢false}
 use Rattle.run_theory.proofs.Pasts.{each_append, each_in, each_map}
 use Rattle.run_theory.specs.Lists.{Each, IsIn}
@@ -11,24 +12,19 @@ use Rattle.sig_core.specs.declared.place.Part.TheVariants as parts
 use Rattle.sig_core.specs.declared.signal.Signal.{Signal}
 use Rattle.sig_core.specs.declared.view.View.{View}
 use Rattle.sig_core.specs.Place.{checkpoints}
-use Rattle.sig_core.specs.Step.{Effects}
 use Rattle.dih_node.specs.Orders as dih
-use Rattle.node_views.specs.Blocks.{parts_entered, parts_row}
 use Rattle.node_views.specs.declared.host.Host as hosts
-use Rattle.node_views.specs.declared.ldm_part.LdmPart.{LdmPart}
-use Rattle.node_views.specs.declared.main_part.MainPart.{MainPart}
 use Rattle.node_views.specs.declared.parts.Parts.{Parts}
 use Rattle.node_views.specs.declared.parts.Parts.TheVariants as part
-use Rattle.node_views.specs.declared.shell_part.ShellPart.{ShellPart}
 use Rattle.node_views.specs.declared.tc_part.TcPart.{TcPart}
-use Rattle.node_views.specs.Parts.{ldm_row, main_row, shell_row, tc_entered, tc_row}
+use Rattle.node_views.specs.Parts.{tc_entered, tc_row}
 use Rattle.tc_views.specs.Coordinator.{coordinator_row}
 use Rattle.tc_views.specs.Views as coordinator
 use Rattle.world_core.specs.Hosts.{member_at}
 use Rattle.world_core.specs.Start.{Start, made}
 use Rattle.world_core.specs.Steps.{Addressed, HostStep}
 use Rattle.world_views.specs.Hosts.{reached}
-use Rattle.world_views.specs.Machine.{after, signals_of, step_after, step_by}
+use Rattle.world_views.specs.Machine.{after, signals_of, step_after}
 use Rattle.view_laws.specs.Order.{is_sound}
 use Rattle.view_laws.specs.Runs.{view_after}
 use Rattle.view_laws.specs.Votes.{main_of}
@@ -36,72 +32,21 @@ use Rattle.view_laws.proofs.eras.SoundLogs.{each_filter}
 use Rattle.view_laws.proofs.fences.Hosts.{own_reaches}
 use Rattle.view_laws.proofs.follow.Senders.{IsSentBy, each_sent}
 use Rattle.moment_laws.specs.Moments.{IsMoment, logs_of}
-use Rattle.moment_laws.specs.Parts.{IsPassed}
 use Rattle.moment_laws.specs.PartSteps.{PartEnters, PartTakes, TcDoes, handles, ignores, installs, remains, tc_kind}
 use Rattle.moment_laws.specs.Places.{ldm_of, tc_of}
 use Rattle.moment_laws.proofs.MomentHosts.{HasNoTc, part_some, tc_member, tc_started}
 use Rattle.moment_laws.proofs.MomentSignals.{EachSent, sent_next}
 use Rattle.moment_laws.proofs.MomentTurns.{host_low}
 use Rattle.moment_laws.proofs.MomentViews.{moment_less}
-use Rattle.outcome_laws.proofs.knowledge.HostSteps.{AreKept, IsOfEffects, step_keeps}
-use Rattle.epoch_laws.proofs.StandKinds.{Whose, of_main, of_rows, of_shell, of_tc, runs_main, runs_rows, runs_shell, whose}
+use Rattle.epoch_laws.proofs.StandKinds.{Whose, of_main, of_rows, of_shell, of_tc, runs_main, runs_rows, runs_shell}
+use Rattle.epoch_laws.proofs.StandKinds.{whose}
 use Rattle.closing_laws.proofs.takeover.MastersAreTold.{IsOverTrue}
 use Rattle.closing_laws.proofs.takeover.Steps.{IsForOwn, takeover_own, unended_own}
-use Rattle.closing_laws.proofs.takeover.NoEnds.{AreUnended, IsUnended, arbiter_ends_none, client_ends_none, coordinator_ends_none, coordinator_installs_end_none, dih_ends_none, dih_installs_end_none, is_over, master_ends_none, membership_ends_none, membership_installs_end_none, rows_end_none}
+use Rattle.closing_laws.proofs.takeover.NoEnds.{AreUnended, IsUnended, coordinator_ends_none}
+use Rattle.closing_laws.proofs.takeover.NoEnds.{coordinator_installs_end_none, dih_ends_none, dih_installs_end_none}
+use Rattle.closing_laws.proofs.takeover.NoEnds.{is_over, others_end_none}
 use Rattle.dih_node.specs.Dih.{dih_row}
 use Rattle.moment_laws.proofs.PartKinds.{tc_after}
-use Rattle.sig_core.specs.declared.signal.Body.TheVariants.{Takeover}
-
-abbrev EndNone : Effects → Type 0
-EndNone effects = AreUnended effects.sends
-
-of_effects : IsOfEffects EndNone
-of_effects = record {
-  none = tt;
-  stops = λ cause. tt;
-  installs = λ view. tt;
-  cuts = λ first. tt;
-  joins = λ one other first then. each_append IsUnended one.sends other.sends first then;
-  hushes = λ effects are. tt;
-}
-
--- hosts without a takeover
-module _ (x : Signal) where
-  shell_none : (p : ShellPart) (b : BlockId) → AreUnended (shell_row p b x).effects.sends
-  unfolding shell_row
-  shell_none p block.Api = client_ends_none p.client x
-  shell_none p block.Arbiter = arbiter_ends_none p.arbiter x
-  shell_none p _ = tt
-
-  main_none : (p : MainPart) (b : BlockId) → AreUnended (main_row p b x).effects.sends
-  unfolding main_row
-  main_none p block.Qmgr = membership_ends_none p.qmgr x
-  main_none p block.GcpMaster = master_ends_none p.master x
-  main_none p _ = tt
-
-  ldm_none : (p : LdmPart) (b : BlockId) → AreUnended (ldm_row p b x).effects.sends
-  unfolding ldm_row
-  ldm_none p block.Lqh = rows_end_none p.replica x
-  ldm_none p _ = tt
-
-  row_none : (ps : Parts) → HasNoTc ps → HasNoTc (parts_row ps x).state × EndNone (parts_row ps x).effects
-  row_none (part.Shell p) none = (tt, shell_none p x.to.block)
-  row_none (part.Main p) none = (tt, main_none p x.to.block)
-  row_none (part.Ldm p) none = (tt, ldm_none p x.to.block)
-  row_none (part.Tc p) none = absurd none
-
-  entered_none : (ps : Parts) (view : View) → HasNoTc ps
-      → HasNoTc (parts_entered ps view).state × EndNone (parts_entered ps view).effects
-  entered_none (part.Shell p) view none = (tt, tt)
-  entered_none (part.Main p) view none = (tt, membership_installs_end_none p.qmgr view)
-  entered_none (part.Ldm p) view none = (tt, tt)
-  entered_none (part.Tc p) view none = absurd none
-
-  kept : AreKept HasNoTc EndNone x
-  kept = record { row = row_none; enters = entered_none }
-
-  others_none : (h : ℕ) (s : hosts.Host) → HasNoTc s.parts → AreUnended (step_by h s x).effects.sends
-  others_none h s none = (step_keeps HasNoTc EndNone of_effects x h s (λ sound. kept) none).1
 
 -- what goes from a host to the master of a node, and comes to that of a member, is of that node
 reaches_own : (start : Start) (h : ℕ) → 1 ≤ h → (view : View) (w me : Member) → IsIn w (made start)
@@ -218,9 +163,6 @@ module _ (start : Start) (all : ℕ → List HostStep) (e : HostStep) (es : List
     abbrev stood : View
     stood = view_after start e.host (e ∷ old e.host)
 
-    abbrev all_sends : List Outgoing
-    all_sends = (step_after start e.host (old e.host) e).effects.sends
-
     module _ (me : Member) (there : IsIn me (made start)) (at : e.host ≡ tc_of start me) where
       run : RunsTakeover start e.host me.node (old e.host)
       run = subst (λ h. RunsTakeover start h me.node (old h)) (sym at)
@@ -259,7 +201,7 @@ module _ (start : Start) (all : ℕ → List HostStep) (e : HostStep) (es : List
     others_own none y one ends =
         let off : is_over one.sent.body ≡ false =
         each_in IsUnended one.sent (step_after start e.host (old e.host) e).effects.sends
-        (others_none e.step.taken e.host (after start e.host (old e.host)) none) one.there in
+        (others_end_none e.step.taken e.host (after start e.host (old e.host)) none) one.there in
         absurd (true≢false (sym (ap is_over (sym one.body ∙ ends)) ∙ off))
 
     sent_own : (y : Addressed)

@@ -1,13 +1,15 @@
 -- While a takeover is at work in the current view, and once it is over, the rows of each full member stand in that
 -- view.
-use Rattle.std.proofs.Common.{◌≡◌, ◌≢◌, ◌≤◌, ◌⊎◌, ◌==◌, ◌+◌, ◌∙◌, nat_lt, ℕ, true, false, List, [], ◌∷◌, arith, inl, inr, length, refl, sym, ap, subst}
-use Rattle.std.proofs.lemmas.Bool.{cases_eq, eqb-true, true≢false}
+use Rattle.std.proofs.Common.{◌≡◌, ◌≤◌, ◌==◌, ◌+◌, ◌∙◌, nat_lt, ℕ, true, false, List, [], ◌∷◌, arith, length, refl, sym}
+use Rattle.std.proofs.Common.{ap, subst}
+use Rattle.std.proofs.lemmas.Bool.{eqb-true, true≢false}
 use Rattle.run_theory.specs.Links.{sent, sent_by, taken}
 use Rattle.run_theory.specs.Lists.{Each, IsIn}
 use Rattle.run_theory.specs.Machine.{Machine}
 use Rattle.run_theory.proofs.Links.{put_each, sent_by_each}
 use Rattle.run_theory.proofs.Pasts.{each_from, each_in, each_map}
-use Rattle.run_theory.proofs.Runs.{given_taken, log_of-other, log_of-own, logs_of_run}
+use Rattle.run_theory.proofs.Runs.{given_taken, log_of-own, logs_of_run}
+use Rattle.run_theory.proofs.EventCases.{event_cases}
 use Rattle.sig_core.specs.declared.member.Member.{Member}
 use Rattle.sig_core.specs.declared.outs.Outgoing.{Outgoing}
 use Rattle.sig_core.specs.declared.place.BlockId.{BlockId}
@@ -329,22 +331,15 @@ module _ (start : Start) (all : ℕ → List HostStep) (e : HostStep) (es : List
 
       work_next : number_in start new h ≡ current_number start new
           → is_at_work (takeover_at start new member).stage ≡ true → AreStanding start new
-      work_next stands is = by (cases_eq e.host h)
-        where
-          by : (e.host ≡ h) ⊎ (e.host ≢ h) → AreStanding start new
-          by (inl at) =
-              let own = log_of-own (machine start) e es h at in
-              work_here at (subst (λ l. (view_after start h l).number ≡ current_number start new) own stands)
-              (subst (λ l. is_at_work (takeover_after start member l).stage ≡ true) own is)
-          by (inr other) =
-              let same = log_of-other (machine start) e es h other in
-              let number : number_in start new h ≡ number_in start old h =
-              ap (λ (l : List HostStep). (view_after start h l).number) same in
-              let one = still (omega (arith, number, stands)) in
-              let same_number : current_number start new ≡ current_number start old = ap (λ (v : View). v.number) one in
-              standing_more one
-              (was.work member there (omega (arith, number, stands, same_number))
-              (subst (λ l. is_at_work (takeover_after start member l).stage ≡ true) same is))
+      work_next =
+          event_cases (machine start) e es h
+          (λ l. (view_after start h l).number ≡ current_number start new
+          → is_at_work (takeover_after start member l).stage ≡ true → AreStanding start new) (λ at. work_here at)
+          (λ other stands is.
+          let number : number_in start old h ≡ current_number start new = stands in
+          let one = still (omega (arith, number)) in
+          let same_number : current_number start new ≡ current_number start old = ap (λ (v : View). v.number) one in
+          standing_more one (was.work member there (omega (arith, number, same_number)) is))
 
       old_over : (j : ℕ) → Each Told (sent n h j log)
       old_over j =
@@ -361,24 +356,21 @@ module _ (start : Start) (all : ℕ → List HostStep) (e : HostStep) (es : List
           (was.over member there j) inside body (number ∙ same_number)))
 
       over_next : (j : ℕ) → Each Told (sent n h j (new h))
-      over_next j = by (cases_eq e.host h)
-        where
-          by : (e.host ≡ h) ⊎ (e.host ≢ h) → Each Told (sent n h j (new h))
-          by (inl at) =
-              subst (λ l. Each Told (sent n h j l)) (sym (log_of-own (machine start) e es h at))
-              (put_each n Told j (sent_by n h log e) (sent n h j log)
-              (sent_by_each n Told h log e
-              (λ goes.
-              each_filter Told (is_sound start) (signals_of start h log e)
-              (each_map _ Told (signals_of start h log e)
-              (λ (y : Addressed) one body number.
-              each_in (λ (o : Outgoing). o.body ≡ Takeover TakeoverEnd → AreStanding start new) one.sent
-              (step_after start h log e).effects.sends
-              (ends_over at (ap (λ (v : View). v.number) (sym one.view_is) ∙ number)) one.there (sym one.body ∙ body))
-              (each_sent start h log e))))
-              (old_over j))
-          by (inr other) =
-              subst (λ l. Each Told (sent n h j l)) (sym (log_of-other (machine start) e es h other)) (old_over j)
+      over_next j =
+          event_cases (machine start) e es h (λ l. Each Told (sent n h j l))
+          (λ at.
+          put_each n Told j (sent_by n h log e) (sent n h j log)
+          (sent_by_each n Told h log e
+          (λ goes.
+          each_filter Told (is_sound start) (signals_of start h log e)
+          (each_map _ Told (signals_of start h log e)
+          (λ (y : Addressed) one body number.
+          each_in (λ (o : Outgoing). o.body ≡ Takeover TakeoverEnd → AreStanding start new) one.sent
+          (step_after start h log e).effects.sends
+          (ends_over at (ap (λ (v : View). v.number) (sym one.view_is) ∙ number)) one.there (sym one.body ∙ body))
+          (each_sent start h log e))))
+          (old_over j))
+          (λ other. old_over j)
 
     overs_next : OversStand start old → OversStand start new
     overs_next was = record {

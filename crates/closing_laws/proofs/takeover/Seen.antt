@@ -19,7 +19,8 @@ use Rattle.commit_laws.specs.Takeovers.{IsOrphan}
 use Rattle.commit_laws.specs.Together.{FatesMove}
 use Rattle.commit_laws.specs.Traces.{IsCommittedAtAll, has_trace, is_known}
 use Rattle.commit_laws.proofs.answered.Stays.{committed_stays}
-use Rattle.commit_laws.proofs.forth.DecidedStay.{decided_more, known_more, written_before}
+use Rattle.commit_laws.proofs.forth.DecidedStay.{decided_more, written_before}
+use Rattle.commit_laws.proofs.forth.Grows.{known_grows}
 use Rattle.commit_laws.proofs.fates.Forth.{fate_decided}
 
 module _ (start : Start) (logs : ℕ → List HostStep) where
@@ -61,7 +62,7 @@ module _ (start : Start) (all : ℕ → List HostStep) (e : HostStep) (es : List
   where
     pub seen_more : (tx : TxId) → IsSeenTo start (logs_of start es) tx → IsSeenTo start (logs_of start (e ∷ es)) tx
     seen_more tx (aborting is) = aborting ((moves tx).aborting is)
-    seen_more tx (knowing is) = knowing (known_more start all e es moment tx is)
+    seen_more tx (knowing is) = knowing (known_grows start e es tx is)
     seen_more tx (leading is) = leading (subst (λ (v : View). is_coordinated v.full tx ≡ true) (sym same) is)
     seen_more tx (committing decided were) =
         committing (decided_more start all e es moment tx decided)

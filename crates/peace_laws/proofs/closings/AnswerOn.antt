@@ -35,8 +35,10 @@ use Rattle.peace_laws.specs.UnderWay.{IsMaster, IsOver, IsOwed, IsTrue, IsUnderW
 use Rattle.peace_laws.specs.UnderWay.{answer, answer_of, blocks_of, ended_by, ended_of, going_on, is_later, order_of}
 use Rattle.peace_laws.specs.UnderWay.{order_to, phase_of, report_of, voice_of}
 use Rattle.peace_laws.proofs.closings.ListOn.{ReportGoes, report_goes, told_master}
-use Rattle.peace_laws.proofs.closings.MainOn.{arrive, committed, main_goes, over_stays, sent_letter, stays_coming, t, told_same}
-use Rattle.peace_laws.proofs.closings.MasterAnswers.{Ends, Enters, answer_is, answered, completed, completes, is_answer, is_gcp}
+use Rattle.peace_laws.proofs.closings.MainOn.{arrive, committed, main_goes, over_stays, sent_letter, stays_coming, t}
+use Rattle.peace_laws.proofs.closings.MainOn.{told_same}
+use Rattle.peace_laws.proofs.closings.MasterAnswers.{Ends, Enters, answer_is, answered, completed, completes, is_answer}
+use Rattle.peace_laws.proofs.closings.MasterAnswers.{is_gcp}
 use Rattle.peace_laws.proofs.closings.MasterAnswers.{none_counts, over_at}
 use Rattle.peace_laws.proofs.closings.OrderLists.{IsListed, all_letters, over_list, over_listed, report_stands}
 use Rattle.peace_laws.proofs.closings.OrderLists.{stage_listed}

@@ -3,7 +3,7 @@
 use Rattle.std.proofs.Common.{◌≡◌, ◌≢◌, ◌⊎◌, ◌<◌, inl, inr, ℕ, List, [], ◌∷◌, ◌++◌, true, false}
 use Rattle.std.proofs.Common.{refl, ap, sym, ◌∙◌, subst, append-nil, map, arith}
 use Rattle.std.specs.Prelude.{None, Some, slice_get}
-use Rattle.std.proofs.lemmas.Bool.{cases_eq, false≢true}
+use Rattle.std.proofs.lemmas.Bool.{false≢true}
 use Rattle.api_block.specs.State.{ApiState}
 use Rattle.api_views.specs.declared.closings.Closing.{Closing}
 use Rattle.api_views.specs.declared.closings.Closing.TheVariants as closing
@@ -30,6 +30,7 @@ use Rattle.run_theory.proofs.Runs.{log_of-other, log_of-own, taken-asked}
 use Rattle.run_theory.specs.Links.{taken}
 use Rattle.run_theory.specs.Lists.{IsIn}
 use Rattle.run_theory.specs.Runs.{IsWithin, Run, log_of}
+use Rattle.run_theory.proofs.EventCases.{event_leaves}
 use Rattle.sig_core.specs.declared.member.Member.{Member}
 use Rattle.sig_core.specs.declared.outs.Outgoing.{Outgoing}
 use Rattle.sig_core.specs.declared.place.BlockId.TheVariants as block
@@ -46,7 +47,8 @@ use Rattle.sig_core.specs.Step.{Step, to_place}
 use Rattle.world_core.specs.Hosts.{host_for, hosts}
 use Rattle.world_core.specs.Start.{Start}
 use Rattle.world_core.specs.Steps.{HostStep}
-use Rattle.world_views.specs.Machine.{IsOwn, after, has_stopped, machine, replies_at, step_after, step_by, stops_by, told}
+use Rattle.world_views.specs.Machine.{IsOwn, after, has_stopped, machine, replies_at, step_after, step_by, stops_by}
+use Rattle.world_views.specs.Machine.{told}
 use Rattle.world_views.specs.Right.{replies_in}
 use Rattle.world_views.specs.Sending.{is_asked, is_own_work}
 use Rattle.calm_laws.specs.Alike.{IsAtEase, first}
@@ -243,13 +245,9 @@ module _ (hosts_level : HostsAreLevel) (start : Start) (shape : IsShape start.sh
 
   -- nothing was taken
   same_taken : (a b : ℕ) → taken (machine start) a (now b) ≡ taken (machine start) a (log b)
-  same_taken a b = go (cases_eq e.host b)
-    where
-      go : (e.host ≡ b) ⊎ (e.host ≢ b) → taken (machine start) a (now b) ≡ taken (machine start) a (log b)
-      go (inl at) =
-          ap (taken (machine start) a) (log_of-own (machine start) e es b at)
-          ∙ taken-asked (machine start) a e (log b) asked
-      go (inr apart) = ap (taken (machine start) a) (log_of-other (machine start) e es b apart)
+  same_taken a =
+      event_leaves (machine start) e es (λ b. taken (machine start) a)
+      (taken-asked (machine start) a e (log e.host) asked)
 
   mids : (a b : ℕ) → OnLink start log a b (log a) (now b)
   mids a b = record { under = []; gone = []; sent_is = refl; taken_is = same_taken a b }

@@ -29,7 +29,8 @@ use Rattle.tc_views.specs.State.{CoordinatorState}
 use Rattle.world_core.specs.Start.{Start}
 use Rattle.world_views.specs.Machine.{closes, step_by, step_if, stops_by}
 use Rattle.calm_laws.specs.Alike.{first}
-use Rattle.calm_laws.proofs.plain_steps.Ease.{closes_none, goes_on, if_none, ldm_fence, not_barred, off_by, settles_none, tc_fence}
+use Rattle.calm_laws.proofs.plain_steps.Ease.{closes_none, goes_on, if_none, ldm_fence, not_barred, off_by}
+use Rattle.calm_laws.proofs.plain_steps.Ease.{settles_none, tc_fence}
 use Rattle.peace_laws.specs.Alike.{AreNear, ArePartsNear}
 use Rattle.peace_laws.specs.Peace.{asks_by, asks_closing, has_closer, is_closing, is_for_closing}
 

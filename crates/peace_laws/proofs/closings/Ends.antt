@@ -1,5 +1,6 @@
 -- A closing that was asked for has ended once nothing is under way any more.
-use Rattle.std.proofs.Common.{◌≡◌, ◌≤◌, ◌<◌, ◌⊎◌, ◌∙◌, inl, inr, ℕ, ◌+◌, Bool, true, false, List, [], ◌∷◌, refl, sym, subst}
+use Rattle.std.proofs.Common.{◌≡◌, ◌≤◌, ◌<◌, ◌⊎◌, ◌∙◌, inl, inr, ℕ, ◌+◌, Bool, true, false, List, [], ◌∷◌, refl, sym}
+use Rattle.std.proofs.Common.{subst}
 use Rattle.std.proofs.lemmas.Bool.{false≢true}
 use Rattle.std.specs.Prelude.{None, Some}
 use Rattle.frag_map.specs.Replicas.{first_start}
@@ -18,7 +19,8 @@ use Rattle.peace_laws.specs.Closing.{ClosingsEnd, Course, EpochsRest, IsEnded, M
 use Rattle.peace_laws.specs.Closing.{main, next_of}
 use Rattle.peace_laws.specs.Moments.{GoesOn, IsStill, Moment, Takes}
 use Rattle.peace_laws.specs.UnderWay.{AnAnswer, Closes, Commits, Copies, GoingOn, HasCommitted, HasMember}
-use Rattle.peace_laws.specs.UnderWay.{IsAnswered, IsAt, IsClient, IsLeft, IsLetter, IsOver, IsOwed, IsUnderWay, Prepares}
+use Rattle.peace_laws.specs.UnderWay.{IsAnswered, IsAt, IsClient, IsLeft, IsLetter, IsOver, IsOwed, IsUnderWay}
+use Rattle.peace_laws.specs.UnderWay.{Prepares}
 use Rattle.peace_laws.specs.UnderWay.{Saves, ShellHas, Stage, blocks_of, report_of, voice_of}
 use Rattle.peace_laws.proofs.closings.AnswerOn as answer
 use Rattle.peace_laws.proofs.closings.ListOn as list

@@ -24,12 +24,16 @@ use Rattle.calm_laws.specs.Alike.{first}
 use Rattle.peace_laws.specs.Closing.{Course, host_in, main}
 use Rattle.peace_laws.specs.Moments.{IsTaken, Moment, Takes}
 use Rattle.peace_laws.specs.UnderWay.{GoingOn, IsAnswered, IsAt, IsLeft, IsMaster, IsOver, IsOwed, IsTrue, IsUnderWay}
-use Rattle.peace_laws.specs.UnderWay.{IsUnsent, Commits, Stage, answer, answer_of, ended_of, going_on, order_of, order_to}
+use Rattle.peace_laws.specs.UnderWay.{IsUnsent, Commits, Stage, answer, answer_of, ended_of, going_on, order_of}
+use Rattle.peace_laws.specs.UnderWay.{order_to}
 use Rattle.peace_laws.specs.UnderWay.{report_of}
-use Rattle.peace_laws.proofs.closings.MainOn.{arrive, committed, main_goes, same_place, sent_letter, shell_off, stays_coming}
+use Rattle.peace_laws.proofs.closings.MainOn.{arrive, committed, main_goes, same_place, sent_letter, shell_off}
+use Rattle.peace_laws.proofs.closings.MainOn.{stays_coming}
 use Rattle.peace_laws.proofs.closings.MainOn.{t, told_same}
-use Rattle.peace_laws.proofs.closings.OrderLists.{IsListed, all_letters, client_reached, left_below, list_goes, over_list, over_listed}
-use Rattle.peace_laws.proofs.closings.OrderLists.{portion_arrives, portion_or_rest, reaches, report_left, rest_arrives, stage_listed}
+use Rattle.peace_laws.proofs.closings.OrderLists.{IsListed, all_letters, client_reached, left_below, list_goes}
+use Rattle.peace_laws.proofs.closings.OrderLists.{over_list, over_listed}
+use Rattle.peace_laws.proofs.closings.OrderLists.{portion_arrives, portion_or_rest, reaches, report_left, rest_arrives}
+use Rattle.peace_laws.proofs.closings.OrderLists.{stage_listed}
 use Rattle.peace_laws.proofs.closings.WayOn.{answered_stays, main_apart}
 use Rattle.run_theory.proofs.Pasts.{each_map}
 use Rattle.gcp_master.specs.declared.voices.Voice.{Voice}

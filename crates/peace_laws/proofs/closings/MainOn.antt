@@ -28,7 +28,8 @@ use Rattle.peace_laws.specs.UnderWay.{CommittedAt, GoingOn, HasCommitted, HasMem
 use Rattle.peace_laws.specs.UnderWay.{IsMaster, IsOver, IsUnderWay, Stage, going_on, report_of}
 use Rattle.peace_laws.proofs.closings.Steps.{row_at, row_is}
 use Rattle.peace_laws.proofs.closings.OrderLists.{IsSent}
-use Rattle.peace_laws.proofs.closings.WayOn.{answered_stays, client_stays, committed_on, letters_on, stays_true, stepped, told_stays}
+use Rattle.peace_laws.proofs.closings.WayOn.{answered_stays, client_stays, committed_on, letters_on, stays_true}
+use Rattle.peace_laws.proofs.closings.WayOn.{stepped, told_stays}
 
 -- a master that has nothing left to tell
 pub told_same : (s : MasterState) (more : Bool) → s.front ≡ None → told_if s more ≡ s

@@ -23,7 +23,8 @@ use Rattle.sig_core.specs.declared.signal.epoch.EpochSignal.{EpochSignal}
 use Rattle.sig_core.specs.declared.signal.epoch.EpochSignal.TheVariants as signal
 use Rattle.sig_core.specs.Step.{Step, stay}
 use Rattle.peace_laws.specs.Closing.{Course}
-use Rattle.peace_laws.specs.UnderWay.{Closes, Commits, Copies, IsAnswer, Prepares, Saves, Stage, blocks_of, ended_by, ended_of}
+use Rattle.peace_laws.specs.UnderWay.{Closes, Commits, Copies, IsAnswer, Prepares, Saves, Stage, blocks_of, ended_by}
+use Rattle.peace_laws.specs.UnderWay.{ended_of}
 use Rattle.peace_laws.specs.UnderWay.{is_later, is_saving, phase_of, run_of}
 
 -- it answers what was ordered in the stage

@@ -1,5 +1,6 @@
 -- What a member of a closing does at an order: it answers, and is in the epoch that ends, or has gone on to the next.
-use Rattle.std.proofs.Common.{◌≡◌, ◌⊎◌, ◌∙◌, ◌++◌, inl, inr, ℕ, Bool, true, false, nat_le, nat_lt, List, [], ◌∷◌, refl, sym}
+use Rattle.std.proofs.Common.{◌≡◌, ◌⊎◌, ◌∙◌, ◌++◌, inl, inr, ℕ, Bool, true, false, nat_le, nat_lt, List, [], ◌∷◌, refl}
+use Rattle.std.proofs.Common.{sym}
 use Rattle.std.proofs.Common.{ap, subst, map, arith}
 use Rattle.std.proofs.lemmas.Bool.{and_right, true≢false}
 use Rattle.std.proofs.lemmas.Bool.Decides.{nat_tests}
@@ -68,9 +69,6 @@ serving_is t none =
     (ap (λ (held : List TxId). gives t.state && nat_lt 0 (length held)) none ∙ and_right (gives t.state) false refl)
 
 module _ (c : Course) (d : DihState) (member : IsMember c d) (from : ℕ) where
-  same_at : (t : DihState) → t.current ≡ d.current → t.next ≡ d.next → HasGoneOn c d → HasGoneOn c t
-  same_at t current next gone = (current ∙ gone.0, next ∙ gone.1)
-
   prepares : (epoch next : ℕ) → next ≡ c.next
       → EpochsMove c from (order.Prepare epoch next) d (prepare_row d from epoch next)
   unfolding prepare_row

@@ -21,7 +21,8 @@ use Rattle.calm_laws.proofs.places.Main.{main_member}
 use Rattle.peace_laws.specs.Closing.{Course, HasRows, host_in, main}
 use Rattle.peace_laws.specs.Moments.{IsTaken, Moment, Takes, behind}
 use Rattle.peace_laws.specs.UnderWay.{AnOrder, Closes, Commits, CommittedAt, Copies, HasCommitted, HasMember}
-use Rattle.peace_laws.specs.UnderWay.{IsAnswer, IsAnswered, IsAt, IsLeft, IsLetter, IsOrder, IsOver, IsOwed, IsTrue, IsUnderWay}
+use Rattle.peace_laws.specs.UnderWay.{IsAnswer, IsAnswered, IsAt, IsLeft, IsLetter, IsOrder, IsOver, IsOwed, IsTrue}
+use Rattle.peace_laws.specs.UnderWay.{IsUnderWay}
 use Rattle.peace_laws.specs.UnderWay.{Prepares, Saves, Stage, answer, answer_of, going_on, is_ordered, order_of}
 use Rattle.peace_laws.specs.UnderWay.{order_to, report_of}
 use Rattle.peace_laws.proofs.closings.MemberMoves.{HasBlock, PartsMove, answers, parts_move}

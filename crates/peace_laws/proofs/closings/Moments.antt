@@ -14,6 +14,7 @@ use Rattle.run_theory.proofs.Runs.{log_of-other, log_of-own}
 use Rattle.run_theory.specs.Links.{sent, taken}
 use Rattle.run_theory.specs.Lists.{Each, IsIn, IsPast}
 use Rattle.run_theory.specs.Runs.{IsWithin, Run, log_of}
+use Rattle.run_theory.proofs.EventCases.{event_cases}
 use Rattle.sig_core.specs.declared.outs.Outgoing.{Outgoing}
 use Rattle.sig_core.specs.declared.reply.ApiReply.{ApiReply}
 use Rattle.sig_core.specs.declared.signal.Signal.{Signal}
@@ -300,8 +301,5 @@ module _ (hosts_level : HostsAreLevel) (start : Start) (shape : IsShape start.sh
       only a b other (inr is) = inr is
 
   pub running_now : (k : ℕ) → has_stopped (log_of (machine start) (e ∷ es) k) ≡ false
-  running_now k = go (cases_eq h k)
-    where
-      go : (h ≡ k) ⊎ (h ≢ k) → has_stopped (log_of (machine start) (e ∷ es) k) ≡ false
-      go (inl at) = ap has_stopped (log_of-own (machine start) e es k at) ∙ goes_now
-      go (inr apart) = ap has_stopped (log_of-other (machine start) e es k apart) ∙ running k
+  running_now k =
+      event_cases (machine start) e es k (λ log. has_stopped log ≡ false) (λ at. goes_now) (λ apart. running k)

@@ -209,7 +209,6 @@ module _ (hosts_level : HostsAreLevel) (start : Start) (shape : IsShape start.sh
   plain_step : IsPlainStep start e.host those e was
   plain_step =
       record {
-        rests = here;
         part = part_next start e.host those e here (not_closing e.host e.step.taken kind.apart);
         near =
             subst (λ given. AreNear start given (after start e.host (e ∷ those)) (row was.inner e.step.taken).state)

@@ -1,5 +1,6 @@
 -- What the president's master has to send in a closing: an order to each member, or the report of the end.
-use Rattle.std.proofs.Common.{◌≡◌, ◌≤◌, ◌<◌, ◌⊎◌, ◌∙◌, ◌++◌, inl, inr, ℕ, zero, suc, ◌+◌, Bool, true, false, List, [], ◌∷◌, refl, sym}
+use Rattle.std.proofs.Common.{◌≡◌, ◌≤◌, ◌<◌, ◌⊎◌, ◌∙◌, ◌++◌, inl, inr, ℕ, zero, suc, ◌+◌, Bool, true, false, List, []}
+use Rattle.std.proofs.Common.{◌∷◌, refl, sym}
 use Rattle.std.proofs.Common.{ap, subst, map, length, length-append, arith}
 use Rattle.std.proofs.lemmas.Bool.{cases_lt, false≢true}
 use Rattle.std.proofs.lemmas.Bool.Decides.{nat_tests}
@@ -37,7 +38,8 @@ use Rattle.world_core.specs.Start.{Start}
 use Rattle.calm_laws.specs.Alike.{first}
 use Rattle.peace_laws.specs.Closing.{Course, host_in, main}
 use Rattle.peace_laws.specs.Moments.{Moment}
-use Rattle.peace_laws.specs.UnderWay.{AReport, AnOrder, GoingOn, IsMaster, HasMask, IsOrder, IsUnsent, Stage, block_of, ended_by, ended_of}
+use Rattle.peace_laws.specs.UnderWay.{AReport, AnOrder, GoingOn, IsMaster, HasMask, IsOrder, IsUnsent, Stage, block_of}
+use Rattle.peace_laws.specs.UnderWay.{ended_by, ended_of}
 use Rattle.peace_laws.specs.UnderWay.{going_on, is_ordered, order_of, order_to, phase_of, report_by, report_of}
 use Rattle.peace_laws.specs.UnderWay.{Prepares, Commits, Closes, Saves, Copies}
 

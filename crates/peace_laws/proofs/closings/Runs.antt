@@ -8,9 +8,9 @@ use Rattle.api_views.specs.Closings.{ask_of}
 use Rattle.frag_map.specs.Shape.{IsShape}
 use Rattle.node_views.specs.Blocks.{parts_row}
 use Rattle.node_views.specs.declared.parts.Parts.{Parts}
-use Rattle.run_theory.proofs.Runs.{log_of-other, log_of-own}
 use Rattle.run_theory.specs.Lists.{Each, IsIn}
 use Rattle.run_theory.specs.Runs.{IsWithin, Run, log_of}
+use Rattle.run_theory.proofs.EventCases.{event_each}
 use Rattle.sig_core.specs.declared.outs.Outgoing.{Outgoing}
 use Rattle.sig_core.specs.declared.place.BlockId.{BlockId}
 use Rattle.sig_core.specs.declared.place.BlockId.TheVariants as block
@@ -52,13 +52,7 @@ use Rattle.peace_laws.proofs.lives.UnderWay.{said}
 pub each_host : (start : Start) (es : List HostStep) (e : HostStep) (P : ℕ → List HostStep → Type 0)
     → P e.host (e ∷ log_of (machine start) es e.host) → ((h : ℕ) → P h (log_of (machine start) es h)) → (h : ℕ)
     → P h (log_of (machine start) (e ∷ es) h)
-each_host start es e P own before h = go (cases_eq e.host h)
-  where
-    go : (e.host ≡ h) ⊎ (e.host ≢ h) → P h (log_of (machine start) (e ∷ es) h)
-    go (inl at) =
-        subst (P h) (sym (log_of-own (machine start) e es h at))
-        (subst (λ k. P k (e ∷ log_of (machine start) es k)) at own)
-    go (inr apart) = subst (P h) (sym (log_of-other (machine start) e es h apart)) (before h)
+each_host start es e P own before = event_each (machine start) e es P own (λ h apart. before h)
 
 -- What hosts have done since these logs, in an epoch: they go on, and only the master of the first node had part in it.
 pub record AreOn (start : Start) (epoch : ℕ) (base : ℕ → List HostStep) (es : List HostStep) : Type 0 where

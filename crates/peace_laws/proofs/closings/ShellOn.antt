@@ -1,5 +1,6 @@
 -- A closing goes on where the client's side takes the report of its end: the client is told, unless it was before.
-use Rattle.std.proofs.Common.{◌≡◌, ◌≢◌, ◌⊎◌, ◌∙◌, ◌++◌, inl, inr, ℕ, Bool, true, false, List, [], ◌∷◌, refl, sym, ap, subst, append-nil}
+use Rattle.std.proofs.Common.{◌≡◌, ◌≢◌, ◌⊎◌, ◌∙◌, ◌++◌, inl, inr, ℕ, Bool, true, false, List, [], ◌∷◌, refl, sym, ap}
+use Rattle.std.proofs.Common.{subst, append-nil}
 use Rattle.std.proofs.lemmas.Bool.{true≢false}
 use Rattle.std.specs.Prelude.{None, Some}
 use Rattle.api_views.specs.declared.closings.Closing.{Closing}
@@ -27,7 +28,8 @@ use Rattle.world_core.specs.Start.{Start}
 use Rattle.calm_laws.specs.Alike.{first}
 use Rattle.peace_laws.specs.Closing.{Course, HasRows, host_in, main}
 use Rattle.peace_laws.specs.Moments.{IsTaken, Moment, Takes, behind, told_by}
-use Rattle.peace_laws.specs.UnderWay.{AReport, Commits, CommittedAt, HasCommitted, HasMember, IsAnswered, IsAt, IsClient, IsLeft}
+use Rattle.peace_laws.specs.UnderWay.{AReport, Commits, CommittedAt, HasCommitted, HasMember, IsAnswered, IsAt}
+use Rattle.peace_laws.specs.UnderWay.{IsClient, IsLeft}
 use Rattle.peace_laws.specs.UnderWay.{IsOver, IsOwed, IsTrue, IsUnderWay, ShellHas, Stage}
 use Rattle.peace_laws.specs.UnderWay.{report_by, report_of}
 use Rattle.peace_laws.proofs.closings.Steps.{row_at, row_is, seen}

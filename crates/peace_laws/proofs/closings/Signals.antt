@@ -1,5 +1,5 @@
 -- What a signal of a closing, or a request for one, tells by its block and its body.
-use Rattle.std.proofs.Common.{◌≡◌, ℕ, zero, suc, Bool, true, false, refl, sym, ap, ◌∙◌}
+use Rattle.std.proofs.Common.{◌≡◌, ℕ, Bool, true, false, refl, sym, ap, ◌∙◌}
 use Rattle.std.proofs.lemmas.Bool.{and_parts, and_right, false≢true, true≢false}
 use Rattle.api_views.specs.Laws.{is_vouched}
 use Rattle.node_core.specs.Requests.{is_request}
@@ -108,8 +108,3 @@ asking of body asks = absurd cc
 
 pub asks_kind : (x : Signal) → asks_closing 0 x ≡ true → IsPlainKind x.to.block x.body
 asks_kind x asks = asking x.to.block x.body asks
-
--- only the shell's host is asked for one
-pub asks_shell : (h : ℕ) (x : Signal) → asks_closing h x ≡ true → h ≡ 0
-asks_shell zero x asks = refl
-asks_shell (suc h) x asks = absurd cc

@@ -1,5 +1,6 @@
 -- A stage of a closing begins: each order is under way to its member, or left to send, and nobody has answered.
-use Rattle.std.proofs.Common.{◌≡◌, ◌≤◌, ◌<◌, ◌⊎◌, inl, inr, ℕ, ◌+◌, Bool, true, false, List, [], refl, sym, ap, subst, arith}
+use Rattle.std.proofs.Common.{◌≡◌, ◌≤◌, ◌<◌, ◌⊎◌, inl, inr, ℕ, ◌+◌, Bool, true, false, List, [], refl, sym, ap, subst}
+use Rattle.std.proofs.Common.{arith}
 use Rattle.std.specs.Prelude.{None, length}
 use Rattle.api_views.specs.declared.closings.Closing.TheVariants.{Gcp}
 use Rattle.frag_map.specs.Replicas.{first_start}
@@ -14,8 +15,10 @@ use Rattle.world_core.specs.Hosts.{host_for}
 use Rattle.world_core.specs.Start.{Start}
 use Rattle.peace_laws.specs.Closing.{Course, main}
 use Rattle.peace_laws.specs.Moments.{Moment}
-use Rattle.peace_laws.specs.UnderWay.{Closes, Commits, CommittedAt, Copies, IsAt, IsMaster, IsOwed, IsTrue, IsUnsent, Prepares}
-use Rattle.peace_laws.specs.UnderWay.{Saves, Stage, blocks_of, heard_count, is_later, is_ordered, is_saving, order_of, order_to, phase_of}
+use Rattle.peace_laws.specs.UnderWay.{Closes, Commits, CommittedAt, Copies, IsAt, IsMaster, IsOwed, IsTrue, IsUnsent}
+use Rattle.peace_laws.specs.UnderWay.{Prepares}
+use Rattle.peace_laws.specs.UnderWay.{Saves, Stage, blocks_of, heard_count, is_later, is_ordered, is_saving, order_of}
+use Rattle.peace_laws.specs.UnderWay.{order_to, phase_of}
 use Rattle.peace_laws.proofs.closings.OrderLists.{list_goes, reaches, stage_in, stage_list, stage_listed}
 use Rattle.peace_laws.proofs.closings.Voices.{each_is_in}
 

@@ -13,11 +13,12 @@ use Rattle.node_core.specs.declared.host.Host.TheVariants as kind
 use Rattle.node_core.specs.Row.{row}
 use Rattle.run_theory.proofs.Growth.{grow}
 use Rattle.run_theory.proofs.Pasts.{past_self, past_trans}
-use Rattle.run_theory.proofs.Runs.{log_of-other, log_of-own, log_of-past}
+use Rattle.run_theory.proofs.Runs.{log_of-past}
 use Rattle.run_theory.specs.Along.{Grows}
 use Rattle.run_theory.specs.Links.{sent}
 use Rattle.run_theory.specs.Lists.{Each, IsPast}
 use Rattle.run_theory.specs.Runs.{IsWithin, Run, log_of}
+use Rattle.run_theory.proofs.EventCases.{event_each}
 use Rattle.sig_core.specs.declared.mark.Mark.{Mark}
 use Rattle.sig_core.specs.declared.mark.Mark.TheVariants.{Decided}
 use Rattle.sig_core.specs.declared.request.ApiReq.{ApiReq}
@@ -112,16 +113,7 @@ module _ (hosts_level : HostsAreLevel) (start : Start) (shape : IsShape start.sh
     -- a claim about each host, where the one of the step has it
     each_host : (P : ℕ → List HostStep → Type 0) → P e.host (e ∷ log)
         → ((h : ℕ) → P h (log_of (machine start) es h)) → (h : ℕ) → P h (log_of (machine start) (e ∷ es) h)
-    each_host P own before h = go (cases_eq e.host h)
-      where
-        go : (e.host ≡ h) ⊎ (e.host ≢ h) → P h (log_of (machine start) (e ∷ es) h)
-        go (inl at) =
-            subst (P h) (sym (log_of-own (machine start) e es h at))
-            (subst (λ k. P k (e ∷ log_of (machine start) es k)) at own)
-        go (inr apart) = subst (P h) (sym (log_of-other (machine start) e es h apart)) (before h)
-
-    Here : Type 0
-    Here = IsGood start was e.host (e ∷ log) × StaysIn start e.host epoch (after start e.host (e ∷ log)).parts
+    each_host P own before = event_each (machine start) e es P own (λ h apart. before h)
 
     here : (b : Bool) → is_beating e.host ≡ b → IsGood start was e.host (e ∷ log)
         × StaysIn start e.host epoch (after start e.host (e ∷ log)).parts

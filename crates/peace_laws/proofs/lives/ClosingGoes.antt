@@ -152,10 +152,6 @@ module _ (hosts_level : HostsAreLevel) (start : Start) (shape : IsShape start.sh
   all : AllTaken start base
   all = subst (AllTaken start) (sym rests.stands.is) (taken_by_all start was rests.stands quiet)
 
-  past : (h : ℕ) → IsPast (base h) (more h)
-  past =
-      subst (λ (logs : ℕ → List HostStep). (h : ℕ) → IsPast (logs h) (more h)) (sym rests.stands.is) by.past
-
   asked_once : requests (more 0) ≡ requests (base 0) ++ request ∷ []
   asked_once =
       subst (λ (logs : ℕ → List HostStep). requests (more 0) ≡ requests (logs 0) ++ request ∷ [])

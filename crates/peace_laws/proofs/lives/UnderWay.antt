@@ -1,6 +1,7 @@
 -- What is under way on a link, in a run that goes on from logs: what was sent since and not taken. A step takes the
 -- oldest of it, and puts in front what it sends.
-use Rattle.std.proofs.Common.{◌≡◌, ◌≢◌, ◌⊎◌, inl, inr, ℕ, List, [], ◌∷◌, ◌++◌, Bool, true, false, refl, ap, ap₂, sym, ◌∙◌}
+use Rattle.std.proofs.Common.{◌≡◌, ◌≢◌, ◌⊎◌, inl, inr, ℕ, List, [], ◌∷◌, ◌++◌, Bool, true, false, refl, ap, ap₂, sym}
+use Rattle.std.proofs.Common.{◌∙◌}
 use Rattle.std.proofs.Common.{subst, append_assoc, eq-eqb, eqb-true, map}
 use Rattle.std.specs.Prelude.{◌==◌, if◌then◌else◌}
 use Rattle.std.proofs.lemmas.Bool.{cases_eq}

@@ -230,7 +230,6 @@ module _ (hosts_level : HostsAreLevel) (start : Start) (shape : IsShape start.sh
       → IsPlainStep start h log e before
   part_step marks asked =
       record {
-        rests = here;
         part = part_next start h log e here
             (not_closing h e.step.taken (calm_apart h e.step.taken comes.calm));
         near =

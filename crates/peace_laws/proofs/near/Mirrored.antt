@@ -92,7 +92,6 @@ left_mirrored start h log e before left =
 pub record IsPlainStep (start : Start) (h : ℕ) (log : List HostStep) (e : HostStep) (before : IsMirrored start h log)
     : Type 0
   where
-    pub rests : is_beating h ≡ false
     pub part : plain_part start h (e ∷ log) ≡ levelled start.epoch e ∷ plain_part start h log
     pub near : AreNear start (plain_replies (replies_in start h (e ∷ log))) (after start h (e ∷ log))
         (row before.inner e.step.taken).state

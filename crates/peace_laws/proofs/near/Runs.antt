@@ -1,8 +1,7 @@
 -- Each step of a peaceful run keeps the hosts near, and the plain events a run.
-use Rattle.std.proofs.Common.{◌≡◌, ◌≢◌, ◌⊎◌, ◌<◌, ◌≤◌, inl, inr, ℕ, zero, suc, ◌%◌, List, [], ◌∷◌, Bool, true, false}
+use Rattle.std.proofs.Common.{◌≡◌, ◌<◌, ◌≤◌, inl, ℕ, zero, suc, ◌%◌, List, [], ◌∷◌, Bool, true, false}
 use Rattle.std.proofs.Common.{refl, ap, sym, ◌∙◌, subst, arith}
 use Rattle.std.specs.Prelude.{map}
-use Rattle.std.proofs.lemmas.Bool.{cases_eq}
 use Rattle.frag_map.specs.Shape.{IsShape}
 use Rattle.gcp_master.specs.Master.{first_phase}
 use Rattle.gcp_master.specs.Resume.{is_president}
@@ -13,11 +12,11 @@ use Rattle.node_views.specs.declared.main_part.MainPart.{MainPart}
 use Rattle.node_views.specs.declared.parts.Parts.{Parts}
 use Rattle.node_views.specs.declared.parts.Parts.TheVariants.{Main}
 use Rattle.run_laws.specs.Transit.{Comes}
-use Rattle.run_theory.proofs.Runs.{log_of-other, log_of-own}
 use Rattle.run_theory.specs.Links.{sent, taken}
 use Rattle.run_theory.specs.Lists.{Each}
 use Rattle.run_theory.specs.Logs.{IsRunning, last}
 use Rattle.run_theory.specs.Runs.{Happens, IsWithin, Run, log_of}
+use Rattle.run_theory.proofs.EventCases.{event_each}
 use Rattle.sig_core.specs.declared.mark.Mark.{Mark}
 use Rattle.sig_core.specs.declared.member.Member.{Member}
 use Rattle.sig_core.specs.declared.place.Part.{Part}
@@ -45,7 +44,8 @@ use Rattle.peace_laws.specs.Peace.{is_closing}
 use Rattle.peace_laws.proofs.lives.Arrivals.{Arrives, arrives}
 use Rattle.peace_laws.proofs.closings.Signals.{IsPlainKind}
 use Rattle.peace_laws.proofs.near.Signals.{fine_level, txs_level}
-use Rattle.peace_laws.proofs.near.Mirrored.{IsLeftOut, IsMirrored, IsPlainStep, left_mirrored, level_step, plain_mirrored}
+use Rattle.peace_laws.proofs.near.Mirrored.{IsLeftOut, IsMirrored, IsPlainStep, left_mirrored, level_step}
+use Rattle.peace_laws.proofs.near.Mirrored.{plain_mirrored}
 use Rattle.peace_laws.proofs.near.NearHosts.{begin_level, resting_main}
 use Rattle.peace_laws.proofs.plain.Events.{events_are, is_left, left_none, no_part, plain_events, plain_within}
 use Rattle.peace_laws.proofs.plain.Events.{unless_left}
@@ -133,14 +133,8 @@ module _ (hosts_level : HostsAreLevel) (start : Start) (shape : IsShape start.sh
 
   -- the hosts, if the one of the step is near
   mirrored_next : IsMirrored start e.host (e ∷ log) → (h : ℕ) → IsMirrored start h (log_of (machine start) (e ∷ es) h)
-  mirrored_next own h = go (cases_eq e.host h)
-    where
-      go : (e.host ≡ h) ⊎ (e.host ≢ h) → IsMirrored start h (log_of (machine start) (e ∷ es) h)
-      go (inl at) =
-          subst (IsMirrored start h) (sym (log_of-own (machine start) e es h at))
-          (subst (λ k. IsMirrored start k (e ∷ log_of (machine start) es k)) at own)
-      go (inr apart) =
-          subst (IsMirrored start h) (sym (log_of-other (machine start) e es h apart)) (kept.mirrored h)
+  mirrored_next own =
+      event_each (machine start) e es (λ h log. IsMirrored start h log) own (λ h apart. kept.mirrored h)
 
   -- a step that the plain machine doesn't make
   pub left_next : is_left e ≡ true → IsLeftOut start e.host log e before → IsKept start (e ∷ es)

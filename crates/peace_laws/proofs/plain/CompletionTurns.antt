@@ -30,7 +30,8 @@ use Rattle.run_laws.proofs.hosts.TxTurns.{is_for, turn_each}
 use Rattle.run_laws.proofs.transit.Weighing.{in_sends}
 use Rattle.order_laws.proofs.CompletingTurns.{completions_same}
 use Rattle.order_laws.specs.Awaited.{awaited_in}
-use Rattle.peace_laws.proofs.plain.Completions.{few, is_home, late_stands, list_completions, next_stands, part_stands, stands}
+use Rattle.peace_laws.proofs.plain.Completions.{few, is_home, late_stands, list_completions, next_stands, part_stands}
+use Rattle.peace_laws.proofs.plain.Completions.{stands}
 
 module _ (node : ℕ) (layout : Layout) (tx : TxId) (home : node ≡ tx.tc) where
   abbrev pub list_of : Transaction → List Outgoing

@@ -1,9 +1,9 @@
 -- The events of a run without the steps of main parts of nodes and without closings, with all epochs made one.
-use Rattle.std.proofs.Common.{◌≡◌, ◌≢◌, ◌⊎◌, inl, inr, ℕ, List, [], ◌∷◌, Bool, true, false, refl, ap, sym, ◌∙◌, subst}
+use Rattle.std.proofs.Common.{◌≡◌, ◌≢◌, ℕ, List, [], ◌∷◌, Bool, true, false, refl, ap, sym, ◌∙◌, subst}
 use Rattle.std.specs.Prelude.{if◌then◌else◌, ◌||◌, not, filter, map}
-use Rattle.std.proofs.lemmas.Bool.{cases_eq}
 use Rattle.run_theory.proofs.Runs.{if_false, if_true, log_of-other, log_of-own}
 use Rattle.run_theory.specs.Runs.{IsWithin, log_of}
+use Rattle.run_theory.proofs.EventCases.{event_cases}
 use Rattle.world_core.specs.Machine as plain
 use Rattle.world_core.specs.Start.{Start}
 use Rattle.world_core.specs.Steps.{HostStep}
@@ -81,39 +81,39 @@ module _ (start : Start) where
       → log_of (plain.machine start) (plain_events start es) h ≡ plain_part start h (log_of (machine start) es h)
   events_are [] h = sym (no_part h)
   events_are (e ∷ es) h =
-      go (is_beating e.host) (is_closing e.host e.step.taken) refl refl (cases_eq e.host h) (events_are es h)
+      let before = events_are es h in
+      event_cases (machine start) e es h
+      (λ after. log_of (plain.machine start) (plain_events start (e ∷ es)) h ≡ plain_part start h after)
+      (λ at. own at (is_beating e.host) (is_closing e.host e.step.taken) refl refl before)
+      (λ apart. other apart (is_beating e.host) (is_closing e.host e.step.taken) before)
     where
       log : List HostStep
       log = log_of (machine start) es h
 
-      own : e.host ≡ h → plain_part start h (e ∷ log) ≡ plain_part start h (log_of (machine start) (e ∷ es) h)
-      own at = ap (plain_part start h) (sym (log_of-own (machine start) e es h at))
-
-      other : e.host ≢ h → plain_part start h log ≡ plain_part start h (log_of (machine start) (e ∷ es) h)
-      other apart = ap (plain_part start h) (sym (log_of-other (machine start) e es h apart))
-
-      go : (a b : Bool) → is_beating e.host ≡ a → is_closing e.host e.step.taken ≡ b
-          → (e.host ≡ h) ⊎ (e.host ≢ h)
+      own : e.host ≡ h → (a b : Bool) → is_beating e.host ≡ a → is_closing e.host e.step.taken ≡ b
           → log_of (plain.machine start) (plain_events start es) h ≡ plain_part start h log
           → log_of (plain.machine start) (unless_left (a || b) (levelled start.epoch e) (plain_events start es)) h
-          ≡ plain_part start h (log_of (machine start) (e ∷ es) h)
-      go true b beats closing (inl at) before =
+          ≡ plain_part start h (e ∷ log)
+      own at true b beats closing before =
           let there : is_beating h ≡ true = subst (λ k. is_beating k ≡ true) at beats in
-          before ∙ none_part h log there ∙ sym (none_part h (e ∷ log) there) ∙ own at
-      go true b beats closing (inr apart) before = before ∙ other apart
-      go false true takes closing (inl at) before =
-          before ∙ sym (part_same h log e (subst (λ k. is_closing k e.step.taken ≡ true) at closing)) ∙ own at
-      go false true takes closing (inr apart) before = before ∙ other apart
-      go false false takes beside (inl at) before =
+          before ∙ none_part h log there ∙ sym (none_part h (e ∷ log) there)
+      own at false true takes closing before =
+          before ∙ sym (part_same h log e (subst (λ k. is_closing k e.step.taken ≡ true) at closing))
+      own at false false takes beside before =
           log_of-own (plain.machine start) (levelled start.epoch e) (plain_events start es) h at
           ∙ ap (λ rest. levelled start.epoch e ∷ rest) before
           ∙ sym
           (part_next h log e (subst (λ k. is_beating k ≡ false) at takes)
           (subst (λ k. is_closing k e.step.taken ≡ false) at beside))
-          ∙ own at
-      go false false takes beside (inr apart) before =
-          log_of-other (plain.machine start) (levelled start.epoch e) (plain_events start es) h apart
-          ∙ before ∙ other apart
+
+      other : e.host ≢ h → (a b : Bool)
+          → log_of (plain.machine start) (plain_events start es) h ≡ plain_part start h log
+          → log_of (plain.machine start) (unless_left (a || b) (levelled start.epoch e) (plain_events start es)) h
+          ≡ plain_part start h log
+      other apart true b before = before
+      other apart false true before = before
+      other apart false false before =
+          log_of-other (plain.machine start) (levelled start.epoch e) (plain_events start es) h apart ∙ before
 
   -- and within the hosts that there are
   pub plain_within : (n : ℕ) (es : List HostStep) → IsWithin n (log_of (machine start) es)

@@ -49,9 +49,6 @@ nobody (x ∷ xs) is = absurd (omega (arith, is))
 
 module _ (start : Start) (logs : ℕ → List HostStep) (quiet : AreQuiet start logs) (node : ℕ) (some : 1 ≤ node)
     (few : node ≤ start.shape.nodes) where
-  h : ℕ
-  h = tc_host start node
-
   low : tc_host start node < hosts start
   low = host_below start (coordinator node) some few
 
@@ -70,9 +67,6 @@ module _ (start : Start) (logs : ℕ → List HostStep) (quiet : AreQuiet start 
   pub none_counted : (dih_of (after start (tc_host start node) (logs (tc_host start node)))).counted ≡ []
   none_counted = d.counted ∙ ap counted_of whole ∙ nobody _ nil
     where
-      log : List HostStep
-      log = logs (tc_host start node)
-
       whole : own_taken start node (logs (tc_host start node)) ≡ own_sent start node (logs (tc_host start node))
       whole = quiet.quiet (tc_host start node) (tc_host start node) low low
 
