@@ -152,7 +152,3 @@ dih_gives s x =
       tells = λ is. tt;
       fences = λ proposal is. tt;
     })).1
-
-pub dih_installs_give : (s : DihState) (number : ℕ) → (install_row s number).effects.marks ≡ []
-unfolding install_row
-dih_installs_give s number = refl

@@ -63,17 +63,3 @@ module _ (app : App) (app_is : app ≡ ndb) (words : List (List ℕ)) (separated
       told ∙ by_rows ∙ ap shape_in rows
       ∙ sym (asked_by words true (taken_by words false [] (sym is ∙ fails)
       (sym (ap (λ (a : App). fault_of a words) app_is) ∙ none)))
-
-  -- or they aren't
-  pub refused_words : (e : Error) → HasKind (fault_of app words) e → (kind_of e ≡ OutOfMemory → ⊥)
-      → None ≡ asked_shape words
-  refused_words e kind other = by_kinds (fault_of app words) refl kind
-    where
-      by_kinds : (kinds : Kinds) → fault_of app words ≡ kinds → HasKind kinds e → None ≡ asked_shape words
-      by_kinds [] same (inl wanting) = absurd (other wanting)
-      by_kinds [] same (inr among) = absurd among
-      by_kinds (k ∷ ks) same has =
-          let some : is_empty (k ∷ ks) ≡ false = grind (arith, nat_tests) in
-          sym (asked_by words false
-          (taken_by words false (k ∷ ks) (sym is ∙ fails) (sym (ap (λ (a : App). fault_of a words) app_is) ∙ same)
-          ∙ ap (λ b. not false && b) some))
