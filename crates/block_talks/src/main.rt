@@ -21,7 +21,7 @@
 //! `reserve N` (bytes that the journal keeps free).
 //!
 //! A SIGNAL is the name of its kind and its fields, in the order and with the words in which signals
-//! are told too (`said.rt`): a transaction as `1.7`, of node 1 the seventh, or `1.2.7` where the node
+//! are told too (`form.rt`): a transaction as `1.7`, of node 1 the seventh, or `1.2.7` where the node
 //! has started twice since; an epoch as `1/0`; the name that a script gives as `@7`; a member as `2`,
 //! or `2.1` at its later start; members as `1,2`; a VIEW as `view 2 full 1,2 starting -`; and a dash
 //! for nothing. Behind it `in VIEW`, or `in view N` where such a view was told before, is the view of
@@ -33,8 +33,13 @@
 //! or may not stand there, ends the program with status 2.
 #![tactic(auto)]
 
+mod atom;
 mod block;
+mod choice;
 mod fault;
+mod fields;
+mod form;
+mod kind;
 mod mark;
 mod partner;
 mod read;

@@ -1,91 +1,80 @@
 //! What a step is known by, told in words.
-use crate::tell::{abort_cause, epoch, epoch_behind, number, on_key, stop_cause, tx, view, word};
-use sig_core::{Mark, Outcome};
-use std::alloc::AllocError;
+use crate::fault::Fault;
+use crate::fields::Fields;
+use sig_core::{HostId, Key, Mark, Outcome, StopCause, TxId};
 
-/// A mark, as the name of its kind and its fields.
-pub fn mark(text: &mut String, mark: &Mark) -> Result<(), AllocError> {
-    match mark {
-        Mark::Prepared { tx, key } => {
-            word(text, "Prepared")?;
-            on_key(text, *tx, key)
-        }
-        Mark::Applied { tx, key } => {
-            word(text, "Applied")?;
-            on_key(text, *tx, key)
-        }
-        Mark::Done { tx, key } => {
-            word(text, "Done")?;
-            on_key(text, *tx, key)
-        }
-        Mark::Expired { tx, key } => {
-            word(text, "Expired")?;
-            on_key(text, *tx, key)
-        }
-        _ => mark_without_key(text, mark),
-    }
+/// Tells a mark, as the name of its kind and its fields.
+pub fn tell_mark(text: &mut String, mark: &Mark) -> Result<(), Fault> {
+    let mut of = Fields::blank().ok_or(Fault::Line)?;
+    let form = of.set_mark(mark);
+    of.tell(text, form)?;
+    Ok(())
 }
 
-fn mark_without_key(text: &mut String, mark: &Mark) -> Result<(), AllocError> {
-    match mark {
-        Mark::Decided { tx: decided, epoch } => {
-            word(text, "Decided")?;
-            tx(text, *decided)?;
-            epoch_behind(text, "in", *epoch)
+impl Fields {
+    // The form of a mark, whose fields these are then.
+    fn set_mark(&mut self, mark: &Mark) -> &'static str {
+        match mark {
+            Mark::Prepared { tx, key } => self.set_row(*tx, key, "Prepared TX KEY"),
+            Mark::Applied { tx, key } => self.set_row(*tx, key, "Applied TX KEY"),
+            Mark::Done { tx, key } => self.set_row(*tx, key, "Done TX KEY"),
+            Mark::Expired { tx, key } => self.set_row(*tx, key, "Expired TX KEY"),
+            Mark::Decided { tx, epoch } => {
+                self.tx = *tx;
+                self.push(*epoch);
+                "Decided TX in EPOCH"
+            }
+            Mark::Reported { tx, outcome } => {
+                self.tx = *tx;
+                self.set_outcome(outcome)
+            }
+            _ => self.set_mark_of_node(mark),
         }
-        Mark::Reported {
-            tx: reported,
-            outcome: told,
-        } => {
-            word(text, "Reported")?;
-            tx(text, *reported)?;
-            outcome(text, told)
-        }
-        Mark::Closed { epoch: closed } => {
-            word(text, "Closed")?;
-            epoch(text, *closed)
-        }
-        Mark::Durable { epoch: durable } => {
-            word(text, "Durable")?;
-            epoch(text, *durable)
-        }
-        Mark::Installed { view: installed } => {
-            word(text, "Installed")?;
-            view(text, installed.get())
-        }
-        _ => mark_of_host(text, mark),
     }
-}
 
-fn mark_of_host(text: &mut String, mark: &Mark) -> Result<(), AllocError> {
-    match mark {
-        Mark::Promised { number: promised } => {
-            word(text, "Promised")?;
-            number(text, *promised)
-        }
-        Mark::CutOff { host } => {
-            word(text, "CutOff")?;
-            number(text, u64::from(host.0))
-        }
-        Mark::Down { group } => {
-            word(text, "Down")?;
-            number(text, u64::from(*group))
-        }
-        Mark::Stopped { cause } => {
-            word(text, "Stopped")?;
-            stop_cause(text, *cause)
-        }
-        _ => Ok(()),
+    fn set_row(&mut self, tx: TxId, key: &Key, form: &'static str) -> &'static str {
+        self.tx = tx;
+        self.key = *key;
+        form
     }
-}
 
-fn outcome(text: &mut String, outcome: &Outcome) -> Result<(), AllocError> {
-    match outcome {
-        Outcome::Committed(epoch) => epoch_behind(text, "committed", *epoch),
-        Outcome::Aborted(cause) => {
-            word(text, "aborted")?;
-            abort_cause(text, *cause)
+    fn set_outcome(&mut self, outcome: &Outcome) -> &'static str {
+        match outcome {
+            Outcome::Committed(epoch) => {
+                self.push(*epoch);
+                "Reported TX committed EPOCH"
+            }
+            Outcome::Aborted(cause) => {
+                self.set_abort(*cause);
+                "Reported TX aborted SUB"
+            }
+            Outcome::Unknown => "Reported TX unknown",
         }
-        Outcome::Unknown => word(text, "unknown"),
+    }
+
+    fn set_mark_of_node(&mut self, mark: &Mark) -> &'static str {
+        match mark {
+            Mark::Closed { epoch } => self.set_count(*epoch, "Closed EPOCH"),
+            Mark::Durable { epoch } => self.set_count(*epoch, "Durable EPOCH"),
+            Mark::Promised { number } => self.set_count(*number, "Promised N"),
+            Mark::CutOff { host: HostId(host) } => self.set_count(u64::from(*host), "CutOff N"),
+            Mark::Down { group } => self.set_count(u64::from(*group), "Down N"),
+            Mark::Installed { view } => {
+                self.set_view(view.get());
+                "Installed view N full MEMBERS starting STARTING"
+            }
+            Mark::Stopped { cause } => self.set_stopped(*cause),
+            _ => "",
+        }
+    }
+
+    fn set_count(&mut self, n: u64, form: &'static str) -> &'static str {
+        self.push(n);
+        form
+    }
+
+    fn set_stopped(&mut self, cause: StopCause) -> &'static str {
+        self.set_stop(cause);
+        "Stopped SUB"
     }
 }

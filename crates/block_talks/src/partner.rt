@@ -1,8 +1,9 @@
 //! The blocks of a conversation, and what they tell.
 use crate::block::Block;
 use crate::fault::Fault;
-use crate::mark::mark;
-use crate::{said, tell};
+use crate::mark::tell_mark;
+use crate::said::tell_body;
+use crate::tell;
 use script_lang::print_reply;
 use sig_core::{Body, Held, HostId, Mark, Member, Outs, Part, Place, StopCause, View, part_of};
 use std::alloc::Global;
@@ -55,7 +56,7 @@ impl Partner {
                 self.tell_host(text)?;
             }
             text.push_str("mark")?;
-            mark(text, known_by)?;
+            tell_mark(text, known_by)?;
             text.push('\n')?;
         }
         self.reply(alloc, text)?;
@@ -115,7 +116,7 @@ pub fn running(partners: &[Partner], place: Place) -> Option<usize> {
 pub fn tell_send(text: &mut String, to: Place, body: &Body) -> Result<(), Fault> {
     text.push_str("  to")?;
     tell::place(text, to)?;
-    said::body(text, body)?;
+    tell_body(text, body)?;
     text.push('\n')?;
     Ok(())
 }

@@ -1,63 +1,85 @@
 //! What the shell asks of the client's side, read from the words of a script.
+use crate::atom::{byte, name};
 use crate::fault::Fault;
-use crate::read::{byte, next, number, op, op_by, skip};
-use sig_core::{ApiReq, HeldOp};
+use crate::fields::Fields;
+use crate::signal::op;
+use sig_core::ApiReq;
 use std::alloc::Global;
 use std::str::SplitWhitespace;
 
 /// What is asked.
-pub fn request(alloc: Global, words: &mut SplitWhitespace<'_>) -> Result<ApiReq, Fault> {
-    let word = next(words)?;
-    if let Some(digits) = word.strip_prefix("@") {
-        let name = Some(digits.parse::<u16>().ok().ok_or(Fault::Line)?);
-        let op = HeldOp::new(alloc, op(words)?)?;
-        return Ok(ApiReq::Operate { name, op });
-    }
-    match word {
-        "get" | "getx" | "put" | "ins" | "upd" | "del" => {
-            let op = HeldOp::new(alloc, op_by(words, word)?)?;
-            Ok(ApiReq::Operate { name: None, op })
-        }
-        "begin" => begin(words),
-        "tick" => {
-            let round = byte(words)?;
-            skip(words, "of")?;
-            let of = byte(words)?;
-            Ok(ApiReq::Tick { round, of })
-        }
-        _ => plain(word, words),
-    }
-}
-
-fn name(words: &mut SplitWhitespace<'_>) -> Result<u16, Fault> {
-    u16::try_from(number(words)?).ok().ok_or(Fault::Line)
-}
-
-fn begin(words: &mut SplitWhitespace<'_>) -> Result<ApiReq, Fault> {
-    let name = name(words)?;
-    let node = match words.next() {
-        Some(digits) => Some(digits.parse::<u8>().ok().ok_or(Fault::Line)?),
-        None => None,
-    };
-    Ok(ApiReq::Begin { name, node })
-}
-
-fn plain(word: &str, words: &mut SplitWhitespace<'_>) -> Result<ApiReq, Fault> {
-    match word {
-        "commit" => Ok(ApiReq::Commit { name: name(words)? }),
-        "abort" => Ok(ApiReq::Abort { name: name(words)? }),
-        "kill" => Ok(ApiReq::Kill { node: byte(words)? }),
-        "cut" => Ok(ApiReq::Cut {
-            one: byte(words)?,
-            other: byte(words)?,
+pub fn read_request(alloc: Global, words: &mut SplitWhitespace<'_>) -> Result<ApiReq, Fault> {
+    let of = read_fields(words).ok_or(Fault::Line)?;
+    match of.sub {
+        "get" | "getx" | "put" | "ins" | "upd" | "del" => Ok(ApiReq::Operate {
+            name: of.name,
+            op: op(alloc, &of)?,
         }),
-        "rows" => Ok(ApiReq::Rows { node: byte(words)? }),
-        "digest" => Ok(ApiReq::Digest { node: byte(words)? }),
-        "micro" => Ok(ApiReq::Micro),
-        "gcp" => Ok(ApiReq::Gcp),
-        "view" => Ok(ApiReq::View),
-        "waits" => Ok(ApiReq::Waits),
-        "pending" => Ok(ApiReq::Pending),
-        _ => Err(Fault::Line),
+        "begin" => begin(&of, words.next()).ok_or(Fault::Line),
+        _ => plain(&of).ok_or(Fault::Line),
+    }
+}
+
+// The name of what is asked, with its fields, behind the name of a transaction where one stands there.
+fn read_fields(words: &mut SplitWhitespace<'_>) -> Option<Fields> {
+    let mut of = Fields::blank()?;
+    let mut word = words.next()?;
+    if word.starts_with('@') {
+        of.name = name(word)?;
+        word = words.next()?;
+    }
+    of.read_sub(word, words)?;
+    Some(of)
+}
+
+fn begin(of: &Fields, node: Option<&str>) -> Option<ApiReq> {
+    let name = short(of)?;
+    match node {
+        Some(word) => Some(ApiReq::Begin {
+            name,
+            node: Some(byte(word)?),
+        }),
+        None => Some(ApiReq::Begin { name, node: None }),
+    }
+}
+
+// The name of a transaction, as a number.
+fn short(of: &Fields) -> Option<u16> {
+    u16::try_from(of.numbers[0]).ok()
+}
+
+// A number behind a node or a round.
+fn small(of: &Fields) -> Option<u8> {
+    u8::try_from(of.numbers[0]).ok()
+}
+
+fn plain(of: &Fields) -> Option<ApiReq> {
+    let node = of.byte;
+    Some(match of.sub {
+        "commit" => ApiReq::Commit { name: short(of)? },
+        "abort" => ApiReq::Abort { name: short(of)? },
+        "kill" => ApiReq::Kill { node },
+        "cut" => ApiReq::Cut {
+            one: node,
+            other: small(of)?,
+        },
+        "tick" => ApiReq::Tick {
+            round: node,
+            of: small(of)?,
+        },
+        "rows" => ApiReq::Rows { node },
+        "digest" => ApiReq::Digest { node },
+        _ => return alone(of.sub),
+    })
+}
+
+fn alone(word: &str) -> Option<ApiReq> {
+    match word {
+        "micro" => Some(ApiReq::Micro),
+        "gcp" => Some(ApiReq::Gcp),
+        "view" => Some(ApiReq::View),
+        "waits" => Some(ApiReq::Waits),
+        "pending" => Some(ApiReq::Pending),
+        _ => None,
     }
 }

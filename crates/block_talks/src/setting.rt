@@ -1,6 +1,6 @@
 //! What a block begins with.
 use crate::fault::Fault;
-use crate::read::{byte, epoch, long, member, next, view};
+use crate::fields::Fields;
 use frag_map::{Layout, is_shape};
 use sig_core::{Member, Part, Shape, View};
 use std::str::SplitWhitespace;
@@ -26,7 +26,7 @@ pub struct Setting {
 }
 
 /// The setting that the words behind the name of a block tell.
-pub fn read_setting(words: &mut SplitWhitespace<'_>) -> Result<Setting, Fault> {
+pub fn read_setting(words: &mut SplitWhitespace<'_>) -> Option<Setting> {
     let mut setting = Setting {
         member: Member { node: 1, start: 0 },
         shape: Shape {
@@ -43,46 +43,50 @@ pub fn read_setting(words: &mut SplitWhitespace<'_>) -> Result<Setting, Fault> {
         reserve: 0,
     };
     for _ in 0..u64::MAX {
-        match words.next() {
-            Some(word) => tell(&mut setting, word, words)?,
-            None => return Ok(setting),
+        let Some(word) = words.next() else {
+            return Some(setting);
+        };
+        let mut of = Fields::blank()?;
+        of.read(word, words)?;
+        setting.set(word, &of)?;
+    }
+    Some(setting)
+}
+
+impl Setting {
+    // What a word and its fields tell.
+    fn set(&mut self, word: &str, of: &Fields) -> Option<()> {
+        match word {
+            "member" => self.member = of.member?,
+            "shape" => self.shape = shape(of)?,
+            "in" => self.view = Some(of.view()),
+            "epoch" => self.epoch = of.numbers[0],
+            "start" => self.start = of.numbers[0],
+            "part" => self.part = part(of.sub)?,
+            "rows" => self.rows = of.byte,
+            "fill" => self.fill = of.long,
+            "reserve" => self.reserve = of.long,
+            _ => return None,
         }
+        Some(())
     }
-    Ok(setting)
 }
 
-// What a word and those behind it tell.
-fn tell(setting: &mut Setting, word: &str, words: &mut SplitWhitespace<'_>) -> Result<(), Fault> {
-    match word {
-        "member" => setting.member = member(words)?,
-        "shape" => setting.shape = shape(words)?,
-        "in" => setting.view = Some(view(words)?),
-        "epoch" => setting.epoch = epoch(words)?,
-        "start" => setting.start = epoch(words)?,
-        "part" => setting.part = part(words)?,
-        "rows" => setting.rows = byte(words)?,
-        "fill" => setting.fill = long(words)?,
-        "reserve" => setting.reserve = long(words)?,
-        _ => return Err(Fault::Line),
-    }
-    Ok(())
-}
-
-fn shape(words: &mut SplitWhitespace<'_>) -> Result<Shape, Fault> {
-    Ok(Shape {
-        nodes: byte(words)?,
-        replicas: byte(words)?,
-        fragments: byte(words)?,
+fn shape(of: &Fields) -> Option<Shape> {
+    Some(Shape {
+        nodes: of.byte,
+        replicas: u8::try_from(of.numbers[0]).ok()?,
+        fragments: u8::try_from(of.numbers[1]).ok()?,
     })
 }
 
-fn part(words: &mut SplitWhitespace<'_>) -> Result<Option<Part>, Fault> {
-    match next(words)? {
-        "shell" => Ok(None),
-        "main" => Ok(Some(Part::Main)),
-        "tc" => Ok(Some(Part::Tc)),
-        "ldm" => Ok(Some(Part::Ldm)),
-        _ => Err(Fault::Line),
+fn part(word: &str) -> Option<Option<Part>> {
+    match word {
+        "shell" => Some(None),
+        "main" => Some(Some(Part::Main)),
+        "tc" => Some(Some(Part::Tc)),
+        "ldm" => Some(Some(Part::Ldm)),
+        _ => None,
     }
 }
 

@@ -1,11 +1,13 @@
 //! Conversations, line by line.
+use crate::atom::{host, place};
 use crate::block::{block_id, block_of};
 use crate::fault::Fault;
+use crate::fields::Fields;
 use crate::partner::{Partner, Post, running};
-use crate::read::{end, host, next, number, place, skip, view, view_members};
-use crate::request::request;
+use crate::read::end;
+use crate::request::read_request;
 use crate::setting::{layout, read_setting};
-use crate::signal::body;
+use crate::signal::read_body;
 use sig_core::{Body, Held, HostId, HostSignal, Member, Place, StopCause, View, Work};
 use std::alloc::Global;
 use std::collections::VecDeque;
@@ -73,7 +75,7 @@ impl Talk {
             Some("install") => self.install(alloc, &mut words, text),
             Some("stop") => self.leave(alloc, &mut words),
             Some("pass") => {
-                end(&mut words)?;
+                end(&mut words).ok_or(Fault::Line)?;
                 self.pass(alloc, text)
             }
             Some(_) => Err(Fault::Line),
@@ -82,8 +84,8 @@ impl Talk {
 
     // A block is there.
     fn meet(&mut self, alloc: Global, words: &mut SplitWhitespace<'_>) -> Result<(), Fault> {
-        let name = next(words)?;
-        let setting = read_setting(words)?;
+        let name = words.next().ok_or(Fault::Line)?;
+        let setting = read_setting(words).ok_or(Fault::Line)?;
         let block = block_of(alloc, name, &setting)?;
         let at = Place {
             node: setting.member.node,
@@ -98,7 +100,7 @@ impl Talk {
         Ok(())
     }
 
-    // The view of a signal: that of this number, or the youngest where none is told.
+    // The view of a signal: the one that is told, or the youngest where none is.
     fn view_of(
         &mut self,
         alloc: Global,
@@ -106,27 +108,24 @@ impl Talk {
     ) -> Result<Held<View>, Fault> {
         match words.next() {
             None => self.youngest(alloc),
-            Some("in") => {
-                skip(words, "view")?;
-                let number = number(words)?;
-                self.numbered(alloc, number, words)
-            }
+            Some("in") => self.told(alloc, words),
             Some(_) => Err(Fault::Line),
         }
     }
 
-    // A view of this number, whose members are told here or were before.
-    fn numbered(
+    // The view of this number, whose members are told here or were before.
+    fn told(
         &mut self,
         alloc: Global,
-        number: u64,
         words: &mut SplitWhitespace<'_>,
     ) -> Result<Held<View>, Fault> {
+        let mut of = Fields::blank().ok_or(Fault::Line)?;
+        of.read("number", words).ok_or(Fault::Line)?;
         match words.next() {
-            None => self.known(alloc, number),
+            None => self.known(alloc, of.numbers[0]),
             Some("full") => {
-                self.views.push(view_members(words, number)?)?;
-                end(words)?;
+                of.read("full", words).ok_or(Fault::Line)?;
+                self.views.push(of.view())?;
                 self.youngest(alloc)
             }
             Some(_) => Err(Fault::Line),
@@ -166,14 +165,14 @@ impl Talk {
         words: &mut SplitWhitespace<'_>,
         text: &mut String,
     ) -> Result<(), Fault> {
-        let (from, member) = host(words)?;
+        let (from, member) = next_host(words).ok_or(Fault::Line)?;
         let mut to = self.first_place()?;
-        let mut kind = next(words)?;
+        let mut kind = words.next().ok_or(Fault::Line)?;
         if kind == "to" {
-            to = place(words)?;
-            kind = next(words)?;
+            to = next_place(words).ok_or(Fault::Line)?;
+            kind = words.next().ok_or(Fault::Line)?;
         }
-        let body = body(alloc, kind, words)?;
+        let body = read_body(alloc, kind, words)?;
         let view = self.view_of(alloc, words)?;
         let post = Post {
             from,
@@ -192,8 +191,8 @@ impl Talk {
         words: &mut SplitWhitespace<'_>,
         text: &mut String,
     ) -> Result<(), Fault> {
-        let work = Work::Request(request(alloc, words)?);
-        end(words)?;
+        let work = Work::Request(read_request(alloc, words)?);
+        end(words).ok_or(Fault::Line)?;
         let post = Post {
             from: HostId(0),
             member: Member { node: 0, start: 0 },
@@ -219,8 +218,7 @@ impl Talk {
         words: &mut SplitWhitespace<'_>,
         text: &mut String,
     ) -> Result<(), Fault> {
-        let view = view(words)?;
-        end(words)?;
+        let view = next_view(words).ok_or(Fault::Line)?;
         match self.partners.first_mut() {
             Some(partner) => partner.install(alloc, &view, text)?,
             None => return Err(Fault::Line),
@@ -231,8 +229,8 @@ impl Talk {
 
     // A host is killed.
     fn leave(&mut self, alloc: Global, words: &mut SplitWhitespace<'_>) -> Result<(), Fault> {
-        let (from, member) = host(words)?;
-        end(words)?;
+        let (from, member) = next_host(words).ok_or(Fault::Line)?;
+        end(words).ok_or(Fault::Line)?;
         for at in 0..self.partners.len() {
             if at < self.partners.len() {
                 if self.partners[at].host() == from && self.partners[at].member == member {
@@ -242,4 +240,20 @@ impl Talk {
         }
         Err(Fault::Line)
     }
+}
+
+fn next_host(words: &mut SplitWhitespace<'_>) -> Option<(HostId, Member)> {
+    host(words.next()?)
+}
+
+fn next_place(words: &mut SplitWhitespace<'_>) -> Option<Place> {
+    place(words.next()?)
+}
+
+// A view, behind which no more words stand.
+fn next_view(words: &mut SplitWhitespace<'_>) -> Option<View> {
+    let mut of = Fields::blank()?;
+    of.read("in", words)?;
+    end(words)?;
+    Some(of.view())
 }
