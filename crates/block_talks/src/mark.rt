@@ -5,7 +5,9 @@ use sig_core::{HostId, Key, Mark, Outcome, StopCause, TxId};
 
 /// Tells a mark, as the name of its kind and its fields.
 pub fn tell_mark(text: &mut String, mark: &Mark) -> Result<(), Fault> {
-    let mut of = Fields::blank().ok_or(Fault::Line)?;
+    let Some(mut of) = Fields::blank() else {
+        return Err(Fault::Line);
+    };
     let form = of.set_mark(mark);
     of.tell(text, form)?;
     Ok(())

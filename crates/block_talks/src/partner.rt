@@ -21,7 +21,7 @@ pub struct Post {
 /// A block with whom a conversation is, or a host.
 #[derive(Drop)]
 pub struct Partner {
-    pub block: Block,
+    pub block: Box<Block>,
     pub at: Place,
     pub member: Member,
 }
@@ -109,7 +109,14 @@ pub fn host_at(place: Place) -> HostId {
 /// The place in a list of the partner on the host that runs a block.
 pub fn running(partners: &[Partner], place: Place) -> Option<usize> {
     let host = host_at(place);
-    partners.iter().position(|partner| partner.host() == host)
+    let mut at = 0usize;
+    for partner in partners {
+        if partner.host() == host {
+            return Some(at);
+        }
+        at = at.saturating_add(1);
+    }
+    None
 }
 
 /// Tells a signal that is sent.

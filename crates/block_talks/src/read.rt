@@ -4,6 +4,7 @@ use crate::atom::{
 };
 use crate::fields::Fields;
 use crate::form::form;
+use sig_core::Value;
 use std::str::SplitWhitespace;
 
 impl Fields {
@@ -35,31 +36,44 @@ impl Fields {
     // A field, from its word.
     fn fill(&mut self, slot: &str, word: &str) -> Option<()> {
         match slot {
-            "TX" => self.tx = tx(word)?,
-            "AHEAD" => self.ahead = tx(word)?,
-            "KEY" => self.key = key(word)?,
-            "VALUE" => self.value = Some(value(word)?),
-            "IMAGE" => self.value = image(word)?,
-            "NAME" => self.name = name(word)?,
-            "N" => self.push(number(word)?),
-            _ => return self.fill_more(slot, word),
+            "TX" => keep(&mut self.tx, tx(word)),
+            "AHEAD" => keep(&mut self.ahead, tx(word)),
+            "KEY" => keep(&mut self.key, key(word)),
+            "VALUE" => keep(&mut self.value, some_value(word)),
+            "IMAGE" => keep(&mut self.value, image(word)),
+            "NAME" => keep(&mut self.name, name(word)),
+            "MEMBER" => keep(&mut self.member, member_or_none(word)),
+            _ => self.fill_more(slot, word),
         }
-        Some(())
     }
 
     fn fill_more(&mut self, slot: &str, word: &str) -> Option<()> {
         match slot {
-            "EPOCH" => self.push(epoch(word)?),
-            "BYTE" => self.byte = byte(word)?,
-            "LONG" => self.long = long(word)?,
-            "MEMBERS" => self.members = members(word)?,
-            "STARTING" => self.starting = members(word)?,
-            "MEMBER" => self.member = member_or_none(word)?,
-            "OWN" => self.own = own(word)?,
-            _ => return same(slot, word),
+            "N" => self.push_read(number(word)),
+            "EPOCH" => self.push_read(epoch(word)),
+            "BYTE" => keep(&mut self.byte, byte(word)),
+            "LONG" => keep(&mut self.long, long(word)),
+            "MEMBERS" => keep(&mut self.members, members(word)),
+            "STARTING" => keep(&mut self.starting, members(word)),
+            "OWN" => keep(&mut self.own, own(word)),
+            _ => same(slot, word),
         }
+    }
+
+    fn push_read(&mut self, read: Option<u64>) -> Option<()> {
+        self.push(read?);
         Some(())
     }
+}
+
+// Keeps what was read, if it was.
+fn keep<T: Copy>(field: &mut T, read: Option<T>) -> Option<()> {
+    *field = read?;
+    Some(())
+}
+
+fn some_value(word: &str) -> Option<Option<Value>> {
+    Some(Some(value(word)?))
 }
 
 // A word that stands there as it is, or a dash for a list.

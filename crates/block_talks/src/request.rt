@@ -9,7 +9,10 @@ use std::str::SplitWhitespace;
 
 /// What is asked.
 pub fn read_request(alloc: Global, words: &mut SplitWhitespace<'_>) -> Result<ApiReq, Fault> {
-    let of = read_fields(words).ok_or(Fault::Line)?;
+    let Some(mut of) = Fields::blank() else {
+        return Err(Fault::Line);
+    };
+    read_fields(&mut of, words).ok_or(Fault::Line)?;
     match of.sub {
         "get" | "getx" | "put" | "ins" | "upd" | "del" => Ok(ApiReq::Operate {
             name: of.name,
@@ -21,15 +24,13 @@ pub fn read_request(alloc: Global, words: &mut SplitWhitespace<'_>) -> Result<Ap
 }
 
 // The name of what is asked, with its fields, behind the name of a transaction where one stands there.
-fn read_fields(words: &mut SplitWhitespace<'_>) -> Option<Fields> {
-    let mut of = Fields::blank()?;
-    let mut word = words.next()?;
-    if word.starts_with('@') {
-        of.name = name(word)?;
-        word = words.next()?;
+fn read_fields(of: &mut Fields, words: &mut SplitWhitespace<'_>) -> Option<()> {
+    let word = words.next()?;
+    if !word.starts_with('@') {
+        return of.read_sub(word, words);
     }
-    of.read_sub(word, words)?;
-    Some(of)
+    of.name = name(word)?;
+    of.read_sub(words.next()?, words)
 }
 
 fn begin(of: &Fields, node: Option<&str>) -> Option<ApiReq> {

@@ -13,7 +13,9 @@ use std::alloc::AllocError;
 
 /// Tells what a signal says.
 pub fn tell_body(text: &mut String, body: &Body) -> Result<(), Fault> {
-    let mut of = Fields::blank().ok_or(Fault::Line)?;
+    let Some(mut of) = Fields::blank() else {
+        return Err(Fault::Line);
+    };
     let kind = kind_of(body);
     of.set_body(body);
     word(text, kind)?;

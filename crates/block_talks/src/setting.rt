@@ -46,7 +46,9 @@ pub fn read_setting(words: &mut SplitWhitespace<'_>) -> Option<Setting> {
         let Some(word) = words.next() else {
             return Some(setting);
         };
-        let mut of = Fields::blank()?;
+        let Some(mut of) = Fields::blank() else {
+            return None;
+        };
         of.read(word, words)?;
         setting.set(word, &of)?;
     }

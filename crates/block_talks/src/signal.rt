@@ -19,7 +19,9 @@ pub fn read_body(
     if kind == "DumpConf" {
         return dump(alloc, words);
     }
-    let mut of = Fields::blank().ok_or(Fault::Line)?;
+    let Some(mut of) = Fields::blank() else {
+        return Err(Fault::Line);
+    };
     of.read(kind, words).ok_or(Fault::Line)?;
     held(alloc, kind, &of)
 }

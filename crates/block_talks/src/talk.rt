@@ -93,7 +93,7 @@ impl Talk {
         };
         self.views.push(*layout(&setting)?.view())?;
         self.partners.push(Partner {
-            block,
+            block: Box::new(alloc, block)?,
             at,
             member: setting.member,
         })?;
@@ -119,7 +119,9 @@ impl Talk {
         alloc: Global,
         words: &mut SplitWhitespace<'_>,
     ) -> Result<Held<View>, Fault> {
-        let mut of = Fields::blank().ok_or(Fault::Line)?;
+        let Some(mut of) = Fields::blank() else {
+            return Err(Fault::Line);
+        };
         of.read("number", words).ok_or(Fault::Line)?;
         match words.next() {
             None => self.known(alloc, of.numbers[0]),
@@ -252,7 +254,9 @@ fn next_place(words: &mut SplitWhitespace<'_>) -> Option<Place> {
 
 // A view, behind which no more words stand.
 fn next_view(words: &mut SplitWhitespace<'_>) -> Option<View> {
-    let mut of = Fields::blank()?;
+    let Some(mut of) = Fields::blank() else {
+        return None;
+    };
     of.read("in", words)?;
     end(words)?;
     Some(of.view())
