@@ -156,22 +156,20 @@ impl Block {
     /// # Errors
     /// `NoMemory`.
     pub fn hear(&mut self, alloc: Global, signal: &Signal) -> Result<Outs, NoMemory> {
-        let mut outs = Outs::new(alloc)?;
         match self {
-            Block::Api(api) => api.handle(alloc, signal, &mut outs)?,
-            Block::Client(client) => client.handle(alloc, signal, &mut outs)?,
-            Block::Arbiter(arbiter) => arbiter.handle(alloc, signal, &mut outs)?,
-            Block::Qmgr(qmgr) => qmgr.handle(alloc, signal, &mut outs)?,
-            Block::Tc(tc) => tc.handle(alloc, signal, &mut outs)?,
-            Block::Coordinator(coordinator) => coordinator.handle(alloc, signal, &mut outs)?,
-            Block::Takeover(takeover) => takeover.handle(alloc, signal, &mut outs)?,
-            Block::Dih(dih) => dih.handle(alloc, signal, &mut outs)?,
-            Block::GcpMaster(master) => master.handle(alloc, signal, &mut outs)?,
-            Block::Lqh(lqh) => lqh.handle(alloc, signal, &mut outs)?,
-            Block::Replica(replica) => replica.handle(alloc, signal, &mut outs)?,
-            Block::Host(host) => host.step(alloc, signal, &mut outs)?,
+            Block::Api(api) => heard(alloc, api, signal),
+            Block::Client(client) => heard_by_client(alloc, client, signal),
+            Block::Arbiter(arbiter) => heard(alloc, arbiter, signal),
+            Block::Qmgr(qmgr) => heard(alloc, qmgr, signal),
+            Block::Tc(tc) => heard(alloc, tc, signal),
+            Block::Coordinator(coordinator) => heard(alloc, coordinator, signal),
+            Block::Takeover(takeover) => heard(alloc, takeover, signal),
+            Block::Dih(dih) => heard(alloc, dih, signal),
+            Block::GcpMaster(master) => heard(alloc, master, signal),
+            Block::Lqh(lqh) => heard(alloc, lqh, signal),
+            Block::Replica(replica) => heard(alloc, replica, signal),
+            Block::Host(host) => heard_by_host(alloc, host, signal),
         }
-        Ok(outs)
     }
 
     /// What the block does at the installation of a view. A host installs views by itself.
@@ -179,22 +177,23 @@ impl Block {
     /// # Errors
     /// `NoMemory`, or `Line` at a host.
     pub fn install(&mut self, alloc: Global, view: &View) -> Result<Outs, Fault> {
-        let mut outs = Outs::new(alloc)?;
         match self {
-            Block::Api(api) => api.install(view, &mut outs),
-            Block::Client(client) => client.install(view),
-            Block::Arbiter(arbiter) => arbiter.install(view, &mut outs),
-            Block::Qmgr(qmgr) => qmgr.install(view, &mut outs),
-            Block::Tc(tc) => tc.install(view, &mut outs),
-            Block::Coordinator(coordinator) => coordinator.install(view, &mut outs),
-            Block::Takeover(takeover) => takeover.install(view, &mut outs),
-            Block::Dih(dih) => dih.install(view, &mut outs),
-            Block::GcpMaster(master) => master.install(view, &mut outs),
-            Block::Lqh(lqh) => lqh.install(view, &mut outs),
-            Block::Replica(replica) => replica.install(view, &mut outs),
-            Block::Host(_) => return Err(Fault::Line),
+            Block::Api(api) => installed(alloc, api, view),
+            Block::Client(client) => {
+                client.install(view);
+                Ok(Outs::new(alloc)?)
+            }
+            Block::Arbiter(arbiter) => installed(alloc, arbiter, view),
+            Block::Qmgr(qmgr) => installed(alloc, qmgr, view),
+            Block::Tc(tc) => installed(alloc, tc, view),
+            Block::Coordinator(coordinator) => installed(alloc, coordinator, view),
+            Block::Takeover(takeover) => installed(alloc, takeover, view),
+            Block::Dih(dih) => installed(alloc, dih, view),
+            Block::GcpMaster(master) => installed(alloc, master, view),
+            Block::Lqh(lqh) => installed(alloc, lqh, view),
+            Block::Replica(replica) => installed(alloc, replica, view),
+            Block::Host(_) => Err(Fault::Line),
         }
-        Ok(outs)
     }
 
     /// The next reply to the shell, if the block gives any.
@@ -232,4 +231,28 @@ impl Block {
             _ => false,
         }
     }
+}
+
+fn heard<A: Actor>(alloc: Global, block: &mut A, signal: &Signal) -> Result<Outs, NoMemory> {
+    let mut outs = Outs::new(alloc)?;
+    block.handle(alloc, signal, &mut outs)?;
+    Ok(outs)
+}
+
+fn heard_by_client(alloc: Global, client: &mut Client, signal: &Signal) -> Result<Outs, NoMemory> {
+    let mut outs = Outs::new(alloc)?;
+    client.handle(alloc, signal, &mut outs)?;
+    Ok(outs)
+}
+
+fn heard_by_host(alloc: Global, host: &mut Host, signal: &Signal) -> Result<Outs, NoMemory> {
+    let mut outs = Outs::new(alloc)?;
+    host.step(alloc, signal, &mut outs)?;
+    Ok(outs)
+}
+
+fn installed<A: Actor>(alloc: Global, block: &mut A, view: &View) -> Result<Outs, Fault> {
+    let mut outs = Outs::new(alloc)?;
+    block.install(view, &mut outs);
+    Ok(outs)
 }

@@ -35,8 +35,10 @@ impl Partner {
     /// The block installs a view, which is told.
     pub fn install(&mut self, alloc: Global, view: &View, text: &mut String) -> Result<(), Fault> {
         let mut outs = self.block.install(alloc, view)?;
-        while let Some(sent) = outs.take_send() {
-            tell_send(text, sent.to, &sent.body)?;
+        for _ in 0..u64::MAX {
+            if !tell_next(&mut outs, text)? {
+                break;
+            }
         }
         self.finish(alloc, &outs, true, text)
     }
@@ -117,6 +119,17 @@ pub fn running(partners: &[Partner], place: Place) -> Option<usize> {
         at = at.saturating_add(1);
     }
     None
+}
+
+// Tells the next signal that is sent, if there is one.
+fn tell_next(outs: &mut Outs, text: &mut String) -> Result<bool, Fault> {
+    match outs.take_send() {
+        Some(sent) => {
+            tell_send(text, sent.to, &sent.body)?;
+            Ok(true)
+        }
+        None => Ok(false),
+    }
 }
 
 /// Tells a signal that is sent.

@@ -3,7 +3,7 @@
 use crate::fault::Fault;
 use crate::partner::{Post, running, stopped, tell_send};
 use crate::talk::Talk;
-use sig_core::{Body, Held, HostSignal, Outgoing, Signal, StopCause, View};
+use sig_core::{Body, Held, HostSignal, Outgoing, Outs, Signal, StopCause, View};
 use std::alloc::Global;
 
 /// How many signals are passed on at most.
@@ -46,6 +46,23 @@ impl Talk {
         all: bool,
         text: &mut String,
     ) -> Result<(), Fault> {
+        let mut outs = self.heard(alloc, at, post)?;
+        for _ in 0..u64::MAX {
+            if !self.send_next(alloc, at, &mut outs, all, text)? {
+                break;
+            }
+        }
+        if let Some(partner) = self.partners.get_mut(at) {
+            partner.finish(alloc, &outs, all, text)?;
+        }
+        match stopped(&outs) {
+            Some(cause) => self.stop(alloc, at, cause),
+            None => Ok(()),
+        }
+    }
+
+    // What the partner at this place does at a signal.
+    fn heard(&mut self, alloc: Global, at: usize, post: Post) -> Result<Outs, Fault> {
         let signal = Signal {
             from: post.from,
             member: post.member,
@@ -55,23 +72,29 @@ impl Talk {
             view: post.view,
             body: post.body,
         };
-        let Some(partner) = self.partners.get_mut(at) else {
-            return Err(Fault::Line);
+        match self.partners.get_mut(at) {
+            Some(partner) => Ok(partner.block.hear(alloc, &signal)?),
+            None => Err(Fault::Line),
+        }
+    }
+
+    // The next signal that the partner at this place sends is told and sent, if there is one.
+    fn send_next(
+        &mut self,
+        alloc: Global,
+        at: usize,
+        outs: &mut Outs,
+        all: bool,
+        text: &mut String,
+    ) -> Result<bool, Fault> {
+        let Some(sent) = outs.take_send() else {
+            return Ok(false);
         };
-        let mut outs = partner.block.hear(alloc, &signal)?;
-        while let Some(sent) = outs.take_send() {
-            if all {
-                tell_send(text, sent.to, &sent.body)?;
-            }
-            self.send(alloc, at, sent)?;
+        if all {
+            tell_send(text, sent.to, &sent.body)?;
         }
-        if let Some(partner) = self.partners.get_mut(at) {
-            partner.finish(alloc, &outs, all, text)?;
-        }
-        match stopped(&outs) {
-            Some(cause) => self.stop(alloc, at, cause),
-            None => Ok(()),
-        }
+        self.send(alloc, at, sent)?;
+        Ok(true)
     }
 
     // What the partner at this place sends is under way, where it is for one of them and isn't cut off.
