@@ -1,5 +1,6 @@
 //! Control slots.
-ghost use Rattle.std.specs.Prelude.{◌≡◌, ◌<◌, IfSome, length};
+ghost use Rattle.std.specs.Prelude.{◌≡◌, ◌<◌, ◌≤◌, IfSome, None, true, length};
+ghost use Rattle.sysfile_core.specs.Found.{HasRedo};
 ghost use Rattle.sysfile_core.specs.Slots.{are_positions, control_bytes, control_fault, control_of};
 
 use crate::number::{number_at, put, put_number};
@@ -37,6 +38,7 @@ pub(crate) fn control_fault(bytes: &[u8]) -> Option<usize>
     requires { length bytes.now ≡ CONTROL_BYTES }
     ensures place { result ≡ control_fault bytes.now }
     ensures within { IfSome result (λ at. at < CONTROL_BYTES) }
+    ensures redo { result ≡ None → HasRedo (control_of bytes.now) }
 {
     if bytes[1] != VERSION {
         Some(1)
@@ -61,7 +63,8 @@ pub(crate) fn control_fault(bytes: &[u8]) -> Option<usize>
 
 // Redo may start and end at these positions.
 fn are_positions(start: u64, end: u64) -> bool
-    ensures { result ≡ are_positions start end }
+    ensures value { result ≡ are_positions start end }
+    ensures order { result ≡ true → start ≤ end }
 {
     start <= end && end - start <= REDO_BYTES
 }

@@ -16,7 +16,9 @@ pub use laws::{
     the_other_slot_stays, the_steps_are_the_calls,
 };
 pub use place::{CLOSED, CONTROL_FILE, OPEN, SLOT_SPACE, SYSTEM_FILE, VERSION, place_of};
-pub use read::{read_control, read_system};
+pub use read::{
+    control_at, is_earlier, later_system, of_generation, read_control, read_system, system_at,
+};
 pub use system::{SYSTEM_BYTES, system_bytes};
 pub use write::{SlotStep, write_slot, write_step};
 

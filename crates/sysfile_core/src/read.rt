@@ -1,9 +1,10 @@
 //! Reading the slots in use.
-ghost use Rattle.std.specs.Prelude.{◌≡◌, ◌≤◌, ℕ, List, Option, None, Some, IfOk, OnErr, length, if◌then◌else◌};
+ghost use Rattle.std.specs.Prelude.{◌≡◌, ◌≤◌, ℕ, List, Option, None, Some, IfOk, IfSome, OnErr, length, if◌then◌else◌};
 ghost use Rattle.host_io.specs.Call.{Call};
 ghost use Rattle.host_io.specs.DiskState.{state_of};
 ghost use Rattle.host_io.specs.Fault.{Rose};
 ghost use Rattle.sysfile_core.specs.declared.place.TheConstants.{SLOT_SPACE};
+ghost use Rattle.sysfile_core.specs.Found.{HasRedo};
 ghost use Rattle.sysfile_core.specs.Places.{slot_at};
 ghost use Rattle.sysfile_core.specs.Reading.{HasCause, Reads, control_at, control_in, control_of_file, is_earlier, later_control, later_system, of_generation, system_at, system_in, system_of_file};
 
@@ -37,6 +38,7 @@ pub fn read_control<D: Disk>(
     generation: u64,
 ) -> Result<Option<ControlSlot>, ReadFault>
     ensures read { (calls : List Call) → D.told disk.old ≡ Some calls → Reads (control_of_file generation (state_of calls CONTROL_FILE).bytes) result }
+    ensures redo { IfOk result (λ slot. IfSome slot HasRedo) }
     ensures unrecorded { D.told disk.new ≡ D.told disk.old }
     ensures cause { HasCause (D.faults disk.old) (D.faults disk.new) result }
     ensures steady { D.faults disk.old ≤ D.faults disk.new }
@@ -48,8 +50,11 @@ pub fn read_control<D: Disk>(
     Ok(later_control(one, other))
 }
 
-// The system slot at a place.
-fn system_at<D: Disk>(disk: &mut D, which: u8) -> Result<Option<SystemSlot>, ReadFault>
+/// The system slot at a place, if it is open.
+///
+/// # Errors
+/// As of `read_system`.
+pub fn system_at<D: Disk>(disk: &mut D, which: u8) -> Result<Option<SystemSlot>, ReadFault>
     requires { which ≤ 1 }
     ensures read { (calls : List Call) → D.told disk.old ≡ Some calls → Reads (system_at which (state_of calls SYSTEM_FILE).bytes) result }
     ensures unrecorded { D.told disk.new ≡ D.told disk.old }
@@ -66,10 +71,15 @@ fn system_at<D: Disk>(disk: &mut D, which: u8) -> Result<Option<SystemSlot>, Rea
     }
 }
 
-// The control slot at a place.
-fn control_at<D: Disk>(disk: &mut D, which: u8) -> Result<Option<ControlSlot>, ReadFault>
+/// The control slot at a place, if it is open. Its redo is of one of the two parities, and doesn't end
+/// before it starts.
+///
+/// # Errors
+/// As of `read_system`.
+pub fn control_at<D: Disk>(disk: &mut D, which: u8) -> Result<Option<ControlSlot>, ReadFault>
     requires { which ≤ 1 }
     ensures read { (calls : List Call) → D.told disk.old ≡ Some calls → Reads (control_at which (state_of calls CONTROL_FILE).bytes) result }
+    ensures redo { IfOk result (λ slot. IfSome slot HasRedo) }
     ensures unrecorded { D.told disk.new ≡ D.told disk.old }
     ensures cause { HasCause (D.faults disk.old) (D.faults disk.new) result }
     ensures steady { D.faults disk.old ≤ D.faults disk.new }
@@ -118,6 +128,7 @@ fn control_in(at: u64, bytes: &[u8]) -> Result<Option<ControlSlot>, ReadFault>
     requires size { length bytes.now ≡ CONTROL_BYTES }
     requires place { at ≤ SLOT_SPACE }
     ensures told { result ≡ control_in at bytes.now }
+    ensures redo { IfOk result (λ slot. IfSome slot HasRedo) }
     ensures cause { (before now : ℕ) → HasCause before now result }
 {
     match control_fault(bytes) {
@@ -130,8 +141,8 @@ fn control_in(at: u64, bytes: &[u8]) -> Result<Option<ControlSlot>, ReadFault>
     }
 }
 
-// The later of two slots, the first where neither is earlier.
-fn later_system(one: Option<SystemSlot>, other: Option<SystemSlot>) -> Option<SystemSlot>
+/// The later of two slots, the first where neither is earlier.
+pub fn later_system(one: Option<SystemSlot>, other: Option<SystemSlot>) -> Option<SystemSlot>
     ensures { result ≡ later_system one other }
 {
     match (one, other) {
@@ -147,16 +158,18 @@ fn later_system(one: Option<SystemSlot>, other: Option<SystemSlot>) -> Option<Sy
     }
 }
 
-fn is_earlier(one: &SystemSlot, other: &SystemSlot) -> bool
+/// Whether a slot is of a lesser generation, or of a lesser epoch of the same.
+pub fn is_earlier(one: &SystemSlot, other: &SystemSlot) -> bool
     ensures { result ≡ is_earlier one.now other.now }
 {
     one.generation < other.generation
         || (one.generation == other.generation && one.epoch < other.epoch)
 }
 
-// A slot, if it is of this generation.
-fn of_generation(generation: u64, slot: Option<ControlSlot>) -> Option<ControlSlot>
-    ensures { result ≡ of_generation generation slot }
+/// A slot, if it is of this generation.
+pub fn of_generation(generation: u64, slot: Option<ControlSlot>) -> Option<ControlSlot>
+    ensures value { result ≡ of_generation generation slot }
+    ensures redo { IfSome slot HasRedo → IfSome result HasRedo }
 {
     match slot {
         Some(slot) if slot.generation == generation => Some(slot),
@@ -166,7 +179,8 @@ fn of_generation(generation: u64, slot: Option<ControlSlot>) -> Option<ControlSl
 
 // The one with the greater serial, the first where they are the same.
 fn later_control(one: Option<ControlSlot>, other: Option<ControlSlot>) -> Option<ControlSlot>
-    ensures { result ≡ later_control one other }
+    ensures value { result ≡ later_control one other }
+    ensures redo { IfSome one HasRedo → IfSome other HasRedo → IfSome result HasRedo }
 {
     match (one, other) {
         (Some(first), Some(second)) => {
