@@ -1,0 +1,49 @@
+//! What one node's disk is given last: the system slot that names the next life.
+use crate::places::free_system;
+use crate::restored::Restored;
+use host_io::{Disk, Failed};
+use sig_core::{RestartFault, Shape, SystemSlot};
+use sysfile_core::{SYSTEM_FILE, system_bytes, write_slot};
+
+/// Writes the system slot of the next generation, of the same epoch, which lists all nodes, beside the
+/// one in use.
+///
+/// # Errors
+/// `DiskFault`: a call on the disk failed, and none was made behind it.
+pub fn name_node<D: Disk>(
+    disk: &mut D,
+    node: u8,
+    shape: Shape,
+    restored: &Restored,
+) -> Result<(), RestartFault>
+{
+    let which = match free_system(disk) {
+        Ok(which) => which,
+        Err(count) => return Err(RestartFault::DiskFault { node, count }),
+    };
+    let slot = next_system(shape, restored);
+    match write_slot(disk, SYSTEM_FILE, which, &system_bytes(&slot)) {
+        Ok(()) => Ok(()),
+        Err(Failed) => Err(RestartFault::DiskFault {
+            node,
+            count: disk.faults(),
+        }),
+    }
+}
+
+// The system slot with which the next life begins.
+fn next_system(shape: Shape, restored: &Restored) -> SystemSlot
+{
+    SystemSlot {
+        shape,
+        mask: all_of(shape.nodes),
+        generation: restored.generation + 1,
+        epoch: restored.epoch,
+    }
+}
+
+// The mask of all of so many nodes.
+fn all_of(nodes: u8) -> u8
+{
+    ((1u16 << nodes) - 1) as u8
+}

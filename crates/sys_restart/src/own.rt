@@ -1,0 +1,51 @@
+//! The rows that one node's disk has of itself.
+use crate::groups::is_listed;
+use crate::slot_rows::rows_of_slot;
+use host_io::Disk;
+use sig_core::{ControlSlot, Own, ReadFault, Shape, SystemSlot};
+use std::alloc::Global;
+use sysfile_core::{read_control, read_system};
+
+/// The rows that a node's disk has, with their epoch. None exactly where no system slot is in use, the
+/// one in use is of another shape or doesn't list the node, no control slot of its generation is in
+/// use, or that one was saved at another epoch.
+///
+/// # Errors
+/// `Damaged` exactly where what is read isn't in its grammar; `DiskFault` only where the disk's count
+/// rose; `NoMemory`.
+pub fn restore_own<D: Disk>(
+    alloc: Global,
+    disk: &mut D,
+    shape: Shape,
+    node: u8,
+) -> Result<Option<Own>, ReadFault>
+{
+    let Some(system) = read_system(disk)? else {
+        return Ok(None);
+    };
+    if system.shape != shape || !is_listed(system.mask, node) {
+        return Ok(None);
+    }
+    match read_control(disk, system.generation)? {
+        Some(control) => own_in(alloc, disk, &system, &control),
+        None => Ok(None),
+    }
+}
+
+// The rows of the slots in use.
+fn own_in<D: Disk>(
+    alloc: Global,
+    disk: &mut D,
+    system: &SystemSlot,
+    control: &ControlSlot,
+) -> Result<Option<Own>, ReadFault>
+{
+    if control.saved != system.epoch {
+        return Ok(None);
+    }
+    let rows = rows_of_slot(alloc, disk, control, system.epoch)?;
+    Ok(Some(Own {
+        epoch: system.epoch,
+        rows,
+    }))
+}

@@ -1,0 +1,65 @@
+//! Reading a checkpoint.
+use host_io::{Disk, Failed};
+use lcp_store::rows_in;
+use sig_core::{NoMemory, ReadFault, Table};
+use std::alloc::Global;
+
+/// The rows of a checkpoint of this size, which a file begins with. `saved` is the saved epoch of the
+/// slot that names it: no row may be of a later one. Of the rows of one key the last counts.
+///
+/// # Errors
+/// `Damaged` exactly where the bytes are no such checkpoint, or the file ends before them; `DiskFault`;
+/// `NoMemory`.
+pub fn read_rows<D: Disk>(
+    alloc: Global,
+    disk: &mut D,
+    file: u8,
+    size: u64,
+    saved: u64,
+) -> Result<Table, ReadFault>
+{
+    let bytes = read_file(alloc, disk, file, size)?;
+    let rows = rows_in(alloc, file, saved, &bytes)?;
+    let there = bytes.len() as u64;
+    if there < size {
+        return Err(ReadFault::Damaged {
+            file,
+            at: there,
+            byte: 0,
+        });
+    }
+    Ok(rows)
+}
+
+// The first bytes of a file, at most so many.
+fn read_file<D: Disk>(
+    alloc: Global,
+    disk: &mut D,
+    file: u8,
+    size: u64,
+) -> Result<Vec<u8>, ReadFault>
+{
+    let Ok(there) = disk.size(file) else {
+        return Err(ReadFault::DiskFault {
+            count: disk.faults(),
+        });
+    };
+    let Ok(mut bytes) = zeros(alloc, there.min(size) as usize) else {
+        return Err(ReadFault::NoMemory);
+    };
+    match disk.read(file, 0, bytes.as_mut_slice()) {
+        Ok(count) => {
+            bytes.truncate(count);
+            Ok(bytes)
+        }
+        Err(Failed) => Err(ReadFault::DiskFault {
+            count: disk.faults(),
+        }),
+    }
+}
+
+// So many zeros.
+fn zeros(alloc: Global, count: usize) -> Result<Vec<u8>, NoMemory>
+{
+    Ok(vec![in alloc; 0; count]?)
+}

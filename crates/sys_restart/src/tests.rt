@@ -1,0 +1,2 @@
+//! Disks worked out by hand.
+mod opening;
