@@ -1,4 +1,15 @@
 //! The rows of each group of nodes.
+ghost use Rattle.std.specs.Prelude.{◌≡◌, ◌≤◌, ◌<◌, ◌+◌, false, List, Some, IfOk, IfSome, OnOk, length, map};
+ghost use Rattle.std.specs.FinMap.{entries};
+ghost use Rattle.frag_map.specs.Shape.{IsShape};
+ghost use Rattle.host_io.specs.Call.{Call};
+ghost use Rattle.redo_log.specs.Stored.{files_of};
+ghost use Rattle.sysfile_core.specs.Found.{HasRedo};
+ghost use Rattle.sys_restart.specs.Answers.{AreSteady, HasCauseAmong, HasCauseOf, IsCauseOf, ReadsAll, is_outside, on_node};
+ghost use Rattle.sys_restart.specs.Files.{disks_of};
+ghost use Rattle.sys_restart.specs.Groups.{IsSource, control_on, first_listed, is_listed, joined, lacking, rows_of_group, rows_of_groups, source_of};
+ghost use Rattle.sys_restart.specs.SlotRows.{rows_of_slot};
+
 use crate::on_node::of_node;
 use crate::slot_rows::rows_of_slot;
 use host_io::{Disk, Failed};
@@ -26,6 +37,12 @@ pub(crate) fn rows_of_groups<D: Disk>(
     shape: Shape,
     system: &SystemSlot,
 ) -> Result<Table, RestartFault>
+    requires shape { IsShape shape }
+    requires nodes { length disks.old ≡ shape.nodes }
+    ensures read { (records : List (List Call)) → map D.told disks.old ≡ map Some records → ReadsAll (rows_of_groups shape (disks_of records) system.now) result }
+    ensures unrecorded { map D.told disks.new ≡ map D.told disks.old }
+    ensures cause { HasCauseAmong (map D.faults disks.old) (map D.faults disks.new) result }
+    ensures steady { AreSteady (map D.faults disks.old) (map D.faults disks.new) }
 {
     let mut rows = rows_of_group(alloc, disks, 1, shape.replicas, system)?;
     for group in 1..shape.nodes / shape.replicas {
@@ -40,6 +57,7 @@ pub(crate) fn rows_of_groups<D: Disk>(
 
 // Puts rows into others, in place of those of their keys.
 fn join(alloc: Global, rows: &mut Table, part: &Table) -> Result<(), NoMemory>
+    ensures { OnOk result (rows.new ≡ joined rows.old (entries part.now)) }
 {
     let list = part.to_rows(alloc)?;
     for (key, value) in &list {
@@ -56,6 +74,14 @@ fn rows_of_group<D: Disk>(
     count: u8,
     system: &SystemSlot,
 ) -> Result<Table, RestartFault>
+    requires first { 1 ≤ first }
+    requires last { first + count ≤ length disks.old + 1 }
+    requires some { 1 ≤ count }
+    requires few { length disks.old ≤ 8 }
+    ensures read { (records : List (List Call)) → map D.told disks.old ≡ map Some records → ReadsAll (rows_of_group (disks_of records) system.now first count) result }
+    ensures unrecorded { map D.told disks.new ≡ map D.told disks.old }
+    ensures cause { HasCauseAmong (map D.faults disks.old) (map D.faults disks.new) result }
+    ensures steady { AreSteady (map D.faults disks.old) (map D.faults disks.new) }
 {
     match source_of(disks, first, count, system)? {
         Some(source) => rows_of_source(alloc, disks, &source, system.epoch),
@@ -72,6 +98,13 @@ fn rows_of_source<D: Disk>(
     source: &Source,
     epoch: u64,
 ) -> Result<Table, RestartFault>
+    requires first { 1 ≤ source.now.node }
+    requires last { source.now.node ≤ length disks.old }
+    requires redo { HasRedo source.now.slot }
+    ensures read { (records : List (List Call)) → map D.told disks.old ≡ map Some records → ReadsAll (on_node source.now.node (rows_of_slot epoch (disks_of records source.now.node) source.now.slot)) result }
+    ensures unrecorded { map D.told disks.new ≡ map D.told disks.old }
+    ensures cause { HasCauseAmong (map D.faults disks.old) (map D.faults disks.new) result }
+    ensures steady { AreSteady (map D.faults disks.old) (map D.faults disks.new) }
 {
     let disk = &mut disks[source.node as usize - 1];
     match rows_of_slot(alloc, disk, &source.slot, epoch) {
@@ -87,6 +120,14 @@ fn source_of<D: Disk>(
     count: u8,
     system: &SystemSlot,
 ) -> Result<Option<Source>, RestartFault>
+    requires first { 1 ≤ first }
+    requires last { first + count ≤ length disks.old + 1 }
+    requires few { length disks.old ≤ 8 }
+    ensures read { (records : List (List Call)) → map D.told disks.old ≡ map Some records → ReadsAll (source_of (disks_of records) system.now first count) result }
+    ensures source { IfOk result (λ found. IfSome found (IsSource (length disks.old))) }
+    ensures unrecorded { map D.told disks.new ≡ map D.told disks.old }
+    ensures cause { HasCauseAmong (map D.faults disks.old) (map D.faults disks.new) result }
+    ensures steady { AreSteady (map D.faults disks.old) (map D.faults disks.new) }
 {
     for more in 0..count {
         let node = first + more;
@@ -103,6 +144,12 @@ fn control_on<D: Disk>(
     node: u8,
     system: &SystemSlot,
 ) -> Result<Option<ControlSlot>, RestartFault>
+    requires { 1 ≤ node }
+    ensures read { (calls : List Call) → D.told disk.old ≡ Some calls → ReadsAll (control_on system.now node (files_of calls)) result }
+    ensures redo { IfOk result (λ slot. IfSome slot HasRedo) }
+    ensures unrecorded { D.told disk.new ≡ D.told disk.old }
+    ensures cause { HasCauseOf node (D.faults disk.old) (D.faults disk.new) result }
+    ensures steady { D.faults disk.old ≤ D.faults disk.new }
 {
     if !is_listed(system.mask, node) {
         return Ok(None);
@@ -115,12 +162,21 @@ fn control_on<D: Disk>(
 
 /// Whether a mask of full members lists a node.
 pub(crate) fn is_listed(mask: u8, node: u8) -> bool
+    requires first { 1 ≤ node }
+    requires few { node ≤ 8 }
+    ensures { result ≡ is_listed mask node }
 {
     (mask >> (node - 1)) % 2 == 1
 }
 
 // The first of so many nodes that a mask lists, or else the first.
 fn first_listed(mask: u8, first: u8, count: u8) -> u8
+    requires first { 1 ≤ first }
+    requires few { first + count ≤ 9 }
+    requires some { 1 ≤ count }
+    ensures value { result ≡ first_listed mask first first count }
+    ensures least { first ≤ result }
+    ensures most { result < first + count }
 {
     for more in 0..count {
         if is_listed(mask, first + more) {
@@ -132,6 +188,10 @@ fn first_listed(mask: u8, first: u8, count: u8) -> u8
 
 // What is wrong on the disk of a node that has no control slot.
 fn lacking<D: Disk>(disk: &mut D, node: u8) -> RestartFault
+    ensures read { (calls : List Call) → D.told disk.old ≡ Some calls → is_outside result ≡ false → result ≡ lacking node (files_of calls) }
+    ensures unrecorded { D.told disk.new ≡ D.told disk.old }
+    ensures cause { IsCauseOf node (D.faults disk.old) (D.faults disk.new) result }
+    ensures steady { D.faults disk.old ≤ D.faults disk.new }
 {
     let mut gate = [0];
     match disk.read(CONTROL_FILE, 0, &mut gate) {

@@ -1,4 +1,11 @@
 //! The system slot from which a cluster restarts.
+ghost use Rattle.std.specs.Prelude.{◌≡◌, ◌≤◌, List, None, Ok, Some, length, map};
+ghost use Rattle.host_io.specs.Call.{Call};
+ghost use Rattle.redo_log.specs.Stored.{files_of};
+ghost use Rattle.sys_restart.specs.Answers.{AreSteady, HasCauseAmong, HasCauseOf, ReadsAll};
+ghost use Rattle.sys_restart.specs.Files.{disks_of};
+ghost use Rattle.sys_restart.specs.Latest.{latest_from, latest_on, of_shape};
+
 use crate::on_node::of_node;
 use host_io::Disk;
 use sig_core::{ReadFault, RestartFault, Shape, SystemSlot};
@@ -14,6 +21,11 @@ pub(crate) fn latest<D: Disk>(
     disks: &mut [D],
     shape: Shape,
 ) -> Result<Option<SystemSlot>, RestartFault>
+    requires { length disks.old ≤ 8 }
+    ensures read { (records : List (List Call)) → map D.told disks.old ≡ map Some records → ReadsAll (latest_from shape (disks_of records) 1 (length disks.old) (Ok None)) result }
+    ensures unrecorded { map D.told disks.new ≡ map D.told disks.old }
+    ensures cause { HasCauseAmong (map D.faults disks.old) (map D.faults disks.new) result }
+    ensures steady { AreSteady (map D.faults disks.old) (map D.faults disks.new) }
 {
     let mut found = None;
     for index in 0..disks.len() {
@@ -29,6 +41,10 @@ fn latest_on<D: Disk>(
     node: u8,
     shape: Shape,
 ) -> Result<Option<SystemSlot>, RestartFault>
+    ensures read { (calls : List Call) → D.told disk.old ≡ Some calls → ReadsAll (latest_on shape node (files_of calls)) result }
+    ensures unrecorded { D.told disk.new ≡ D.told disk.old }
+    ensures cause { HasCauseOf node (D.faults disk.old) (D.faults disk.new) result }
+    ensures steady { D.faults disk.old ≤ D.faults disk.new }
 {
     let one = of_shape(system_at(disk, 0), node, shape)?;
     let other = of_shape(system_at(disk, 1), node, shape)?;
@@ -41,6 +57,7 @@ fn of_shape(
     node: u8,
     shape: Shape,
 ) -> Result<Option<SystemSlot>, RestartFault>
+    ensures { result ≡ of_shape shape node read }
 {
     match read {
         Ok(Some(slot)) => {

@@ -1,4 +1,12 @@
 //! Preparing the next life of a cluster.
+ghost use Rattle.std.specs.Prelude.{◌≡◌, List, Err, Some, false, true, length, map};
+ghost use Rattle.frag_map.specs.Shape.{IsShape};
+ghost use Rattle.host_io.specs.Call.{Call};
+ghost use Rattle.sig_core.specs.declared.fault.RestartFault.TheVariants.{UsedUp};
+ghost use Rattle.sys_restart.specs.Answers.{AreSteady, HasCauseAmong};
+ghost use Rattle.sys_restart.specs.Calls.{is_used_up};
+ghost use Rattle.sys_restart.specs.LifeCalls.{IsUsedUp, RunsAll};
+
 use crate::name::name_node;
 use crate::prepare::prepare_node;
 use crate::restored::Restored;
@@ -9,6 +17,7 @@ use std::alloc::Global;
 /// Whether no life can follow one of this generation that restores this epoch: the generation is
 /// 2^64 - 1, or the checkpoint number of the epoch, which is its upper half, is 2^32 - 1.
 pub fn is_used_up(restored: &Restored) -> bool
+    ensures { result ≡ is_used_up restored.now }
 {
     restored.generation == u64::MAX || restored.epoch >> 32 == u32::MAX as u64
 }
@@ -26,6 +35,13 @@ pub fn prepare_life<D: Disk>(
     shape: Shape,
     restored: &Restored,
 ) -> Result<(), RestartFault>
+    requires shape { IsShape shape }
+    requires nodes { length disks.old ≡ shape.nodes }
+    ensures used_up { is_used_up restored.now ≡ true → (result ≡ Err (UsedUp restored.now.generation restored.now.epoch)) × (disks.new ≡ disks.old) }
+    ensures not_else { IsUsedUp result → is_used_up restored.now ≡ true }
+    ensures runs { is_used_up restored.now ≡ false → (records : List (List Call)) → map D.told disks.old ≡ map Some records → RunsAll shape restored.now records (map D.told disks.new) result }
+    ensures cause { HasCauseAmong (map D.faults disks.old) (map D.faults disks.new) result }
+    ensures steady { AreSteady (map D.faults disks.old) (map D.faults disks.new) }
 {
     if is_used_up(restored) {
         return Err(RestartFault::UsedUp {

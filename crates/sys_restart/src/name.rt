@@ -1,4 +1,10 @@
 //! What one node's disk is given last: the system slot that names the next life.
+ghost use Rattle.std.specs.Prelude.{◌≡◌, ◌≤◌, ◌-◌, ◌^◌, List, Some, false};
+ghost use Rattle.frag_map.specs.Shape.{IsShape};
+ghost use Rattle.host_io.specs.Call.{Call};
+ghost use Rattle.sys_restart.specs.Answers.{HasCauseOf};
+ghost use Rattle.sys_restart.specs.Calls.{RunsOrWants, is_used_up, name_calls, next_system};
+
 use crate::places::free_system;
 use crate::restored::Restored;
 use host_io::{Disk, Failed};
@@ -16,6 +22,11 @@ pub fn name_node<D: Disk>(
     shape: Shape,
     restored: &Restored,
 ) -> Result<(), RestartFault>
+    requires shape { IsShape shape }
+    requires unused { is_used_up restored.now ≡ false }
+    ensures runs { (calls : List Call) → D.told disk.old ≡ Some calls → RunsOrWants (name_calls calls shape restored.now) calls (D.told disk.new) result }
+    ensures cause { HasCauseOf node (D.faults disk.old) (D.faults disk.new) result }
+    ensures steady { D.faults disk.old ≤ D.faults disk.new }
 {
     let which = match free_system(disk) {
         Ok(which) => which,
@@ -33,6 +44,9 @@ pub fn name_node<D: Disk>(
 
 // The system slot with which the next life begins.
 fn next_system(shape: Shape, restored: &Restored) -> SystemSlot
+    requires shape { IsShape shape }
+    requires unused { is_used_up restored.now ≡ false }
+    ensures { result ≡ next_system shape restored.now }
 {
     SystemSlot {
         shape,
@@ -44,6 +58,8 @@ fn next_system(shape: Shape, restored: &Restored) -> SystemSlot
 
 // The mask of all of so many nodes.
 fn all_of(nodes: u8) -> u8
+    requires { nodes ≤ 8 }
+    ensures { result ≡ 2 ^ nodes - 1 }
 {
     ((1u16 << nodes) - 1) as u8
 }

@@ -1,8 +1,12 @@
 //! Faults of reading, with the node whose disk was read.
+ghost use Rattle.std.specs.Prelude.{◌≡◌};
+ghost use Rattle.sys_restart.specs.Answers.{of_node};
+
 use sig_core::{ReadFault, RestartFault};
 
 /// A fault of reading the disk of this node.
 pub(crate) fn of_node(node: u8, fault: ReadFault) -> RestartFault
+    ensures { result ≡ of_node node fault }
 {
     match fault {
         ReadFault::DiskFault { count } => RestartFault::DiskFault { node, count },

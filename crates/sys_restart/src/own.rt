@@ -1,4 +1,11 @@
 //! The rows that one node's disk has of itself.
+ghost use Rattle.std.specs.Prelude.{◌≡◌, ◌≤◌, List, Ok, Some};
+ghost use Rattle.host_io.specs.Call.{Call};
+ghost use Rattle.redo_log.specs.Stored.{files_of};
+ghost use Rattle.sysfile_core.specs.Found.{HasRedo};
+ghost use Rattle.sys_restart.specs.Answers.{HasCause, Reads};
+ghost use Rattle.sys_restart.specs.Own.{own_by, own_of};
+
 use crate::groups::is_listed;
 use crate::slot_rows::rows_of_slot;
 use host_io::Disk;
@@ -19,6 +26,12 @@ pub fn restore_own<D: Disk>(
     shape: Shape,
     node: u8,
 ) -> Result<Option<Own>, ReadFault>
+    requires first { 1 ≤ node }
+    requires few { node ≤ 8 }
+    ensures read { (calls : List Call) → D.told disk.old ≡ Some calls → Reads (own_of shape node (files_of calls)) result }
+    ensures unrecorded { D.told disk.new ≡ D.told disk.old }
+    ensures cause { HasCause (D.faults disk.old) (D.faults disk.new) result }
+    ensures steady { D.faults disk.old ≤ D.faults disk.new }
 {
     let Some(system) = read_system(disk)? else {
         return Ok(None);
@@ -39,6 +52,11 @@ fn own_in<D: Disk>(
     system: &SystemSlot,
     control: &ControlSlot,
 ) -> Result<Option<Own>, ReadFault>
+    requires { HasRedo control.now }
+    ensures read { (calls : List Call) → D.told disk.old ≡ Some calls → Reads (own_by system.now (files_of calls) (Ok (Some control.now))) result }
+    ensures unrecorded { D.told disk.new ≡ D.told disk.old }
+    ensures cause { HasCause (D.faults disk.old) (D.faults disk.new) result }
+    ensures steady { D.faults disk.old ≤ D.faults disk.new }
 {
     if control.saved != system.epoch {
         return Ok(None);

@@ -1,4 +1,11 @@
 //! Which places of slots aren't in use. A damaged slot counts as one that is closed.
+ghost use Rattle.std.specs.Prelude.{◌≡◌, ◌≤◌, List, Some, IfErr, IfOk};
+ghost use Rattle.host_io.specs.Call.{Call};
+ghost use Rattle.host_io.specs.Fault.{Rose};
+ghost use Rattle.redo_log.specs.Stored.{files_of};
+ghost use Rattle.sys_restart.specs.Places.{control_places, free_of, free_system, places_of};
+ghost use Rattle.sysfile_core.specs.declared.place.TheConstants.{CONTROL_FILE, SYSTEM_FILE};
+
 use host_io::Disk;
 use sig_core::{ControlSlot, ReadFault, SystemSlot};
 use sysfile_core::{control_at, is_earlier, of_generation, system_at};
@@ -15,6 +22,11 @@ pub(crate) struct Places {
 /// # Errors
 /// A call on the disk failed; its count.
 pub(crate) fn free_system<D: Disk>(disk: &mut D) -> Result<u8, u64>
+    ensures read { (calls : List Call) → D.told disk.old ≡ Some calls → IfOk result (λ which. which ≡ free_system (files_of calls SYSTEM_FILE)) }
+    ensures which { IfOk result (λ which. which ≤ 1) }
+    ensures unrecorded { D.told disk.new ≡ D.told disk.old }
+    ensures cause { IfErr result (λ count. Rose (D.faults disk.old) (D.faults disk.new) × (count ≡ D.faults disk.new)) }
+    ensures steady { D.faults disk.old ≤ D.faults disk.new }
 {
     let one = usable(system_at(disk, 0))?;
     let other = usable(system_at(disk, 1))?;
@@ -23,6 +35,8 @@ pub(crate) fn free_system<D: Disk>(disk: &mut D) -> Result<u8, u64>
 
 // The place of two that isn't that of the slot in use.
 fn free_of(one: Option<SystemSlot>, other: Option<SystemSlot>) -> u8
+    ensures value { result ≡ free_of one other }
+    ensures which { result ≤ 1 }
 {
     match (one, other) {
         (None, _) => 0,
@@ -42,6 +56,11 @@ fn free_of(one: Option<SystemSlot>, other: Option<SystemSlot>) -> u8
 /// # Errors
 /// A call on the disk failed; its count.
 pub(crate) fn control_places<D: Disk>(disk: &mut D, generation: u64) -> Result<Places, u64>
+    ensures read { (calls : List Call) → D.told disk.old ≡ Some calls → IfOk result (λ places. places ≡ control_places generation (files_of calls CONTROL_FILE)) }
+    ensures which { IfOk result (λ places. places.free ≤ 1) }
+    ensures unrecorded { D.told disk.new ≡ D.told disk.old }
+    ensures cause { IfErr result (λ count. Rose (D.faults disk.old) (D.faults disk.new) × (count ≡ D.faults disk.new)) }
+    ensures steady { D.faults disk.old ≤ D.faults disk.new }
 {
     let one = usable(control_at(disk, 0))?;
     let other = usable(control_at(disk, 1))?;
@@ -52,6 +71,8 @@ pub(crate) fn control_places<D: Disk>(disk: &mut D, generation: u64) -> Result<P
 }
 
 fn places_of(one: Option<ControlSlot>, other: Option<ControlSlot>) -> Places
+    ensures value { result ≡ places_of one other }
+    ensures which { result.free ≤ 1 }
 {
     match (one, other) {
         (None, in_use) => Places { free: 0, in_use },

@@ -1,4 +1,13 @@
 //! What one node's disk is given for the next life: a checkpoint, and a control slot that names it.
+ghost use Rattle.std.specs.Prelude.{◌≡◌, ◌≤◌, List, Some, false, is_ok, IfOk, OnErr, length};
+ghost use Rattle.frag_map.specs.Shape.{IsShape};
+ghost use Rattle.host_io.specs.Call.{Call};
+ghost use Rattle.host_io.specs.Fault.{Rose};
+ghost use Rattle.redo_log.specs.Stored.{files_of};
+ghost use Rattle.sysfile_core.specs.Runs.{Runs};
+ghost use Rattle.sys_restart.specs.Answers.{HasCauseOf};
+ghost use Rattle.sys_restart.specs.Calls.{RunsOrWants, checkpoint_for, is_used_up, next_file, next_parity, next_slot, node_calls, piece_calls, write_calls};
+
 use crate::places::{Places, control_places};
 use crate::restored::Restored;
 use frag_map::holds;
@@ -21,6 +30,11 @@ pub fn prepare_node<D: Disk>(
     shape: Shape,
     restored: &Restored,
 ) -> Result<(), RestartFault>
+    requires shape { IsShape shape }
+    requires unused { is_used_up restored.now ≡ false }
+    ensures runs { (calls : List Call) → D.told disk.old ≡ Some calls → RunsOrWants (node_calls calls shape node restored.now) calls (D.told disk.new) result }
+    ensures cause { HasCauseOf node (D.faults disk.old) (D.faults disk.new) result }
+    ensures steady { D.faults disk.old ≤ D.faults disk.new }
 {
     let places = match control_places(disk, restored.generation) {
         Ok(places) => places,
@@ -41,6 +55,8 @@ pub fn prepare_node<D: Disk>(
 
 // The control slot that is the first of its generation.
 fn next_slot(restored: &Restored, places: &Places, size: u64) -> ControlSlot
+    requires { is_used_up restored.now ≡ false }
+    ensures { result ≡ next_slot restored.now places.now.in_use size }
 {
     ControlSlot {
         ckpt_file: next_file(&places.in_use),
@@ -56,6 +72,7 @@ fn next_slot(restored: &Restored, places: &Places, size: u64) -> ControlSlot
 
 // The checkpoint file that isn't in use.
 fn next_file(in_use: &Option<ControlSlot>) -> u8
+    ensures { result ≡ next_file in_use.now }
 {
     match in_use {
         Some(slot) if slot.ckpt_file == 2 => 3,
@@ -65,6 +82,7 @@ fn next_file(in_use: &Option<ControlSlot>) -> u8
 
 // The parity that isn't in use.
 fn next_parity(in_use: &Option<ControlSlot>) -> u8
+    ensures { result ≡ next_parity in_use.now }
 {
     match in_use {
         Some(slot) if slot.parity == 0 => 1,
@@ -79,6 +97,8 @@ fn checkpoint_bytes(
     shape: &Shape,
     restored: &Restored,
 ) -> Result<Vec<u8>, NoMemory>
+    requires { IsShape shape.now }
+    ensures { IfOk result (λ bytes. bytes.items ≡ checkpoint_for shape.now node restored.now) }
 {
     let rows = restored.rows.to_rows(alloc)?;
     let mut bytes = Vec::new(alloc);
@@ -98,6 +118,10 @@ fn write_node<D: Disk>(
     slot: &ControlSlot,
     bytes: &[u8],
 ) -> Result<(), Failed>
+    requires { which ≤ 1 }
+    ensures runs { (calls : List Call) → D.told disk.old ≡ Some calls → Runs (write_calls (files_of calls CONTROL_FILE) which slot.now bytes.now) calls (D.told disk.new) (is_ok result) }
+    ensures cause { OnErr result (Rose (D.faults disk.old) (D.faults disk.new)) }
+    ensures steady { D.faults disk.old ≤ D.faults disk.new }
 {
     write_pieces(disk, slot.ckpt_file, bytes)?;
     disk.sync(slot.ckpt_file)?;
@@ -106,6 +130,9 @@ fn write_node<D: Disk>(
 
 // Writes bytes from the first place of a file on, piece by piece.
 fn write_pieces<D: Disk>(disk: &mut D, file: u8, bytes: &[u8]) -> Result<(), Failed>
+    ensures runs { (calls : List Call) → D.told disk.old ≡ Some calls → Runs (piece_calls (length bytes.now) file 0 bytes.now) calls (D.told disk.new) (is_ok result) }
+    ensures cause { OnErr result (Rose (D.faults disk.old) (D.faults disk.new)) }
+    ensures steady { D.faults disk.old ≤ D.faults disk.new }
 {
     let mut at = 0;
     'pieces: while at < bytes.len() {

@@ -1,4 +1,11 @@
 //! What a cluster restarts with.
+ghost use Rattle.std.specs.Prelude.{◌≡◌, List, Some, length, map};
+ghost use Rattle.frag_map.specs.Shape.{IsShape};
+ghost use Rattle.host_io.specs.Call.{Call};
+ghost use Rattle.sys_restart.specs.Answers.{AreSteady, HasCauseAmong, ReadsAll};
+ghost use Rattle.sys_restart.specs.Files.{disks_of};
+ghost use Rattle.sys_restart.specs.Restored.{restored_of};
+
 use crate::groups::rows_of_groups;
 use crate::latest::latest;
 use crate::restored::Restored;
@@ -18,6 +25,12 @@ pub fn restore<D: Disk>(
     disks: &mut [D],
     shape: Shape,
 ) -> Result<Restored, RestartFault>
+    requires shape { IsShape shape }
+    requires nodes { length disks.old ≡ shape.nodes }
+    ensures read { (records : List (List Call)) → map D.told disks.old ≡ map Some records → ReadsAll (restored_of shape (disks_of records)) result }
+    ensures unrecorded { map D.told disks.new ≡ map D.told disks.old }
+    ensures cause { HasCauseAmong (map D.faults disks.old) (map D.faults disks.new) result }
+    ensures steady { AreSteady (map D.faults disks.old) (map D.faults disks.new) }
 {
     match latest(disks, shape)? {
         None => Ok(Restored {

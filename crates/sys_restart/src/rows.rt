@@ -1,4 +1,10 @@
 //! Reading a checkpoint.
+ghost use Rattle.std.specs.Prelude.{◌≡◌, ◌≤◌, List, Some, IfOk, IfErr, length, take};
+ghost use Rattle.host_io.specs.Call.{Call};
+ghost use Rattle.redo_log.specs.Stored.{IsFault, files_of};
+ghost use Rattle.sys_restart.specs.Answers.{HasCause, Reads};
+ghost use Rattle.sys_restart.specs.Checkpoint.{rows_of_file};
+
 use host_io::{Disk, Failed};
 use lcp_store::rows_in;
 use sig_core::{NoMemory, ReadFault, Table};
@@ -17,6 +23,10 @@ pub fn read_rows<D: Disk>(
     size: u64,
     saved: u64,
 ) -> Result<Table, ReadFault>
+    ensures read { (calls : List Call) → D.told disk.old ≡ Some calls → Reads (rows_of_file file size saved (files_of calls file)) result }
+    ensures unrecorded { D.told disk.new ≡ D.told disk.old }
+    ensures cause { HasCause (D.faults disk.old) (D.faults disk.new) result }
+    ensures steady { D.faults disk.old ≤ D.faults disk.new }
 {
     let bytes = read_file(alloc, disk, file, size)?;
     let rows = rows_in(alloc, file, saved, &bytes)?;
@@ -38,6 +48,10 @@ fn read_file<D: Disk>(
     file: u8,
     size: u64,
 ) -> Result<Vec<u8>, ReadFault>
+    ensures bytes { (calls : List Call) → D.told disk.old ≡ Some calls → IfOk result (λ bytes. bytes.items ≡ take size (files_of calls file)) }
+    ensures unrecorded { D.told disk.new ≡ D.told disk.old }
+    ensures fault { IfErr result (λ fault. IsFault (D.faults disk.old) (D.faults disk.new) fault) }
+    ensures steady { D.faults disk.old ≤ D.faults disk.new }
 {
     let Ok(there) = disk.size(file) else {
         return Err(ReadFault::DiskFault {
@@ -60,6 +74,7 @@ fn read_file<D: Disk>(
 
 // So many zeros.
 fn zeros(alloc: Global, count: usize) -> Result<Vec<u8>, NoMemory>
+    ensures { IfOk result (λ zeros. length zeros.items ≡ count) }
 {
     Ok(vec![in alloc; 0; count]?)
 }
