@@ -73,11 +73,15 @@ piece_calls (suc more) file at (byte ∷ bytes) =
     Wrote file at (take PIECE_BYTES (byte ∷ bytes))
     ∷ piece_calls more file (at + PIECE_BYTES) (drop PIECE_BYTES (byte ∷ bytes))
 
+-- those that write bytes to a file, and sync it
+abbrev pub file_calls : ℕ → List ℕ → List Call
+file_calls file bytes = piece_calls (length bytes) file 0 bytes ++ Synced file ∷ []
+
 -- those that write a checkpoint, and behind it a control slot at a place of a control file of these bytes
 abbrev pub write_calls : List ℕ → ℕ → ControlSlot → List ℕ → List Call
 write_calls control which slot bytes =
-    piece_calls (length bytes) slot.ckpt_file 0 bytes
-    ++ Synced slot.ckpt_file ∷ slot_calls control CONTROL_FILE (place_of which) (drop 1 (control_bytes slot))
+    file_calls slot.ckpt_file bytes
+    ++ slot_calls control CONTROL_FILE (place_of which) (drop 1 (control_bytes slot))
 
 abbrev pub node_calls_at : List ℕ → Places → Restored → List ℕ → List Call
 node_calls_at control places r bytes =

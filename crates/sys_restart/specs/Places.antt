@@ -1,6 +1,7 @@
 -- Which places of slots aren't in use. A damaged slot counts as one that is closed.
 use Rattle.std.specs.Prelude.{ℕ, nat_lt, List, Option, None, Some, Result, Ok, Err, if◌then◌else◌}
 use Rattle.sig_core.specs.declared.fault.ReadFault.{ReadFault}
+use Rattle.sig_core.specs.declared.fault.ReadFault.TheVariants.{Damaged, DiskFault, NoMemory}
 use Rattle.sig_core.specs.declared.slots.ControlSlot.{ControlSlot}
 use Rattle.sig_core.specs.declared.slots.SystemSlot.{SystemSlot}
 use Rattle.sysfile_core.specs.Reading.{control_at, is_earlier, of_generation, system_at}
@@ -10,6 +11,13 @@ use Rattle.sys_restart.specs.declared.places.Places.{Places}
 abbrev pub usable : {S : Type 0} → Result (Option S) ReadFault → Option S
 usable (Ok slot) = slot
 usable (Err fault) = None
+
+-- the same, or the count of a disk that failed
+abbrev pub usable_or_count : {S : Type 0} → Result (Option S) ReadFault → Result (Option S) ℕ
+usable_or_count (Ok slot) = Ok slot
+usable_or_count (Err (DiskFault count)) = Err count
+usable_or_count (Err (Damaged file at byte)) = Ok None
+usable_or_count (Err NoMemory) = Ok None
 
 -- the place of two that isn't that of the slot in use
 abbrev pub free_of : Option SystemSlot → Option SystemSlot → ℕ

@@ -44,12 +44,19 @@ pub(crate) fn rows_of_groups<D: Disk>(
     ensures cause { HasCauseAmong (map D.faults disks.old) (map D.faults disks.new) result }
     ensures steady { AreSteady (map D.faults disks.old) (map D.faults disks.new) }
 {
-    let mut rows = rows_of_group(alloc, disks, 1, shape.replicas, system)?;
+    let mut rows = match rows_of_group(alloc, disks, 1, shape.replicas, system) {
+        Ok(rows) => rows,
+        Err(fault) => return Err(fault),
+    };
     for group in 1..shape.nodes / shape.replicas {
         let first = group * shape.replicas + 1;
-        let part = rows_of_group(alloc, disks, first, shape.replicas, system)?;
-        if let Err(NoMemory) = join(alloc, &mut rows, &part) {
-            return Err(RestartFault::NoMemory);
+        match rows_of_group(alloc, disks, first, shape.replicas, system) {
+            Ok(part) => {
+                if let Err(NoMemory) = join(alloc, &mut rows, &part) {
+                    return Err(RestartFault::NoMemory);
+                }
+            }
+            Err(fault) => return Err(fault),
         }
     }
     Ok(rows)
@@ -83,12 +90,14 @@ fn rows_of_group<D: Disk>(
     ensures cause { HasCauseAmong (map D.faults disks.old) (map D.faults disks.new) result }
     ensures steady { AreSteady (map D.faults disks.old) (map D.faults disks.new) }
 {
-    match source_of(disks, first, count, system)? {
-        Some(source) => rows_of_source(alloc, disks, &source, system.epoch),
-        None => {
+    match source_of(disks, first, count, system) {
+        Ok(Some(source)) => rows_of_source(alloc, disks, &source, system.epoch),
+        Ok(None) => {
             let node = first_listed(system.mask, first, count);
-            Err(lacking(&mut disks[node as usize - 1], node))
+            let index = node as usize - 1;
+            Err(lacking(&mut disks[index], node))
         }
+        Err(fault) => Err(fault),
     }
 }
 
@@ -106,8 +115,8 @@ fn rows_of_source<D: Disk>(
     ensures cause { HasCauseAmong (map D.faults disks.old) (map D.faults disks.new) result }
     ensures steady { AreSteady (map D.faults disks.old) (map D.faults disks.new) }
 {
-    let disk = &mut disks[source.node as usize - 1];
-    match rows_of_slot(alloc, disk, &source.slot, epoch) {
+    let index = source.node as usize - 1;
+    match rows_of_slot(alloc, &mut disks[index], &source.slot, epoch) {
         Ok(rows) => Ok(rows),
         Err(fault) => Err(of_node(source.node, fault)),
     }
@@ -131,8 +140,11 @@ fn source_of<D: Disk>(
 {
     for more in 0..count {
         let node = first + more;
-        if let Some(slot) = control_on(&mut disks[node as usize - 1], node, system)? {
-            return Ok(Some(Source { node, slot }));
+        let index = node as usize - 1;
+        match control_on(&mut disks[index], node, system) {
+            Ok(None) => {}
+            Ok(Some(slot)) => return Ok(Some(Source { node, slot })),
+            Err(fault) => return Err(fault),
         }
     }
     Ok(None)

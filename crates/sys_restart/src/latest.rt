@@ -4,7 +4,7 @@ ghost use Rattle.host_io.specs.Call.{Call};
 ghost use Rattle.redo_log.specs.Stored.{files_of};
 ghost use Rattle.sys_restart.specs.Answers.{AreSteady, HasCauseAmong, HasCauseOf, ReadsAll};
 ghost use Rattle.sys_restart.specs.Files.{disks_of};
-ghost use Rattle.sys_restart.specs.Latest.{latest_from, latest_on, of_shape};
+ghost use Rattle.sys_restart.specs.Latest.{latest_from, latest_on, of_shape, same_shape};
 
 use crate::on_node::of_node;
 use host_io::Disk;
@@ -29,8 +29,10 @@ pub(crate) fn latest<D: Disk>(
 {
     let mut found = None;
     for index in 0..disks.len() {
-        let slot = latest_on(&mut disks[index], index as u8 + 1, shape)?;
-        found = later_system(found, slot);
+        match latest_on(&mut disks[index], index as u8 + 1, shape) {
+            Ok(slot) => found = later_system(found, slot),
+            Err(fault) => return Err(fault),
+        }
     }
     Ok(found)
 }
@@ -46,9 +48,23 @@ fn latest_on<D: Disk>(
     ensures cause { HasCauseOf node (D.faults disk.old) (D.faults disk.new) result }
     ensures steady { D.faults disk.old ≤ D.faults disk.new }
 {
-    let one = of_shape(system_at(disk, 0), node, shape)?;
-    let other = of_shape(system_at(disk, 1), node, shape)?;
-    Ok(later_system(one, other))
+    let one = match of_shape(system_at(disk, 0), node, shape) {
+        Ok(slot) => slot,
+        Err(fault) => return Err(fault),
+    };
+    match of_shape(system_at(disk, 1), node, shape) {
+        Ok(other) => Ok(later_system(one, other)),
+        Err(fault) => Err(fault),
+    }
+}
+
+/// Whether two shapes are the same.
+pub(crate) fn same_shape(one: &Shape, other: &Shape) -> bool
+    ensures { result ≡ same_shape one.now other.now }
+{
+    one.nodes == other.nodes
+        && one.replicas == other.replicas
+        && one.fragments == other.fragments
 }
 
 // A system slot that was read, unless it is of another shape.
@@ -61,7 +77,7 @@ fn of_shape(
 {
     match read {
         Ok(Some(slot)) => {
-            if slot.shape == shape {
+            if same_shape(&slot.shape, &shape) {
                 Ok(Some(slot))
             } else {
                 Err(RestartFault::OtherShape {

@@ -49,11 +49,51 @@ pub fn prepare_life<D: Disk>(
             epoch: restored.epoch,
         });
     }
-    for index in 0..disks.len() {
-        prepare_node(alloc, &mut disks[index], index as u8 + 1, shape, restored)?;
+    match prepare_all(alloc, disks, shape, restored) {
+        Ok(()) => name_all(disks, shape, restored),
+        Err(fault) => Err(fault),
     }
+}
+
+// Prepares each disk, in the order of the nodes.
+fn prepare_all<D: Disk>(
+    alloc: Global,
+    disks: &mut [D],
+    shape: Shape,
+    restored: &Restored,
+) -> Result<(), RestartFault>
+    requires shape { IsShape shape }
+    requires nodes { length disks.old ≡ shape.nodes }
+    requires unused { is_used_up restored.now ≡ false }
+    ensures cause { HasCauseAmong (map D.faults disks.old) (map D.faults disks.new) result }
+    ensures steady { AreSteady (map D.faults disks.old) (map D.faults disks.new) }
+{
     for index in 0..disks.len() {
-        name_node(&mut disks[index], index as u8 + 1, shape, restored)?;
+        match prepare_node(alloc, &mut disks[index], index as u8 + 1, shape, restored) {
+            Ok(()) => {}
+            Err(fault) => return Err(fault),
+        }
+    }
+    Ok(())
+}
+
+// Names the life on each disk, in the order of the nodes.
+fn name_all<D: Disk>(
+    disks: &mut [D],
+    shape: Shape,
+    restored: &Restored,
+) -> Result<(), RestartFault>
+    requires shape { IsShape shape }
+    requires nodes { length disks.old ≡ shape.nodes }
+    requires unused { is_used_up restored.now ≡ false }
+    ensures cause { HasCauseAmong (map D.faults disks.old) (map D.faults disks.new) result }
+    ensures steady { AreSteady (map D.faults disks.old) (map D.faults disks.new) }
+{
+    for index in 0..disks.len() {
+        match name_node(&mut disks[index], index as u8 + 1, shape, restored) {
+            Ok(()) => {}
+            Err(fault) => return Err(fault),
+        }
     }
     Ok(())
 }

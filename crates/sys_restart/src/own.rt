@@ -1,12 +1,15 @@
 //! The rows that one node's disk has of itself.
-ghost use Rattle.std.specs.Prelude.{◌≡◌, ◌≤◌, List, Ok, Some};
+ghost use Rattle.std.specs.Prelude.{◌≡◌, ◌≤◌, ◌&&◌, List, Ok, Some};
 ghost use Rattle.host_io.specs.Call.{Call};
 ghost use Rattle.redo_log.specs.Stored.{files_of};
 ghost use Rattle.sysfile_core.specs.Found.{HasRedo};
 ghost use Rattle.sys_restart.specs.Answers.{HasCause, Reads};
+ghost use Rattle.sys_restart.specs.Groups.{is_listed};
+ghost use Rattle.sys_restart.specs.Latest.{same_shape};
 ghost use Rattle.sys_restart.specs.Own.{own_by, own_of};
 
 use crate::groups::is_listed;
+use crate::latest::same_shape;
 use crate::slot_rows::rows_of_slot;
 use host_io::Disk;
 use sig_core::{ControlSlot, Own, ReadFault, Shape, SystemSlot};
@@ -33,16 +36,28 @@ pub fn restore_own<D: Disk>(
     ensures cause { HasCause (D.faults disk.old) (D.faults disk.new) result }
     ensures steady { D.faults disk.old ≤ D.faults disk.new }
 {
-    let Some(system) = read_system(disk)? else {
-        return Ok(None);
+    let system = match read_system(disk) {
+        Ok(Some(system)) => system,
+        Ok(None) => return Ok(None),
+        Err(fault) => return Err(fault),
     };
-    if system.shape != shape || !is_listed(system.mask, node) {
+    if !lists(&system, &shape, node) {
         return Ok(None);
     }
-    match read_control(disk, system.generation)? {
-        Some(control) => own_in(alloc, disk, &system, &control),
-        None => Ok(None),
+    match read_control(disk, system.generation) {
+        Ok(Some(control)) => own_in(alloc, disk, &system, &control),
+        Ok(None) => Ok(None),
+        Err(fault) => Err(fault),
     }
+}
+
+// Whether a system slot is of the shape and lists the node.
+fn lists(system: &SystemSlot, shape: &Shape, node: u8) -> bool
+    requires first { 1 ≤ node }
+    requires few { node ≤ 8 }
+    ensures { result ≡ (same_shape system.now.shape shape.now && is_listed system.now.mask node) }
+{
+    same_shape(&system.shape, shape) && is_listed(system.mask, node)
 }
 
 // The rows of the slots in use.
@@ -61,9 +76,11 @@ fn own_in<D: Disk>(
     if control.saved != system.epoch {
         return Ok(None);
     }
-    let rows = rows_of_slot(alloc, disk, control, system.epoch)?;
-    Ok(Some(Own {
-        epoch: system.epoch,
-        rows,
-    }))
+    match rows_of_slot(alloc, disk, control, system.epoch) {
+        Ok(rows) => Ok(Some(Own {
+            epoch: system.epoch,
+            rows,
+        })),
+        Err(fault) => Err(fault),
+    }
 }

@@ -3,7 +3,7 @@ ghost use Rattle.std.specs.Prelude.{◌≡◌, ◌≤◌, List, Some, IfErr, IfO
 ghost use Rattle.host_io.specs.Call.{Call};
 ghost use Rattle.host_io.specs.Fault.{Rose};
 ghost use Rattle.redo_log.specs.Stored.{files_of};
-ghost use Rattle.sys_restart.specs.Places.{control_places, free_of, free_system, places_of};
+ghost use Rattle.sys_restart.specs.Places.{control_places, free_of, free_system, places_of, usable_or_count};
 ghost use Rattle.sysfile_core.specs.declared.place.TheConstants.{CONTROL_FILE, SYSTEM_FILE};
 
 use host_io::Disk;
@@ -28,9 +28,14 @@ pub(crate) fn free_system<D: Disk>(disk: &mut D) -> Result<u8, u64>
     ensures cause { IfErr result (λ count. Rose (D.faults disk.old) (D.faults disk.new) × (count ≡ D.faults disk.new)) }
     ensures steady { D.faults disk.old ≤ D.faults disk.new }
 {
-    let one = usable(system_at(disk, 0))?;
-    let other = usable(system_at(disk, 1))?;
-    Ok(free_of(one, other))
+    let one = match usable(system_at(disk, 0)) {
+        Ok(slot) => slot,
+        Err(count) => return Err(count),
+    };
+    match usable(system_at(disk, 1)) {
+        Ok(other) => Ok(free_of(one, other)),
+        Err(count) => Err(count),
+    }
 }
 
 // The place of two that isn't that of the slot in use.
@@ -62,12 +67,14 @@ pub(crate) fn control_places<D: Disk>(disk: &mut D, generation: u64) -> Result<P
     ensures cause { IfErr result (λ count. Rose (D.faults disk.old) (D.faults disk.new) × (count ≡ D.faults disk.new)) }
     ensures steady { D.faults disk.old ≤ D.faults disk.new }
 {
-    let one = usable(control_at(disk, 0))?;
-    let other = usable(control_at(disk, 1))?;
-    Ok(places_of(
-        of_generation(generation, one),
-        of_generation(generation, other),
-    ))
+    let one = match usable(control_at(disk, 0)) {
+        Ok(slot) => of_generation(generation, slot),
+        Err(count) => return Err(count),
+    };
+    match usable(control_at(disk, 1)) {
+        Ok(slot) => Ok(places_of(one, of_generation(generation, slot))),
+        Err(count) => Err(count),
+    }
 }
 
 fn places_of(one: Option<ControlSlot>, other: Option<ControlSlot>) -> Places
@@ -98,6 +105,7 @@ fn places_of(one: Option<ControlSlot>, other: Option<ControlSlot>) -> Places
 
 // A slot that was read; a damaged one counts as none.
 fn usable<S>(read: Result<Option<S>, ReadFault>) -> Result<Option<S>, u64>
+    ensures { result ≡ usable_or_count read }
 {
     match read {
         Ok(slot) => Ok(slot),

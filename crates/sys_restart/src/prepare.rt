@@ -1,19 +1,21 @@
 //! What one node's disk is given for the next life: a checkpoint, and a control slot that names it.
-ghost use Rattle.std.specs.Prelude.{◌≡◌, ◌≤◌, List, Some, false, is_ok, IfOk, OnErr, length};
+ghost use Rattle.std.specs.Prelude.{◌≡◌, ◌≤◌, ◌++◌, List, Some, false, is_ok, IfOk, OnErr, OnOk, length};
+ghost use Rattle.std.specs.List.{flat_map};
+ghost use Rattle.sig_core.specs.Checkpoint.{row_bytes};
 ghost use Rattle.frag_map.specs.Shape.{IsShape};
 ghost use Rattle.host_io.specs.Call.{Call};
 ghost use Rattle.host_io.specs.Fault.{Rose};
 ghost use Rattle.redo_log.specs.Stored.{files_of};
 ghost use Rattle.sysfile_core.specs.Runs.{Runs};
 ghost use Rattle.sys_restart.specs.Answers.{HasCauseOf};
-ghost use Rattle.sys_restart.specs.Calls.{RunsOrWants, checkpoint_for, is_used_up, next_file, next_parity, next_slot, node_calls, piece_calls, write_calls};
+ghost use Rattle.sys_restart.specs.Calls.{RunsOrWants, checkpoint_for, file_calls, is_used_up, next_file, next_parity, next_slot, node_calls, piece_calls, rows_for, write_calls};
 
 use crate::places::{Places, control_places};
 use crate::restored::Restored;
 use frag_map::holds;
 use host_io::{Disk, Failed};
 use lcp_store::{put_head, put_row2};
-use sig_core::{ControlSlot, NoMemory, PIECE_BYTES, RestartFault, Shape};
+use sig_core::{ControlSlot, Key, NoMemory, PIECE_BYTES, RestartFault, Shape, Value};
 use std::alloc::Global;
 use sysfile_core::{CONTROL_FILE, control_bytes, write_slot};
 
@@ -56,7 +58,8 @@ pub fn prepare_node<D: Disk>(
 // The control slot that is the first of its generation.
 fn next_slot(restored: &Restored, places: &Places, size: u64) -> ControlSlot
     requires { is_used_up restored.now ≡ false }
-    ensures { result ≡ next_slot restored.now places.now.in_use size }
+    ensures value { result ≡ next_slot restored.now places.now.in_use size }
+    ensures file { 2 ≤ result.ckpt_file }
 {
     ControlSlot {
         ckpt_file: next_file(&places.in_use),
@@ -72,7 +75,8 @@ fn next_slot(restored: &Restored, places: &Places, size: u64) -> ControlSlot
 
 // The checkpoint file that isn't in use.
 fn next_file(in_use: &Option<ControlSlot>) -> u8
-    ensures { result ≡ next_file in_use.now }
+    ensures value { result ≡ next_file in_use.now }
+    ensures least { 2 ≤ result }
 {
     match in_use {
         Some(slot) if slot.ckpt_file == 2 => 3,
@@ -103,12 +107,27 @@ fn checkpoint_bytes(
     let rows = restored.rows.to_rows(alloc)?;
     let mut bytes = Vec::new(alloc);
     put_head(&mut bytes)?;
-    for (key, value) in &rows {
+    put_rows(&mut bytes, node, shape, restored.epoch, &rows)?;
+    Ok(bytes)
+}
+
+// Appends those of the rows that are of a node's group.
+fn put_rows(
+    bytes: &mut Vec<u8>,
+    node: u8,
+    shape: &Shape,
+    epoch: u64,
+    rows: &[(Key, Value)],
+) -> Result<(), NoMemory>
+    requires { IsShape shape.now }
+    ensures { OnOk result (bytes.new.items ≡ bytes.old.items ++ flat_map row_bytes (rows_for shape.now node epoch rows.now)) }
+{
+    for (key, value) in rows {
         if holds(node, key, shape) {
-            put_row2(&mut bytes, key, restored.epoch, value)?;
+            put_row2(bytes, key, epoch, value)?;
         }
     }
-    Ok(bytes)
+    Ok(())
 }
 
 // Writes the checkpoint, and the slot behind it.
@@ -118,14 +137,24 @@ fn write_node<D: Disk>(
     slot: &ControlSlot,
     bytes: &[u8],
 ) -> Result<(), Failed>
-    requires { which ≤ 1 }
+    requires which { which ≤ 1 }
+    requires file { 2 ≤ slot.now.ckpt_file }
     ensures runs { (calls : List Call) → D.told disk.old ≡ Some calls → Runs (write_calls (files_of calls CONTROL_FILE) which slot.now bytes.now) calls (D.told disk.new) (is_ok result) }
     ensures cause { OnErr result (Rose (D.faults disk.old) (D.faults disk.new)) }
     ensures steady { D.faults disk.old ≤ D.faults disk.new }
 {
-    write_pieces(disk, slot.ckpt_file, bytes)?;
-    disk.sync(slot.ckpt_file)?;
+    write_file(disk, slot.ckpt_file, bytes)?;
     write_slot(disk, CONTROL_FILE, which, &control_bytes(slot))
+}
+
+// Writes bytes to a file, and syncs it.
+fn write_file<D: Disk>(disk: &mut D, file: u8, bytes: &[u8]) -> Result<(), Failed>
+    ensures runs { (calls : List Call) → D.told disk.old ≡ Some calls → Runs (file_calls file bytes.now) calls (D.told disk.new) (is_ok result) }
+    ensures cause { OnErr result (Rose (D.faults disk.old) (D.faults disk.new)) }
+    ensures steady { D.faults disk.old ≤ D.faults disk.new }
+{
+    write_pieces(disk, file, bytes)?;
+    disk.sync(file)
 }
 
 // Writes bytes from the first place of a file on, piece by piece.

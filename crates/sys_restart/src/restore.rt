@@ -32,19 +32,23 @@ pub fn restore<D: Disk>(
     ensures cause { HasCauseAmong (map D.faults disks.old) (map D.faults disks.new) result }
     ensures steady { AreSteady (map D.faults disks.old) (map D.faults disks.new) }
 {
-    match latest(disks, shape)? {
-        None => Ok(Restored {
-            generation: 0,
-            epoch: 0,
-            rows: Table::new(alloc),
-        }),
-        Some(system) => {
-            let rows = rows_of_groups(alloc, disks, shape, &system)?;
-            Ok(Restored {
-                generation: system.generation,
-                epoch: system.epoch,
-                rows,
-            })
+    let system = match latest(disks, shape) {
+        Ok(Some(system)) => system,
+        Ok(None) => {
+            return Ok(Restored {
+                generation: 0,
+                epoch: 0,
+                rows: Table::new(alloc),
+            });
         }
+        Err(fault) => return Err(fault),
+    };
+    match rows_of_groups(alloc, disks, shape, &system) {
+        Ok(rows) => Ok(Restored {
+            generation: system.generation,
+            epoch: system.epoch,
+            rows,
+        }),
+        Err(fault) => Err(fault),
     }
 }

@@ -1,9 +1,9 @@
 //! Reading a checkpoint.
-ghost use Rattle.std.specs.Prelude.{◌≡◌, ◌≤◌, List, Some, IfOk, IfErr, length, take};
+ghost use Rattle.std.specs.Prelude.{◌≡◌, ◌≤◌, ℕ, List, Some, IfOk, IfErr, length, take};
 ghost use Rattle.host_io.specs.Call.{Call};
 ghost use Rattle.redo_log.specs.Stored.{IsFault, files_of};
 ghost use Rattle.sys_restart.specs.Answers.{HasCause, Reads};
-ghost use Rattle.sys_restart.specs.Checkpoint.{rows_of_file};
+ghost use Rattle.sys_restart.specs.Checkpoint.{rows_in_size, rows_of_file};
 
 use host_io::{Disk, Failed};
 use lcp_store::rows_in;
@@ -28,17 +28,33 @@ pub fn read_rows<D: Disk>(
     ensures cause { HasCause (D.faults disk.old) (D.faults disk.new) result }
     ensures steady { D.faults disk.old ≤ D.faults disk.new }
 {
-    let bytes = read_file(alloc, disk, file, size)?;
-    let rows = rows_in(alloc, file, saved, &bytes)?;
+    match read_file(alloc, disk, file, size) {
+        Ok(bytes) => rows_in_size(alloc, file, size, saved, &bytes),
+        Err(fault) => Err(fault),
+    }
+}
+
+// The rows of a checkpoint of this size, of which these are the bytes.
+fn rows_in_size(
+    alloc: Global,
+    file: u8,
+    size: u64,
+    saved: u64,
+    bytes: &[u8],
+) -> Result<Table, ReadFault>
+    ensures read { Reads (rows_in_size file size saved bytes.now) result }
+    ensures cause { (before now : ℕ) → HasCause before now result }
+{
     let there = bytes.len() as u64;
-    if there < size {
-        return Err(ReadFault::Damaged {
+    match rows_in(alloc, file, saved, bytes) {
+        Ok(_) if there < size => Err(ReadFault::Damaged {
             file,
             at: there,
             byte: 0,
-        });
+        }),
+        Ok(rows) => Ok(rows),
+        Err(fault) => Err(fault),
     }
-    Ok(rows)
 }
 
 // The first bytes of a file, at most so many.

@@ -30,8 +30,11 @@ pub(crate) fn rows_of_slot<D: Disk>(
     ensures cause { HasCause (D.faults disk.old) (D.faults disk.new) result }
     ensures steady { D.faults disk.old ≤ D.faults disk.new }
 {
-    let mut rows = read_rows(alloc, disk, slot.ckpt_file, slot.ckpt_size, slot.saved)?;
-    replay(
+    let mut rows = match read_rows(alloc, disk, slot.ckpt_file, slot.ckpt_size, slot.saved) {
+        Ok(rows) => rows,
+        Err(fault) => return Err(fault),
+    };
+    match replay(
         alloc,
         &mut rows,
         disk,
@@ -39,6 +42,8 @@ pub(crate) fn rows_of_slot<D: Disk>(
         slot.redo_start,
         slot.redo_end,
         epoch,
-    )?;
-    Ok(rows)
+    ) {
+        Ok(()) => Ok(rows),
+        Err(fault) => Err(fault),
+    }
 }

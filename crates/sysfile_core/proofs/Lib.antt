@@ -1,5 +1,6 @@
 pub mod DiskLemmas
 pub mod FileLemmas
+pub mod FoundLemmas
 pub mod ReadLemmas
 pub mod RunLemmas
 pub mod SlotLemmas
