@@ -8,6 +8,8 @@ pub mod Latest
 pub mod LifeCalls
 pub mod Own
 pub mod Places
+pub mod Prepared
 pub mod Redone
 pub mod Restored
 pub mod SlotRows
+pub mod Words

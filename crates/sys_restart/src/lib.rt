@@ -10,7 +10,7 @@ mod on_node;
 mod own;
 mod places;
 mod prepare;
-mod restore;
+mod restoring;
 mod restored;
 mod rows;
 mod slot_rows;
@@ -19,7 +19,7 @@ pub use life::{is_used_up, prepare_life};
 pub use name::name_node;
 pub use own::restore_own;
 pub use prepare::prepare_node;
-pub use restore::restore;
+pub use restoring::restore;
 pub use restored::Restored;
 pub use rows::read_rows;
 
