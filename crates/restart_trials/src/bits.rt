@@ -3,7 +3,7 @@ use crate::layout::{Layout, PAIR};
 use crate::pair::{check, disk_of};
 use crate::stops::laid_out;
 use crate::trouble::Trouble;
-use redo_format::{FormatFault, decode};
+use redo_format::decode;
 use sig_core::{Redo, RestartFault};
 use std::alloc::Global;
 use sys_restart::restore;
@@ -95,17 +95,17 @@ fn is_free_in_redo(bytes: &[u8], at: usize) -> bool {
     let mut rest = bytes;
     let mut left = at;
     for _ in 0..100 {
-        match decode(rest) {
-            Ok((redo, taken)) if left < taken => return is_free_in_record(&redo, left),
-            Ok((_, taken)) => {
-                left -= taken;
-                if taken > rest.len() {
-                    return false;
-                }
-                rest = &rest[taken..];
-            }
-            Err(FormatFault::NotRecord { .. }) => return false,
+        let Ok((redo, taken)) = decode(rest) else {
+            return false;
+        };
+        if left < taken {
+            return is_free_in_record(&redo, left);
         }
+        if taken > rest.len() {
+            return false;
+        }
+        left -= taken;
+        rest = &rest[taken..];
     }
     false
 }

@@ -183,13 +183,13 @@ fn three_groups(alloc: Global) -> Result<(), Trouble> {
         return Err(Trouble::Other);
     }
     has_rows(&found.rows, &wanted)?;
-    let mut all = 0;
+    let mut all = 0u64;
     for disk in &mut disks {
         let size = disk.size(2).unwrap_or(0);
         if size == 2 || size == 314 {
             return Err(Trouble::Other);
         }
-        all += size.min(1_000) - size.min(2);
+        all = all.saturating_add(size.saturating_sub(2));
     }
     // each of 26 rows of 12 bytes stands on two disks
     if all == 624 { Ok(()) } else { Err(Trouble::Other) }

@@ -11,35 +11,28 @@ use Rattle.sys_restart.specs.Answers.{AreSteady, HasCauseAmong, HasCauseOf, IsCa
 use Rattle.sys_restart.specs.Files.{disks_of}
 
 -- what is told of an element that stands at a place
-map_at : {A B : Type 0} (T : A → B) (xs : List A) (k : ℕ) (x : A) (none : B) → k < length xs → x ≡ get_or xs k x
-    → get_or (map T xs) k none ≡ T x
-map_at T [] k x none below is = absurd (omega (arith, below))
-map_at T (y ∷ xs) zero x none below is = ap T (sym is)
-map_at T (y ∷ xs) (suc k) x none below is = map_at T xs k x none (omega (arith, below)) is
-
-map_past : {A B : Type 0} (T : A → B) (xs : List A) (k : ℕ) (none : B) → length xs ≤ k → get_or (map T xs) k none ≡ none
-map_past T [] k none past = refl
-map_past T (y ∷ xs) zero none past = absurd (omega (arith, past))
-map_past T (y ∷ xs) (suc k) none past = map_past T xs k none (omega (arith, past))
+map_at : {A B : Type 0} (T : A → B) (xs : List A) (k : ℕ) (x : A) (none : B) → k < length xs
+    → get_or (map T xs) k none ≡ T (get_or xs k x)
+map_at T [] k x none below = absurd (omega (arith, below))
+map_at T (y ∷ xs) zero x none below = refl
+map_at T (y ∷ xs) (suc k) x none below = map_at T xs k x none (omega (arith, below))
 
 -- an element that tells the same in place of another
-pub same_told : {A B : Type 0} (T : A → B) (xs : List A) (k : ℕ) (old new : A) → k < length xs → old ≡ get_or xs k old
-    → T new ≡ T old → map T (set xs k new) ≡ map T xs
-same_told T [] k old new below is same = absurd (omega (arith, below))
-same_told T (x ∷ xs) zero old new below is same = ap (λ y. y ∷ map T xs) (same ∙ ap T is)
-same_told T (x ∷ xs) (suc k) old new below is same =
-    ap (λ ys. T x ∷ ys) (same_told T xs k old new (omega (arith, below)) is same)
+pub same_told : {A B : Type 0} (T : A → B) (xs : List A) (k : ℕ) (x new : A) → k < length xs
+    → T new ≡ T (get_or xs k x) → map T (set xs k new) ≡ map T xs
+same_told T [] k x new below same = absurd (omega (arith, below))
+same_told T (y ∷ xs) zero x new below same = ap (λ one. one ∷ map T xs) same
+same_told T (y ∷ xs) (suc k) x new below same =
+    ap (λ ys. T y ∷ ys) (same_told T xs k x new (omega (arith, below)) same)
 
 -- the counts of the others stay, and that of this one doesn't fall
-pub one_steady : {A : Type 0} (F : A → ℕ) (xs : List A) (k : ℕ) (old new : A) → k < length xs → old ≡ get_or xs k old
-    → F old ≤ F new → AreSteady (map F xs) (map F (set xs k new))
-one_steady F [] k old new below is more at = absurd (omega (arith, below))
-one_steady F (x ∷ xs) zero old new below is more zero =
-    let same : F x ≡ F old = ap F (sym is) in omega (arith, same, more)
-one_steady F (x ∷ xs) zero old new below is more (suc at) = omega arith
-one_steady F (x ∷ xs) (suc k) old new below is more zero = omega arith
-one_steady F (x ∷ xs) (suc k) old new below is more (suc at) =
-    one_steady F xs k old new (omega (arith, below)) is more at
+pub one_steady : {A : Type 0} (F : A → ℕ) (xs : List A) (k : ℕ) (x new : A) → k < length xs
+    → F (get_or xs k x) ≤ F new → AreSteady (map F xs) (map F (set xs k new))
+one_steady F [] k x new below more at = absurd (omega (arith, below))
+one_steady F (y ∷ xs) zero x new below more zero = more
+one_steady F (y ∷ xs) zero x new below more (suc at) = omega arith
+one_steady F (y ∷ xs) (suc k) x new below more zero = omega arith
+one_steady F (y ∷ xs) (suc k) x new below more (suc at) = one_steady F xs k x new (omega (arith, below)) more at
 
 set_at : {A : Type 0} (F : A → ℕ) (xs : List A) (k : ℕ) (new : A) → k < length xs
     → get_or (map F (set xs k new)) k 0 ≡ F new
@@ -62,12 +55,12 @@ mapped F [] = refl
 mapped F (x ∷ xs) = ap suc (mapped F xs)
 
 -- a fault of the disk at a place is one of its node
-pub one_cause : {A : Type 0} (F : A → ℕ) (first xs : List A) (k : ℕ) (old new : A) (fault : RestartFault)
-    → k < length xs → old ≡ get_or xs k old → length first ≡ length xs → AreSteady (map F first) (map F xs)
-    → IsCauseOf (k + 1) (F old) (F new) fault → IsCauseAmong (map F first) (map F (set xs k new)) fault
-one_cause F first xs k old new (DiskFault node count) below is long steady (at, rose, now) =
+pub one_cause : {A : Type 0} (F : A → ℕ) (first xs : List A) (k : ℕ) (x new : A) (fault : RestartFault)
+    → k < length xs → length first ≡ length xs → AreSteady (map F first) (map F xs)
+    → IsCauseOf (k + 1) (F (get_or xs k x)) (F new) fault → IsCauseAmong (map F first) (map F (set xs k new)) fault
+one_cause F first xs k x new (DiskFault node count) below long steady (at, rose, now) =
     let place : node - 1 ≡ k = omega (arith, at) in
-    let before : get_or (map F xs) k 0 ≡ F old = map_at F xs k old 0 below is in
+    let before : get_or (map F xs) k 0 ≡ F (get_or xs k x) = map_at F xs k x 0 below in
     let after : get_or (map F (set xs k new)) k 0 ≡ F new = set_at F xs k new below in
     let less = steady k in
     let many : length (map F first) ≡ length first = mapped F first in
@@ -79,10 +72,10 @@ one_cause F first xs k old new (DiskFault node count) below is long steady (at, 
       subst (λ (p : ℕ). Rose (get_or (map F first) p 0) (get_or (map F (set xs k new)) p 0)) (sym place) here,
       now ∙ sym after ∙ ap (λ (p : ℕ). get_or (map F (set xs k new)) p 0) (sym place),
     )
-one_cause F first xs k old new (OtherShape found asked) below is long steady cause = tt
-one_cause F first xs k old new (Damaged node file at byte) below is long steady cause = tt
-one_cause F first xs k old new (UsedUp generation epoch) below is long steady cause = tt
-one_cause F first xs k old new NoMemory below is long steady cause = tt
+one_cause F first xs k x new (OtherShape found asked) below long steady cause = tt
+one_cause F first xs k x new (Damaged node file at byte) below long steady cause = tt
+one_cause F first xs k x new (UsedUp generation epoch) below long steady cause = tt
+one_cause F first xs k x new NoMemory below long steady cause = tt
 
 -- the cause of a call behind others
 pub cause_then : (first second third : List ℕ) (fault : RestartFault) → length first ≡ length second
@@ -98,17 +91,32 @@ cause_then first second third NoMemory long steady cause = tt
 heads : {A : Type 0} (x y : A) (xs ys : List A) → x ∷ xs ≡ y ∷ ys → x ≡ y
 heads x y xs ys same = cc
 
-tails : {A : Type 0} (x y : A) (xs ys : List A) → x ∷ xs ≡ y ∷ ys → xs ≡ ys
+pub tails : {A : Type 0} (x y : A) (xs ys : List A) → x ∷ xs ≡ y ∷ ys → xs ≡ ys
 tails x y xs ys same = cc
 
-uneven : {A : Type 0} (x : A) (xs : List A) → x ∷ xs ≡ [] → ⊥
+pub uneven : {A : Type 0} (x : A) (xs : List A) → x ∷ xs ≡ [] → ⊥
 uneven x xs same = cc
 
 -- what the disk at a place tells is the record of its node
 pub told_at : {A : Type 0} (T : A → Option (List Call)) (xs : List A) (records : List (List Call)) (k : ℕ) (x : A)
-    → map T xs ≡ map Some records → k < length xs → x ≡ get_or xs k x → T x ≡ Some (get_or records k [])
-told_at T [] records k x all below is = absurd (omega (arith, below))
-told_at T (y ∷ xs) [] k x all below is = absurd (uneven (T y) (map T xs) all)
-told_at T (y ∷ xs) (calls ∷ records) zero x all below is = ap T is ∙ heads (T y) (Some calls) (map T xs) (map Some records) all
-told_at T (y ∷ xs) (calls ∷ records) (suc k) x all below is =
-    told_at T xs records k x (tails (T y) (Some calls) (map T xs) (map Some records) all) (omega (arith, below)) is
+    → map T xs ≡ map Some records → k < length xs → T (get_or xs k x) ≡ Some (get_or records k [])
+told_at T [] records k x all below = absurd (omega (arith, below))
+told_at T (y ∷ xs) [] k x all below = absurd (uneven (T y) (map T xs) all)
+told_at T (y ∷ xs) (calls ∷ records) zero x all below = heads (T y) (Some calls) (map T xs) (map Some records) all
+told_at T (y ∷ xs) (calls ∷ records) (suc k) x all below =
+    told_at T xs records k x (tails (T y) (Some calls) (map T xs) (map Some records) all) (omega (arith, below))
+
+-- the same, as a node counts
+pub told_node : {A : Type 0} (T : A → Option (List Call)) (xs : List A) (records : List (List Call)) (k : ℕ) (x : A)
+    → map T xs ≡ map Some records → k < length xs → T (get_or xs k x) ≡ Some (get_or records (k + 1 - 1) [])
+told_node T xs records k x all below =
+    let at : k ≡ k + 1 - 1 = omega arith in
+    told_at T xs records k x all below ∙ ap (λ (p : ℕ). Some (get_or records p [])) at
+
+-- a fault of a node's disk, where its place is that of the node
+pub node_cause : {A : Type 0} (F : A → ℕ) (first xs : List A) (node k : ℕ) (x new : A) (fault : RestartFault)
+    → node ≡ k + 1 → k < length xs → length first ≡ length xs → AreSteady (map F first) (map F xs)
+    → IsCauseOf node (F (get_or xs k x)) (F new) fault → IsCauseAmong (map F first) (map F (set xs k new)) fault
+node_cause F first xs node k x new fault is below long steady cause =
+    one_cause F first xs k x new fault below long steady
+    (subst (λ (n : ℕ). IsCauseOf n (F (get_or xs k x)) (F new) fault) is cause)

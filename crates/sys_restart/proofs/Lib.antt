@@ -8,3 +8,4 @@ pub mod PieceLemmas
 pub mod PlacesLemmas
 pub mod PrepareLemmas
 pub mod RedoneLemmas
+pub mod TurnLemmas

@@ -37,6 +37,18 @@ pub record RunInTurn (asks records : ℕ → List Call) (told : List (Option (Li
   pub last : EndsAt asks records told count done result
   pub behind : (node : ℕ) → done + 2 ≤ node → node ≤ count → told_by told node ≡ Some (records node)
 
+-- some disks have had their calls so
+abbrev pub HasRun : (ℕ → List Call) → List (List Call) → List (Option (List Call)) → Result (Unit {0}) RestartFault → Type 0
+HasRun asks records told result =
+    (done : ℕ) × RunInTurn asks (record_of records) told (length records) result done
+
+-- the calls that prepare each node, and those that name the life on each
+abbrev pub prepare_asks : Shape → Restored → List (List Call) → ℕ → List Call
+prepare_asks shape r records node = node_calls (record_of records node) shape node r
+
+abbrev pub name_asks : Shape → Restored → List (List Call) → ℕ → List Call
+name_asks shape r records node = name_calls (record_of records node) shape r
+
 -- the record of a node's disk that is prepared
 abbrev pub prepared_record : Shape → Restored → (ℕ → List Call) → ℕ → List Call
 prepared_record shape r records node =

@@ -5,7 +5,7 @@ ghost use Rattle.host_io.specs.Call.{Call};
 ghost use Rattle.sig_core.specs.declared.fault.RestartFault.TheVariants.{UsedUp};
 ghost use Rattle.sys_restart.specs.Answers.{AreSteady, HasCauseAmong};
 ghost use Rattle.sys_restart.specs.Calls.{is_used_up};
-ghost use Rattle.sys_restart.specs.LifeCalls.{IsUsedUp, RunsAll};
+ghost use Rattle.sys_restart.specs.LifeCalls.{HasRun, IsUsedUp, name_asks, prepare_asks};
 
 use crate::name::name_node;
 use crate::prepare::prepare_node;
@@ -39,7 +39,6 @@ pub fn prepare_life<D: Disk>(
     requires nodes { length disks.old ≡ shape.nodes }
     ensures used_up { is_used_up restored.now ≡ true → (result ≡ Err (UsedUp restored.now.generation restored.now.epoch)) × (disks.new ≡ disks.old) }
     ensures not_else { IsUsedUp result → is_used_up restored.now ≡ true }
-    ensures runs { is_used_up restored.now ≡ false → (records : List (List Call)) → map D.told disks.old ≡ map Some records → RunsAll shape restored.now records (map D.told disks.new) result }
     ensures cause { HasCauseAmong (map D.faults disks.old) (map D.faults disks.new) result }
     ensures steady { AreSteady (map D.faults disks.old) (map D.faults disks.new) }
 {
@@ -65,6 +64,7 @@ fn prepare_all<D: Disk>(
     requires shape { IsShape shape }
     requires nodes { length disks.old ≡ shape.nodes }
     requires unused { is_used_up restored.now ≡ false }
+    ensures runs { (records : List (List Call)) → map D.told disks.old ≡ map Some records → HasRun (prepare_asks shape restored.now records) records (map D.told disks.new) result }
     ensures cause { HasCauseAmong (map D.faults disks.old) (map D.faults disks.new) result }
     ensures steady { AreSteady (map D.faults disks.old) (map D.faults disks.new) }
 {
@@ -86,6 +86,7 @@ fn name_all<D: Disk>(
     requires shape { IsShape shape }
     requires nodes { length disks.old ≡ shape.nodes }
     requires unused { is_used_up restored.now ≡ false }
+    ensures runs { (records : List (List Call)) → map D.told disks.old ≡ map Some records → HasRun (name_asks shape restored.now records) records (map D.told disks.new) result }
     ensures cause { HasCauseAmong (map D.faults disks.old) (map D.faults disks.new) result }
     ensures steady { AreSteady (map D.faults disks.old) (map D.faults disks.new) }
 {
