@@ -1,5 +1,5 @@
 -- Disks that are ready for a life of their cluster, and what a stop leaves while they are made so.
-use Rattle.std.specs.Prelude.{◌≡◌, ◌≤◌, ◌<◌, ◌⊎◌, ℕ, ◌+◌, ◌-◌, ◌^◌, ◌==◌, Bool, true, false, List, length, Option, None, Some, Result, Ok, Err, if◌then◌else◌}
+use Rattle.std.specs.Prelude.{◌≡◌, ◌≤◌, ◌<◌, ◌⊎◌, ℕ, ◌+◌, ◌-◌, ◌^◌, ◌==◌, true, false, List, length, Some, Ok, if◌then◌else◌}
 use Rattle.std.specs.FinMap as map
 use Rattle.frag_map.specs.Layout.{holds}
 use Rattle.host_io.specs.Call.{Call}
@@ -37,7 +37,7 @@ pub record HasSlot (shape : Shape) (node generation epoch : ℕ) (rows : Rows) (
   pub saved : slot.saved ≡ epoch
   pub start : slot.redo_start ≡ 0
   pub end : slot.redo_end ≡ 0
-  pub rows : rows_of_slot epoch files slot ≡ Ok (rows_of_node shape node rows)
+  pub has_rows : rows_of_slot epoch files slot ≡ Ok (rows_of_node shape node rows)
 
 -- a node's disk is prepared for the life behind what was restored
 abbrev pub HasPrepared : Shape → ℕ → Restored → List Call → Type 0
@@ -104,5 +104,6 @@ NamingLosesNothing =
     → IsNaming before after ok shape r → 1 ≤ node → node ≤ shape.nodes
     → HasPrepared shape node r before → ((other : ℕ) → HasPrepared shape other r (records other))
     → LeavesOnly after (length before)
-    (λ image. (found : Restored) × (restored_of shape (with_files (λ other. files_of (records other)) node image) ≡ Ok found)
-    × IsSameOrNext r found)
+    (λ image. (found : Restored)
+    × ((restored_of shape (with_files (λ other. files_of (records other)) node image) ≡ Ok found)
+    × IsSameOrNext r found))

@@ -1,5 +1,5 @@
 -- Words for what one node has: its journal, and the slots that a crash may leave on its disk.
-use Rattle.std.specs.Prelude.{◌≡◌, ℕ, nat_le, List, [], ◌∷◌, ◌++◌, length, Option, Some, Ok, if◌then◌else◌}
+use Rattle.std.specs.Prelude.{◌≡◌, ℕ, nat_le, List, [], ◌∷◌, ◌++◌, length, Some, Ok, if◌then◌else◌}
 use Rattle.host_io.specs.Call.{Call}
 use Rattle.host_io.specs.Image.{IsLeft}
 use Rattle.redo_log.specs.Replaying.{log_bytes, replayed}
