@@ -1,0 +1,162 @@
+//! What the console tells its user beside the replies: prompts, help, and why a line isn't taken.
+use crate::board::{Board, Hint};
+use crate::explain::explanation;
+use crate::form::form_of;
+use crate::help;
+use crate::near::nearest;
+use crate::painted::write_whole;
+use crate::word::{shown, words_of};
+use host_io::Sink;
+use std::alloc::{AllocError, Global};
+use std::cell::RefCell;
+
+/// Where a console tells its user of lines.
+pub trait Notes {
+    /// A line is waited for.
+    fn prompt(&mut self);
+
+    /// A line wasn't taken: it is empty, a comment, a question to the console, or wrong.
+    fn pass(&mut self, line: &[u8]);
+
+    /// No line comes any more. Whether that is so because the session has had as many as it takes.
+    fn end(&mut self, is_full: bool);
+}
+
+/// The number of nodes, of replicas and of fragments of the cluster.
+#[derive(Clone, Copy, Debug, PartialEq, Eq)]
+pub struct Numbers {
+    pub nodes: u8,
+    pub replicas: u8,
+    pub fragments: u8,
+}
+
+/// Notes that are written to a sink. What can't be written, or finds no memory, is left out.
+#[derive(Drop)]
+pub struct Screen<'a, K> {
+    alloc: Global,
+    sink: K,
+    board: &'a RefCell<Board>,
+    numbers: Numbers,
+    has_greeted: bool,
+}
+
+impl<'a, K: Sink> Screen<'a, K> {
+    /// Notes over this sink, for a cluster of these numbers.
+    pub fn new(alloc: Global, sink: K, board: &'a RefCell<Board>, numbers: Numbers) -> Screen<'a, K> {
+        Screen {
+            alloc,
+            sink,
+            board,
+            numbers,
+            has_greeted: false,
+        }
+    }
+
+    /// What is told once, with the first prompt.
+    fn greeting(&self) -> Result<String, AllocError> {
+        let Numbers {
+            nodes,
+            replicas,
+            fragments,
+        } = self.numbers;
+        format!(in self.alloc; "ndb: {nodes} nodes, {replicas} replicas, {fragments} fragments, all in memory. `help` shows the commands, ^D ends.\n")
+    }
+
+    fn tell(&mut self, text: &[u8]) {
+        let _ = write_whole(&mut self.sink, text);
+    }
+
+    fn try_prompt(&mut self) -> Result<String, AllocError> {
+        let mut text = if self.has_greeted {
+            String::new(self.alloc)
+        } else {
+            self.greeting()?
+        };
+        self.has_greeted = true;
+        if let Ok(mut board) = self.board.try_borrow_mut() {
+            if let Some(hint) = board.take_hint() {
+                text.push_str(hinted(hint))?;
+            }
+            let Numbers {
+                nodes,
+                replicas,
+                fragments,
+            } = self.numbers;
+            text.push_str(&format!(in self.alloc; "ndb {nodes}/{replicas}/{fragments}")?)?;
+            for name in board.open() {
+                text.push_str(&format!(in self.alloc; " @{name}")?)?;
+            }
+        }
+        text.push_str("> ")?;
+        Ok(text)
+    }
+
+    /// What is told of a line that isn't taken.
+    fn answer(&self, line: &[u8]) -> Result<String, AllocError> {
+        let words = words_of(self.alloc, line)?;
+        let Some((first, rest)) = words.split_first() else {
+            return Ok(String::new(self.alloc));
+        };
+        if first.bytes.first() == Some(&b'#') {
+            return Ok(String::new(self.alloc));
+        }
+        if first.bytes == b"help".as_slice() || first.bytes == b"?".as_slice() {
+            return match rest.first() {
+                None => String::from_str(self.alloc, help::ALL),
+                Some(topic) => about(self.alloc, topic.bytes),
+            };
+        }
+        explanation(self.alloc, self.numbers.nodes, line)
+    }
+}
+
+fn hinted(hint: Hint) -> &'static str {
+    match hint {
+        Hint::Held => help::HELD,
+        Hint::Cut => help::CUT,
+        Hint::Node => help::NODE,
+    }
+}
+
+/// What is told of a command, or of another thing.
+fn about(alloc: Global, topic: &[u8]) -> Result<String, AllocError> {
+    if let Some(form) = form_of(topic) {
+        return String::from_str(alloc, help::of_form(form));
+    }
+    if topic == b"pending".as_slice() {
+        let mut text = String::from_str(alloc, help::HELD)?;
+        text.push_str(help::CUT)?;
+        text.push_str(help::NODE)?;
+        return Ok(text);
+    }
+    if topic == b"keys".as_slice() {
+        return String::from_str(alloc, help::KEYS);
+    }
+    let name = shown(alloc, topic)?;
+    match nearest(alloc, &name)? {
+        Some(near) => format!(in alloc; "there is no `{name}`; `help {near}` tells of `{near}`\n"),
+        None => format!(in alloc; "there is no `{name}`; `help` shows the commands\n"),
+    }
+}
+
+impl<'a, K: Sink> Notes for Screen<'a, K> {
+    fn prompt(&mut self) {
+        if let Ok(text) = self.try_prompt() {
+            self.tell(text.as_bytes());
+        }
+    }
+
+    fn pass(&mut self, line: &[u8]) {
+        if let Ok(text) = self.answer(line) {
+            self.tell(text.as_bytes());
+        }
+    }
+
+    fn end(&mut self, is_full: bool) {
+        if is_full {
+            self.tell(b"\nthe session has had 65536 lines, and ends\n");
+        } else {
+            self.tell(b"\n");
+        }
+    }
+}
