@@ -1,4 +1,6 @@
 //! The commands that the session serves: their words, and what stands behind them.
+ghost use Rattle.std.specs.Prelude.{◌≡◌, is_some};
+ghost use Rattle.ndb_console.specs.Taken.{is_form, is_operation, is_operator, is_order};
 
 /// What a word of a command is.
 #[derive(Clone, Copy, Debug, PartialEq, Eq)]
@@ -57,7 +59,9 @@ pub const FORMS: [Form; 18] = [
 ];
 
 /// The command that a line begins so, if it is one.
-pub fn form_of(word: &[u8]) -> Option<Form> {
+pub fn form_of(word: &[u8]) -> Option<Form>
+    ensures { is_some result ≡ is_form word.now }
+{
     if let Some(form) = operation_of(word) {
         return Some(form);
     }
@@ -68,7 +72,9 @@ pub fn form_of(word: &[u8]) -> Option<Form> {
 }
 
 /// The operation that a word names.
-pub fn operation_of(word: &[u8]) -> Option<Form> {
+pub fn operation_of(word: &[u8]) -> Option<Form>
+    ensures { is_some result ≡ is_operation word.now }
+{
     if word == b"get".as_slice() {
         Some(Form::Get)
     } else if word == b"getx".as_slice() {
@@ -87,7 +93,9 @@ pub fn operation_of(word: &[u8]) -> Option<Form> {
 }
 
 /// The command on transactions, rows or the session that a word names.
-fn order_of(word: &[u8]) -> Option<Form> {
+fn order_of(word: &[u8]) -> Option<Form>
+    ensures { is_some result ≡ is_order word.now }
+{
     if word == b"begin".as_slice() {
         Some(Form::Begin)
     } else if word == b"commit".as_slice() {
@@ -108,7 +116,9 @@ fn order_of(word: &[u8]) -> Option<Form> {
 }
 
 /// The command on nodes and epochs that a word names.
-fn operator_of(word: &[u8]) -> Option<Form> {
+fn operator_of(word: &[u8]) -> Option<Form>
+    ensures { is_some result ≡ is_operator word.now }
+{
     if word == b"kill".as_slice() {
         Some(Form::Kill)
     } else if word == b"cut".as_slice() {
