@@ -1,8 +1,7 @@
 -- What a console gives of a text.
-use Rattle.std.specs.Prelude.{◌≡◌, ℕ, ◌-◌, Bool, ◌==◌, List, [], ◌∷◌, ◌++◌, filter, take, Option}
+use Rattle.std.specs.Prelude.{◌≡◌, ◌⊎◌, ℕ, Bool, true, ◌==◌, List, [], ◌∷◌, ◌++◌, filter, take, position, Option, None, Some}
 use Rattle.std.specs.List.{slice_split}
-use Rattle.std.specs.Io.KnownBytes.{Consumes}
-use Rattle.core.specs.Option.{option_map}
+use Rattle.std.specs.Io.KnownBytes.{Consumes, IsAtEnd}
 use Rattle.ndb_console.specs.Taken.{is_taken}
 
 -- what ends a line
@@ -18,13 +17,29 @@ text_of (line ∷ lines) = line ++ 10 ∷ text_of lines
 abbrev pub taken_text : ℕ → ℕ → List ℕ → List ℕ
 taken_text nodes count bytes = text_of (take count (filter (is_taken nodes) (slice_split is_newline bytes)))
 
--- what a console gives that has given so many lines: what is left of one, and those that are taken of what it holds and
--- of what its source has left
-abbrev pub given_of : ℕ → ℕ → List ℕ → List ℕ → Option (List ℕ) → Option (List ℕ)
-given_of nodes count rest held left = option_map (λ bytes. rest ++ taken_text nodes (65536 - count) (held ++ bytes)) left
-
 -- bytes of the source went behind those that were held
 pub record Reads (left left_now : Option (List ℕ)) (held held_now : List ℕ) : Type 0 where
   pub more : List ℕ
   pub consumed : Consumes left left_now more
   pub kept : held_now ≡ held ++ more
+
+-- the place of the first newline, or none, and then the source is at its end
+abbrev pub IsFound : Option (List ℕ) → List ℕ → Option ℕ → Type 0
+IsFound left held (Some at) = position is_newline held ≡ Some at
+IsFound left held None = (position is_newline held ≡ None) × IsAtEnd left
+
+-- a line that a session of so many nodes takes, with its newline
+pub record IsLine (nodes : ℕ) (text : List ℕ) : Type 0 where
+  pub line : List ℕ
+  pub taken : is_taken nodes line ≡ true
+  pub is : text ≡ line ++ 10 ∷ []
+
+-- the first bytes of a line that the session takes were given, and these are left
+pub record BeginsLine (nodes : ℕ) (rest_now bytes : List ℕ) : Type 0 where
+  pub text : List ℕ
+  pub line : IsLine nodes text
+  pub is : text ≡ bytes ++ rest_now
+
+-- bytes were given of what was left of a line, or of the next line
+abbrev pub GivesNext : ℕ → (rest rest_now bytes : List ℕ) → Type 0
+GivesNext nodes rest rest_now bytes = (rest ≡ bytes ++ rest_now) ⊎ BeginsLine nodes rest_now bytes

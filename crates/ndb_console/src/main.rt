@@ -10,6 +10,7 @@ mod console;
 mod explain;
 mod form;
 mod help;
+mod lines;
 mod near;
 mod numbers;
 mod painted;

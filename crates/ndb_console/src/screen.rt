@@ -59,7 +59,7 @@ impl<'a, K: Sink> Screen<'a, K> {
             replicas,
             fragments,
         } = self.numbers;
-        format!(in self.alloc; "ndb: {nodes} nodes, {replicas} replicas, {fragments} fragments, all in memory. `help` shows the commands, ^D ends.\n")
+        format!(in self.alloc; "ndb: nodes {nodes}, replicas {replicas}, fragments {fragments}, all in memory. `help` shows the commands, ^D ends.\n")
     }
 
     fn tell(&mut self, text: &[u8]) {
