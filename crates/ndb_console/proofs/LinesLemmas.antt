@@ -16,7 +16,8 @@ module _ (nodes : ℕ) where
   -- the first of some lines is passed, or it is taken
   first_passed : (line : List ℕ) (lines : List (List ℕ)) → is_taken nodes line ≡ false
       → filter (is_taken nodes) (line ∷ lines) ≡ filter (is_taken nodes) lines
-  first_passed line lines is = ap (λ b. cond b (line ∷ filter (is_taken nodes) lines) (filter (is_taken nodes) lines)) is
+  first_passed line lines is =
+      ap (λ b. cond b (line ∷ filter (is_taken nodes) lines) (filter (is_taken nodes) lines)) is
 
   first_taken : (line : List ℕ) (lines : List (List ℕ)) → is_taken nodes line ≡ true
       → filter (is_taken nodes) (line ∷ lines) ≡ line ∷ filter (is_taken nodes) lines
@@ -39,10 +40,12 @@ module _ (nodes : ℕ) where
   taken_line given held at bytes found is room =
       let rest = slice_split is_newline (drop (at + 1) held ++ bytes) in
       let one_more : 65536 - given ≡ suc (65536 - (given + 1)) = omega (arith, room) in
-      sym (ap (λ lines. text_of (take (65536 - given) (filter (is_taken nodes) lines))) ((splits_at held at found).lines bytes)
+      sym (ap (λ lines. text_of (take (65536 - given) (filter (is_taken nodes) lines)))
+          ((splits_at held at found).lines bytes)
       ∙ ap (λ lines. text_of (take (65536 - given) lines)) (first_taken (take at held) rest is)
       ∙ ap (λ count. text_of (take count (take at held ∷ filter (is_taken nodes) rest))) one_more
-      ∙ sym (append_assoc (take at held) (10 ∷ []) (taken_text nodes (65536 - (given + 1)) (drop (at + 1) held ++ bytes))))
+      ∙ sym (append_assoc (take at held) (10 ∷ []) (taken_text nodes (65536 - (given + 1))
+          (drop (at + 1) held ++ bytes))))
 
   -- what stands behind the last newline, at the end
   pub last_passed : (count : ℕ) (held : List ℕ) → position is_newline held ≡ None → is_taken nodes held ≡ false

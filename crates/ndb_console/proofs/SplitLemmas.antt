@@ -26,7 +26,10 @@ splits_here byte bytes is = record { lines = λ more. slice_split-cons_yes is_ne
 splits_later : (byte : ℕ) (bytes : List ℕ) (at : ℕ) → is_newline byte ≡ false → SplitsAt bytes at
     → SplitsAt (byte ∷ bytes) (suc at)
 splits_later byte bytes at is later = record {
-  lines = λ more. slice_split-cons_no is_newline byte (bytes ++ more) is ∙ ap (onto_first byte) (later.lines more);
+  lines = λ more.
+      (let shift : suc (at + 1) ≡ suc at + 1 = omega arith in
+      (slice_split-cons_no is_newline byte (bytes ++ more) is ∙ ap (onto_first byte) (later.lines more))
+      ∙ ap (λ n. (byte ∷ take at bytes) ∷ slice_split is_newline (drop n (byte ∷ bytes) ++ more)) shift);
 }
 
 splits_by : (byte : ℕ) (bytes : List ℕ) (b : Bool) → is_newline byte ≡ b

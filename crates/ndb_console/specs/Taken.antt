@@ -58,4 +58,5 @@ asks (Err fault) = false
 
 -- a line, without its newline, that the session of so many nodes takes
 abbrev pub is_taken : ℕ → List ℕ → Bool
-is_taken nodes line = not (nat_lt 512 (length line)) && may_begin (first_word line) && asks (parsed_line false nodes line)
+is_taken nodes line =
+    not (nat_lt 512 (length line)) && may_begin (first_word line) && asks (parsed_line false nodes line)

@@ -45,10 +45,7 @@ impl<S: Source, N: Notes> Source for Console<S, N> {
         ensures steady { self.old.faults ≤ self.new.faults }
         ensures taken { IfOk result (λ n. GivesNext self.old.lines.nodes self.old.lines.rest.items self.new.lines.rest.items (take n buf.new)) }
     {
-        match self
-            .lines
-            .hand_over(&mut self.source, &mut self.notes, buf)
-        {
+        match self.lines.hand_over(&mut self.source, &mut self.notes, buf) {
             Ok(count) => Ok(count),
             Err(Failed) => {
                 self.faults = self.faults.saturating_add(1);

@@ -61,7 +61,9 @@ fn plainly(alloc: Global, column: usize, text: &str) -> Result<Wrong, AllocError
 
 /// The column behind a word and a space.
 fn column_behind(word: Word<'_>) -> usize {
-    word.column.saturating_add(word.bytes.len()).saturating_add(1)
+    word.column
+        .saturating_add(word.bytes.len())
+        .saturating_add(1)
 }
 
 fn no_command(alloc: Global, word: Word<'_>) -> Result<Wrong, AllocError> {
@@ -230,7 +232,9 @@ fn not_of(alloc: Global, nodes: u8, kind: Kind, word: &[u8]) -> Result<String, A
             format!(in alloc; "`{name}` is no value: up to 200 printed characters without spaces")
         }
         Kind::Name => {
-            format!(in alloc; "`{name}` is no transaction's number: from 1 to 65535, without leading zeros")
+            format!(in alloc;
+                "`{name}` is no transaction's number: from 1 to 65535, without leading zeros"
+            )
         }
         Kind::Node => format!(in alloc; "`{name}` is no node: from 1 to {nodes}"),
         Kind::Rounds => format!(in alloc; "`{name}` is no number of rounds: from 1 to 16"),

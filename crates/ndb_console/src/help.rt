@@ -40,11 +40,15 @@ docs/SCRIPT.md is the manual, docs/TUTORIAL.md a first hour.
 /// What a command does.
 pub fn of_form(form: Form) -> &'static str {
     match form {
-        Form::Get => "get K: `value V`, or `none`. Locks the row shared until its transaction ends.\n",
+        Form::Get =>
+            "get K: `value V`, or `none`. Locks the row shared until its transaction ends.\n",
         Form::GetX => "getx K: as `get`, and locks the row as a write does.\n",
-        Form::Put => "put K V: the row K has the value V from now on: `ok`. Without V the value is empty.\n",
-        Form::Ins => "ins K V: as `put`, of a row that isn't there: `ok`, or `error 630 tuple already existed`.\n",
-        Form::Upd => "upd K V: as `put`, of a row that is there: `ok`, or `error 626 tuple did not exist`.\n",
+        Form::Put =>
+            "put K V: the row K has the value V from now on: `ok`. Without V the value is empty.\n",
+        Form::Ins =>
+            "ins K V: as `put`, of a row that isn't there: `ok`, or `error 630 tuple already existed`.\n",
+        Form::Upd =>
+            "upd K V: as `put`, of a row that is there: `ok`, or `error 626 tuple did not exist`.\n",
         Form::Del => "del K: the row is gone: `ok`, or `error 626 tuple did not exist`.\n",
         Form::Begin => "\
 begin T, begin T N: transaction T begins, at node N or else the least: `@T begun N`. Then `@T put a 1`
@@ -52,12 +56,15 @@ and other operations, and `commit T` or `abort T`.
 ",
         Form::Commit => "commit T: `@T committed E`, in epoch E: all of T's writes at once.\n",
         Form::Abort => "abort T: `@T aborted by request`: none of T's writes.\n",
-        Form::Tick => "tick C: lets C rounds of time pass, 1 to 16. A lock is waited for eight at most.\n",
+        Form::Tick =>
+            "tick C: lets C rounds of time pass, 1 to 16. A lock is waited for eight at most.\n",
         Form::Rows => "rows N: the committed rows of node N, and their number.\n",
-        Form::Digest => "digest N: the SHA-256 of what `rows N` shows. Replicas of one group have the same.\n",
+        Form::Digest =>
+            "digest N: the SHA-256 of what `rows N` shows. Replicas of one group have the same.\n",
         Form::Quit => "quit: ends the session; so does ^D.\n",
         Form::Kill => "kill N: node N stops at once, and the others take over what it had begun.\n",
-        Form::Cut => "cut A B: from now on nodes A and B don't hear each other. `tick 4` lets the others notice.\n",
+        Form::Cut =>
+            "cut A B: from now on nodes A and B don't hear each other. `tick 4` lets the others notice.\n",
         Form::Micro => "micro: closes the current epoch, in memory alone: `closed E`.\n",
         Form::Gcp => "gcp: closes the current epoch with a new checkpoint number: `durable E`.\n",
         Form::View => "view: its number, and the nodes that are its members, the oldest first.\n",

@@ -1,5 +1,5 @@
 //! The lines that a console has read, and those that it gives.
-ghost use Rattle.std.specs.Prelude.{◌≡◌, ◌≤◌, ◌<◌, ◌++◌, ◌∷◌, ℕ, List, IfOk, Ok, None, Some, [], false, true, length, min, position, drop, take};
+ghost use Rattle.std.specs.Prelude.{◌≡◌, ◌≤◌, ◌<◌, ◌++◌, ◌∷◌, ℕ, List, IfOk, OnOk, OnErr, Ok, None, Some, [], false, true, length, min, position, drop, take};
 ghost use Rattle.std.specs.Io.KnownBytes.{IsAtEnd, Keeps, ReadConsumes};
 ghost use Rattle.ndb_console.specs.Given.{GivesNext, IsFound, IsLine, is_newline, Reads};
 ghost use Rattle.ndb_console.specs.Lines.{given_of, text_from};
@@ -106,7 +106,7 @@ impl Lines {
             notes.end(true);
             return Ok(false);
         }
-        'lines: for _ in 0..u64::MAX {
+        for _ in 0..u64::MAX {
             notes.prompt();
             match fill(&mut self.held, source)? {
                 Some(at) => {
@@ -148,7 +148,7 @@ fn fill<S: Source>(held: &mut Vec<u8>, source: &mut S) -> Result<Option<usize>, 
     ensures reads { Reads (S.left source.old) (S.left source.new) held.old.items held.new.items }
     ensures found { IfOk result (IsFound (S.left source.new) held.new.items) }
 {
-    'reading: for _ in 0..u64::MAX {
+    for _ in 0..u64::MAX {
         if let Some(at) = first_newline(held) {
             return Ok(Some(at));
         }
@@ -165,8 +165,8 @@ fn fill<S: Source>(held: &mut Vec<u8>, source: &mut S) -> Result<Option<usize>, 
 /// `Failed` where memory is wanting, and then nothing is laid out.
 fn lay(rest: &mut Vec<u8>, line: &[u8]) -> Result<(), Failed>
     requires { rest.old.items ≡ [] }
-    ensures laid { result ≡ Ok () → rest.new.items ≡ line.now ++ 10 ∷ [] }
-    ensures kept { (result ≡ Ok () → ⊥) → rest.new.items ≡ [] }
+    ensures laid { OnOk result (rest.new.items ≡ line.now ++ 10 ∷ []) }
+    ensures kept { OnErr result (rest.new.items ≡ []) }
 {
     if rest.reserve(line.len().saturating_add(1)).is_err() {
         return Err(Failed);

@@ -16,10 +16,9 @@ mod numbers;
 mod painted;
 mod screen;
 mod taken;
-mod word;
-
 #[cfg(test)]
 mod tests;
+mod word;
 
 use crate::board::Board;
 use crate::console::Console;

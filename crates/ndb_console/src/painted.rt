@@ -7,8 +7,11 @@ use std::alloc::{AllocError, Global};
 use std::cell::RefCell;
 
 const GREEN: &[u8] = b"\x1b[32m";
+
 const RED: &[u8] = b"\x1b[31m";
+
 const YELLOW: &[u8] = b"\x1b[33m";
+
 const PLAIN: &[u8] = b"\x1b[0m";
 
 /// A sink that notices the lines that go through it. It tells no content.
@@ -23,7 +26,12 @@ pub struct Painted<'a, K> {
 
 impl<'a, K: Sink> Painted<'a, K> {
     /// A sink over this one.
-    pub fn new(alloc: Global, sink: K, board: &'a RefCell<Board>, has_colours: bool) -> Painted<'a, K> {
+    pub fn new(
+        alloc: Global,
+        sink: K,
+        board: &'a RefCell<Board>,
+        has_colours: bool,
+    ) -> Painted<'a, K> {
         Painted {
             alloc,
             sink,
@@ -44,7 +52,11 @@ impl<'a, K: Sink> Painted<'a, K> {
             if let Ok(mut board) = self.board.try_borrow_mut() {
                 board.note(bare)?;
             }
-            let colour = if self.has_colours { colour_of(bare) } else { b"" };
+            let colour = if self.has_colours {
+                colour_of(bare)
+            } else {
+                b""
+            };
             text.extend_from_slice(colour)?;
             text.extend_from_slice(bare)?;
             if !colour.is_empty() {
@@ -91,7 +103,10 @@ fn colour_of(line: &[u8]) -> &'static [u8] {
 }
 
 fn colour_of_word(word: &[u8]) -> &'static [u8] {
-    if word == b"ok".as_slice() || word == b"committed".as_slice() || word == b"durable".as_slice() {
+    if word == b"ok".as_slice()
+        || word == b"committed".as_slice()
+        || word == b"durable".as_slice()
+    {
         return GREEN;
     }
     if word == b"pending".as_slice() {

@@ -42,7 +42,12 @@ pub struct Screen<'a, K> {
 
 impl<'a, K: Sink> Screen<'a, K> {
     /// Notes over this sink, for a cluster of these numbers.
-    pub fn new(alloc: Global, sink: K, board: &'a RefCell<Board>, numbers: Numbers) -> Screen<'a, K> {
+    pub fn new(
+        alloc: Global,
+        sink: K,
+        board: &'a RefCell<Board>,
+        numbers: Numbers,
+    ) -> Screen<'a, K> {
         Screen {
             alloc,
             sink,
@@ -59,7 +64,9 @@ impl<'a, K: Sink> Screen<'a, K> {
             replicas,
             fragments,
         } = self.numbers;
-        format!(in self.alloc; "ndb: nodes {nodes}, replicas {replicas}, fragments {fragments}, all in memory. `help` shows the commands, ^D ends.\n")
+        format!(in self.alloc;
+            "ndb: nodes {nodes}, replicas {replicas}, fragments {fragments}, all in memory. `help` shows the commands, ^D ends.\n"
+        )
     }
 
     fn tell(&mut self, text: &[u8]) {

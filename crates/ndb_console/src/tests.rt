@@ -83,7 +83,11 @@ fn prompt_end(line: &[u8]) -> Option<usize> {
         return None;
     }
     let at = line.iter().position(|byte| *byte == b'>')?;
-    if at + 2 <= line.len() { Some(at + 2) } else { None }
+    if at + 2 <= line.len() {
+        Some(at + 2)
+    } else {
+        None
+    }
 }
 
 /// Asserts what a console shows of a session.
