@@ -5,7 +5,8 @@ use crate::form::Form;
 pub const HELD: &str = "\
 held by @H: the transaction waits for a row that transaction H has locked. `commit H` or `abort H`
 gives the row away, and then the answer comes. Each `tick` lets rounds pass; a wait of eight ends
-its transaction (`aborted 266 time-out`). `abort` works on a transaction that waits, too.
+its transaction (`aborted 266 time-out`). `abort` works on a transaction that waits, too. An operation
+without `@T` doesn't wait: it comes to nothing.
 ";
 
 /// Something waits for nodes that don't hear each other.
@@ -22,6 +23,7 @@ lets a round pass; `view` shows who is left.
 
 /// What is told where no command is named.
 pub const ALL: &str = "\
+Commands:
   get K      getx K      put K V    ins K V    upd K V    del K
   begin T    commit T    abort T    @T OP: an operation OP in transaction T
   tick C     kill N      cut A B    gcp        micro      view

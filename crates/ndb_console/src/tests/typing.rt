@@ -62,7 +62,8 @@ ndb 2/2/4 @1 @2> @2 get a
 @2 pending held by @1
 held by @H: the transaction waits for a row that transaction H has locked. `commit H` or `abort H`
 gives the row away, and then the answer comes. Each `tick` lets rounds pass; a wait of eight ends
-its transaction (`aborted 266 time-out`). `abort` works on a transaction that waits, too.
+its transaction (`aborted 266 time-out`). `abort` works on a transaction that waits, too. An operation
+without `@T` doesn't wait: it comes to nothing.
 ndb 2/2/4 @1 @2> commit 1
 @1 committed 1/0
 @2 value 1
