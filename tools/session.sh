@@ -69,16 +69,17 @@ take_words() {
     done
 }
 
-# The crate of the program that these words want: the console at a terminal, and else the plain one.
-crate_wanted() {
-    if [ -z "$script" ] && [ -t 0 ] && [ -t 1 ]; then echo ndb_console; else echo ndb_shell; fi
+# Leaves in `crate` that of the program that these words want: the console at a terminal, and else the plain one.
+choose_crate() {
+    crate=ndb_shell
+    if [ -z "$script" ] && [ -t 0 ] && [ -t 1 ]; then crate=ndb_console; fi
 }
 
 # Runs a program on the words.
 run_program() {
     local program=$1 status=0
     . "$top/crates/ndb_shell/settings.sh"
-    if [ "$(crate_wanted)" = ndb_console ]; then
+    if [ "$crate" = ndb_console ]; then
         run_console "$program" || status=$?
     elif [ -n "$script" ]; then
         "$program" "${words[@]}" <"$script" || status=$?
