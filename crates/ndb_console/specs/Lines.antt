@@ -3,10 +3,11 @@ use Rattle.std.specs.Prelude.{ℕ, ◌-◌, List, ◌++◌, Option, option_map}
 use Rattle.ndb_console.specs.declared.lines.Lines.{Lines}
 use Rattle.ndb_console.specs.Given.{taken_text}
 
--- What is given yet where the source has these bytes left: the rest of a line, and then the lines that are taken, up to
--- as many as a session has.
-abbrev pub text_from : Lines → List ℕ → List ℕ
-text_from lines bytes = lines.rest.items ++ taken_text lines.nodes (65536 - lines.given) (lines.held.items ++ bytes)
+-- What is given yet by a console for so many nodes that has given so many lines, where its source has these bytes left:
+-- the rest of a line, and then the lines that are taken, up to as many as a session has.
+abbrev pub given_by : (nodes given : ℕ) → (rest held : List ℕ) → Option (List ℕ) → Option (List ℕ)
+given_by nodes given rest held left =
+    option_map (λ bytes. rest ++ taken_text nodes (65536 - given) (held ++ bytes)) left
 
 abbrev pub given_of : Lines → Option (List ℕ) → Option (List ℕ)
-given_of lines left = option_map (λ bytes. text_from lines bytes) left
+given_of lines left = given_by lines.nodes lines.given lines.rest.items lines.held.items left

@@ -1,8 +1,8 @@
 //! The lines that a console has read, and those that it gives.
-ghost use Rattle.std.specs.Prelude.{◌≡◌, ◌≤◌, ◌<◌, ◌++◌, ◌∷◌, ℕ, List, IfOk, OnOk, OnErr, Ok, None, Some, [], false, true, length, min, position, drop, take};
-ghost use Rattle.std.specs.Io.KnownBytes.{IsAtEnd, Keeps, ReadConsumes};
+ghost use Rattle.std.specs.Prelude.{◌≡◌, ◌≤◌, ◌<◌, ◌++◌, ◌∷◌, ℕ, List, Option, IfOk, OnOk, OnErr, Ok, None, Some, [], false, true, length, min, position, drop, take};
+ghost use Rattle.std.specs.Io.KnownBytes.{Consumes, IsAtEnd, Keeps, ReadConsumes};
 ghost use Rattle.ndb_console.specs.Given.{GivesNext, IsFound, IsLine, is_newline, Reads};
-ghost use Rattle.ndb_console.specs.Lines.{given_of, text_from};
+ghost use Rattle.ndb_console.specs.Lines.{given_of};
 
 use crate::screen::Notes;
 use crate::taken::is_taken;
@@ -46,21 +46,20 @@ impl Lines {
         requires found { position is_newline self.old.held.items ≡ Some at }
         requires none_left { self.old.rest.items ≡ [] }
         requires room { self.old.given < 65536 }
-        ensures same { (bytes : List ℕ) → text_from self.new bytes ≡ text_from self.old bytes }
+        ensures same { (left : Option (List ℕ)) → Keeps (given_of self.old left) (given_of self.new left) }
         ensures nodes { self.new.nodes ≡ self.old.nodes }
         ensures taken { result ≡ Ok true → IsLine self.new.nodes self.new.rest.items }
         ensures passed { result ≡ Ok false → (self.new.rest.items ≡ []) × (self.new.given ≡ self.old.given) }
     {
-        let line = &self.held[..at];
-        let is_taken = is_taken(self.nodes, line);
-        if is_taken {
-            lay(&mut self.rest, line)?;
-            self.given += 1;
-        } else {
-            notes.pass(line);
+        if !is_taken(self.nodes, &self.held[..at]) {
+            notes.pass(&self.held[..at]);
+            drop_front(&mut self.held, at + 1);
+            return Ok(false);
         }
+        lay(&mut self.rest, &self.held[..at])?;
+        self.given += 1;
         drop_front(&mut self.held, at + 1);
-        Ok(is_taken)
+        Ok(true)
     }
 
     /// Looks at what stands behind the last newline, at the end of the source, and says whether it is
@@ -70,27 +69,41 @@ impl Lines {
         requires partial { position is_newline self.old.held.items ≡ None }
         requires none_left { self.old.rest.items ≡ [] }
         requires room { self.old.given < 65536 }
-        ensures same { text_from self.new [] ≡ text_from self.old [] }
+        ensures same { (left : Option (List ℕ)) → IsAtEnd left → Keeps (given_of self.old left) (given_of self.new left) }
         ensures nodes { self.new.nodes ≡ self.old.nodes }
         ensures taken { result ≡ Ok true → IsLine self.new.nodes self.new.rest.items }
-        ensures passed { result ≡ Ok false → (self.new.rest.items ≡ []) × (text_from self.new [] ≡ []) }
+        ensures passed { result ≡ Ok false → self.new.rest.items ≡ [] }
+        ensures end { result ≡ Ok false → (left : Option (List ℕ)) → IsAtEnd left → IsAtEnd (given_of self.new left) }
     {
-        let is_taken = is_taken(self.nodes, &self.held);
-        if is_taken {
-            lay(&mut self.rest, &self.held)?;
-            self.given += 1;
-        } else {
+        if !is_taken(self.nodes, &self.held) {
             notes.pass(&self.held);
             notes.end(false);
+            self.held.clear();
+            return Ok(false);
         }
+        lay(&mut self.rest, &self.held)?;
+        self.given += 1;
         self.held.clear();
-        Ok(is_taken)
+        Ok(true)
+    }
+
+    /// Reads on until a line is whole, and says where its newline stands. `None` at the end.
+    #[tactic(auto, using(crate::proofs::LinesLemmas::reading))]
+    fn read_line<S: Source>(&mut self, source: &mut S) -> Result<Option<usize>, Failed>
+        ensures same { Keeps (given_of self.old (S.left source.old)) (given_of self.new (S.left source.new)) }
+        ensures found { IfOk result (IsFound (S.left source.new) self.new.held.items) }
+        ensures rest { self.new.rest ≡ self.old.rest }
+        ensures given { self.new.given ≡ self.old.given }
+        ensures nodes { self.new.nodes ≡ self.old.nodes }
+    {
+        fill(&mut self.held, source)
     }
 
     /// Reads lines until one is taken, and says whether one was.
     ///
     /// # Errors
     /// `Failed` where the source fails or memory is wanting.
+    #[tactic(auto, using(crate::proofs::LinesLemmas::keeping))]
     fn next_line<S: Source, N: Notes>(
         &mut self,
         source: &mut S,
@@ -108,7 +121,7 @@ impl Lines {
         }
         for _ in 0..u64::MAX {
             notes.prompt();
-            match fill(&mut self.held, source)? {
+            match self.read_line(source)? {
                 Some(at) => {
                     if self.whole_line(notes, at)? {
                         return Ok(true);
@@ -120,10 +133,24 @@ impl Lines {
         Err(Failed)
     }
 
+    /// Hands over what is left of a line, as much as the buffer has room for, and says how much.
+    #[tactic(auto, using(crate::proofs::LinesLemmas::handing))]
+    fn hand_rest(&mut self, buf: &mut [u8]) -> usize
+        ensures within { result ≤ length buf.old }
+        ensures bytes { (left : Option (List ℕ)) → Consumes (given_of self.old left) (given_of self.new left) (take result buf.new) }
+        ensures parts { self.old.rest.items ≡ take result buf.new ++ self.new.rest.items }
+        ensures some { 0 < length self.old.rest.items → 0 < length buf.new → 0 < result }
+    {
+        let count = copy_front(&self.rest, buf);
+        drop_front(&mut self.rest, count);
+        count
+    }
+
     /// Hands over what is left of a line that was taken, or of the next one.
     ///
     /// # Errors
     /// `Failed` where the source fails or memory is wanting.
+    #[tactic(auto, using(crate::proofs::LinesLemmas::giving))]
     pub fn hand_over<S: Source, N: Notes>(
         &mut self,
         source: &mut S,
@@ -134,12 +161,13 @@ impl Lines {
         ensures bytes { ReadConsumes (given_of self.old (S.left source.old)) (given_of self.new (S.left source.new)) result buf.new }
         ensures taken { IfOk result (λ n. GivesNext self.old.nodes self.old.rest.items self.new.rest.items (take n buf.new)) }
     {
-        if self.rest.is_empty() && !self.next_line(source, notes)? {
-            return Ok(0);
+        if !self.rest.is_empty() {
+            return Ok(self.hand_rest(buf));
         }
-        let count = copy_front(&self.rest, buf);
-        drop_front(&mut self.rest, count);
-        Ok(count)
+        if self.next_line(source, notes)? {
+            return Ok(self.hand_rest(buf));
+        }
+        Ok(0)
     }
 }
 

@@ -1,9 +1,12 @@
 //! Screens of the console: what is typed, and what is shown.
 ghost use Rattle.std.specs.Prelude.{None};
 
+mod manual;
 mod tutorial;
 mod typing;
 
+use self::manual::SCRIPTS;
+use self::tutorial::SESSIONS;
 use crate::board::Board;
 use crate::console::Console;
 use crate::numbers::numbers_of;
@@ -22,6 +25,12 @@ use std::thread::Threads;
 pub struct Shown {
     pub words: &'static str,
     pub screen: &'static str,
+}
+
+/// A script, and what the session prints.
+pub struct Script {
+    pub lines: &'static str,
+    pub printed: &'static str,
 }
 
 /// A sink that several write to.
@@ -135,5 +144,45 @@ fn expect<R: Threads + Wait + Sync + Abort>(
         assert_eq!(rt; shown.as_str(), ought.as_str(), "with {words:?}");
     }
     assert_eq!(rt; ended.status, status, "with {words:?}");
+    Ok(())
+}
+
+/// Asserts what a session prints of a script.
+fn expect_printed<R: Threads + Wait + Sync + Abort>(
+    rt: &R,
+    alloc: Global,
+    script: &Script,
+) -> Result<(), Fail> {
+    let lines = script.lines.as_bytes().to_vec(alloc)?;
+    let mut source = MemSource::new(lines, Vec::new(alloc))?;
+    let mut sink = MemSink::new(alloc, Vec::new(alloc))?;
+    let ended = run_shell(
+        rt,
+        alloc,
+        &[],
+        &mut source,
+        &mut sink,
+        Vec::new(alloc),
+        &NoGate,
+    );
+    let printed = String::from_utf8_lossy(alloc, sink.written())?;
+    assert_eq!(rt; printed.as_str(), script.printed);
+    assert_eq!(rt; ended.status, 0);
+    Ok(())
+}
+
+#[test]
+fn the_tutorial(rt: HostRuntime) -> Result<(), Fail> {
+    for shown in &SESSIONS {
+        expect(&rt, rt.alloc(), shown.words, shown.screen, 0)?;
+    }
+    Ok(())
+}
+
+#[test]
+fn the_manual(rt: HostRuntime) -> Result<(), Fail> {
+    for script in &SCRIPTS {
+        expect_printed(&rt, rt.alloc(), script)?;
+    }
     Ok(())
 }

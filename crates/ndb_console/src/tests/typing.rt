@@ -1,5 +1,4 @@
 //! Lines that aren't taken cost nothing, and what is told of them.
-use super::tutorial::SESSIONS;
 use super::{Shown, expect};
 use std::test::Fail;
 
@@ -95,12 +94,4 @@ fn waits_are_explained_once(rt: HostRuntime) -> Result<(), Fail> {
 #[test]
 fn words_of_the_program_are_refused(rt: HostRuntime) -> Result<(), Fail> {
     expect(&rt, rt.alloc(), "--nodes 9", "words refused\n", 1)
-}
-
-#[test]
-fn the_tutorial(rt: HostRuntime) -> Result<(), Fail> {
-    for shown in &SESSIONS {
-        expect(&rt, rt.alloc(), shown.words, shown.screen, 0)?;
-    }
-    Ok(())
 }
