@@ -45,10 +45,13 @@ tell_progress() {
     local crates begun proved left first='' current='' line name wait
     mapfile -t crates < <(crates_below "$1")
     begun=$SECONDS
+    read -r proved left < <(left_of "${crates[@]}")
+    echo "ndb: proving the program, crate by crate, and building it: $proved of ${#crates[@]} crates are proved," \
+        "and the others take $(in_words "$left"). ./try runs it unproved in one." >&2
     while IFS= read -r line; do
         case $line in
-            *error* | *'not proved'*) echo "$line" >&2; continue ;;
-            'fn '*::* | 'struct '*::* | 'enum '*::* | 'trait '*::* | 'impl '*::*) ;;
+            *': proved') ;;
+            *error* | *'not proved'* | *'no proof'*) echo "$line" >&2; continue ;;
             *) continue ;;
         esac
         name=${line#* }
