@@ -6,7 +6,7 @@ pub const SESSIONS: [Shown; 3] = [
     Shown {
         words: "",
         screen: "\
-ndb: 2 nodes, 2 replicas, 4 fragments, all in memory. `help` shows the commands, ^D ends.
+ndb: nodes 2, replicas 2, fragments 4, all in memory. `help` shows the commands, ^D ends.
 ndb 2/2/4> 
 ndb 2/2/4> put apple 3
 ok
@@ -49,7 +49,8 @@ ndb 2/2/4 @1 @2> @2 get apple
 @2 pending held by @1
 held by @H: the transaction waits for a row that transaction H has locked. `commit H` or `abort H`
 gives the row away, and then the answer comes. Each `tick` lets rounds pass; a wait of eight ends
-its transaction (`aborted 266 time-out`). `abort` works on a transaction that waits, too.
+its transaction (`aborted 266 time-out`). `abort` works on a transaction that waits, too. An operation
+without `@T` doesn't wait: it comes to nothing.
 ndb 2/2/4 @1 @2> commit 1
 @1 committed 1/0
 @2 value 2
@@ -101,7 +102,7 @@ ndb 2/2/4> quit
     Shown {
         words: "--nodes 4 --replicas 2",
         screen: "\
-ndb: 4 nodes, 2 replicas, 4 fragments, all in memory. `help` shows the commands, ^D ends.
+ndb: nodes 4, replicas 2, fragments 4, all in memory. `help` shows the commands, ^D ends.
 ndb 4/2/4> put a 100
 ok
 committed 1/0
@@ -169,7 +170,7 @@ ndb 4/2/4> quit
     Shown {
         words: "",
         screen: "\
-ndb: 2 nodes, 2 replicas, 4 fragments, all in memory. `help` shows the commands, ^D ends.
+ndb: nodes 2, replicas 2, fragments 4, all in memory. `help` shows the commands, ^D ends.
 ndb 2/2/4> put a 1
 ok
 committed 1/0
