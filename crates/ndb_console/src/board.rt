@@ -1,4 +1,5 @@
 //! What the console keeps of the replies: which transactions are open, and what there is to tell.
+use crate::word::cut_word;
 use script_lang::read_digits;
 use std::alloc::{AllocError, Global};
 
@@ -97,11 +98,7 @@ fn named(line: &[u8]) -> Option<(u16, &[u8])> {
     let [b'@', rest @ ..] = line else {
         return None;
     };
-    let at = rest.iter().position(|byte| *byte == b' ')?;
-    let (digits, said) = rest.split_at_checked(at)?;
+    let (digits, said) = cut_word(rest);
     let name = u16::try_from(read_digits(digits, 65_535)?).ok()?;
-    match said {
-        [_, said @ ..] => Some((name, said)),
-        [] => None,
-    }
+    Some((name, said))
 }

@@ -2,6 +2,7 @@
 ghost use Rattle.std.specs.Prelude.{None};
 
 use crate::board::Board;
+use crate::word::cut_word;
 use host_io::{Failed, Sink};
 use std::alloc::{AllocError, Global};
 use std::cell::RefCell;
@@ -89,17 +90,10 @@ pub fn write_whole<K: Sink>(sink: &mut K, bytes: &[u8]) -> Result<(), AllocError
 /// The colour of a line, or nothing.
 fn colour_of(line: &[u8]) -> &'static [u8] {
     let said = match line {
-        [b'@', rest @ ..] => match rest.iter().position(|byte| *byte == b' ') {
-            Some(at) => &rest[at + 1..],
-            None => rest,
-        },
+        [b'@', rest @ ..] => cut_word(rest).1,
         _ => line,
     };
-    let word = match said.iter().position(|byte| *byte == b' ') {
-        Some(at) => &said[..at],
-        None => said,
-    };
-    colour_of_word(word)
+    colour_of_word(cut_word(said).0)
 }
 
 fn colour_of_word(word: &[u8]) -> &'static [u8] {

@@ -16,6 +16,17 @@ pub fn without_return(line: &[u8]) -> &[u8] {
     }
 }
 
+/// What stands before the first space, and behind it.
+pub fn cut_word(bytes: &[u8]) -> (&[u8], &[u8]) {
+    let Some(at) = bytes.iter().position(|byte| *byte == b' ') else {
+        return (bytes, &[]);
+    };
+    match bytes.split_at_checked(at) {
+        Some((word, [_, rest @ ..])) => (word, rest),
+        _ => (bytes, &[]),
+    }
+}
+
 /// The words of a line.
 ///
 /// # Errors
