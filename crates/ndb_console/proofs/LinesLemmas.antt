@@ -11,7 +11,7 @@ use Rattle.ndb_console.specs.Taken.{is_taken}
 use Rattle.ndb_console.proofs.SplitLemmas.{splits_at, found_within, one_line}
 
 -- two equations as one
-pairs : {xs ys as bs : List ℕ} → xs ≡ as → ys ≡ bs → ◌≡◌ {A = List ℕ × List ℕ} (xs, ys) (as, bs)
+pairs : {xs ys us vs : List ℕ} → xs ≡ us → ys ≡ vs → ◌≡◌ {A = List ℕ × List ℕ} (xs, ys) (us, vs)
 pairs first second = cc
 
 -- no line is empty
@@ -47,11 +47,11 @@ module _ (nodes : ℕ) where
       let rest = slice_split is_newline (drop (at + 1) held ++ bytes) in
       let one_more : 65536 - given ≡ suc (65536 - (given + 1)) = omega (arith, room) in
       sym (ap (λ lines. text_of (take (65536 - given) (filter (is_taken nodes) lines)))
-          ((splits_at held at found).lines bytes)
+      ((splits_at held at found).lines bytes)
       ∙ ap (λ lines. text_of (take (65536 - given) lines)) (first_taken (take at held) rest is)
       ∙ ap (λ count. text_of (take count (take at held ∷ filter (is_taken nodes) rest))) one_more
       ∙ sym (append_assoc (take at held) (10 ∷ []) (taken_text nodes (65536 - (given + 1))
-          (drop (at + 1) held ++ bytes))))
+      (drop (at + 1) held ++ bytes))))
 
   -- what stands behind the last newline, at the end
   pub last_passed : (count : ℕ) (held : List ℕ) → position is_newline held ≡ None → is_taken nodes held ≡ false
@@ -153,7 +153,8 @@ module _ (nodes given : ℕ) where
   none_at_end rest held None empty gone end = tt
   none_at_end rest held (Some bytes) empty gone end =
       ap (λ before. before ++ taken_text nodes (65536 - given) (held ++ bytes)) empty
-      ∙ ap (λ both. taken_text nodes (65536 - given) (both.0 ++ both.1)) (pairs gone end) ∙ no_text nodes (65536 - given)
+      ∙ ap (λ both. taken_text nodes (65536 - given) (both.0 ++ both.1)) (pairs gone end)
+          ∙ no_text nodes (65536 - given)
 
   -- nor is it past the last line that a session has
   pub none_past_last : (rest held : List ℕ) (left : Option (List ℕ)) → rest ≡ [] → 65536 ≤ given
