@@ -154,7 +154,7 @@ module _ (nodes given : ℕ) where
   none_at_end rest held (Some bytes) empty gone end =
       ap (λ before. before ++ taken_text nodes (65536 - given) (held ++ bytes)) empty
       ∙ ap (λ both. taken_text nodes (65536 - given) (both.0 ++ both.1)) (pairs gone end)
-          ∙ no_text nodes (65536 - given)
+      ∙ no_text nodes (65536 - given)
 
   -- nor is it past the last line that a session has
   pub none_past_last : (rest held : List ℕ) (left : Option (List ℕ)) → rest ≡ [] → 65536 ≤ given

@@ -46,26 +46,29 @@ impl<'a, K: Sink> Painted<'a, K> {
     fn paint(&mut self, bytes: &[u8]) -> Result<(), AllocError> {
         let mut text = Vec::new(self.alloc);
         for line in bytes.split_inclusive(|byte| *byte == b'\n') {
-            let bare = match line {
-                [bare @ .., b'\n'] => bare,
-                _ => line,
-            };
-            if let Ok(mut board) = self.board.try_borrow_mut() {
-                board.note(bare)?;
+            match line {
+                [bare @ .., b'\n'] => {
+                    self.add(bare, &mut text)?;
+                    text.push(b'\n')?;
+                }
+                _ => self.add(line, &mut text)?,
             }
-            let colour = if self.has_colours {
-                colour_of(bare)
-            } else {
-                b""
-            };
-            text.extend_from_slice(colour)?;
-            text.extend_from_slice(bare)?;
-            if !colour.is_empty() {
-                text.extend_from_slice(PLAIN)?;
-            }
-            text.extend_from_slice(&line[bare.len()..])?;
         }
         write_whole(&mut self.sink, &text)
+    }
+
+    /// Notices a line, and adds it in its colour.
+    fn add(&self, line: &[u8], text: &mut Vec<u8>) -> Result<(), AllocError> {
+        if let Ok(mut board) = self.board.try_borrow_mut() {
+            board.note(line)?;
+        }
+        let colour = colour_of(line);
+        if !self.has_colours || colour.is_empty() {
+            return Ok(text.extend_from_slice(line)?);
+        }
+        text.extend_from_slice(colour)?;
+        text.extend_from_slice(line)?;
+        Ok(text.extend_from_slice(PLAIN)?)
     }
 }
 

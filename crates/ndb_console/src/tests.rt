@@ -22,12 +22,14 @@ use std::test::Fail;
 use std::thread::Threads;
 
 /// The words of a session, and its screen: lines that begin with a prompt end with what is typed.
+#[derive(Clone, Copy)]
 pub struct Shown {
     pub words: &'static str,
     pub screen: &'static str,
 }
 
 /// A script, and what the session prints.
+#[derive(Clone, Copy)]
 pub struct Script {
     pub lines: &'static str,
     pub printed: &'static str,
