@@ -93,7 +93,7 @@ run_program() {
 
 # Runs the console at the terminal. ^C gives up the line that is being typed, and ^\ ends the program at once.
 run_console() {
-    local program=$1 status=0 lead=() around=() saved
+    local program=$1 status=0 lead=() around=()
     [ -n "${NO_COLOR:-}" ] || [ "${TERM:-dumb}" = dumb ] || lead=(--colours)
     saved=$(stty -g)
     trap 'stty "$saved"' EXIT
