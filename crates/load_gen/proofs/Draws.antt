@@ -1,5 +1,5 @@
 -- Draws and transactions, one more after the others.
-use Rattle.std.proofs.Common.{◌≡◌, ℕ, zero, suc, ◌+◌, ◌*◌, List, ◌++◌, refl, ap, sym, ◌∙◌, zero-add, suc-add, add-one, arith}
+use Rattle.std.proofs.Common.{◌≡◌, ℕ, zero, suc, ◌+◌, ◌*◌, List, ◌++◌, refl, ap, sym, ◌∙◌, zero-add, add-one, arith}
 use Rattle.script_lang.specs.declared.command.Command.{Command}
 use Rattle.load_gen.specs.Random.{drawn, next}
 use Rattle.load_gen.specs.Wave.{transaction, transactions}

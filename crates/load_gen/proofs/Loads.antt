@@ -1,10 +1,9 @@
 -- What a load asks for next.
-use Rattle.std.proofs.Common.{◌≡◌, ℕ, zero, suc, ◌+◌, ◌-◌, ◌*◌, ◌/◌, ◌<◌, ◌≤◌, Bool, List, [], ◌∷◌, ◌++◌, refl, ap, sym, ◌∙◌, arith}
+use Rattle.std.proofs.Common.{◌≡◌, ℕ, zero, suc, ◌+◌, ◌-◌, ◌*◌, ◌<◌, Bool, List, [], ◌∷◌, ◌++◌, refl, ap, sym, ◌∙◌, arith}
 use Rattle.script_lang.specs.declared.command.Command.{Command}
-use Rattle.load_gen.specs.declared.load.Asked.{Asked}
 use Rattle.load_gen.specs.declared.load.Asked.TheVariants.{Wave}
 use Rattle.load_gen.specs.Random.{drawn, first}
-use Rattle.load_gen.specs.Wave.{transactions, wave}
+use Rattle.load_gen.specs.Wave.{transactions}
 use Rattle.load_gen.specs.Load.{checkpoint_if, closes_after, size_of, waves, waves_of}
 use Rattle.load_gen.proofs.Draws.{drawn_both}
 

@@ -1,4 +1,4 @@
-use Rattle.std.proofs.Common.{◌≡◌, ◌≤◌, ◌<◌, ◌%◌, length, rules, arith, subst, sym}
+use Rattle.std.proofs.Common.{◌≡◌, ◌≤◌, length, rules, arith, subst, sym}
 use Rattle.std.specs.Prelude.{None, position}
 use Rattle.sig_core.specs.Word.{is_unprintable}
 use Rattle.load_gen.specs.Wave.{row_key}

@@ -1,4 +1,3 @@
-use Rattle.load_gen.specs.Random.{drawn}
 use Rattle.load_gen.proofs.Draws.{none_yet, one_more}
 use Rattle.load_gen.proofs.waves.transactions.Goals as goal
 
