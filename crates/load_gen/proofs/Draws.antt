@@ -8,7 +8,8 @@ use Rattle.load_gen.specs.Wave.{transaction, transactions}
 pub drawn_both : (a b x : ℕ) → drawn (a + b) x ≡ drawn a (drawn b x)
 unfolding drawn
 drawn_both zero b x = ap (λ n. drawn n x) (zero-add b)
-drawn_both (suc a) b x = ap (λ n. drawn n x) (let e : suc a + b ≡ suc (a + b) = omega arith in e) ∙ ap next (drawn_both a b x)
+drawn_both (suc a) b x =
+    ap (λ n. drawn n x) (let e : suc a + b ≡ suc (a + b) = omega arith in e) ∙ ap next (drawn_both a b x)
 
 -- where the ring stands before the first draw
 pub none_yet : (x : ℕ) → x ≡ drawn 0 x

@@ -38,7 +38,8 @@ all_counted (byte ∷ word) all = rw (all.0, all_counted word all.1) (omega arit
 none_spoilt : (word : List ℕ) → AllPlain word → position is_unprintable word ≡ None
 none_spoilt word all =
     let counted = all_counted word all in
-    let past : nat_lt (position_or_len is_unprintable word) (length word) ≡ false = le-ltb _ _ (omega (arith, counted)) in
+    let past : nat_lt (position_or_len is_unprintable word) (length word) ≡ false =
+    le-ltb _ _ (omega (arith, counted)) in
     rw past refl
 
 pub value_plain : (n : ℕ) → n < 2 ^ 64 → position is_unprintable (decimal n) ≡ None

@@ -13,4 +13,5 @@ key_of-requires-clause-most c =
 pub key_of-requires-clause-printable : goal.key_of-requires-clause-printable
 key_of-requires-clause-printable c =
     let is : c.as_bytes.result.now ≡ row_key c.args.transaction c.args.draw = search rules in
-    subst (λ word. position is_unprintable word ≡ None) (sym is) (key_plain c.args.transaction c.args.draw (omega arith) (omega arith))
+    subst (λ word. position is_unprintable word ≡ None) (sym is)
+    (key_plain c.args.transaction c.args.draw (omega arith) (omega arith))
