@@ -113,3 +113,13 @@ one_written spelled items at x start out more is few here goes =
     ∙ append_assoc start (flat_map spelled (take at items)) (spelled x)
     ∙ ap (λ w. start ++ w) (sym (append_item spelled (take at items) x))
     ∙ ap (λ xs. start ++ flat_map spelled xs) (sym front)
+
+pub all_written : {A : Type 0} (spelled : A → List ℕ) (items : List A) (at : ℕ) (start front out : List ℕ)
+    → out ≡ front ++ flat_map spelled (take at items) → length items ≤ at → front ≡ start ++ u64_bytes (length items)
+    → out ≡ start ++ list_bytes spelled items
+unfolding list_bytes
+all_written spelled items at start front out is all told =
+    is
+    ∙ ap (λ xs. front ++ flat_map spelled xs) (take_all at items all)
+    ∙ ap (λ w. w ++ flat_map spelled items) told
+    ∙ append_assoc start (u64_bytes (length items)) (flat_map spelled items)
