@@ -63,7 +63,7 @@ last_of (x ∷ xs) = go (last_of xs)
         inr (record { front = x ∷ has.front; last = has.last; is = ap (λ (ys : List ApiReq). x ∷ ys) has.is })
 
 module _ (plain_lives : PeacefulLivesArePlain) (closings : ClosingsAreAnswered) (start : Start)
-    (shape : IsShape start.shape) (rows : start.rows ≡ []) (some : 1 ≤ start.epoch)
+    (shape : IsShape start.shape) (rows : start.rows ≡ []) (some : start.start_epoch < start.epoch)
   where
     life : (asked : List ApiReq) (logs : ℕ → List HostStep) → AreServedBy start asked logs
         → IsPeacefulLife start asked logs

@@ -52,7 +52,7 @@ impl Session {
         ensures line { IfOk result (λ s. s.line ≡ 1) }
     {
         let reader = Reader::new(alloc)?;
-        let world = World::new(alloc, shape, FIRST_EPOCH, &[])?;
+        let world = World::new(alloc, shape, FIRST_EPOCH, 0, &[])?;
         Ok(Session {
             shape,
             reader,

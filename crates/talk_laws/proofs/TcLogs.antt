@@ -36,7 +36,6 @@ use Rattle.tc_views.specs.Views as coordinator
 use Rattle.world_core.specs.Entries.{verified_by}
 use Rattle.world_core.specs.Start.{Start, made}
 use Rattle.world_core.specs.Steps.{HostStep}
-use Rattle.world_views.specs.Hosts.{epoch_before}
 use Rattle.world_views.specs.Machine.{after, step_after}
 use Rattle.view_laws.specs.Runs.{view_after}
 use Rattle.moment_laws.specs.PartSteps.{PartEnters, PartTakes, TcDoes, handles, ignores, installs, remains, tc_kind}
@@ -255,7 +254,7 @@ module _ (tx : TxId) (me : Member) where
     first_part = record {
       coordinator = fresh_coordinator me.node me.start (first_layout start.shape);
       takeover = resting me.node (first_layout start.shape);
-      dih = fresh_dih me.node (first_layout start.shape).view.number start.epoch (epoch_before start.epoch);
+      dih = fresh_dih me.node (first_layout start.shape).view.number start.epoch start.start_epoch;
     }
 
     at_first : TalkedLog []

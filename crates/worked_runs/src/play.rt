@@ -49,7 +49,7 @@ pub fn play<W: Wait>(
         return Ok(());
     }
     let hosts = 1 + u32::from(shape.nodes) * PARTS;
-    let mut world = World::new(alloc, shape, MICROS, &[])?;
+    let mut world = World::new(alloc, shape, MICROS, 0, &[])?;
     play_lines(rt, alloc, &mut world, hosts, lines, point, text)?;
     let life = world.end_life(alloc);
     for line in lines {

@@ -32,13 +32,22 @@ module _ (start : Start) where
   pub part_begins : (k : ℕ) (there : List Member) (layout : Layout) (part : Part) (member : Member) (body : Host)
       → there ≡ made start → layout ≡ first_layout start.shape → part ≡ part_by (k % 3)
       → member ≡ member_at there (k + 1)
-      → body ≡ part_started (record { shape = layout.shape; epoch = start.epoch; rows = start.rows }) part member
+      → body ≡ part_started (record {
+        shape = layout.shape;
+        epoch = start.epoch;
+        start_epoch = start.start_epoch;
+        rows = start.rows;
+      }) part member
       → body ≡ started start (k + 1)
   part_begins k there layout part member body are first part_is member_is is =
       let next : k + 1 ≡ suc k = omega arith in
       is
-      ∙ ap (λ (l : Layout). part_started (record { shape = l.shape; epoch = start.epoch; rows = start.rows }) part
-      member) first
+      ∙ ap (λ (l : Layout). part_started (record {
+        shape = l.shape;
+        epoch = start.epoch;
+        start_epoch = start.start_epoch;
+        rows = start.rows;
+      }) part member) first
       ∙ ap (λ p. part_started start p member) part_is
       ∙ ap (part_started start (part_by (k % 3)))
       (member_is ∙ ap (λ n. member_at there n) next ∙ ap (λ ms. member_at ms (suc k)) are)

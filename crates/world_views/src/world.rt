@@ -57,8 +57,8 @@ impl World {
     ghost use Rattle.world_views.specs.World.{HasHandled, IsIdle, IsThere, closing, cutting, entered, has_stopped_in, is_down, is_left_open, new_world, sending, stopped};
     ghost use Rattle.world_views.specs.WorldOf.{whole_of};
 
-    /// A world in which nothing has happened: a cluster of this shape begins a life in this epoch,
-    /// with these rows, whose keys are distinct.
+    /// A world in which nothing has happened: a cluster of this shape begins a life in this epoch, from
+    /// the epoch `start`, which is below it, with these rows, whose keys are distinct.
     ///
     /// # Errors
     /// `NoMemory`.
@@ -66,14 +66,15 @@ impl World {
         alloc: Global,
         shape: Shape,
         epoch: u64,
+        start: u64,
         rows: &[(Key, Value)],
     ) -> Result<World, NoMemory>
         requires { IsShape shape }
-        ensures { IfOk result (λ w. whole_of w ≡ new_world (record { shape = shape; epoch = epoch; rows = rows.now })) }
+        ensures { IfOk result (λ w. whole_of w ≡ new_world (record { shape = shape; epoch = epoch; start_epoch = start; rows = rows.now })) }
     {
         let made = Made::first(alloc, shape.nodes)?;
         let hosts = made.hosts();
-        let bodies = fresh_bodies(alloc, shape, &made, epoch, rows)?;
+        let bodies = fresh_bodies(alloc, shape, &made, epoch, start, rows)?;
         let network = Network::new(alloc, hosts)?;
         let outs = Outs::new(alloc)?;
         let stamps = Vec::from_elem(alloc, 0, hosts as usize)?;

@@ -77,7 +77,7 @@ told_view zero t = refl
 told_view (suc h) t = refl
 
 module _ (own : EndsAreOwn) (start : Start) (all : ℕ → List HostStep) (e : HostStep) (es : List HostStep)
-    (some : 1 ≤ start.epoch) (moment : IsMoment start all (e ∷ es))
+    (some : start.start_epoch < start.epoch) (moment : IsMoment start all (e ∷ es))
   where
     abbrev old : ℕ → List HostStep
     old = logs_of start es

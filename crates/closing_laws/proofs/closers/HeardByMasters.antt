@@ -169,7 +169,7 @@ heard_first start = record { told = λ i j. tt; masters = first }
         (main_started start member there))
 
 -- so it is at each moment
-pub all_heard : (start : Start) (all : ℕ → List HostStep) (es : List HostStep) → 1 ≤ start.epoch
+pub all_heard : (start : Start) (all : ℕ → List HostStep) (es : List HostStep) → start.start_epoch < start.epoch
     → IsMoment start all es → AllHeard start (logs_of start es)
 all_heard start all [] some moment = heard_first start
 all_heard start all (e ∷ es) some moment =

@@ -165,7 +165,7 @@ noted_first start = record {
         (first start.epoch (is_president member (first_layout start.shape).view))
 
 -- so it is at each moment
-pub all_noted : (start : Start) (all : ℕ → List HostStep) (es : List HostStep) → 1 ≤ start.epoch
+pub all_noted : (start : Start) (all : ℕ → List HostStep) (es : List HostStep) → start.start_epoch < start.epoch
     → IsMoment start all es → AllNoted start (logs_of start es)
 all_noted start all [] some moment = noted_first start
 all_noted start all (e ∷ es) some moment =

@@ -62,7 +62,7 @@ pub record IsDecidedAndDone (start : Start) (logs : ℕ → List HostStep) (tx :
   pub done : IsDone start logs tx
 
 module _ (uncounted : UncountedAreForgotten) (forgotten : ForgottenAreDone) (start : Start) (all : ℕ → List HostStep)
-    (some : 1 ≤ start.epoch) (es end : List HostStep) (at : IsMoment start all es) (last : IsMoment start all end)
+    (some : start.start_epoch < start.epoch) (es end : List HostStep) (at : IsMoment start all es) (last : IsMoment start all end)
     (part : (h : ℕ) → IsPast (logs_of start es h) (logs_of start end h)) (epoch : ℕ)
     (ended : EachFull start (logs_of start es) (HasEnded epoch)) (tx : TxId)
     (led : is_led_by_full start (logs_of start es) tx ≡ true) (given : ℕ)

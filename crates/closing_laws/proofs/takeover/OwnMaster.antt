@@ -233,7 +233,7 @@ module _ (start : Start) (all : ℕ → List HostStep) (e : HostStep) (es : List
         (each_sent start e.host (old e.host) e)))
 
 -- so it is at each moment
-pub ends_own : (start : Start) (all : ℕ → List HostStep) (es : List HostStep) → 1 ≤ start.epoch
+pub ends_own : (start : Start) (all : ℕ → List HostStep) (es : List HostStep) → start.start_epoch < start.epoch
     → IsMoment start all es → EachSent start (IsOverTrue start) (logs_of start es)
 ends_own start all [] some moment = λ i j. tt
 ends_own start all (e ∷ es) some moment =

@@ -15,7 +15,6 @@ use Rattle.key_laws.specs.Records.{found, without_epoch}
 use Rattle.key_laws.specs.Replica.{at_key}
 use Rattle.world_core.specs.Start.{Start, made}
 use Rattle.world_core.specs.Steps.{HostStep}
-use Rattle.world_views.specs.Hosts.{epoch_before}
 use Rattle.moment_laws.specs.Moments.{IsMoment, logs_of}
 use Rattle.moment_laws.proofs.MomentHosts.{ldm_started}
 use Rattle.request_laws.specs.Blocks.{no_replica, rows_in}
@@ -34,7 +33,7 @@ module _ (start : Start) where
         ap (λ (s : node.Host). found tx (at_key key (rows_in (no_replica start member) s.parts).lqh).cell.pending)
         (ldm_started start member there)
         ∙ ap (λ (xs : List PendingRecord). found tx (map without_epoch (filter (is_on key) xs)))
-        (none_put no_rows (own_rows start.shape member.node start.rows) (epoch_before start.epoch) refl)
+        (none_put no_rows (own_rows start.shape member.node start.rows) start.start_epoch refl)
 
     no_marker : has_marker_at start none member key tx ≡ false
     no_marker =

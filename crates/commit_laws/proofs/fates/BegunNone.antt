@@ -19,7 +19,6 @@ use Rattle.key_laws.specs.Records.{found, without_epoch}
 use Rattle.key_laws.specs.Replica.{at_key}
 use Rattle.world_core.specs.Start.{Start, made}
 use Rattle.world_core.specs.Steps.{HostStep}
-use Rattle.world_views.specs.Hosts.{epoch_before}
 use Rattle.world_views.specs.Machine.{machine}
 use Rattle.moment_laws.specs.Moments.{IsMoment, logs_of}
 use Rattle.moment_laws.specs.Places.{ldm_of, tc_of}
@@ -42,7 +41,7 @@ pub first_none : (start : Start) (member : Member) (key : List ℕ) (tx : TxId)
     → found tx (at_key key (first_rows start member).lqh).cell.pending ≡ None
 first_none start member key tx =
     ap (λ (xs : List PendingRecord). found tx (map without_epoch (filter (is_on key) xs)))
-    (none_put no_rows (own_rows start.shape member.node start.rows) (epoch_before start.epoch) refl)
+    (none_put no_rows (own_rows start.shape member.node start.rows) start.start_epoch refl)
 
 module _ (start : Start) (all : ℕ → List HostStep) (tx : TxId) (there : IsIn (coordinator_member tx) (made start))
   where

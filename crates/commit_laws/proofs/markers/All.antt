@@ -23,7 +23,6 @@ use Rattle.node_views.specs.declared.host.Host as node
 use Rattle.node_views.specs.WellFormed.{is_well_formed}
 use Rattle.world_core.specs.Start.{Start, made}
 use Rattle.world_core.specs.Steps.{HostStep}
-use Rattle.world_views.specs.Hosts.{epoch_before}
 use Rattle.world_views.specs.Machine.{IsOwnWork, machine}
 use Rattle.world_views.proofs.FreshBodies.{none_pending}
 use Rattle.moment_laws.specs.Moments.{IsMoment, logs_of}
@@ -145,8 +144,8 @@ first_remembers start member there =
     (sym (ldm_started start member there))
     (subst (Each (Remembers (λ tx. false) [])) (sym none) tt)
   where
-    none : (with_rows no_rows (own_rows start.shape member.node start.rows) (epoch_before start.epoch)).pending ≡ []
-    none = none_pending no_rows (own_rows start.shape member.node start.rows) (epoch_before start.epoch)
+    none : (with_rows no_rows (own_rows start.shape member.node start.rows) start.start_epoch).pending ≡ []
+    none = none_pending no_rows (own_rows start.shape member.node start.rows) start.start_epoch
 
 pub commits_are_remembered : CommitsAreRemembered
 commits_are_remembered start all [] moment member there = first_remembers start member there

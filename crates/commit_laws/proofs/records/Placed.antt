@@ -41,7 +41,6 @@ use Rattle.node_core.specs.Fresh.{own_rows}
 use Rattle.node_views.specs.declared.host.Host as hosts
 use Rattle.world_core.specs.Start.{Start, made}
 use Rattle.world_core.specs.Steps.{HostStep}
-use Rattle.world_views.specs.Hosts.{epoch_before}
 use Rattle.view_laws.specs.Runs.{WasInstalled, view_after}
 use Rattle.moment_laws.specs.Moments.{IsMoment, current, logs_of}
 use Rattle.moment_laws.specs.Places.{ldm_of}
@@ -329,7 +328,7 @@ module _ (start : Start) where
       ap (λ (s : hosts.Host). (at_key key (rows_in (no_replica start member) s.parts).lqh).cell.pending)
       (ldm_started start member there)
       ∙ ap (λ (xs : List PendingRecord). map without_epoch (filter (is_on key) xs))
-      (none_put no_rows (own_rows start.shape member.node start.rows) (epoch_before start.epoch) refl)
+      (none_put no_rows (own_rows start.shape member.node start.rows) start.start_epoch refl)
 
   always_placed : (all : ℕ → List HostStep) (es : List HostStep) → IsMoment start all es → (member : Member)
       → IsIn member (made start) → ArePlaced (logs_of start es) member

@@ -20,7 +20,6 @@ use Rattle.node_views.specs.declared.host.Host as node
 use Rattle.node_views.specs.WellFormed.{is_tx}
 use Rattle.world_core.specs.Start.{Start, made}
 use Rattle.world_core.specs.Steps.{HostStep}
-use Rattle.world_views.specs.Hosts.{epoch_before}
 use Rattle.world_views.proofs.FreshBodies.{none_pending}
 use Rattle.view_laws.proofs.runs.FirstMembers.{node_low, node_some}
 use Rattle.moment_laws.specs.Moments.{IsMoment, current, logs_of}
@@ -50,7 +49,7 @@ module _ (start : Start) (member : Member) (there : IsIn member (made start)) (t
           (λ (s : node.Host). found tx (at_key key (rows_in (no_replica start member) s.parts).lqh).cell.pending ≡ None)
           (sym (ldm_started start member there))
           (ap (λ (xs : List PendingRecord). found tx (map without_epoch (filter (is_on key) xs)))
-          (none_pending no_rows (own_rows start.shape member.node start.rows) (epoch_before start.epoch)));
+          (none_pending no_rows (own_rows start.shape member.node start.rows) start.start_epoch));
       marker_none =
           ap (λ (s : node.Host). list_any (is_marker tx key) (rows_in (no_replica start member) s.parts).lqh.markers)
           (ldm_started start member there);

@@ -72,7 +72,7 @@ either true b is = inl refl
 either false b is = inr is
 
 module _ (hosts_level : HostsAreLevel) (closes : ClosingGoesOn) (start : Start) (shape : IsShape start.shape)
-    (rows : start.rows ≡ []) (some : 1 ≤ start.epoch) where
+    (rows : start.rows ≡ []) (some : start.start_epoch < start.epoch) where
   none_asked : plain_requests.AreAskedAtQuiet start (plain_parts start (λ h. []))
   none_asked newer e before is asks = absurd (nothing newer is)
     where

@@ -21,7 +21,6 @@ use Rattle.node_views.specs.declared.tc_part.TcPart.{TcPart}
 use Rattle.node_views.specs.WellFormed.{is_well_formed}
 use Rattle.world_core.specs.Start.{Start, made}
 use Rattle.world_core.specs.Steps.{HostStep}
-use Rattle.world_views.specs.Hosts.{epoch_before}
 use Rattle.world_views.specs.Machine.{after, step_after, told}
 use Rattle.moment_laws.specs.Places.{tc_of}
 use Rattle.moment_laws.proofs.MomentHosts.{part_some, tc_started}
@@ -89,7 +88,7 @@ module _ (start : Start) (member : Member) (there : IsIn member (made start)) wh
   begun = record {
     coordinator = other;
     takeover = resting member.node (first_layout start.shape);
-    dih = fresh_dih member.node (first_layout start.shape).view.number start.epoch (epoch_before start.epoch);
+    dih = fresh_dih member.node (first_layout start.shape).view.number start.epoch start.start_epoch;
   }
 
   first : IsRun []

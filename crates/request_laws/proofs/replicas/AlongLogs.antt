@@ -25,7 +25,6 @@ use Rattle.node_views.specs.Parts.{ldm_row}
 use Rattle.node_views.specs.Replies.{giving}
 use Rattle.world_core.specs.Start.{Start, made}
 use Rattle.world_core.specs.Steps.{HostStep}
-use Rattle.world_views.specs.Hosts.{epoch_before}
 use Rattle.world_views.specs.Machine.{after, step_by, told}
 use Rattle.moment_laws.specs.Places.{ldm_of}
 use Rattle.moment_laws.proofs.MomentHosts.{ldm_started}
@@ -42,8 +41,8 @@ use Rattle.request_laws.proofs.replicas.KeyEvents.{installations_keep_well, sign
 abbrev pub first_rows : Start → Member → ReplicaState
 first_rows start member =
     fresh_replica member.node (first_layout start.shape)
-    (with_rows no_rows (own_rows start.shape member.node start.rows) (epoch_before start.epoch))
-    (record { used = 0; reserved = 0 }) (epoch_before start.epoch)
+    (with_rows no_rows (own_rows start.shape member.node start.rows) start.start_epoch)
+    (record { used = 0; reserved = 0 }) start.start_epoch
 
 module _ (So : ReplicaState → Type 0) (row : (s : ReplicaState) (x : Signal) → So s → So (replica_row s x).state)
     (install : (s : ReplicaState) (view : View) → So s → So (installed s view)) where
@@ -119,7 +118,7 @@ put_placed s (r ∷ rows) epoch apart none =
 
 pub first_well : (start : Start) (member : Member) → IsWell (first_rows start member).lqh
 first_well start member = record {
-  placed = put_placed no_rows (own_rows start.shape member.node start.rows) (epoch_before start.epoch) tt refl;
+  placed = put_placed no_rows (own_rows start.shape member.node start.rows) start.start_epoch tt refl;
   orderly = empty_orderly;
 }
 
