@@ -17,7 +17,8 @@ use Rattle.node_views.specs.declared.host.Host as hosts
 use Rattle.node_views.specs.declared.main_part.MainPart.{MainPart}
 use Rattle.node_views.specs.declared.parts.Parts.{Parts}
 use Rattle.node_views.specs.declared.parts.Parts.TheVariants.{Main}
-use Rattle.node_views.specs.Parts.{main_entered, main_row, main_settled, may_settle, settled_if}
+use Rattle.node_views.specs.Parts.{main_entered, main_row, main_settled}
+use Rattle.qmgr_block.proofs.Settles.{settles_may}
 use Rattle.node_views.specs.Replies.{giving}
 use Rattle.qmgr_block.specs.Qmgr.{qmgr_installed, qmgr_row}
 use Rattle.world_views.specs.Machine.{step_by, told}
@@ -117,13 +118,8 @@ module _ (host : hosts.Host) (x : Signal) (p : MainPart) where
   unfolding main_row
   settling q view is = by x.to.block is
     where
-      may : (b : Bool) → may_settle x.body ≡ b → settled_if q.qmgr x b ≡ Some view
-          → AreNoOrders (qmgr_row q.qmgr x).effects.sends
-      may true can is = settling_none q.qmgr x can
-      may false can is = absurd cc
-
       by : (b : BlockId) → main_settled q b x ≡ Some view → AreNoOrders (main_row q b x).effects.sends
-      by block.Qmgr is = may (may_settle x.body) refl is
+      by block.Qmgr is = settling_none q.qmgr x (settles_may q.qmgr x view is)
       by _ is = absurd cc
 
   settled_member : (q : MainPart) (view : View) → main_settled q x.to.block x ≡ Some view

@@ -1,5 +1,5 @@
 -- What becomes of a proposal.
-use Rattle.std.specs.Prelude.{ℕ, ◌==◌, ◌&&◌, Bool, true, false, if◌then◌else◌, is_some, not, List, [], ◌∷◌, ◌++◌, Option, None, Some}
+use Rattle.std.specs.Prelude.{ℕ, ◌==◌, ◌&&◌, Bool, true, false, is_some, not, List, [], ◌∷◌, Option, None, Some}
 use Rattle.frag_map.specs.Groups.{whole_group}
 use Rattle.sig_core.specs.declared.mark.Mark.TheVariants.{Down, Installed, Stopped}
 use Rattle.sig_core.specs.declared.member.Member.{Member}

@@ -8,7 +8,9 @@ use Rattle.node_core.specs.declared.host.Host as plain
 use Rattle.node_views.specs.Blocks.{fence_at, parts_row, settled_at}
 use Rattle.node_views.specs.Fence.{is_fenced}
 use Rattle.node_views.specs.Laws.{is_own}
-use Rattle.node_views.specs.Parts.{main_settled, may_settle, settled_if}
+use Rattle.node_views.specs.Parts.{main_settled}
+use Rattle.qmgr_block.proofs.Settles.{unsettled}
+use Rattle.qmgr_block.specs.Settle.{may_settle}
 use Rattle.node_views.specs.Row.{blocks_row, hushed, is_stop, settle, unless_stopped, with_parts}
 use Rattle.node_views.specs.WellFormed.{is_well_formed}
 use Rattle.node_views.specs.declared.host.Host as host
@@ -146,7 +148,7 @@ pub settles_none : (parts : Parts) (x : Signal) → may_settle x.body ≡ false 
 settles_none (Main p) x is = by x.to.block
   where
     by : (to : BlockId) → main_settled p to x ≡ None
-    by block.Qmgr = ap (settled_if p.qmgr x) is
+    by block.Qmgr = unsettled p.qmgr x is
     by to = refl
 settles_none parts x is = refl
 

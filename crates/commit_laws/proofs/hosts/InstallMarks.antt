@@ -28,7 +28,9 @@ use Rattle.node_views.specs.declared.host.Host as hosts
 use Rattle.node_views.specs.declared.main_part.MainPart.{MainPart}
 use Rattle.node_views.specs.declared.parts.Parts.{Parts}
 use Rattle.node_views.specs.declared.parts.Parts.TheVariants.{Ldm, Main, Shell, Tc}
-use Rattle.node_views.specs.Parts.{main_row, main_settled, may_settle, qmgr_settled, settled, settled_if}
+use Rattle.node_views.specs.Parts.{main_row, main_settled}
+use Rattle.qmgr_block.proofs.Settles.{marked_settles}
+use Rattle.qmgr_block.specs.Settle.{may_settle, qmgr_settles}
 use Rattle.node_views.specs.Row.{blocks_row, closed_if, counted_row, cut_if, entered, entering_if, headed_if}
 use Rattle.node_views.specs.Row.{headed_row, host_row, host_table, is_barred, is_cut, is_excluded, killed_after}
 use Rattle.node_views.specs.Row.{passed_if, passed_row, settle, standing_at, taken_if, with_parts}
@@ -103,8 +105,8 @@ module _ (q : QmgrState) (x : Signal) where
   marks_of = (qmgr_row q x).effects.marks
 
   settles_so : may_settle x.body ≡ true → (view : View) → marks_of ≡ Installed view ∷ []
-      → qmgr_settled q x ≡ Some view
-  settles_so may view is = ap (settled_if q x) may ∙ ap settled is
+      → qmgr_settles q x ≡ Some view
+  settles_so = marked_settles q x
 
   all_marks : (p : Proposal) (free : Bool) (view : View)
       → IsIn (Installed view) (confirmed_all q.known p free).effects.marks
@@ -123,7 +125,7 @@ module _ (q : QmgrState) (x : Signal) where
       true≢false (each_in (λ (mark : Mark). is_settling mark ≡ false) (Installed view) marks_of none there)
 
   does_so : (view : View) → Does q x.member x.body (qmgr_row q x).state.known (qmgr_row q x).effects
-      → IsIn (Installed view) marks_of → qmgr_settled q x ≡ Some view
+      → IsIn (Installed view) marks_of → qmgr_settles q x ≡ Some view
   does_so view (does_rest rests) there = absurd (unsettled view rests.marks there)
   does_so view (does_propose one) there = absurd (unsettled view one.marks there)
   does_so view (does_hear h) there =
@@ -143,7 +145,7 @@ module _ (q : QmgrState) (x : Signal) where
       (refl, tt))
       there)
 
-  membership_settles : (view : View) → IsIn (Installed view) marks_of → qmgr_settled q x ≡ Some view
+  membership_settles : (view : View) → IsIn (Installed view) marks_of → qmgr_settles q x ≡ Some view
   membership_settles view there =
       does_so view (table_does q x.member x.from.0 x.view.number x.body) there
 

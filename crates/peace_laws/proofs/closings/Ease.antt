@@ -8,7 +8,7 @@ use Rattle.node_core.specs.declared.host.Host as plain
 use Rattle.node_core.specs.declared.host.Host.TheVariants as plain_host
 use Rattle.node_views.specs.Blocks.{fence_at, parts_row}
 use Rattle.node_views.specs.Laws.{is_own}
-use Rattle.node_views.specs.Parts.{may_settle}
+use Rattle.qmgr_block.specs.Settle.{may_settle}
 use Rattle.node_views.specs.Row.{blocks_row, hushed, is_stop, settle, with_parts}
 use Rattle.node_views.specs.WellFormed.{is_well_formed}
 use Rattle.node_views.specs.declared.host.Host as host

@@ -18,7 +18,8 @@ use Rattle.node_views.specs.declared.host.Host as hosts
 use Rattle.node_views.specs.declared.main_part.MainPart.{MainPart}
 use Rattle.node_views.specs.declared.parts.Parts.{Parts}
 use Rattle.node_views.specs.declared.parts.Parts.TheVariants as part
-use Rattle.node_views.specs.Parts.{main_settled, qmgr_settled}
+use Rattle.node_views.specs.Parts.{main_settled}
+use Rattle.qmgr_block.specs.Settle.{qmgr_settles}
 use Rattle.node_views.specs.Row.{is_stop}
 use Rattle.node_views.specs.WellFormed.{is_well_formed}
 use Rattle.qmgr_block.specs.Laws.{Event, installs}
@@ -61,7 +62,7 @@ main_above : (me : Member) (layout : Layout) (events : List Event) (p : MainPart
     → (known_of me layout events).layout.view.number < now.number
 main_above me layout events p x now block.Qmgr same e =
     let q = state_of me layout events in
-    let marks = (settles_on q x now (subst (λ r. qmgr_settled r x ≡ Some now) same e)).marks in
+    let marks = (settles_on q x now (subst (λ r. qmgr_settles r x ≡ Some now) same e)).marks in
     settles_above me layout events x now (subst (IsIn (Installed now)) (sym marks) (inl refl))
 main_above me layout events p x now _ same e = absurd cc
 
