@@ -1,5 +1,5 @@
-use host_real::{FolderDisk, StdSink, StdSource};
 use host_io::{Disk, Failed, Sink, Source};
+use host_real::{FolderDisk, StdSink, StdSource};
 use std::fs;
 use std::test::Fail;
 

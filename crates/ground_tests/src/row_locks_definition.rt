@@ -1,11 +1,11 @@
 //! The rule of locks as a plain program: for each key a list of holders and a list of waiters, and
-//! each call in the words of the rule. It uses no function of the crate.
+//! each call in the words of the rule. It uses no function of `row_locks`.
 use row_locks::Mode;
 use sig_core::TxId;
 use std::alloc::{AllocError, Global};
 
 /// The lock of one key.
-#[derive(Debug, Drop)]
+#[derive(Drop)]
 pub struct PlainLock {
     holders: Vec<(TxId, Mode)>,
     /// With the rounds that each has stood.

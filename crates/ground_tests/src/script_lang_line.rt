@@ -1,5 +1,5 @@
 use script_lang::{Command, LineFault, parse_line};
-use sig_core::Op;
+use sig_core::{Op, Value};
 use std::alloc::Global;
 use std::process::Abort;
 use std::test::Fail;
@@ -21,71 +21,143 @@ fn expect_rows<R: Abort>(rt: &R, alloc: Global, table: &[u8]) -> Result<(), Fail
 }
 
 fn show(alloc: Global, meant: Result<Option<Command>, LineFault>) -> Result<Vec<u8>, Fail> {
-    let mut text = Vec::new(alloc);
     match meant {
-        Ok(None) => text.push(b'-')?,
-        Ok(Some(Command::Operate { name, op })) => show_op(alloc, name, &op, &mut text)?,
-        Ok(Some(command)) => {
-            let words = spell(alloc, &command)?;
-            text.extend_from_slice(words.as_bytes())?;
-        }
-        Err(fault) => {
-            let code = format!(in alloc; "{}", fault.code())?;
-            text.extend_from_slice(code.as_bytes())?;
-        }
+        Ok(None) => Ok(b"-".to_vec(alloc)?),
+        Ok(Some(Command::Operate { name, op })) => show_op(alloc, name, &op),
+        Ok(Some(command)) => spell(alloc, &spelling(&command)),
+        Err(fault) => Ok(vec![in alloc; b'0' + fault.code() % 10]?),
     }
-    Ok(text)
 }
 
-fn show_op(alloc: Global, name: Option<u16>, op: &Op, text: &mut Vec<u8>) -> Result<(), Fail> {
+fn show_op(alloc: Global, name: Option<u16>, op: &Op) -> Result<Vec<u8>, Fail> {
+    let mut text = Vec::new(alloc);
     if let Some(name) = name {
-        let name = format!(in alloc; "@{name} ")?;
-        text.extend_from_slice(name.as_bytes())?;
+        text.push(b'@')?;
+        add_number(alloc, u32::from(name), &mut text)?;
+        text.push(b' ')?;
     }
-    let (word, value) = match op {
-        Op::Get(_) => (b"get ".as_slice(), None),
-        Op::GetX(_) => (b"getx ".as_slice(), None),
-        Op::Put(_, value) => (b"put ".as_slice(), Some(value)),
-        Op::Ins(_, value) => (b"ins ".as_slice(), Some(value)),
-        Op::Upd(_, value) => (b"upd ".as_slice(), Some(value)),
-        Op::Del(_) => (b"del ".as_slice(), None),
-    };
+    let (word, value) = word_of(op);
     text.extend_from_slice(word)?;
     text.extend_from_slice(op.key().bytes())?;
     if let Some(value) = value {
         text.push(b' ')?;
         text.extend_from_slice(value.bytes())?;
     }
-    Ok(())
+    Ok(text)
 }
 
-fn spell(alloc: Global, command: &Command) -> Result<String, Fail> {
-    Ok(match command {
-        Command::Begin { name, node: None } => format!(in alloc; "begin {name}")?,
-        Command::Begin {
-            name,
-            node: Some(node),
-        } => format!(in alloc; "begin {name} {node}")?,
-        Command::Operate { .. } => String::new(alloc),
-        Command::Commit { name } => format!(in alloc; "commit {name}")?,
-        Command::Abort { name } => format!(in alloc; "abort {name}")?,
-        Command::Batch => String::from_str(alloc, "batch")?,
-        Command::End => String::from_str(alloc, "end")?,
-        Command::Kill { node } => format!(in alloc; "kill {node}")?,
-        Command::KillAfter { node, after } => format!(in alloc; "kill {node} after {after}")?,
-        Command::Cut { one, other } => format!(in alloc; "cut {one} {other}")?,
-        Command::Tick { rounds } => format!(in alloc; "tick {rounds}")?,
-        Command::Micro => String::from_str(alloc, "micro")?,
-        Command::Gcp => String::from_str(alloc, "gcp")?,
-        Command::Lcp => String::from_str(alloc, "lcp")?,
-        Command::Start { node } => format!(in alloc; "start {node}")?,
-        Command::Crash => String::from_str(alloc, "crash")?,
-        Command::Restart => String::from_str(alloc, "restart")?,
-        Command::Rows { node } => format!(in alloc; "rows {node}")?,
-        Command::Digest { node } => format!(in alloc; "digest {node}")?,
-        Command::View => String::from_str(alloc, "view")?,
-        Command::Quit => String::from_str(alloc, "quit")?,
-    })
+fn word_of(op: &Op) -> (&'static [u8], Option<Value>) {
+    match op {
+        Op::Get(_) => (b"get ", None),
+        Op::GetX(_) => (b"getx ", None),
+        Op::Put(_, value) => (b"put ", Some(*value)),
+        Op::Ins(_, value) => (b"ins ", Some(*value)),
+        Op::Upd(_, value) => (b"upd ", Some(*value)),
+        Op::Del(_) => (b"del ", None),
+    }
+}
+
+// A command as its word, and one number or two with what stands between them.
+#[derive(Clone, Copy)]
+struct Spelling {
+    word: &'static [u8],
+    first: Option<u32>,
+    between: &'static [u8],
+    second: Option<u32>,
+}
+
+fn plain(word: &'static [u8]) -> Spelling {
+    two(word, None, b"", None)
+}
+
+fn one(word: &'static [u8], number: u32) -> Spelling {
+    two(word, Some(number), b"", None)
+}
+
+fn two(
+    word: &'static [u8],
+    first: Option<u32>,
+    between: &'static [u8],
+    second: Option<u32>,
+) -> Spelling {
+    Spelling {
+        word,
+        first,
+        between,
+        second,
+    }
+}
+
+fn begun(name: u16, node: Option<u8>) -> Spelling {
+    match node {
+        Some(node) => two(
+            b"begin ",
+            Some(u32::from(name)),
+            b" ",
+            Some(u32::from(node)),
+        ),
+        None => one(b"begin ", u32::from(name)),
+    }
+}
+
+// Those with a name, or with two numbers.
+fn spelling(command: &Command) -> Spelling {
+    match command {
+        Command::Begin { name, node } => begun(*name, *node),
+        Command::Commit { name } => one(b"commit ", u32::from(*name)),
+        Command::Abort { name } => one(b"abort ", u32::from(*name)),
+        Command::KillAfter { node, after } => {
+            two(b"kill ", Some(u32::from(*node)), b" after ", Some(*after))
+        }
+        Command::Cut { one, other } => {
+            two(
+                b"cut ",
+                Some(u32::from(*one)),
+                b" ",
+                Some(u32::from(*other)),
+            )
+        }
+        _ => spelling_of_few(command),
+    }
+}
+
+// Those with a number at most. No other command comes here.
+fn spelling_of_few(command: &Command) -> Spelling {
+    match command {
+        Command::Batch => plain(b"batch"),
+        Command::End => plain(b"end"),
+        Command::Kill { node } => one(b"kill ", u32::from(*node)),
+        Command::Tick { rounds } => one(b"tick ", u32::from(*rounds)),
+        Command::Micro => plain(b"micro"),
+        Command::Gcp => plain(b"gcp"),
+        Command::Lcp => plain(b"lcp"),
+        Command::Start { node } => one(b"start ", u32::from(*node)),
+        Command::Crash => plain(b"crash"),
+        Command::Restart => plain(b"restart"),
+        Command::Rows { node } => one(b"rows ", u32::from(*node)),
+        Command::Digest { node } => one(b"digest ", u32::from(*node)),
+        Command::View => plain(b"view"),
+        Command::Quit => plain(b"quit"),
+        _ => plain(b"?"),
+    }
+}
+
+fn spell(alloc: Global, spelling: &Spelling) -> Result<Vec<u8>, Fail> {
+    let mut text = spelling.word.to_vec(alloc)?;
+    if let Some(number) = spelling.first {
+        add_number(alloc, number, &mut text)?;
+    }
+    text.extend_from_slice(spelling.between)?;
+    if let Some(number) = spelling.second {
+        add_number(alloc, number, &mut text)?;
+    }
+    Ok(text)
+}
+
+fn add_number(alloc: Global, number: u32, text: &mut Vec<u8>) -> Result<(), Fail> {
+    let digits = format!(in alloc; "{number}")?;
+    text.extend_from_slice(digits.as_bytes())?;
+    Ok(())
 }
 
 #[test]
@@ -162,23 +234,29 @@ o|@7 del \x7f|3\no|put ! ~|put ! ~\no|put a b\r\r|3\no|\r|-\no|put\r|2\no|\t|1\n
     expect_rows(&rt, rt.alloc(), table.as_slice())
 }
 
+// The line that puts a key and a value of so many bytes.
+fn put_line(alloc: Global, key: usize, value: usize) -> Result<Vec<u8>, Fail> {
+    let mut line = b"put ".to_vec(alloc)?;
+    for _ in 0..key {
+        line.push(b'k')?;
+    }
+    line.push(b' ')?;
+    for _ in 0..value {
+        line.push(b'v')?;
+    }
+    Ok(line)
+}
+
 #[test]
 fn longest_keys_and_values(rt: HostRuntime) -> Result<(), Fail> {
     let alloc = rt.alloc();
     for (key, value, code) in [(32, 200, 0), (33, 200, 3), (32, 201, 3), (1, 0, 0)] {
-        let mut line = b"put ".to_vec(alloc)?;
-        for _ in 0..key {
-            line.push(b'k')?;
-        }
-        line.push(b' ')?;
-        for _ in 0..value {
-            line.push(b'v')?;
-        }
+        let line = put_line(alloc, key, value)?;
         let found = match parse_line(&line, false, 3) {
             Ok(_) => 0,
             Err(fault) => fault.code(),
         };
-        assert_eq!(rt; found, code, "at {key} {value}");
+        assert_eq!(rt; found, code);
     }
     Ok(())
 }

@@ -16,11 +16,19 @@ fn expect<R: Abort>(
     words: &[u8],
 ) -> Result<(), Fail> {
     let mut text = b"above\n".to_vec(alloc)?;
+    print_reply(alloc, reply, &mut text)?;
     let mut wanted = b"above\n".to_vec(alloc)?;
     wanted.extend_from_slice(name)?;
     wanted.extend_from_slice(words)?;
-    assert_eq!(rt; print_reply(alloc, reply, &mut text).ok(), Some(()));
     assert_eq!(rt; text.as_slice(), wanted.as_slice());
+    Ok(())
+}
+
+/// Asserts that each of these replies prints its line, with no name.
+fn expect_lines<R: Abort>(rt: &R, alloc: Global, table: &[(ApiReply, &[u8])]) -> Result<(), Fail> {
+    for (reply, line) in table {
+        expect(rt, alloc, reply, b"", line)?;
+    }
     Ok(())
 }
 
@@ -228,10 +236,7 @@ fn events_of_the_cluster_tell_their_numbers(rt: HostRuntime) -> Result<(), Fail>
         (ApiReply::Restarted { epoch: 0 }, b"restarted 0/0\n"),
         (ApiReply::BatchEnd, b"end\n"),
     ];
-    for (reply, line) in &table {
-        expect(&rt, rt.alloc(), reply, b"", line)?;
-    }
-    Ok(())
+    expect_lines(&rt, rt.alloc(), &table)
 }
 
 #[test]
@@ -306,58 +311,66 @@ fn digests_are_hexadecimal(rt: HostRuntime) -> Result<(), Fail> {
 }
 
 #[test]
-fn loads_and_subscriptions_are_told(rt: HostRuntime) -> Result<(), Fail> {
+fn loads_are_told(rt: HostRuntime) -> Result<(), Fail> {
     let loaded = ApiReply::Loaded {
         transactions: 16,
         committed: 15,
         aborted: 1,
     };
-    let subscribed = ApiReply::Subscribed {
-        subscriber: 1,
-        epoch: 0,
-    };
-    let unsubscribed = ApiReply::Unsubscribed {
-        subscriber: 1,
-        epoch: 4_294_967_297,
-    };
-    let changes = ApiReply::Changes {
-        subscriber: 1,
-        epoch: 4_294_967_296,
-        changes: 2,
-    };
-    let failed = ApiReply::SubscriberFailed {
-        subscriber: 3,
-        count: 9,
-    };
-    let (alloc, none) = (rt.alloc(), b"".as_slice());
     expect(
         &rt,
-        alloc,
+        rt.alloc(),
         &loaded,
-        none,
+        b"",
         b"load 16 committed 15 aborted 1\n",
-    )?;
-    expect(&rt, alloc, &subscribed, none, b"subscribed 1 after 0/0\n")?;
-    expect(
-        &rt,
-        alloc,
-        &unsubscribed,
-        none,
-        b"unsubscribed 1 after 1/1\n",
-    )?;
-    expect(&rt, alloc, &changes, none, b"sub 1 1/0 changes 2\n")?;
-    expect(&rt, alloc, &failed, none, b"sub 3 failed 9\n")?;
-    let refusals = [
+    )
+}
+
+#[test]
+fn subscriptions_are_told(rt: HostRuntime) -> Result<(), Fail> {
+    let table = [
+        (
+            ApiReply::Subscribed {
+                subscriber: 1,
+                epoch: 0,
+            },
+            b"subscribed 1 after 0/0\n".as_slice(),
+        ),
+        (
+            ApiReply::Unsubscribed {
+                subscriber: 1,
+                epoch: 4_294_967_297,
+            },
+            b"unsubscribed 1 after 1/1\n",
+        ),
+        (
+            ApiReply::Changes {
+                subscriber: 1,
+                epoch: 4_294_967_296,
+                changes: 2,
+            },
+            b"sub 1 1/0 changes 2\n",
+        ),
+        (
+            ApiReply::SubscriberFailed {
+                subscriber: 3,
+                count: 9,
+            },
+            b"sub 3 failed 9\n",
+        ),
+    ];
+    expect_lines(&rt, rt.alloc(), &table)
+}
+
+#[test]
+fn refusals_about_subscribers_have_no_name(rt: HostRuntime) -> Result<(), Fail> {
+    let table = [
         (Refusal::NoSubscriber(7), b"no subscriber 7\n".as_slice()),
         (Refusal::IsSubscribed(7), b"is subscribed 7\n"),
         (Refusal::NotSubscribed(7), b"not subscribed 7\n"),
     ];
-    for (refusal, line) in &refusals {
-        let refused = ApiReply::Refused {
-            name: None,
-            refusal: *refusal,
-        };
-        expect(&rt, alloc, &refused, none, line)?;
+    for (refusal, line) in &table {
+        expect(&rt, rt.alloc(), &refused(None, refusal), b"", line)?;
     }
     Ok(())
 }
@@ -395,10 +408,7 @@ fn backups_are_told(rt: HostRuntime) -> Result<(), Fail> {
             b"backup 1 rows 1 stop 1/0\n",
         ),
     ];
-    for (reply, line) in &table {
-        expect(&rt, rt.alloc(), reply, b"", line)?;
-    }
-    Ok(())
+    expect_lines(&rt, rt.alloc(), &table)
 }
 
 #[test]
