@@ -17,6 +17,3 @@ pub use laws::{
 pub use layout::{Layout, first_view};
 pub use replicas::replicas_of;
 pub use shape::{group_of, is_shape};
-
-#[cfg(test)]
-mod tests;

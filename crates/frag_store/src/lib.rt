@@ -8,6 +8,3 @@ mod places;
 mod store;
 
 pub use store::Store;
-
-#[cfg(test)]
-mod tests;

@@ -27,6 +27,3 @@ pub use source::{MemSource, Source};
 /// or stands at its end.
 #[derive(Clone, Copy, Debug, PartialEq, Eq)]
 pub struct Failed;
-
-#[cfg(test)]
-mod tests;

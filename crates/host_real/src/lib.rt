@@ -7,6 +7,3 @@ mod standard;
 
 pub use folder_disk::FolderDisk;
 pub use standard::{StdSink, StdSource};
-
-#[cfg(test)]
-mod tests;

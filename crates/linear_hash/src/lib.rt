@@ -8,6 +8,3 @@ mod growth;
 mod index;
 
 pub use index::Index;
-
-#[cfg(test)]
-mod tests;

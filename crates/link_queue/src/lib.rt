@@ -10,6 +10,3 @@ pub use link::{compare, join, make};
 pub use rule::LINK_SIGNALS;
 pub use sender::LinkTx;
 pub use taker::LinkRx;
-
-#[cfg(test)]
-mod tests;

@@ -12,6 +12,3 @@ pub use laws::{peers_get_theirs, steps_are_delivered};
 pub use list::{deliver, find, held_for, place, sent_to, taken_from};
 pub use peer::Peer;
 pub use sending::Sending;
-
-#[cfg(test)]
-mod tests;

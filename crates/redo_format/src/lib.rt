@@ -9,6 +9,3 @@ mod reading;
 pub use decoding::{decode, none_begins_another};
 pub use encoding::{encode, size_of};
 pub use fault::FormatFault;
-
-#[cfg(test)]
-mod tests;

@@ -14,6 +14,3 @@ pub use laws::{
 };
 pub use log::Log;
 pub use replaying::{replay, replay_bytes};
-
-#[cfg(test)]
-mod tests;

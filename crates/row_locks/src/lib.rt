@@ -17,6 +17,3 @@ pub use keeping_laws::keeping_stays_orderly;
 pub use laws::{granted_are_last_holders, locks_stay_orderly, waits_are_for_others};
 pub use mode::{Lock, Mode};
 pub use table::LockTable;
-
-#[cfg(test)]
-mod tests;

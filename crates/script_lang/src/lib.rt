@@ -17,6 +17,3 @@ pub use line::{first_word, parse_line};
 pub use number::{numbers_are_decimal, read_digits};
 pub use reply::{name_of, print_reply};
 pub use spelling::commands_are_their_words;
-
-#[cfg(test)]
-mod tests;

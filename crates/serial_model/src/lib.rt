@@ -48,6 +48,3 @@ fn store(table: &mut Table, key: &Key, value: &Value) -> Result<Answer, NoMemory
     table.insert(*key, *value)?;
     Ok(Answer::Done)
 }
-
-#[cfg(test)]
-mod tests;

@@ -159,6 +159,3 @@ pub use walk::Finished;
 pub use walk::PIECE_ROWS;
 pub use walk::Walk;
 pub use word::WordFault;
-
-#[cfg(test)]
-mod tests;

@@ -21,6 +21,3 @@ pub use read::{
 };
 pub use system::{SYSTEM_BYTES, system_bytes};
 pub use write::{SlotStep, write_slot, write_step};
-
-#[cfg(test)]
-mod tests;

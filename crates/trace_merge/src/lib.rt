@@ -8,6 +8,3 @@ mod run;
 pub use closed::{CutFault, is_closed};
 pub use merging::merge;
 pub use run::{Run, RunStep};
-
-#[cfg(test)]
-mod tests;

@@ -6,6 +6,3 @@ mod pages;
 
 pub use page::PAGE_SLOTS;
 pub use pages::Pages;
-
-#[cfg(test)]
-mod tests;

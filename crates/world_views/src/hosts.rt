@@ -49,15 +49,6 @@ impl Made {
         Ok(Made { members })
     }
 
-    /// These members.
-    #[cfg(test)]
-    pub fn of(members: Vec<Member>) -> Made
-        requires { length members.items * 3 + 1 < 2 ^ 32 }
-        ensures { result ≡ members.items }
-    {
-        Made { members }
-    }
-
     /// How many hosts there are, with the shell's.
     pub fn hosts(&self) -> u32
         ensures { result ≡ length self.now * 3 + 1 }

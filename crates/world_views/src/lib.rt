@@ -17,6 +17,3 @@ mod world;
 pub use hosts::PARTS;
 pub use schedule::{Pick, ScheduleFault};
 pub use world::World;
-
-#[cfg(test)]
-mod tests;

@@ -1,3 +1,0 @@
-mod disk;
-mod plain;
-mod streams;

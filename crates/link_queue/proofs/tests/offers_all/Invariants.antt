@@ -1,5 +1,0 @@
-use Rattle.std.proofs.Common.{◌≡◌}
-use Rattle.link_queue.proofs.tests.offers_all.Given as goal
-
-abbrev pub invariant-loop-seq : goal.invariant-loop-seq
-invariant-loop-seq g l = l.tx.from ≡ 1

@@ -1,0 +1,12 @@
+use Rattle.world_views.specs.WorldOf.{whole_of}
+use Rattle.world_views.proofs.WorldLemmas.{asked_world, driven_ok}
+use Rattle.machine_tests.proofs.world_views_session.ask.Goals as goal
+
+pub drive-requires : goal.drive-requires
+drive-requires g c =
+    asked_world c.args.request (whole_of c.args.world.now) (whole_of c.ask.new.self) c.in_ok-ask.ensures.ok c.requires
+
+pub returns : goal.returns
+returns g c =
+    driven_ok c.drive.result (whole_of c.ask.new.self) (whole_of c.drive.new.self) c.drive.ensures.driven
+    (asked_world c.args.request (whole_of c.args.world.now) (whole_of c.ask.new.self) c.in_ok-ask.ensures.ok c.requires)

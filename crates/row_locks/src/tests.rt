@@ -1,4 +1,0 @@
-mod calls;
-mod definition;
-mod keeping;
-mod worked;

@@ -1,2 +1,0 @@
-mod line;
-mod reply;

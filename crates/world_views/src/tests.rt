@@ -1,3 +1,0 @@
-mod links;
-mod script;
-mod session;
