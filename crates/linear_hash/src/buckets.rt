@@ -1,5 +1,6 @@
 //! All buckets.
-ghost use Rattle.std.specs.Prelude.{◌≡◌, ◌<◌, ◌+◌, ◌++◌, [], ◌∷◌, OnOk, OnErr, IfOk, None, length, slice_index_or, slice_set};
+ghost use Rattle.std.specs.Prelude.{◌≡◌, ◌<◌, ◌+◌, ◌++◌, [], ◌∷◌, OnOk, OnErr, IfOk, None, length, slice_index_or};
+ghost use Rattle.std.specs.Prelude.{slice_set};
 ghost use Rattle.std.specs.FinMap as map;
 ghost use Rattle.linear_hash.specs.Entries.{part_of, place_in, without};
 ghost use Rattle.linear_hash.specs.Growth.{IsGrowth};

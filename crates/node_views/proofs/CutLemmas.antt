@@ -12,7 +12,9 @@ use Rattle.sig_core.specs.Step.{Step}
 use Rattle.api_views.specs.Members.{same_member}
 use Rattle.node_views.specs.Blocks.{parts_row, settled_at}
 use Rattle.node_views.specs.Laws.{CutHostsStayCut}
-use Rattle.node_views.specs.Row.{blocks_row, closed_if, counted_row, cut_if, entered, entering_if, headed_if, headed_row, host_row, host_table, is_barred, is_cut, is_excluded, is_one_of, kill_row, killed_after, passed_if, passed_row, settle, standing_at, taken_if, with_parts}
+use Rattle.node_views.specs.Row.{blocks_row, closed_if, counted_row, cut_if, entered, entering_if, headed_if}
+use Rattle.node_views.specs.Row.{headed_row, host_row, host_table, is_barred, is_cut, is_excluded, is_one_of, kill_row}
+use Rattle.node_views.specs.Row.{killed_after, passed_if, passed_row, settle, standing_at, taken_if, with_parts}
 use Rattle.node_views.specs.WellFormed.{is_well_formed}
 use Rattle.node_views.specs.declared.host.Host as hosts
 

@@ -6,8 +6,10 @@ use Rattle.sig_core.specs.declared.signal.Body.{Body}
 use Rattle.sig_core.specs.declared.signal.Body.TheVariants.{Host}
 use Rattle.sig_core.specs.declared.signal.Signal.{Signal}
 use Rattle.sig_core.specs.declared.signal.host.HostSignal.TheVariants.{Kill, Cut, Closed}
-use Rattle.node_views.specs.Laws.{CalmHostsLeaveItToBlocks, IsCalm, MalformedSignalsChangeNothing, StoppingHostsAreSilent, is_own}
-use Rattle.node_views.specs.Row.{blocks_row, counted_row, headed_if, headed_row, host_row, host_table, hushed, is_stop, passed_if, passed_row, taken_if, unless_stopped}
+use Rattle.node_views.specs.Laws.{CalmHostsLeaveItToBlocks, IsCalm, MalformedSignalsChangeNothing}
+use Rattle.node_views.specs.Laws.{StoppingHostsAreSilent, is_own}
+use Rattle.node_views.specs.Row.{blocks_row, counted_row, headed_if, headed_row, host_row, host_table, hushed, is_stop}
+use Rattle.node_views.specs.Row.{passed_if, passed_row, taken_if, unless_stopped}
 use Rattle.node_views.specs.WellFormed.{is_well_formed}
 use Rattle.node_views.specs.declared.host.Host as hosts
 

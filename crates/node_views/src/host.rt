@@ -1,5 +1,6 @@
 //! A host.
-ghost use Rattle.std.specs.Prelude.{◌≡◌, ◌≤◌, ◌+◌, ◌<◌, ◌++◌, IfOk, None, OnErr, OnOk, [], length, option_to_list, true};
+ghost use Rattle.std.specs.Prelude.{◌≡◌, ◌≤◌, ◌+◌, ◌<◌, ◌++◌, IfOk, None, OnErr, OnOk, [], length, option_to_list};
+ghost use Rattle.std.specs.Prelude.{true};
 ghost use Rattle.std.specs.List.{list_any};
 ghost use Rattle.sig_core.specs.declared.mark.Mark.TheVariants.{CutOff, Stopped};
 ghost use Rattle.sig_core.specs.Step.{HasRoom, IsTaken, and_mark, nothing};
@@ -7,7 +8,9 @@ ghost use Rattle.api_views.specs.Members.{same_member};
 ghost use Rattle.node_views.specs.Blocks.{HasRoomFor, is_shell};
 ghost use Rattle.node_views.specs.Fresh.{fresh_ldm, fresh_main, fresh_shell, fresh_tc};
 ghost use Rattle.node_views.specs.Replies.{is_down, is_left_open, replies_of, with_replies};
-ghost use Rattle.node_views.specs.Row.{blocks_row, closed_if, counted_row, cut_row, entered, headed_row, host_row, host_table, is_barred, is_cut, is_excluded, is_one_of, is_stop, kill_row, passed_row, unless_stopped};
+ghost use Rattle.node_views.specs.Row.{blocks_row, closed_if, counted_row, cut_row, entered, headed_row, host_row};
+ghost use Rattle.node_views.specs.Row.{host_table, is_barred, is_cut, is_excluded, is_one_of, is_stop, kill_row};
+ghost use Rattle.node_views.specs.Row.{passed_row, unless_stopped};
 
 use crate::fence::is_fenced;
 use crate::ldm_part::LdmPart;

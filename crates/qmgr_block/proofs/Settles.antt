@@ -1,6 +1,7 @@
 -- A step by which the membership settles on a view has one mark, which tells of it, and sends one signal at most, so
 -- there is room for what the installation sends.
-use Rattle.std.proofs.Common.{◌≡◌, ◌≤◌, ℕ, Bool, true, false, List, [], ◌∷◌, Option, None, Some, length, refl, sym, ap, ◌∙◌, arith}
+use Rattle.std.proofs.Common.{◌≡◌, ◌≤◌, ℕ, Bool, true, false, List, [], ◌∷◌, Option, None, Some, length, refl, sym, ap}
+use Rattle.std.proofs.Common.{◌∙◌, arith}
 use Rattle.std.specs.Prelude.{◌==◌, ◌&&◌, is_some, not}
 use Rattle.sig_core.specs.declared.mark.Mark.{Mark}
 use Rattle.sig_core.specs.declared.mark.Mark.TheVariants.{Installed}
@@ -13,9 +14,11 @@ use Rattle.sig_core.specs.declared.view.View.{View}
 use Rattle.sig_core.specs.Step.{Effects}
 use Rattle.qmgr_block.specs.declared.known.Known.{Known}
 use Rattle.qmgr_block.specs.declared.known.Proposal.{Proposal}
-use Rattle.qmgr_block.specs.Decide.{awaits, confirm_by, confirm_if, confirm_row, confirmed_all, confirmed_one, granted_by, granted_if, granted_row, heard, is_asked, needs_no_grant}
+use Rattle.qmgr_block.specs.Decide.{awaits, confirm_by, confirm_if, confirm_row, confirmed_all, confirmed_one}
+use Rattle.qmgr_block.specs.Decide.{granted_by, granted_if, granted_row, heard, is_asked, needs_no_grant}
 use Rattle.qmgr_block.specs.Qmgr.{qmgr_row, qmgr_table}
-use Rattle.qmgr_block.specs.Settle.{body_settles, grant_settles, granted_with, may_settle, promise_settles, qmgr_settles, settled_by_all, settled_if, settled_with, view_if}
+use Rattle.qmgr_block.specs.Settle.{body_settles, grant_settles, granted_with, may_settle, promise_settles}
+use Rattle.qmgr_block.specs.Settle.{qmgr_settles, settled_by_all, settled_if, settled_with, view_if}
 use Rattle.qmgr_block.specs.State.{QmgrState}
 
 -- the mark of a view that it settles on

@@ -1,5 +1,6 @@
 -- Promises: a node promises one set for each number, and its fences are up before it says so.
-use Rattle.std.specs.Prelude.{ℕ, ◌-◌, ◌%◌, ◌==◌, ◌&&◌, ◌||◌, Bool, true, false, if◌then◌else◌, nat_lt, List, [], ◌∷◌, ◌++◌, Option, None, Some, position, remove, slice_get, slice_set}
+use Rattle.std.specs.Prelude.{ℕ, ◌-◌, ◌%◌, ◌==◌, ◌&&◌, ◌||◌, Bool, true, false, if◌then◌else◌, nat_lt, List, [], ◌∷◌}
+use Rattle.std.specs.Prelude.{◌++◌, Option, None, Some, position, remove, slice_get, slice_set}
 use Rattle.sig_core.specs.declared.mark.Mark.TheVariants.{Promised}
 use Rattle.sig_core.specs.declared.outs.Outgoing.{Outgoing}
 use Rattle.sig_core.specs.declared.place.Place.{Place}

@@ -2,7 +2,9 @@
 ghost use Rattle.std.specs.Prelude.{◌≡◌, ◌≤◌, ◌<◌, IfOk, OnOk, OnErr, length};
 ghost use Rattle.sig_core.specs.declared.mark.Mark.TheVariants.{Installed};
 ghost use Rattle.sig_core.specs.Step.{HasRoom, IsTaken, IsUntouched, and_mark};
-ghost use Rattle.qmgr_block.specs.Decide.{awaits, confirm_row, confirmed_one, granted_row, heard, is_asked, needs_no_grant, refused_cause, refused_row, stop_row, unpromised_row, with_unlike};
+ghost use Rattle.qmgr_block.specs.Decide.{awaits, confirm_row, confirmed_one, granted_row, heard, is_asked};
+ghost use Rattle.qmgr_block.specs.Decide.{needs_no_grant, refused_cause, refused_row, stop_row, unpromised_row};
+ghost use Rattle.qmgr_block.specs.Decide.{with_unlike};
 ghost use Rattle.qmgr_block.specs.Settle.{grant_settles, promise_settles, settled_by_all};
 ghost use Rattle.qmgr_block.specs.State.{sending_all};
 

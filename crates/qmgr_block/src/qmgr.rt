@@ -1,7 +1,8 @@
 //! The membership of a node.
 ghost use Rattle.std.specs.Prelude.{◌≡◌, ◌<◌, ◌≤◌, false, true, IfOk, OnOk, OnErr, length, slice_get};
 ghost use Rattle.sig_core.specs.Step.{HasRoom, IsTaken, IsUntouched};
-ghost use Rattle.qmgr_block.specs.Promise.{confirmed_at, confirmed_if, fence_row, is_fenced, promise_by, promise_row, with_promise};
+ghost use Rattle.qmgr_block.specs.Promise.{confirmed_at, confirmed_if, fence_row, is_fenced, promise_by, promise_row};
+ghost use Rattle.qmgr_block.specs.Promise.{with_promise};
 ghost use Rattle.qmgr_block.specs.Decide.{unpromised_row};
 ghost use Rattle.qmgr_block.specs.Qmgr.{host_table, joining_table, membership_table, qmgr_installed, qmgr_row};
 ghost use Rattle.qmgr_block.specs.Install.{work_row};

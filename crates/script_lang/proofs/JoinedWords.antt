@@ -1,5 +1,6 @@
 -- Words with one space between each two make a line that falls into them.
-use Rattle.std.proofs.Common.{◌≡◌, ℕ, ◌-◌, ◌<◌, Bool, true, false, cond, List, [], ◌∷◌, length, take, refl, ap, ◌∙◌, arith, lit<}
+use Rattle.std.proofs.Common.{◌≡◌, ℕ, ◌-◌, ◌<◌, Bool, true, false, cond, List, [], ◌∷◌, length, take, refl, ap, ◌∙◌}
+use Rattle.std.proofs.Common.{arith, lit<}
 use Rattle.std.specs.Prelude.{filter, nat_lt, ◌==◌, ◌&&◌, slice_index, if◌then◌else◌}
 use Rattle.std.specs.List.{All, AllByRecursion, join_with_byte, slice_split}
 use Rattle.std.proofs.lemmas.Bool.{and_parts, and_from, ltb-true, lt-ltb, ne_eqb}

@@ -6,7 +6,8 @@ use Rattle.script_lang.specs.declared.keyword.OpKind.{OpKind}
 use Rattle.script_lang.specs.declared.keyword.OpKind.TheVariants as kind
 use Rattle.script_lang.specs.declared.keyword.Keyword.{Keyword}
 use Rattle.script_lang.specs.declared.keyword.Keyword.TheVariants as keyword
-use Rattle.script_lang.specs.Keyword.{operation_of, transaction_word, operator_word, keyword_else, keyword_by, keyword_of}
+use Rattle.script_lang.specs.Keyword.{operation_of, transaction_word, operator_word, keyword_else, keyword_by}
+use Rattle.script_lang.specs.Keyword.{keyword_of}
 
 abbrev pub operation_word : OpKind → List ℕ
 operation_word kind.Get = codes "get"

@@ -15,7 +15,8 @@ use Rattle.sig_core.specs.declared.word.WordFault.TheVariants.{Length}
 use Rattle.sig_core.specs.Word.{if_word, unless_spoilt, is_unprintable}
 use Rattle.script_lang.specs.declared.command.Command.{Command}
 use Rattle.script_lang.specs.declared.command.Command.TheVariants as commands
-use Rattle.script_lang.specs.Spelling.{spelled, line_of, operation_words, value_words, IsName, IsNode, IsKey, IsValue, IsOperation, IsCommand, CommandsHaveLines}
+use Rattle.script_lang.specs.Spelling.{spelled, line_of, operation_words, value_words, IsName, IsNode, IsKey, IsValue}
+use Rattle.script_lang.specs.Spelling.{IsOperation, IsCommand, CommandsHaveLines}
 use Rattle.script_lang.specs.Words.{is_word}
 use Rattle.script_lang.proofs.SpelledIsRead.{spellings_are_read}
 use Rattle.script_lang.proofs.WordCuts.{none_left}

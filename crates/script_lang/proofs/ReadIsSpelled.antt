@@ -1,6 +1,7 @@
 -- What is read as a command is spelled as it.
 use Rattle.std.proofs.Common.{◌≡◌, ℕ, ◌^◌, ◌<◌, ◌≤◌, Bool, true, false, List, [], ◌∷◌, refl, ap, sym, subst, ◌∙◌, lit<}
-use Rattle.std.specs.Prelude.{Option, None, Some, IfSome, Result, Ok, Err, codes, bytes_eq, ◌==◌, slice_index, if◌then◌else◌}
+use Rattle.std.specs.Prelude.{Option, None, Some, IfSome, Result, Ok, Err, codes, bytes_eq, ◌==◌, slice_index}
+use Rattle.std.specs.Prelude.{if◌then◌else◌}
 use Rattle.std.specs.Fmt.{decimal}
 use Rattle.std.proofs.lemmas.Bool.{eqb-true}
 use Rattle.std.proofs.lemmas.Slice.Eq.{bytes_eq-Decides}
@@ -12,13 +13,17 @@ use Rattle.script_lang.specs.declared.keyword.Keyword.{Keyword}
 use Rattle.script_lang.specs.declared.keyword.Keyword.TheVariants as keyword
 use Rattle.script_lang.specs.declared.keyword.OpKind.{OpKind}
 use Rattle.script_lang.specs.Keyword.{operation_of, keyword_of, is_in}
-use Rattle.script_lang.specs.Line.{with_number, bare, made, begin_at, begin_by, begin, cut_by, cut, kill_at, kill_by, kill_after, plain_by, plain, named_with, named_by, named, with_keyword, if_known, command_of, meant, parsed_words, without_return}
+use Rattle.script_lang.specs.Line.{with_number, bare, made, begin_at, begin_by, begin, cut_by, cut, kill_at, kill_by}
+use Rattle.script_lang.specs.Line.{kill_after, plain_by, plain, named_with, named_by, named, with_keyword, if_known}
+use Rattle.script_lang.specs.Line.{command_of, meant, parsed_words, without_return}
 use Rattle.script_lang.specs.Number.{number}
 use Rattle.script_lang.specs.Operation.{operands, operate, op_with}
 use Rattle.script_lang.specs.Words.{words, is_word, one_or_two, two_words}
 use Rattle.script_lang.specs.Spelling.{spelled, value_words, node_words, IsNode, IsCommand, LinesAreSpelled}
 use Rattle.script_lang.proofs.KeywordInversion.{operation_word, operation_named, keyword_word, keyword_named}
-use Rattle.script_lang.proofs.PartInversion.{AreWords, words_of_line, good, good_same, with_number_read, one_number_read, one_or_two_are, two_words_are, operands_spelled, operate_read}
+use Rattle.script_lang.proofs.PartInversion.{AreWords, words_of_line, good, good_same, with_number_read}
+use Rattle.script_lang.proofs.PartInversion.{one_number_read, one_or_two_are, two_words_are, operands_spelled}
+use Rattle.script_lang.proofs.PartInversion.{operate_read}
 
 -- the words are those of a command that may stand here
 abbrev AreSpelled : Bool → ℕ → List (List ℕ) → Command → Type 0

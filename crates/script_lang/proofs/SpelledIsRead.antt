@@ -14,7 +14,8 @@ use Rattle.script_lang.specs.Line.{with_number, made, begin_at, kill_at, plain_b
 use Rattle.script_lang.specs.Number.{number}
 use Rattle.script_lang.specs.Operation.{operate, operate_if, op_with}
 use Rattle.script_lang.specs.Words.{one_or_two}
-use Rattle.script_lang.specs.Spelling.{spelled, operation_words, value_words, IsName, IsNode, IsKey, IsValue, IsOperation, IsCommand, SpellingsAreRead, SpellingsDiffer}
+use Rattle.script_lang.specs.Spelling.{spelled, operation_words, value_words, IsName, IsNode, IsKey, IsValue}
+use Rattle.script_lang.specs.Spelling.{IsOperation, IsCommand, SpellingsAreRead, SpellingsDiffer}
 use Rattle.script_lang.proofs.NumberLaws.{read}
 
 name_read : (name : ℕ) → IsName name → number 1 65535 (decimal name) ≡ Some name

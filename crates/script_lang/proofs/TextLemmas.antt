@@ -1,5 +1,6 @@
 -- How a loop that adds pieces to a line goes on, and what a byte is as two digits.
-use Rattle.std.proofs.Common.{◌≡◌, ℕ, ◌+◌, ◌<◌, ◌/◌, ◌%◌, List, [], ◌∷◌, ◌++◌, length, drop, get_or, false, ap, sym, subst, ◌∙◌, append_assoc}
+use Rattle.std.proofs.Common.{◌≡◌, ℕ, ◌+◌, ◌<◌, ◌/◌, ◌%◌, List, [], ◌∷◌, ◌++◌, length, drop, get_or, false, ap, sym}
+use Rattle.std.proofs.Common.{subst, ◌∙◌, append_assoc}
 use Rattle.std.specs.Prelude.{Option, IfSome, Some, codes}
 use Rattle.std.specs.Fmt.{decimal, digits, digit_glyph, padded_integral, format_spec}
 use Rattle.std.specs.Option.{option_map}

@@ -8,7 +8,8 @@ use Rattle.sig_core.specs.declared.slots.SystemSlot.{SystemSlot}
 use Rattle.sysfile_core.specs.declared.control.TheConstants.{CONTROL_BYTES}
 use Rattle.sysfile_core.specs.declared.system.TheConstants.{SYSTEM_BYTES}
 use Rattle.sysfile_core.specs.Places.{place_of, slot_at}
-use Rattle.sysfile_core.specs.Reading.{HasCause, Reads, control_at, control_by, control_in, system_at, system_by, system_in}
+use Rattle.sysfile_core.specs.Reading.{HasCause, Reads, control_at, control_by, control_in, system_at, system_by}
+use Rattle.sysfile_core.specs.Reading.{system_in}
 
 -- what bytes say is read of them
 reads_itself : {S : Type 0} (found result : Result (Option S) ReadFault) → ((before now : ℕ) → HasCause before now result)

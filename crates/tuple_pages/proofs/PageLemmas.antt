@@ -1,6 +1,8 @@
 -- What a call on one slot does to the places that pages hold.
-use Rattle.std.proofs.Common.{◌≡◌, ◌≢◌, ◌≤◌, ◌<◌, ◌⊎◌, inl, inr, ℕ, zero, suc, ◌+◌, ◌-◌, ◌*◌, ◌/◌, ◌%◌, Bool, true, false, cond, nat_eq, nat_lt}
-use Rattle.std.proofs.Common.{List, [], ◌∷◌, ◌++◌, drop, map, length, min, get_or, set, refl, ap, sym, ◌∙◌, arith, subst, length-append}
+use Rattle.std.proofs.Common.{◌≡◌, ◌≢◌, ◌≤◌, ◌<◌, ◌⊎◌, inl, inr, ℕ, zero, suc, ◌+◌, ◌-◌, ◌*◌, ◌/◌, ◌%◌, Bool, true}
+use Rattle.std.proofs.Common.{false, cond, nat_eq, nat_lt}
+use Rattle.std.proofs.Common.{List, [], ◌∷◌, ◌++◌, drop, map, length, min, get_or, set, refl, ap, sym, ◌∙◌, arith}
+use Rattle.std.proofs.Common.{subst, length-append}
 use Rattle.std.specs.Prelude.{Option, Some, None, is_some, position, slice_get}
 use Rattle.std.specs.List.{range_with_len}
 use Rattle.std.specs.BinaryHeap.{HeapUnchanged, IsHeap, IsUpperBound, heap_capacity, heap_items, heap_len}
@@ -9,7 +11,8 @@ use Rattle.std.specs.declared.cmp.Reverse.{Reverse}
 use Rattle.std.specs.declared.collections.BinaryHeap.{BinaryHeap}
 use Rattle.std.proofs.lemmas.Bool.{and_parts, cases_eq, cases_lt, false≢true, ltb-true, ne_eqb, true≢false}
 use Rattle.std.proofs.lemmas.Bool.Decides.{nat_tests}
-use Rattle.std.proofs.lemmas.List.{drop_all, drop_more, ext_get_or, get_or-set_same, get_or-set_other, get_or_append_left, get_or_push, length-set}
+use Rattle.std.proofs.lemmas.List.{drop_all, drop_more, ext_get_or, get_or-set_same, get_or-set_other}
+use Rattle.std.proofs.lemmas.List.{get_or_append_left, get_or_push, length-set}
 use Rattle.std.proofs.lemmas.List.FromFn.{get_or-map-range_with_len, length-map-range_with_len, map-range_with_len_more}
 use Rattle.std.proofs.Math.ListN.{get_or-eq_default}
 use Rattle.std.proofs.lemmas.Nat.{div-add-mod', mod_below}
@@ -19,7 +22,8 @@ use Rattle.sig_core.specs.Rows.{has_row, next_by, placed, taken, with_row}
 use Rattle.tuple_pages.specs.declared.page.TheConstants.{PAGE_SLOTS}
 use Rattle.tuple_pages.specs.Free.{HoldsFree, first_free, listed}
 use Rattle.tuple_pages.specs.Places.{ArePages, AreWhole, has_spare, place_at, places_in, rewritten, written}
-use Rattle.tuple_pages.proofs.FreeLemmas.{IsTaken, Popped, empty_behind, grown_holds, is_taken, peek_least, placed-behind, placed-within}
+use Rattle.tuple_pages.proofs.FreeLemmas.{IsTaken, Popped, empty_behind, grown_holds, is_taken, peek_least}
+use Rattle.tuple_pages.proofs.FreeLemmas.{placed-behind, placed-within}
 use Rattle.tuple_pages.proofs.FreeLemmas.{popped_holds, set_holds, top_least, top_within}
 
 abbrev Slots : Type 0

@@ -1,5 +1,6 @@
 -- What stopping does to the links of the host that stops.
-use Rattle.std.proofs.Common.{◌≡◌, inl, ℕ, ◌+◌, ◌-◌, ◌*◌, ◌<◌, List, [], ◌∷◌, ◌++◌, length, take, drop, Bool, true, false, refl, ap, sym, ◌∙◌, subst, arith}
+use Rattle.std.proofs.Common.{◌≡◌, inl, ℕ, ◌+◌, ◌-◌, ◌*◌, ◌<◌, List, [], ◌∷◌, ◌++◌, length, take, drop, Bool, true}
+use Rattle.std.proofs.Common.{false, refl, ap, sym, ◌∙◌, subst, arith}
 use Rattle.std.specs.Prelude.{if◌then◌else◌, ◌==◌, ◌||◌}
 use Rattle.std.specs.List.{list_any}
 use Rattle.std.proofs.lemmas.Bool.{eq-eqb, eqb-true, true≢false}
@@ -22,7 +23,8 @@ use Rattle.world_core.specs.Start.{Start, made}
 use Rattle.world_core.specs.Steps.{Addressed, HostStep}
 use Rattle.world_core.specs.World.{logs_at}
 use Rattle.world_views.specs.Links.{AreLinks, LinkState, Links, close_below, closed_by, link, lose, put_all, without}
-use Rattle.world_views.specs.Machine.{after, closing_signal, closing_view, has_cut, has_stopped, machine, sender, sent_count, step_by, stops_by, told}
+use Rattle.world_views.specs.Machine.{after, closing_signal, closing_view, has_cut, has_stopped, machine, sender}
+use Rattle.world_views.specs.Machine.{sent_count, step_by, stops_by, told}
 use Rattle.world_views.specs.Right.{IsHeld, IsLinked, IsOpen, holds_by, on_link, stopped_holds}
 use Rattle.world_views.specs.Sending.{count_routed, routed_all}
 use Rattle.world_views.specs.World.{Whole, is_unclosed, step_made}

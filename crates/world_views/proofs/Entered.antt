@@ -1,5 +1,6 @@
 -- What the making of a step does to a world, with the links told apart.
-use Rattle.std.proofs.Common.{◌≡◌, ◌≢◌, ℕ, ◌+◌, ◌*◌, ◌<◌, List, ◌∷◌, ◌++◌, length, Bool, true, false, refl, ap, ◌∙◌, arith}
+use Rattle.std.proofs.Common.{◌≡◌, ◌≢◌, ℕ, ◌+◌, ◌*◌, ◌<◌, List, ◌∷◌, ◌++◌, length, Bool, true, false, refl, ap, ◌∙◌}
+use Rattle.std.proofs.Common.{arith}
 use Rattle.std.specs.Prelude.{slice_set}
 use Rattle.std.proofs.lemmas.List.{get_or-set_same}
 use Rattle.frag_map.specs.Layout.{first_layout}
@@ -21,7 +22,8 @@ use Rattle.world_views.specs.Links.{AreLinks, Links, close_below, link, lose, pu
 use Rattle.world_views.specs.Machine.{cause_in, replies_at, sender, sent_count, stops_by, told}
 use Rattle.world_views.specs.Right.{IsLinked}
 use Rattle.world_views.specs.Sending.{headed, routed_all}
-use Rattle.world_views.specs.World.{Whole, body_at, closing_if, entered, is_unclosed, logged, sending, step_made, telling}
+use Rattle.world_views.specs.World.{Whole, body_at, closing_if, entered, is_unclosed, logged, sending, step_made}
+use Rattle.world_views.specs.World.{telling}
 use Rattle.world_views.proofs.Ready.{IsReady, host_step, log_with}
 
 module _ (w : Whole) (lost : ℕ) (x : Addressed) (t : Step Host) where

@@ -1,6 +1,8 @@
 -- What becomes of a signal in the hand of a host.
-use Rattle.std.proofs.Common.{◌≡◌, inl, inr, ℕ, zero, suc, ◌<◌, ◌≤◌, List, ◌++◌, length, Bool, true, false, refl, ap, sym, ◌∙◌, subst}
-use Rattle.std.specs.Prelude.{Err, get_or, IfSome, is_some, MatchOption, nat_lt, None, Ok, OnOk, Option, Result, slice_set, Some, ◌^◌}
+use Rattle.std.proofs.Common.{◌≡◌, inl, inr, ℕ, zero, suc, ◌<◌, ◌≤◌, List, ◌++◌, length, Bool, true, false, refl, ap}
+use Rattle.std.proofs.Common.{sym, ◌∙◌, subst}
+use Rattle.std.specs.Prelude.{Err, get_or, IfSome, is_some, MatchOption, nat_lt, None, Ok, OnOk, Option, Result}
+use Rattle.std.specs.Prelude.{slice_set, Some, ◌^◌}
 use Rattle.std.proofs.lemmas.Bool.{lt-ltb, true≢false}
 use Rattle.std.proofs.lemmas.List.{get_or-set_same, get_or_read, length-set, set-set}
 use Rattle.frag_map.specs.Layout.{first_layout}
@@ -19,7 +21,8 @@ use Rattle.world_core.specs.Steps.{Addressed}
 use Rattle.world_core.specs.World.{next_stamp, with_step}
 use Rattle.world_views.specs.Machine.{cause_in, own_stop, replies_at, step_by, step_if, stops_by, told}
 use Rattle.world_views.specs.Schedule.{HasTaken, is_discarded, taken_if}
-use Rattle.world_views.specs.World.{body_at, closing, closing_if, entered, halted, handled_by, HasHandled, is_stamp, logged, sending, step_made, stopped, telling, Whole, with_body}
+use Rattle.world_views.specs.World.{body_at, closing, closing_if, entered, halted, handled_by, HasHandled, is_stamp}
+use Rattle.world_views.specs.World.{logged, sending, step_made, stopped, telling, Whole, with_body}
 
 -- a host where there is none
 abbrev nobody : Host

@@ -1,5 +1,6 @@
 -- What a host asks of itself makes it ready for a step, whatever its world is otherwise.
-use Rattle.std.proofs.Common.{◌≡◌, ℕ, zero, suc, ◌<◌, ◌≤◌, List, ◌∷◌, ◌++◌, length, Bool, true, false, refl, ap, sym, ◌∙◌, subst, arith}
+use Rattle.std.proofs.Common.{◌≡◌, ℕ, zero, suc, ◌<◌, ◌≤◌, List, ◌∷◌, ◌++◌, length, Bool, true, false, refl, ap, sym}
+use Rattle.std.proofs.Common.{◌∙◌, subst, arith}
 use Rattle.std.specs.Prelude.{if◌then◌else◌, ◌==◌, ◌&&◌, Option, None, Some, slice_index_or}
 use Rattle.std.proofs.lemmas.Bool.{eq-eqb, true≢false}
 use Rattle.run_theory.proofs.Runs.{taken-asked}
@@ -22,7 +23,8 @@ use Rattle.world_core.specs.Steps.{Addressed, HostStep}
 use Rattle.world_core.specs.World.{logs_at}
 use Rattle.world_core.specs.Machine.{last_stamp}
 use Rattle.world_views.specs.Links.{link}
-use Rattle.world_views.specs.Machine.{IsOwn, IsOwnCause, IsOwnWork, after, comes_rightly, has_stopped, machine, own_signal, own_stop, step_by, step_if}
+use Rattle.world_views.specs.Machine.{IsOwn, IsOwnCause, IsOwnWork, after, comes_rightly, has_stopped, machine}
+use Rattle.world_views.specs.Machine.{own_signal, own_stop, step_by, step_if}
 use Rattle.world_views.specs.Right.{IsHeld, IsRight, on_link}
 use Rattle.world_views.specs.Sending.{is_asked, is_own_work}
 use Rattle.world_views.specs.World.{Whole, asking, body_at}

@@ -15,7 +15,8 @@ use Rattle.world_core.specs.Steps.{Addressed, HostStep}
 use Rattle.world_core.specs.World.{logs_at, no_steps, of_host}
 use Rattle.world_core.specs.Machine.{last_stamp}
 use Rattle.world_views.specs.Links.{LinkState, link}
-use Rattle.world_views.specs.Machine.{after, comes_rightly, has_stopped, machine, replies_at, sent_count, step_by, stops_by, told}
+use Rattle.world_views.specs.Machine.{after, comes_rightly, has_stopped, machine, replies_at, sent_count, step_by}
+use Rattle.world_views.specs.Machine.{stops_by, told}
 use Rattle.world_views.specs.Right.{IsHeld, IsOpen, on_link, replies_in}
 use Rattle.world_views.specs.Sending.{is_asked}
 use Rattle.world_views.specs.World.{IsOf, Whole, body_at, step_made}

@@ -1,5 +1,6 @@
 -- Where no schedule picks, no host stops, or cuts off a node, because one had it do so.
-use Rattle.std.proofs.Common.{◌≡◌, inl, inr, ℕ, ◌+◌, ◌<◌, ◌≤◌, List, [], ◌∷◌, ◌++◌, Bool, true, false, refl, sym, ◌∙◌, subst}
+use Rattle.std.proofs.Common.{◌≡◌, inl, inr, ℕ, ◌+◌, ◌<◌, ◌≤◌, List, [], ◌∷◌, ◌++◌, Bool, true, false, refl, sym, ◌∙◌}
+use Rattle.std.proofs.Common.{subst}
 use Rattle.std.specs.Prelude.{◌==◌, if◌then◌else◌, max}
 use Rattle.std.proofs.lemmas.Bool.{eqb-true, true≢false}
 use Rattle.run_theory.proofs.Links.{given_more}
@@ -24,7 +25,8 @@ use Rattle.world_views.specs.Right.{IsRight}
 use Rattle.world_views.specs.Schedule.{HasTaken, is_discarded, left_of, taken_if}
 use Rattle.world_views.specs.Sending.{is_asked}
 use Rattle.world_views.specs.Unscheduled.{AreUnscheduled, HasNoStamp, IsUnscheduled, IsWant}
-use Rattle.world_views.specs.World.{HasFailed, HasHandled, Whole, body_at, entered, halted, handled_by, is_stamp, with_body}
+use Rattle.world_views.specs.World.{HasFailed, HasHandled, Whole, body_at, entered, halted, handled_by, is_stamp}
+use Rattle.world_views.specs.World.{with_body}
 use Rattle.world_views.proofs.FailDriven.{bodies, fail_ready, wish}
 use Rattle.world_views.proofs.MoveRight.{logs_are, running}
 use Rattle.world_views.proofs.Ready.{IsReady, host_step}

@@ -1,5 +1,6 @@
 -- What the calls of a world come to.
-use Rattle.std.proofs.Common.{◌≡◌, inl, inr, ℕ, ◌<◌, List, ◌++◌, Bool, true, false, refl, ap, sym, ◌∙◌, subst, append_assoc, arith}
+use Rattle.std.proofs.Common.{◌≡◌, inl, inr, ℕ, ◌<◌, List, ◌++◌, Bool, true, false, refl, ap, sym, ◌∙◌, subst}
+use Rattle.std.proofs.Common.{append_assoc, arith}
 use Rattle.std.specs.Prelude.{None, Some, not, OnErr, OnOk, Result, Ok, Err, slice_index_or}
 use Rattle.std.proofs.lemmas.Bool.{true≢false}
 use Rattle.run_theory.proofs.Pasts.{past_trans}
@@ -21,7 +22,8 @@ use Rattle.world_views.specs.Machine.{has_stopped, own_signal, own_stop, request
 use Rattle.world_views.specs.Right.{IsRight}
 use Rattle.world_views.specs.Schedule.{HasTaken, is_discarded, left_of}
 use Rattle.world_views.specs.Unscheduled.{AreUnscheduled}
-use Rattle.world_views.specs.World.{asked, asking, body_at, handled_by, has_stopped_in, HasHandled, is_stamp, IsIdle, IsOf, IsThere, moved, new_world, Whole}
+use Rattle.world_views.specs.World.{asked, asking, body_at, handled_by, has_stopped_in, HasHandled, is_stamp, IsIdle}
+use Rattle.world_views.specs.World.{IsOf, IsThere, moved, new_world, Whole}
 use Rattle.world_views.proofs.AskDriven as ask
 use Rattle.world_views.proofs.FreshWorld.{fresh_sound}
 use Rattle.world_views.proofs.StepDriven.{grown_itself}

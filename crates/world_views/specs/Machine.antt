@@ -5,7 +5,8 @@
 -- a cut, each of which a host asks of itself. A step that stops its host sends the closings of its links and nothing
 -- else,
 -- and none follows it. The replies that a step of the shell makes are told with it, so none stays in the host.
-use Rattle.std.specs.Prelude.{◌≡◌, ◌≤◌, ℕ, zero, suc, ◌==◌, if◌then◌else◌, Bool, true, false, List, [], ◌∷◌, Option, None, Some}
+use Rattle.std.specs.Prelude.{◌≡◌, ◌≤◌, ℕ, zero, suc, ◌==◌, if◌then◌else◌, Bool, true, false, List, [], ◌∷◌, Option}
+use Rattle.std.specs.Prelude.{None, Some}
 use Rattle.std.specs.List.{list_any}
 use Rattle.run_theory.specs.Machine.{Machine}
 use Rattle.sig_core.specs.declared.mark.Mark.{Mark}

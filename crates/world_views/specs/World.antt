@@ -1,5 +1,6 @@
 -- A world: the hosts, the links between them, and what each host has done.
-use Rattle.std.specs.Prelude.{◌≡◌, ◌<◌, ◌≤◌, ◌⊎◌, ℕ, ◌+◌, ◌*◌, ◌^◌, ◌==◌, ◌&&◌, ◌||◌, nat_lt, Bool, true, false, not, List, [], ◌++◌, length}
+use Rattle.std.specs.Prelude.{◌≡◌, ◌<◌, ◌≤◌, ◌⊎◌, ℕ, ◌+◌, ◌*◌, ◌^◌, ◌==◌, ◌&&◌, ◌||◌, nat_lt, Bool, true, false, not}
+use Rattle.std.specs.Prelude.{List, [], ◌++◌, length}
 use Rattle.std.specs.Prelude.{replicate, slice_index_or, slice_set}
 use Rattle.frag_map.specs.Layout.{first_layout}
 use Rattle.sig_core.specs.declared.log.HostLog.{HostLog}
@@ -28,7 +29,8 @@ use Rattle.world_core.specs.Steps.{Addressed}
 use Rattle.world_core.specs.World.{for_each, next_stamp, no_steps, with_step}
 use Rattle.world_views.specs.Hosts.{started}
 use Rattle.world_views.specs.Links.{AreIdle, AreLinks, Links, close_below, lose, new_link, put_all}
-use Rattle.world_views.specs.Machine.{cause_in, first_of, own_signal, replies_at, request_body, sender, step_by, stops_by, to_front, told}
+use Rattle.world_views.specs.Machine.{cause_in, first_of, own_signal, replies_at, request_body, sender, step_by}
+use Rattle.world_views.specs.Machine.{stops_by, to_front, told}
 use Rattle.world_views.specs.Sending.{headed, routed_all}
 
 -- the shape of the cluster, the members that were made, the hosts, which of them have stopped, the links to each, the

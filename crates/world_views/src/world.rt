@@ -1,5 +1,6 @@
 //! The world: all hosts of a cluster that may fail, driven by one thread.
-ghost use Rattle.std.specs.Prelude.{◌≡◌, ◌≤◌, ◌||◌, ◌++◌, [], IfOk, MatchOption, None, OnErr, OnOk, false, slice_index_or};
+ghost use Rattle.std.specs.Prelude.{◌≡◌, ◌≤◌, ◌||◌, ◌++◌, [], IfOk, MatchOption, None, OnErr, OnOk, false};
+ghost use Rattle.std.specs.Prelude.{slice_index_or};
 ghost use Rattle.frag_map.specs.Shape.{IsShape};
 ghost use Rattle.node_views.specs.Row.{is_cut};
 ghost use Rattle.world_views.specs.Machine.{own_stop};
@@ -54,7 +55,8 @@ impl World {
     ghost use Rattle.world_views.specs.Machine.{own_signal};
     ghost use Rattle.world_views.specs.Schedule.{HasTaken, is_discarded};
     ghost use Rattle.world_views.specs.Unscheduled.{AreUnscheduled};
-    ghost use Rattle.world_views.specs.World.{HasHandled, IsIdle, IsThere, closing, cutting, entered, has_stopped_in, is_down, is_left_open, new_world, sending, stopped};
+    ghost use Rattle.world_views.specs.World.{HasHandled, IsIdle, IsThere, closing, cutting, entered, has_stopped_in};
+    ghost use Rattle.world_views.specs.World.{is_down, is_left_open, new_world, sending, stopped};
     ghost use Rattle.world_views.specs.WorldOf.{whole_of};
 
     /// A world in which nothing has happened: a cluster of this shape begins a life in this epoch, from

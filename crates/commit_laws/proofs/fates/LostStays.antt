@@ -1,5 +1,6 @@
 -- Whoever is lost at its coordinator is so for ever.
-use Rattle.std.proofs.Common.{◌≡◌, ◌≢◌, ◌⊎◌, ◌∙◌, ◌++◌, ◌||◌, ◌&&◌, ℕ, Bool, true, false, not, List, [], ◌∷◌, refl, sym, ap, subst, inl, inr}
+use Rattle.std.proofs.Common.{◌≡◌, ◌≢◌, ◌⊎◌, ◌∙◌, ◌++◌, ◌||◌, ◌&&◌, ℕ, Bool, true, false, not, List, [], ◌∷◌, refl, sym}
+use Rattle.std.proofs.Common.{ap, subst, inl, inr}
 use Rattle.std.proofs.lemmas.Bool.{and_parts, true≢false, or_right}
 use Rattle.std.specs.Prelude.{if◌then◌else◌, Option, None, Some}
 use Rattle.run_theory.specs.Lists.{IsIn}
@@ -43,7 +44,8 @@ use Rattle.outcome_laws.specs.Counts.{IsCoordinatorOf, coordinator_member}
 use Rattle.outcome_laws.proofs.coordinators.Lists.{keys_once}
 use Rattle.request_laws.specs.Blocks.{coordinator_after, coordinator_in}
 use Rattle.request_laws.specs.Ways.{entry_of, has_gone_back, has_gone_forth, is_at, is_sent, tells_abort, tells_commit}
-use Rattle.request_laws.proofs.phases.AlongLogs.{IsRun, coordinator_comes, coordinator_first, coordinator_is, runs_tc, told_some}
+use Rattle.request_laws.proofs.phases.AlongLogs.{IsRun, coordinator_comes, coordinator_first, coordinator_is, runs_tc}
+use Rattle.request_laws.proofs.phases.AlongLogs.{told_some}
 use Rattle.request_laws.proofs.phases.GoneWays.{gone_nowhere, gone_same, gone_stays, gone_told}
 use Rattle.request_laws.proofs.phases.HostSteps as goes
 use Rattle.request_laws.proofs.phases.HostSteps.{Goes, IsEntered, tc_goes}
@@ -53,7 +55,8 @@ use Rattle.request_laws.proofs.phases.TurnSends.{AreSpared, IsSpared}
 use Rattle.request_laws.proofs.phases.Turns as turns
 use Rattle.request_laws.proofs.phases.Turns.{Changes, IsStill}
 use Rattle.request_laws.proofs.phases.Steps.{left_of}
-use Rattle.request_laws.proofs.phases.OneWay.{WaySays, goes_one_way, sent_before, sent_behind, at_decided, at_aborting, is_decided_as, aborting_not_decided}
+use Rattle.request_laws.proofs.phases.OneWay.{WaySays, goes_one_way, sent_before, sent_behind, at_decided, at_aborting}
+use Rattle.request_laws.proofs.phases.OneWay.{is_decided_as, aborting_not_decided}
 use Rattle.commit_laws.specs.Lost.{LostStay}
 use Rattle.commit_laws.proofs.fates.LostDoomed.{Dooms, IsPromise, IsThere, IsUndecidedThere, row_dooms, takes_no_epoch}
 

@@ -1,6 +1,7 @@
 -- At each moment whoever knows that a transaction is committed knows of one that has gone forth; and the client's side
 -- has acknowledged each commit that rows are told to be acknowledged.
-use Rattle.std.proofs.Common.{◌≡◌, ◌≢◌, ◌⊎◌, ◌∙◌, ◌||◌, ◌%◌, ℕ, zero, suc, Bool, true, false, List, [], ◌∷◌, refl, sym, ap, subst, arith, inl, inr}
+use Rattle.std.proofs.Common.{◌≡◌, ◌≢◌, ◌⊎◌, ◌∙◌, ◌||◌, ◌%◌, ℕ, zero, suc, Bool, true, false, List, [], ◌∷◌, refl, sym}
+use Rattle.std.proofs.Common.{ap, subst, arith, inl, inr}
 use Rattle.std.proofs.lemmas.Bool.{true≢false}
 use Rattle.run_theory.proofs.Pasts.{each_from, each_in, each_map}
 use Rattle.run_theory.proofs.Runs.{log_of-other, log_of-own}
@@ -57,7 +58,8 @@ use Rattle.commit_laws.specs.Traces.{has_sent, is_acknowledgement, is_known}
 use Rattle.commit_laws.proofs.forth.Gone.{PartsKnow, SaysForth, tc_forth}
 use Rattle.commit_laws.proofs.forth.Grows.{forth_grows, known_grows}
 use Rattle.commit_laws.proofs.forth.Parts.{Fits, SpeakIn, step_speaks, told_fit}
-use Rattle.commit_laws.proofs.forth.Speaks.{Anyone, AreSpoken, Of, Speaks, rows_grow, speaks_grow, takeover_grows, tells_forth}
+use Rattle.commit_laws.proofs.forth.Speaks.{Anyone, AreSpoken, Of, Speaks, rows_grow, speaks_grow, takeover_grows}
+use Rattle.commit_laws.proofs.forth.Speaks.{tells_forth}
 use Rattle.commit_laws.proofs.hosts.SomePasses.{passed, passing}
 
 -- a signal of the hosts themselves

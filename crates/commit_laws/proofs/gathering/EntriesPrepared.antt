@@ -51,7 +51,8 @@ use Rattle.commit_laws.specs.Gathering.{EndsGathering, IsPreparedSomewhere}
 use Rattle.commit_laws.specs.Ruling.{NoneRuled}
 use Rattle.commit_laws.specs.Takeovers.{IsOrphan, takeover_at}
 use Rattle.commit_laws.proofs.gathering.Alone.{none_ruled}
-use Rattle.commit_laws.proofs.gathering.PreparedTold.{IsPreparedIf, TellsPrepared, none_before, prepared_stays, prepared_told}
+use Rattle.commit_laws.proofs.gathering.PreparedTold.{IsPreparedIf, TellsPrepared, none_before, prepared_stays}
+use Rattle.commit_laws.proofs.gathering.PreparedTold.{prepared_told}
 use Rattle.commit_laws.proofs.fates.SpokenEvents.{fenced_keeps}
 use Rattle.commit_laws.proofs.takeover.Reports.{Fated}
 use Rattle.commit_laws.proofs.orders.Together.{orders_once}

@@ -1,6 +1,7 @@
 -- What a step of a host that runs rows comes to, with its marks: a view is installed, or none is; and behind that the
 -- rows take the signal, and what they mark is marked; or they leave it alone, and none is marked to be applied.
-use Rattle.std.proofs.Common.{◌≡◌, ◌⊎◌, ◌||◌, ◌++◌, ◌∙◌, ℕ, Bool, true, false, nat_lt, List, [], ◌∷◌, refl, sym, ap, subst, arith, inl, inr, append_assoc}
+use Rattle.std.proofs.Common.{◌≡◌, ◌⊎◌, ◌||◌, ◌++◌, ◌∙◌, ℕ, Bool, true, false, nat_lt, List, [], ◌∷◌, refl, sym, ap}
+use Rattle.std.proofs.Common.{subst, arith, inl, inr, append_assoc}
 use Rattle.std.proofs.lemmas.Bool.{ltb-false, ltb-true, true≢false}
 use Rattle.std.specs.List.{list_any}
 use Rattle.run_theory.specs.Lists.{Each}

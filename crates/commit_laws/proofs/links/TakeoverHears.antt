@@ -22,7 +22,9 @@ use Rattle.node_views.specs.declared.tc_part.TcPart.{TcPart}
 use Rattle.node_views.specs.Blocks.{fence_at}
 use Rattle.node_views.specs.Fence.{is_fenced}
 use Rattle.node_views.specs.Parts.{tc_entered, tc_row}
-use Rattle.node_views.specs.Row.{blocks_row, counted_row, entered, entering_if, headed_if, headed_row, host_row, host_table, in_view, is_barred, is_excluded, is_stop, hushed, killed_after, passed_if, passed_row, taken_if}
+use Rattle.node_views.specs.Row.{blocks_row, counted_row, entered, entering_if, headed_if, headed_row, host_row}
+use Rattle.node_views.specs.Row.{host_table, in_view, is_barred, is_excluded, is_stop, hushed, killed_after, passed_if}
+use Rattle.node_views.specs.Row.{passed_row, taken_if}
 use Rattle.node_views.specs.WellFormed.{is_well_formed}
 use Rattle.world_core.specs.Start.{Start}
 use Rattle.world_core.specs.Steps.{HostStep}

@@ -58,8 +58,11 @@ use Rattle.commit_laws.proofs.drive.Idle.{idle_stays}
 use Rattle.commit_laws.proofs.drive.Kinds.{numbered}
 use Rattle.commit_laws.proofs.drive.Ruled.{is_order}
 use Rattle.commit_laws.proofs.gathering.Alone.{plain}
-use Rattle.commit_laws.proofs.hosts.RowsTurn.{IsBetween, RowsTurn, as_was, enter_now, entered, rest_now, rows_turn, take_now}
-use Rattle.commit_laws.proofs.orders.UnorderedHosts.{AreNoReports, IsNoReport, beside_no_reports, coordinator_no_reports, enters_no_reports, epochs_no_reports, is_of_reports}
+use Rattle.commit_laws.proofs.hosts.RowsTurn.{IsBetween, RowsTurn, as_was, enter_now, entered, rest_now, rows_turn}
+use Rattle.commit_laws.proofs.hosts.RowsTurn.{take_now}
+use Rattle.commit_laws.proofs.orders.UnorderedHosts.{AreNoReports, IsNoReport, beside_no_reports}
+use Rattle.commit_laws.proofs.orders.UnorderedHosts.{coordinator_no_reports, enters_no_reports, epochs_no_reports}
+use Rattle.commit_laws.proofs.orders.UnorderedHosts.{is_of_reports}
 use Rattle.commit_laws.proofs.orders.UnorderedRows.{TellsNothing, tells_nothing}
 
 module _ (start : Start) (number : ℕ) where

@@ -22,7 +22,8 @@ use Rattle.request_laws.specs.Blocks.{coordinator_after}
 use Rattle.request_laws.specs.Drives.{asked_in}
 use Rattle.request_laws.specs.Tokens.{is_token}
 use Rattle.request_laws.specs.Ways.{entry_of}
-use Rattle.request_laws.proofs.routes.Hosts.{IsBeside, PartHost, beside_sends, coordinates, is_beside, keeps_rows, part_host}
+use Rattle.request_laws.proofs.routes.Hosts.{IsBeside, PartHost, beside_sends, coordinates, is_beside, keeps_rows}
+use Rattle.request_laws.proofs.routes.Hosts.{part_host}
 use Rattle.request_laws.proofs.tokens.CoordinatorEvents.{foreign_none}
 use Rattle.request_laws.proofs.tokens.OtherBlocks.{aside_none}
 use Rattle.request_laws.proofs.tokens.HostsApart.{ldm_no_tc}

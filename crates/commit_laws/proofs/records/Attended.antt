@@ -25,7 +25,8 @@ use Rattle.lqh_views.specs.Replica.{is_stale, replica_row}
 use Rattle.lqh_views.specs.State.{ReplicaState}
 use Rattle.node_views.specs.declared.host.Host as node
 use Rattle.key_laws.specs.PrimaryEvents.{NoneOf}
-use Rattle.key_laws.specs.Replica.{Event, Replica, aborts, asks, asks_for, at_key, commits, completes, event_at, expires, expires_if, if_on, is_refused, rests, serves, serves_if}
+use Rattle.key_laws.specs.Replica.{Event, Replica, aborts, asks, asks_for, at_key, commits, completes, event_at}
+use Rattle.key_laws.specs.Replica.{expires, expires_if, if_on, is_refused, rests, serves, serves_if}
 use Rattle.host_laws.specs.ReplicaLaws.{IsWell}
 use Rattle.world_core.specs.Start.{Start, made}
 use Rattle.world_core.specs.Steps.{Addressed, HostStep}

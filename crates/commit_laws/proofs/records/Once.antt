@@ -24,7 +24,8 @@ use Rattle.lqh_views.specs.Replica.{installed, replica_row}
 use Rattle.lqh_views.specs.State.{ReplicaState}
 use Rattle.node_core.specs.Fresh.{own_rows, with_rows}
 use Rattle.key_laws.specs.Records.{AreOnce, as_committed, found, if_committed, seen_by, unless_committed, without_epoch}
-use Rattle.key_laws.specs.Replica.{Cell, Event, Replica, aborts, ages, asked_by, asks, at_key, commits, completes, expires, is_let_in, key_after, operated, rests, served_by, serves, storing, worked}
+use Rattle.key_laws.specs.Replica.{Cell, Event, Replica, aborts, ages, asked_by, asks, at_key, commits, completes}
+use Rattle.key_laws.specs.Replica.{expires, is_let_in, key_after, operated, rests, served_by, serves, storing, worked}
 use Rattle.key_laws.proofs.RecordLemmas.{committed_keeps, if_keeps, once-edited, once-stored, unless_keeps}
 use Rattle.host_laws.specs.ReplicaLaws.{IsWell}
 use Rattle.world_core.specs.Start.{Start, made}

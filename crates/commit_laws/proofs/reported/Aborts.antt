@@ -62,7 +62,8 @@ use Rattle.commit_laws.proofs.fates.Moves.{fates_move}
 use Rattle.commit_laws.proofs.views.AtEvents.{any_of}
 use Rattle.commit_laws.proofs.forth.KnownComes.{known_commit}
 use Rattle.commit_laws.proofs.led.Entries.{any_counts}
-use Rattle.commit_laws.proofs.reported.Client.{AbortReason, HasAbortReason, by_down, by_failing, by_rollback, by_view, client_is_good, noted_opened, noted_taken}
+use Rattle.commit_laws.proofs.reported.Client.{AbortReason, HasAbortReason, by_down, by_failing, by_rollback, by_view}
+use Rattle.commit_laws.proofs.reported.Client.{client_is_good, noted_opened, noted_taken}
 use Rattle.commit_laws.proofs.reported.Rulings.{TellsAll}
 use Rattle.commit_laws.proofs.reported.Takeovers.{TakeoverTells, completes_next, tells_next}
 use Rattle.commit_laws.proofs.reported.Told.{ClientStands, client_next}

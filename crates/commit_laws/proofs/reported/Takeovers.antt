@@ -1,5 +1,6 @@
 -- A takeover that is complete in a view has told the client's side of each commit of which only members know.
-use Rattle.std.proofs.Common.{◌≡◌, ◌≢◌, ◌⊎◌, ◌∙◌, ◌≤◌, ◌<◌, ◌==◌, ◌+◌, ◌++◌, ℕ, Bool, true, false, append-nil, nat_lt, length, List, [], ◌∷◌, inl, inr, refl, sym, ap, subst, arith}
+use Rattle.std.proofs.Common.{◌≡◌, ◌≢◌, ◌⊎◌, ◌∙◌, ◌≤◌, ◌<◌, ◌==◌, ◌+◌, ◌++◌, ℕ, Bool, true, false, append-nil, nat_lt}
+use Rattle.std.proofs.Common.{length, List, [], ◌∷◌, inl, inr, refl, sym, ap, subst, arith}
 use Rattle.std.proofs.lemmas.Bool.{eqb-true, true≢false}
 use Rattle.std.proofs.lemmas.Bool.Decides.{nat_tests}
 use Rattle.std.specs.Prelude.{if◌then◌else◌, Option, None, Some, slice_get}
@@ -68,7 +69,8 @@ use Rattle.request_laws.proofs.routes.PartSteps.{takeover_is}
 use Rattle.commit_laws.specs.Fates.{Fate, aborts, commits, fate, fate_if, is_led_by_full, undetermined}
 use Rattle.commit_laws.specs.Gathering.{EndsGathering}
 use Rattle.commit_laws.specs.Going.{is_forth, is_lost}
-use Rattle.commit_laws.specs.Reported.{AreAttended, CompletesLast, GatheringsList, IsListed, IsSaid, aborted, known, told}
+use Rattle.commit_laws.specs.Reported.{AreAttended, CompletesLast, GatheringsList, IsListed, IsSaid, aborted, known}
+use Rattle.commit_laws.specs.Reported.{told}
 use Rattle.commit_laws.specs.Takeovers.{IsOrphan, takeover_at}
 use Rattle.commit_laws.specs.Together.{FatesMove, Follows}
 use Rattle.commit_laws.specs.Traces.{has_trace, is_known}
@@ -79,7 +81,8 @@ use Rattle.commit_laws.proofs.fates.Forth.{fate_decided}
 use Rattle.commit_laws.proofs.views.AtEvents.{some_of}
 use Rattle.commit_laws.proofs.hosts.Goes.{HostGoes, halts, host_goes, leaves, takes}
 use Rattle.commit_laws.proofs.reported.Rulings.{AreLast, IsLast, SaidBy, TellsAll, goes_on_telling, tells_more}
-use Rattle.commit_laws.proofs.reported.Sent.{CanTell, IsNew, IsPutAt, can_before, comes_now, goes_on_link, new_sent, put_at, was_there}
+use Rattle.commit_laws.proofs.reported.Sent.{CanTell, IsNew, IsPutAt, can_before, comes_now, goes_on_link, new_sent}
+use Rattle.commit_laws.proofs.reported.Sent.{put_at, was_there}
 use Rattle.commit_laws.proofs.fates.SpokenHost.{StandsStill}
 use Rattle.commit_laws.proofs.fates.SpokenTakeover.{IsAbortingAt}
 use Rattle.commit_laws.proofs.takeover.GoesOn.{stands_on}

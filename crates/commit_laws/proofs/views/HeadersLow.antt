@@ -1,6 +1,7 @@
 -- No host takes a signal of a greater view than the current one, but for what isn't well formed and so changes nothing:
 -- so a host without a membership comes to no greater view than that.
-use Rattle.std.proofs.Common.{◌≡◌, ◌≢◌, ◌≤◌, ◌<◌, ◌⊎◌, ◌||◌, ◌∙◌, ℕ, zero, suc, Bool, true, false, List, [], ◌∷◌, refl, sym, ap, subst, inl, inr, arith}
+use Rattle.std.proofs.Common.{◌≡◌, ◌≢◌, ◌≤◌, ◌<◌, ◌⊎◌, ◌||◌, ◌∙◌, ℕ, zero, suc, Bool, true, false, List, [], ◌∷◌, refl}
+use Rattle.std.proofs.Common.{sym, ap, subst, inl, inr, arith}
 use Rattle.std.proofs.lemmas.Bool.{true≢false}
 use Rattle.std.specs.Prelude.{not, None}
 use Rattle.run_theory.specs.Links.{IsGiven, sent}
@@ -18,7 +19,8 @@ use Rattle.node_views.specs.WellFormed.{is_well_formed}
 use Rattle.node_views.proofs.LawLemmas.{malformed_signals_change_nothing}
 use Rattle.world_core.specs.Start.{Start}
 use Rattle.world_core.specs.Steps.{Addressed, HostStep}
-use Rattle.world_views.specs.Machine.{IsOwn, after, closing_view, comes_rightly, step_by, step_if, stops_by, told, machine}
+use Rattle.world_views.specs.Machine.{IsOwn, after, closing_view, comes_rightly, step_by, step_if, stops_by, told}
+use Rattle.world_views.specs.Machine.{machine}
 use Rattle.world_views.specs.Sending.{is_asked}
 use Rattle.view_laws.specs.Order.{sound_machine}
 use Rattle.view_laws.specs.Runs.{view_after}

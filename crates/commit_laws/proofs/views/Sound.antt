@@ -1,5 +1,6 @@
 -- At each moment memberships have taken what is true, and each host stands in a view that was chosen by then.
-use Rattle.std.proofs.Common.{◌≡◌, ◌≢◌, ◌⊎◌, ◌||◌, ◌++◌, ◌∙◌, ℕ, Bool, true, false, List, [], ◌∷◌, refl, sym, ap, subst, inl, inr}
+use Rattle.std.proofs.Common.{◌≡◌, ◌≢◌, ◌⊎◌, ◌||◌, ◌++◌, ◌∙◌, ℕ, Bool, true, false, List, [], ◌∷◌, refl, sym, ap, subst}
+use Rattle.std.proofs.Common.{inl, inr}
 use Rattle.std.proofs.lemmas.Bool.{true≢false}
 use Rattle.std.specs.Prelude.{not}
 use Rattle.run_theory.specs.Links.{IsGiven, sent}
@@ -16,9 +17,11 @@ use Rattle.node_views.specs.declared.host.Host as node
 use Rattle.node_views.specs.WellFormed.{is_well_formed}
 use Rattle.world_core.specs.Start.{Start}
 use Rattle.world_core.specs.Steps.{Addressed, HostStep}
-use Rattle.world_views.specs.Machine.{IsOwn, after, closing_view, comes_rightly, machine, signals_of, step_by, stops_by, told}
+use Rattle.world_views.specs.Machine.{IsOwn, after, closing_view, comes_rightly, machine, signals_of, step_by, stops_by}
+use Rattle.world_views.specs.Machine.{told}
 use Rattle.world_views.specs.Sending.{is_asked}
-use Rattle.view_laws.specs.HostEvents.{events_at, events_by, events_of, is_arbiter, is_membership, sound_events, taken_in}
+use Rattle.view_laws.specs.HostEvents.{events_at, events_by, events_of, is_arbiter, is_membership, sound_events}
+use Rattle.view_laws.specs.HostEvents.{taken_in}
 use Rattle.view_laws.specs.Order.{is_sound, sound_machine}
 use Rattle.view_laws.specs.Runs.{events_in, view_after}
 use Rattle.view_laws.specs.Votes.{main_of}

@@ -1,6 +1,7 @@
 -- Members have records and markers of transactions alone whose coordinators are of nodes of the cluster, since nobody
 -- asks for others.
-use Rattle.std.proofs.Common.{◌≡◌, ◌⊎◌, ◌∙◌, ℕ, Bool, true, false, filter, map, List, [], ◌∷◌, inl, inr, refl, sym, ap, subst}
+use Rattle.std.proofs.Common.{◌≡◌, ◌⊎◌, ◌∙◌, ℕ, Bool, true, false, filter, map, List, [], ◌∷◌, inl, inr, refl, sym, ap}
+use Rattle.std.proofs.Common.{subst}
 use Rattle.std.proofs.lemmas.Bool.{and_from, le-leb, true≢false}
 use Rattle.std.specs.Prelude.{is_some, nat_le, Option, None, Some}
 use Rattle.std.specs.List.{list_any}
@@ -30,7 +31,8 @@ use Rattle.outcome_laws.specs.Counts.{coordinator_member}
 use Rattle.request_laws.specs.Blocks.{no_replica, rows_in}
 use Rattle.request_laws.specs.Routed.{WasAskedIn}
 use Rattle.commit_laws.specs.Traces.{has_marker_at, record_at}
-use Rattle.commit_laws.proofs.records.KeyGoes.{IsMarkedNow, KeyGoes, RecordGoes, is_aborted, is_committed, is_completed, record_stays}
+use Rattle.commit_laws.proofs.records.KeyGoes.{IsMarkedNow, KeyGoes, RecordGoes, is_aborted, is_committed, is_completed}
+use Rattle.commit_laws.proofs.records.KeyGoes.{record_stays}
 use Rattle.commit_laws.proofs.records.Moves.{now_by}
 use Rattle.commit_laws.proofs.fates.RowsUnasked.{unasked_goes}
 
