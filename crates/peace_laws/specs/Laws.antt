@@ -1,5 +1,5 @@
 -- Peaceful logs: a cluster that closes epochs, and may fail but doesn't, serves as the plain machine does, and closes.
-use Rattle.std.specs.Prelude.{◌≡◌, ◌≤◌, ℕ, Bool, true, false, List, [], ◌∷◌, ◌++◌}
+use Rattle.std.specs.Prelude.{◌<◌, ◌≡◌, ◌≤◌, ℕ, Bool, true, false, List, [], ◌∷◌, ◌++◌}
 use Rattle.std.specs.List.{list_any}
 use Rattle.frag_map.specs.Shape.{IsShape}
 use Rattle.node_core.specs.Replies.{replies_of}
