@@ -60,5 +60,6 @@ pub record WasClosed (start : Start) (logs : ℕ → List HostStep) (epoch : ℕ
 -- a durable epoch was closed before, in every closed cut
 abbrev pub DurableWereClosed : Type 0
 DurableWereClosed =
-    (start : Start) (logs : ℕ → List HostStep) → start.start_epoch < start.epoch → AreOfCluster start logs → (h epoch : ℕ)
+    (start : Start) (logs : ℕ → List HostStep) → start.start_epoch < start.epoch → AreOfCluster start logs
+    → (h epoch : ℕ)
     → h < hosts start → IsMarked (Durable epoch) (logs h) → WasClosed start logs epoch

@@ -270,7 +270,8 @@ module _ (start : Start) (all : ℕ → List HostStep) where
               (others_decide_none e.host (after start e.host (old e.host)) e.step.taken
               (never_tc start e.host (old e.host) none)) down
 
-  decisions_down : (es : List HostStep) → start.start_epoch < start.epoch → IsMoment start all es → AreDown (decisions start es)
+  decisions_down : (es : List HostStep) → start.start_epoch < start.epoch → IsMoment start all es
+      → AreDown (decisions start es)
   decisions_down [] some moment = tt
   decisions_down (e ∷ es) some moment =
       let less = moment_less start all e es moment in

@@ -34,7 +34,8 @@ first_is : (member : Member) (members : List Member) → is_first_by member (sli
 first_is member [] is = absurd cc
 first_is member (oldest ∷ members) is = same_member-is member oldest is
 
-module _ (start : Start) (all : ℕ → List HostStep) (below : start.start_epoch < start.epoch) (moment : IsMoment start all []) where
+module _ (start : Start) (all : ℕ → List HostStep) (below : start.start_epoch < start.epoch)
+    (moment : IsMoment start all []) where
   abbrev logs : ℕ → List HostStep
   logs = logs_of start []
 

@@ -31,7 +31,8 @@ pub record IsSettling (view : Option View) (effects : Effects) : Type 0 where
   pub marks : effects.marks ≡ mark_of view
   pub few : length effects.sends ≤ 1
 
-settling_all : (k : Known) (p : Proposal) (whole : Bool) → IsSettling (view_if p whole) (confirmed_all k p whole).effects
+settling_all : (k : Known) (p : Proposal) (whole : Bool)
+    → IsSettling (view_if p whole) (confirmed_all k p whole).effects
 settling_all k p true = record { marks = refl; few = omega arith }
 settling_all k p false = record { marks = refl; few = omega arith }
 
@@ -55,7 +56,8 @@ settling_promise : (k : Known) (number : ℕ) (member : Member)
 unfolding promise_settles confirm_row
 settling_promise k number member = settling_with k k.outstanding number member
 
-granting_if : (k : Known) (p : Proposal) (granted : Bool) → IsSettling (view_if p granted) (granted_if k p granted).effects
+granting_if : (k : Known) (p : Proposal) (granted : Bool)
+    → IsSettling (view_if p granted) (granted_if k p granted).effects
 granting_if k p true = record { marks = refl; few = omega arith }
 granting_if k p false = record { marks = refl; few = omega arith }
 

@@ -254,7 +254,8 @@ module _ {A : Type 0} (pages : List Slots) (len : ℕ) (free : BinaryHeap (Rever
     pub read-past : (at : ℕ) → len ≤ at → get_or (places_in pages len) at None ≡ None
     read-past at past = get_or-eq_default (places_in pages len) None (omega (arith, past, places-length pages len))
 
-    pub taken_there : (at : ℕ) → is_some (get_or (places_in pages len) at None) ≡ true → IsTaken (places_in pages len) at
+    pub taken_there : (at : ℕ) → is_some (get_or (places_in pages len) at None) ≡ true
+        → IsTaken (places_in pages len) at
     taken_there at there = is_taken (places_in pages len) at there
 
     pub taken_inside : (at : ℕ) → is_some (get_or (places_in pages len) at None) ≡ true → at < len
@@ -272,7 +273,8 @@ module _ {A : Type 0} (pages : List Slots) (len : ℕ) (free : BinaryHeap (Rever
     module _ (now : List Slots) (after : BinaryHeap (Reverse ℕ) A) (at : ℕ) (slot : Option Slot)
         (page : at / PAGE_SLOTS < length pages) (within : at % PAGE_SLOTS < length (get_or pages (at / PAGE_SLOTS) []))
         (written_is : now ≡ written pages at slot) where
-      pub are_written : (n : ℕ) → n ≤ PAGE_SLOTS * length pages → HoldsFree (places_in now n) after → ArePages now n after
+      pub are_written : (n : ℕ) → n ≤ PAGE_SLOTS * length pages → HoldsFree (places_in now n) after
+          → ArePages now n after
       are_written n most holds =
           let P : ℕ → Type 0 = λ k. n ≤ PAGE_SLOTS * k in
           record {
@@ -364,13 +366,15 @@ module _ {A : Type 0} (pages : List Slots) (len : ℕ) (free : BinaryHeap (Rever
             is.within (subst P (sym pop_places) (popped_holds (places_in pages len) free after is.holds x pop slot))
 
     -- or one behind them
-    module _ (now : List Slots) (after : BinaryHeap (Reverse ℕ) A) (slot : Slot) (room : len < PAGE_SLOTS * length pages)
+    module _ (now : List Slots) (after : BinaryHeap (Reverse ℕ) A) (slot : Slot)
+        (room : len < PAGE_SLOTS * length pages)
         (written_is : now ≡ written pages len (Some slot)) (none : heap_len free ≡ 0) where
       pub more_places : places_in now (len + 1) ≡ placed slot (places_in pages len)
       more_places =
           places_more now after len (Some slot) (page_below pages len room) (slot_below pages len is.whole room)
           written_is refl
-          ∙ sym (placed-behind slot (places_in pages len) len (none_first none) (omega (arith, places-length pages len)))
+          ∙ sym (placed-behind slot (places_in pages len) len (none_first none)
+          (omega (arith, places-length pages len)))
 
       pub more_are : HeapUnchanged free after → heap_capacity after ≡ heap_capacity free → len < heap_capacity free
           → ArePages now (len + 1) after

@@ -4,7 +4,8 @@ use Rattle.sig_core.specs.declared.member.Member.{Member}
 use Rattle.sig_core.specs.declared.view.Shape.{Shape}
 use Rattle.frag_map.specs.Layout.{members}
 
--- the shape of the cluster, the first epoch of the life, the epoch that it starts from, which is below the first one, and
+-- the shape of the cluster, the first epoch of the life, the epoch that it starts from, which is below the first one,
+-- and
 -- the rows that it begins with, which are of the epoch that it starts from
 pub record Start : Type 0 where
   pub shape : Shape

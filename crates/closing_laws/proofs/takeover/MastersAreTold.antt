@@ -96,7 +96,8 @@ module _ (m : Machine HostStep Addressed) where
       by true b is at = absurd (true≢false is)
 
 module _ (own : EndsAreOwn) (start : Start) (all : ℕ → List HostStep) (e : HostStep) (es : List HostStep)
-    (some : start.start_epoch < start.epoch) (moment : IsMoment start all (e ∷ es)) (over : AreOver start (logs_of start es))
+    (some : start.start_epoch < start.epoch) (moment : IsMoment start all (e ∷ es))
+    (over : AreOver start (logs_of start es))
   where
     abbrev old : ℕ → List HostStep
     old = logs_of start es
@@ -228,7 +229,8 @@ module _ (own : EndsAreOwn) (start : Start) (all : ℕ → List HostStep) (e : H
               took at taken_here (in_view was x.view) is (λ none. absurd (owing was x.view none))
 
 -- so it is at each moment
-pub all_over : EndsAreOwn → (start : Start) (all : ℕ → List HostStep) (es : List HostStep) → start.start_epoch < start.epoch
+pub all_over : EndsAreOwn → (start : Start) (all : ℕ → List HostStep) (es : List HostStep)
+    → start.start_epoch < start.epoch
     → IsMoment start all es → AreOver start (logs_of start es)
 all_over own start all [] some moment member there none =
     inl (ap (λ (s : node.Host).
