@@ -11,7 +11,7 @@ use frag_store::Store;
 use gcp_master::GcpMaster;
 use lqh_block::{CountJournal, Lqh};
 use lqh_views::Replica;
-use node_views::Host;
+use node_views::HostBody;
 use qmgr_block::Qmgr;
 use sig_core::{Actor, ApiReply, BlockId, Held, HostId, NoMemory, Outs, Part, Signal, View};
 use std::alloc::Global;
@@ -36,7 +36,7 @@ pub enum Block {
     GcpMaster(GcpMaster),
     Lqh(Lqh<NodeRows, CountJournal>),
     Replica(Replica<NodeRows, CountJournal>),
-    Host(Host),
+    Host(HostBody),
 }
 
 /// The block of a crate, by the name of the crate.
@@ -116,15 +116,15 @@ fn replica(
     Ok(Replica::new(alloc, node, layout, rows, journal, setting.start)?)
 }
 
-fn host(alloc: Global, setting: &Setting, layout: Layout) -> Result<Host, Fault> {
+fn host(alloc: Global, setting: &Setting, layout: Layout) -> Result<HostBody, Fault> {
     let (member, epoch, start) = (setting.member, setting.epoch, setting.start);
     match setting.part {
-        None => Ok(Host::shell(alloc, &layout)?),
-        Some(Part::Main) => Ok(Host::main(alloc, member, &layout, epoch)?),
-        Some(Part::Tc) => Ok(Host::tc(alloc, member, &layout, epoch, start)?),
+        None => Ok(HostBody::shell(alloc, &layout)?),
+        Some(Part::Main) => Ok(HostBody::main(alloc, member, &layout, epoch)?),
+        Some(Part::Tc) => Ok(HostBody::tc(alloc, member, &layout, epoch, start)?),
         Some(Part::Ldm) => {
             let rows = rows(alloc, setting)?;
-            Ok(Host::ldm(alloc, member, &layout, rows, start)?)
+            Ok(HostBody::ldm(alloc, member, &layout, rows, start)?)
         }
     }
 }
@@ -245,7 +245,7 @@ fn heard_by_client(alloc: Global, client: &mut Client, signal: &Signal) -> Resul
     Ok(outs)
 }
 
-fn heard_by_host(alloc: Global, host: &mut Host, signal: &Signal) -> Result<Outs, NoMemory> {
+fn heard_by_host(alloc: Global, host: &mut HostBody, signal: &Signal) -> Result<Outs, NoMemory> {
     let mut outs = Outs::new(alloc)?;
     host.step(alloc, signal, &mut outs)?;
     Ok(outs)

@@ -12,7 +12,7 @@ use Rattle.gcp_master.specs.declared.phase.Phase.TheVariants.{Unordered}
 use Rattle.gcp_master.specs.Master.{first_phase, fresh_master}
 use Rattle.gcp_master.specs.Resume.{is_first_by, is_president}
 use Rattle.gcp_master.specs.State.{MasterState}
-use Rattle.node_views.specs.declared.host.Host as hosts
+use Rattle.node_views.specs.declared.host_body.HostBody as hosts
 use Rattle.world_core.specs.Hosts as world
 use Rattle.world_core.specs.Start.{Start, made}
 use Rattle.world_core.specs.Steps.{HostStep}
@@ -45,11 +45,11 @@ module _ (start : Start) (all : ℕ → List HostStep) (below : start.start_epoc
   module _ (member : Member) (there : IsIn member (made start)) where
     epochs_begin : epochs_of start logs member
         ≡ fresh_dih member.node first.number start.epoch start.start_epoch
-    epochs_begin = ap (λ (s : hosts.Host). dih_in (fresh_dih 0 0 0 0) s.parts) (tc_started start member there)
+    epochs_begin = ap (λ (s : hosts.HostBody). dih_in (fresh_dih 0 0 0 0) s.parts) (tc_started start member there)
 
     master_begins : master_of start logs member ≡ fresh_master member first start.epoch
     master_begins =
-        ap (λ (s : hosts.Host). master_in (fresh_master member first 0) s.parts) (main_started start member there)
+        ap (λ (s : hosts.HostBody). master_in (fresh_master member first 0) s.parts) (main_started start member there)
 
     sound_begun : IsSound (fresh_dih member.node first.number start.epoch start.start_epoch)
     sound_begun = record {

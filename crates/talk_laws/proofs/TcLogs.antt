@@ -26,7 +26,7 @@ use Rattle.sig_core.specs.declared.view.Shape.{Shape}
 use Rattle.dih_node.specs.Orders as dih
 use Rattle.dih_node.specs.Dih.{fresh_dih}
 use Rattle.takeover_block.specs.State.{resting}
-use Rattle.node_views.specs.declared.host.Host as node
+use Rattle.node_views.specs.declared.host_body.HostBody as node
 use Rattle.node_views.specs.declared.parts.Parts.TheVariants as part
 use Rattle.node_views.specs.declared.tc_part.TcPart.{TcPart}
 use Rattle.node_views.specs.Parts.{tc_entered, tc_row}
@@ -260,9 +260,9 @@ module _ (tx : TxId) (me : Member) where
     at_first : TalkedLog []
     at_first = record {
       own = first_part;
-      runs = ap (λ (s : node.Host). s.parts) (tc_started start me there);
+      runs = ap (λ (s : node.HostBody). s.parts) (tc_started start me there);
       is = record {
-        of = subst (IsTcOf me) (ap (λ (s : node.Host). s.parts) (tc_started start me there)) (tc_begins start me there);
+        of = subst (IsTcOf me) (ap (λ (s : node.HostBody). s.parts) (tc_started start me there)) (tc_begins start me there);
         talked = record {
           unborn = λ born. refl;
           fits = tt;

@@ -15,7 +15,7 @@ use Rattle.sig_core.specs.declared.signal.Signal.{Signal}
 use Rattle.sig_core.specs.declared.view.View.{View}
 use Rattle.sig_core.specs.Step.{Effects, Step}
 use Rattle.api_views.specs.Members.{greater_view}
-use Rattle.node_views.specs.declared.host.Host.{Host}
+use Rattle.node_views.specs.declared.host_body.HostBody.{HostBody}
 use Rattle.node_views.specs.Row.{is_cut, is_one_of}
 use Rattle.world_core.proofs.HostNumbers.{members_length}
 use Rattle.world_core.specs.Hosts.{hosts}
@@ -82,11 +82,11 @@ module _ (start : Start) (h j lost : ℕ) (log : List HostStep) (e : HostStep) (
         past = left_past;
       }
 
-module _ (start : Start) (given : List ApiReply) (w : Whole) (lost : ℕ) (x : Addressed) (t : Step Host)
+module _ (start : Start) (given : List ApiReply) (w : Whole) (lost : ℕ) (x : Addressed) (t : Step HostBody)
     (ready : IsReady start given w x t)
     (stops : stops_by t.effects.marks ≡ true) where
   -- the step that the machine makes
-  abbrev the_step : Step Host
+  abbrev the_step : Step HostBody
   the_step = step_by x.to (after start x.to (logs_at w.logs x.to)) x.signal
 
   step_silent : the_step.effects.sends ≡ []

@@ -11,7 +11,7 @@ use Rattle.run_theory.specs.Lists.{Each}
 use Rattle.sig_core.specs.declared.reply.ApiReply.{ApiReply}
 use Rattle.sig_core.specs.declared.signal.Signal.{Signal}
 use Rattle.sig_core.specs.Step.{Step}
-use Rattle.node_views.specs.declared.host.Host.{Host}
+use Rattle.node_views.specs.declared.host_body.HostBody.{HostBody}
 use Rattle.node_views.specs.Row.{is_cut}
 use Rattle.world_core.specs.Hosts.{hosts}
 use Rattle.world_core.specs.Right.{arriving}
@@ -32,7 +32,7 @@ use Rattle.world_views.proofs.SentFacts.{IsBetween, held_between}
 use Rattle.world_views.proofs.TakeFacts.{IsTakenFrom}
 
 -- a host makes the step of its row
-pub row_step : (h : ℕ) (s body : Host) (x : Signal) → body ≡ s → IsStepOf h (step_by h s x) (step_by h body x)
+pub row_step : (h : ℕ) (s body : HostBody) (x : Signal) → body ≡ s → IsStepOf h (step_by h s x) (step_by h body x)
 row_step h s body x same =
     subst (λ b. IsStepOf h (step_by h s x) (step_by h b x)) (sym same)
     (record { effects = refl; cut = refl; view = refl; same = λ runs. refl; replies = refl })
@@ -90,7 +90,7 @@ module _ (start : Start) (given : List ApiReply) (w : Whole) (right : IsRight st
       runs = sym (right.stopped at.to at.to_low) ∙ parts.0
 
       uncut : is_cut (after start at.to log).standing at.signal.from ≡ false
-      uncut = subst (λ (s : Host). is_cut s.standing at.signal.from ≡ false) (right.bodies at.to at.to_low runs) parts.1
+      uncut = subst (λ (s : HostBody). is_cut s.standing at.signal.from ≡ false) (right.bodies at.to at.to_low runs) parts.1
 
       takes : has_cut start at.to log at.from ≡ false
       takes = subst (λ n. has_cut start at.to log n ≡ false) sender_is uncut
@@ -101,7 +101,7 @@ module _ (start : Start) (given : List ApiReply) (w : Whole) (right : IsRight st
     where
       uncut : is_cut (body_at w.bodies at.to).standing at.signal.from ≡ false
       uncut =
-          subst (λ (s : Host). is_cut s.standing at.signal.from ≡ false) (sym (right.bodies at.to at.to_low takes.runs))
+          subst (λ (s : HostBody). is_cut s.standing at.signal.from ≡ false) (sym (right.bodies at.to at.to_low takes.runs))
           (subst (λ n. has_cut start at.to log n ≡ false) (sym sender_is) takes.takes)
 
   pub discard_right : is_discarded (left_of w t) arrived ≡ true → IsRight start given (left_of w t)
@@ -152,7 +152,7 @@ module _ (start : Start) (given : List ApiReply) (w : Whole) (right : IsRight st
         (record { newer = all; is = refl })
         (held_given start at.from at.to (logs_at w.logs at.from) (all ++ (arrived ∷ before)) held)
 
-    module _ (step : Step Host) where
+    module _ (step : Step HostBody) where
       abbrev next : HostStep
       next = host_step (left_of w t) arrived step
 

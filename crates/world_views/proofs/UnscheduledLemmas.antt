@@ -13,7 +13,7 @@ use Rattle.sig_core.specs.declared.signal.Body.TheVariants.{Host}
 use Rattle.sig_core.specs.declared.signal.host.HostSignal.TheVariants.{Closed, Continue}
 use Rattle.sig_core.specs.declared.signal.host.Work.TheVariants.{Request}
 use Rattle.sig_core.specs.Step.{Step}
-use Rattle.node_views.specs.declared.host.Host as node
+use Rattle.node_views.specs.declared.host_body.HostBody as node
 use Rattle.node_views.specs.Row.{stopping}
 use Rattle.world_core.specs.Hosts.{hosts}
 use Rattle.world_core.specs.Start.{Start}
@@ -35,7 +35,7 @@ use Rattle.world_views.proofs.TakeFacts.{IsTakenFrom}
 use Rattle.world_views.proofs.TakeRight.{fact, gives, on_open}
 
 -- A host makes a step.
-module _ (start : Start) (given : List ApiReply) (w : Whole) (lost : ℕ) (x : Addressed) (t : Step node.Host)
+module _ (start : Start) (given : List ApiReply) (w : Whole) (lost : ℕ) (x : Addressed) (t : Step node.HostBody)
     (ready : IsReady start given w x t) where
   abbrev new : ℕ → List HostStep
   new = logs_at (entered w lost x t).logs
@@ -105,7 +105,7 @@ module _ (start : Start) (given : List ApiReply) (w : Whole) (lost : ℕ) (x : A
 pub failed_unscheduled : (start : Start) (given : List ApiReply) (w : Whole) → IsRight start given w → (h : ℕ)
     → h < hosts start → has_stopped (logs_at w.logs h) ≡ false → 1 ≤ h → (cause : StopCause) → IsOwnCause cause
     → IsWant start (logs_at w.logs) h (logs_at w.logs h) cause
-    → (left : node.Host) → left.standing.cut ≡ (body_at w.bodies h).standing.cut
+    → (left : node.HostBody) → left.standing.cut ≡ (body_at w.bodies h).standing.cut
     → left.standing.view ≡ (body_at w.bodies h).standing.view → AreUnscheduled start (logs_at w.logs)
     → AreUnscheduled start (logs_at (halted (with_body w h left) h (body_at w.bodies h).standing.view cause 0).logs)
 failed_unscheduled start given w right h low runs some cause own wanted left cut view =

@@ -9,7 +9,7 @@ use Rattle.sig_core.specs.declared.no_memory.NoMemory.{NoMemory}
 use Rattle.sig_core.specs.declared.reply.ApiReply.{ApiReply}
 use Rattle.sig_core.specs.declared.request.ApiReq.{ApiReq}
 use Rattle.sig_core.specs.declared.view.View.{View}
-use Rattle.node_views.specs.declared.host.Host.{Host}
+use Rattle.node_views.specs.declared.host_body.HostBody.{HostBody}
 use Rattle.world_core.specs.Hosts.{hosts}
 use Rattle.world_core.specs.Labels.{AreLabelled}
 use Rattle.world_core.specs.Right.{arriving}
@@ -76,12 +76,12 @@ not_stopped true runs is e = absurd (true≢false (sym e ∙ is))
 not_stopped false runs is e = refl
 
 -- what the shell asks for
-pub wishes : (w : Whole) (view : View) (request : ApiReq) (s : Host) → view ≡ s.standing.view → s ≡ body_at w.bodies 0
+pub wishes : (w : Whole) (view : View) (request : ApiReq) (s : HostBody) → view ≡ s.standing.view → s ≡ body_at w.bodies 0
     → arriving 0 (own_signal w.made 0 (slice_index_or w.stamps 0 0) view (request_body request))
     ≡ asking w 0 (request_body request)
 wishes w view request s seen is =
     ap (λ v. arriving 0 (own_signal w.made 0 (slice_index_or w.stamps 0 0) v (request_body request)))
-    (seen ∙ ap (λ (b : Host). b.standing.view) is)
+    (seen ∙ ap (λ (b : HostBody). b.standing.view) is)
 
 -- the shell's host doesn't fail
 shell_handles : (w t : Whole) (x : Addressed) → x.to ≡ 0 → HasHandled w x t → t ≡ moved w 0 x

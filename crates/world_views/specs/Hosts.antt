@@ -14,7 +14,7 @@ use Rattle.sig_core.specs.Place.{client}
 use Rattle.sig_core.specs.Rows.{no_rows}
 use Rattle.frag_map.specs.Layout.{first_layout}
 use Rattle.node_core.specs.Fresh.{own_rows, with_rows}
-use Rattle.node_views.specs.declared.host.Host as node
+use Rattle.node_views.specs.declared.host_body.HostBody as node
 use Rattle.node_views.specs.Fresh.{fresh_ldm, fresh_main, fresh_shell, fresh_tc}
 use Rattle.world_core.specs.Hosts.{host_by, member_at, member_of, part_by}
 use Rattle.world_core.specs.Start.{Start, made}
@@ -50,7 +50,7 @@ front_of made zero = client
 front_of made (suc h) = record { node = (member_at made (suc h)).node; block = front_in (part_by (h % 3)) }
 
 -- a part of a member as it begins
-abbrev pub part_started : Start → Part → Member → node.Host
+abbrev pub part_started : Start → Part → Member → node.HostBody
 part_started start Main member = fresh_main member (first_layout start.shape) start.epoch
 part_started start Tc member = fresh_tc member (first_layout start.shape) start.epoch start.start_epoch
 part_started start Ldm member =
@@ -59,6 +59,6 @@ part_started start Ldm member =
     start.start_epoch
 
 -- a host as it begins
-unfoldable pub started : Start → ℕ → node.Host
+unfoldable pub started : Start → ℕ → node.HostBody
 started start zero = fresh_shell (first_layout start.shape)
 started start (suc h) = part_started start (part_by (h % 3)) (member_at (made start) (suc h))

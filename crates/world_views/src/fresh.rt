@@ -12,7 +12,7 @@ ghost use Rattle.world_views.specs.Hosts.{part_started, started};
 use crate::hosts::{Made, PARTS, part_by};
 use frag_map::{Layout, holds};
 use frag_store::Store;
-use node_views::Host;
+use node_views::HostBody;
 use sig_core::{Key, Member, NoMemory, Part, Rows, Shape, Value};
 use std::alloc::Global;
 
@@ -29,7 +29,7 @@ pub fn fresh_bodies(
     epoch: u64,
     start: u64,
     rows: &[(Key, Value)],
-) -> Result<Vec<Host>, NoMemory>
+) -> Result<Vec<HostBody>, NoMemory>
     requires shape { IsShape shape }
     requires there { there.now ≡ made (record { shape = shape; epoch = epoch; start_epoch = start; rows = rows.now }) }
     ensures { IfOk result (λ bodies. bodies.items ≡ for_each (shape.nodes * 3 + 1) (started (record { shape = shape; epoch = epoch; start_epoch = start; rows = rows.now }))) }
@@ -37,7 +37,7 @@ pub fn fresh_bodies(
     let behind = u32::from(shape.nodes) * PARTS;
     let layout = Layout::first(shape);
     let mut bodies = Vec::with_capacity(alloc, behind as usize + 1)?;
-    bodies.push_reserved(Host::shell(alloc, &layout)?);
+    bodies.push_reserved(HostBody::shell(alloc, &layout)?);
     for before in 0..behind {
         let member = there.member_at(before + 1);
         let part = part_by(before % PARTS);
@@ -55,17 +55,17 @@ fn part_started(
     epoch: u64,
     start: u64,
     rows: &[(Key, Value)],
-) -> Result<Host, NoMemory>
+) -> Result<HostBody, NoMemory>
     requires shape { IsShape layout.now.shape }
     requires first { layout.now ≡ first_layout layout.now.shape }
     ensures { IfOk result (λ host. host ≡ part_started (record { shape = layout.now.shape; epoch = epoch; start_epoch = start; rows = rows.now }) part member) }
 {
     match part {
-        Part::Main => Host::main(alloc, member, layout, epoch),
-        Part::Tc => Host::tc(alloc, member, layout, epoch, start),
+        Part::Main => HostBody::main(alloc, member, layout, epoch),
+        Part::Tc => HostBody::tc(alloc, member, layout, epoch, start),
         Part::Ldm => {
             let own = stored(alloc, &layout.shape(), member.node, start, rows)?;
-            Host::ldm(alloc, member, layout, own, start)
+            HostBody::ldm(alloc, member, layout, own, start)
         }
     }
 }

@@ -15,7 +15,7 @@ use crate::network::Network;
 use crate::route::dispatch;
 use crate::sender::Sender;
 use crate::telling::tell;
-use node_views::Host;
+use node_views::HostBody;
 use sig_core::{
     ApiReply, ApiReq, Body, Boxed, Held, HostId, HostSignal, Key, Life, LogStep, Mark, NoMemory,
     Outs, Seq, Shape, Signal, StopCause, Value, View, Work,
@@ -33,7 +33,7 @@ pub struct World {
     pub(crate) shape: Shape,
     pub(crate) made: Made,
     /// Host 0, the shell's, and behind it three of each member, in their order.
-    pub(crate) bodies: Vec<Host>,
+    pub(crate) bodies: Vec<HostBody>,
     /// Which hosts have stopped.
     pub(crate) stopped: Vec<bool>,
     pub(crate) network: Network,

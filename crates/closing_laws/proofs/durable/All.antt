@@ -14,7 +14,7 @@ use Rattle.sig_core.specs.declared.outs.Outgoing.{Outgoing}
 use Rattle.dih_node.specs.Dih.{fresh_dih}
 use Rattle.gcp_master.specs.Master.{first_phase, fresh_master}
 use Rattle.gcp_master.specs.Resume.{is_president}
-use Rattle.node_views.specs.declared.host.Host as node
+use Rattle.node_views.specs.declared.host_body.HostBody as node
 use Rattle.world_core.specs.Hosts.{hosts}
 use Rattle.world_core.specs.Start.{Start, made}
 use Rattle.world_core.specs.Steps.{Addressed, HostStep}
@@ -145,7 +145,7 @@ noted_first start = record {
     epochs : (member : Member) → IsIn member (made start)
         → HasNoted start (logs_of start []) (epochs_of start (logs_of start []) member)
     epochs member there =
-        subst (λ (s : node.Host). HasNoted start (logs_of start []) (dih_in (fresh_dih 0 0 0 0) s.parts))
+        subst (λ (s : node.HostBody). HasNoted start (logs_of start []) (dih_in (fresh_dih 0 0 0 0) s.parts))
         (sym (tc_started start member there)) (record {
           noted = inl (omega arith);
           reached = record { gives = omega arith; ordered = omega arith };
@@ -159,7 +159,7 @@ noted_first start = record {
     masters : (member : Member) → IsIn member (made start)
         → IsGoodPhase start (logs_of start []) (master_of start (logs_of start []) member).phase
     masters member there =
-        subst (λ (s : node.Host). IsGoodPhase start (logs_of start [])
+        subst (λ (s : node.HostBody). IsGoodPhase start (logs_of start [])
         (master_in (fresh_master member (first_layout start.shape).view 0) s.parts).phase)
         (sym (main_started start member there))
         (first start.epoch (is_president member (first_layout start.shape).view))

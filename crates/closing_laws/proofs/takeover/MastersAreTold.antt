@@ -21,7 +21,7 @@ use Rattle.sig_core.specs.declared.view.View.{View}
 use Rattle.gcp_master.specs.Master.{fresh_master, master_row}
 use Rattle.gcp_master.specs.Resume.{in_view}
 use Rattle.gcp_master.specs.State.{MasterState}
-use Rattle.node_views.specs.declared.host.Host as node
+use Rattle.node_views.specs.declared.host_body.HostBody as node
 use Rattle.node_views.specs.Fence.{is_body_fenced, is_fenced}
 use Rattle.node_views.specs.WellFormed.{is_well_formed}
 use Rattle.world_core.specs.Start.{Start, made}
@@ -233,7 +233,7 @@ pub all_over : EndsAreOwn → (start : Start) (all : ℕ → List HostStep) (es 
     → start.start_epoch < start.epoch
     → IsMoment start all es → AreOver start (logs_of start es)
 all_over own start all [] some moment member there none =
-    inl (ap (λ (s : node.Host).
+    inl (ap (λ (s : node.HostBody).
     (master_in (fresh_master member (first_layout start.shape).view 0) s.parts).view)
     (main_started start member there))
 all_over own start all (e ∷ es) some moment member there none =

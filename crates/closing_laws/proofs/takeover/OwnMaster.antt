@@ -13,7 +13,7 @@ use Rattle.sig_core.specs.declared.signal.Signal.{Signal}
 use Rattle.sig_core.specs.declared.view.View.{View}
 use Rattle.sig_core.specs.Place.{checkpoints}
 use Rattle.dih_node.specs.Orders as dih
-use Rattle.node_views.specs.declared.host.Host as hosts
+use Rattle.node_views.specs.declared.host_body.HostBody as hosts
 use Rattle.node_views.specs.declared.parts.Parts.{Parts}
 use Rattle.node_views.specs.declared.parts.Parts.TheVariants as part
 use Rattle.node_views.specs.declared.tc_part.TcPart.{TcPart}
@@ -143,7 +143,7 @@ record RunsTakeover (start : Start) (h : ℕ) (node : ℕ) (log : List HostStep)
 runs_takeover : (start : Start) (me : Member) → IsIn me (made start) → (log : List HostStep)
     → RunsTakeover start (tc_of start me) me.node log
 runs_takeover start me there [] =
-    record { own = _; is = ap (λ (s : hosts.Host). s.parts) (tc_started start me there); of_node = refl }
+    record { own = _; is = ap (λ (s : hosts.HostBody). s.parts) (tc_started start me there); of_node = refl }
 runs_takeover start me there (e ∷ log) =
     let was = runs_takeover start me there log in
     let some = part_some start parts.Tc me in

@@ -29,7 +29,7 @@ use Rattle.takeover_block.specs.State.{TakeoverState, resting, with_gathered}
 use Rattle.takeover_block.specs.Takeover.{takeover_row}
 use Rattle.takeover_block.proofs.EachTakeover.{takeover_each}
 use Rattle.takeover_block.proofs.LawLemmas.{first_found}
-use Rattle.node_views.specs.declared.host.Host as hosts_of
+use Rattle.node_views.specs.declared.host_body.HostBody as hosts_of
 use Rattle.node_views.specs.declared.parts.Parts.TheVariants as part
 use Rattle.node_views.specs.declared.tc_part.TcPart.{TcPart}
 use Rattle.node_views.specs.Fence.{is_body_fenced}
@@ -343,7 +343,7 @@ module _ (start : Start) (all : ℕ → List HostStep) (member : Member) (there 
   heard_always [] moment =
       subst (HasHeard start (logs_of start []) (view_after start home []).number [])
       (sym
-      (ap (λ (s : hosts_of.Host). takeover_in (resting member.node (first_layout start.shape)) s.parts)
+      (ap (λ (s : hosts_of.HostBody). takeover_in (resting member.node (first_layout start.shape)) s.parts)
       (tc_started start member there)))
       tt
   heard_always (e ∷ es) moment =

@@ -25,7 +25,7 @@ use Rattle.sig_core.proofs.TxLemmas.{same_tx-is}
 use Rattle.frag_map.specs.Layout.{first_layout}
 use Rattle.takeover_block.specs.State.{resting}
 use Rattle.node_core.specs.Fresh.{own_rows, with_rows}
-use Rattle.node_views.specs.declared.host.Host as node
+use Rattle.node_views.specs.declared.host_body.HostBody as node
 use Rattle.node_views.specs.declared.parts.Parts.{Parts}
 use Rattle.node_views.specs.declared.parts.Parts.TheVariants.{Ldm, Main, Shell, Tc}
 use Rattle.node_views.specs.Replies.{giving}
@@ -111,7 +111,7 @@ never_tc start h (e ∷ log) none =
     (step_keeps HasNoTc (AreSo (λ tx to. ⊥) (λ tx. ⊥)) (so_effects (λ tx to. ⊥) (λ tx. ⊥)) e.step.taken h
     (after start h log) (λ sound. others_so (λ tx to. ⊥) (λ tx. ⊥) e.step.taken) (never_tc start h log none)).0
   where
-    by : (k : ℕ) (t : Step node.Host) → HasNoTc t.state.parts → HasNoTc (told k t).parts
+    by : (k : ℕ) (t : Step node.HostBody) → HasNoTc t.state.parts → HasNoTc (told k t).parts
     by zero t none = given_none t.state.parts none
     by (suc k) t none = none
 
@@ -194,7 +194,7 @@ module _ (start : Start) where
       abbrev x : Signal
       x = e.step.taken
 
-      abbrev s : node.Host
+      abbrev s : node.HostBody
       s = after start e.host (old e.host)
 
       abbrev sends : List Outgoing

@@ -27,7 +27,7 @@ use Rattle.takeover_block.specs.Takeover.{takeover_row}
 use Rattle.takeover_block.proofs.EachTakeover.{is_gathering}
 use Rattle.dih_node.specs.Dih.{dih_row}
 use Rattle.tc_views.specs.Coordinator.{coordinator_row}
-use Rattle.node_views.specs.declared.host.Host as hosts_of
+use Rattle.node_views.specs.declared.host_body.HostBody as hosts_of
 use Rattle.node_views.specs.declared.parts.Parts.TheVariants as part
 use Rattle.node_views.specs.declared.tc_part.TcPart.{TcPart}
 use Rattle.node_views.specs.Fence.{is_body_fenced}
@@ -95,7 +95,7 @@ asked_first start me there node number k = record {
   now = λ same.
       subst (StandsAsked start me node number k [])
       (sym
-      (ap (λ (s : hosts_of.Host). takeover_in (resting me.node (first_layout start.shape)) s.parts)
+      (ap (λ (s : hosts_of.HostBody). takeover_in (resting me.node (first_layout start.shape)) s.parts)
       (tc_started start me there)))
       (record { stands = off_stands node _ 0 0 refl; idle = λ none. refl });
 }

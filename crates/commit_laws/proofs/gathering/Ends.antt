@@ -20,7 +20,7 @@ use Rattle.sig_core.specs.declared.view.View.{View}
 use Rattle.lqh_views.specs.Replica.{replica_row}
 use Rattle.lqh_views.specs.State.{ReplicaState}
 use Rattle.lqh_views.specs.WholeReports.{asks, ends}
-use Rattle.node_views.specs.declared.host.Host as hosts_of
+use Rattle.node_views.specs.declared.host_body.HostBody as hosts_of
 use Rattle.node_views.specs.Fence.{is_body_fenced}
 use Rattle.world_core.specs.Hosts.{hosts}
 use Rattle.world_core.specs.Start.{Start, made}
@@ -108,7 +108,7 @@ module _ (start : Start) (all : ℕ → List HostStep) (member : Member) (there 
       where
         none : under_way (rows_at start (logs_of start []) member) ≡ 0
         none =
-            ap (λ (s : hosts_of.Host). under_way (rows_in (no_replica start member) s.parts))
+            ap (λ (s : hosts_of.HostBody). under_way (rows_in (no_replica start member) s.parts))
             (ldm_started start member there)
 
     module _ (e : HostStep) (es : List HostStep) (moment : IsMoment start all (e ∷ es)) (before : Few es) where

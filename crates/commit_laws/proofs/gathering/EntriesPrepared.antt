@@ -26,7 +26,7 @@ use Rattle.takeover_block.specs.State.{TakeoverState, resting, with_gathered}
 use Rattle.takeover_block.specs.Takeover.{takeover_row}
 use Rattle.takeover_block.proofs.EachTakeover.{is_gathering, takeover_each}
 use Rattle.takeover_block.proofs.NotedLemmas.{IsMore, IsNew, noted_is}
-use Rattle.node_views.specs.declared.host.Host as hosts_of
+use Rattle.node_views.specs.declared.host_body.HostBody as hosts_of
 use Rattle.node_views.specs.declared.parts.Parts.TheVariants as part
 use Rattle.node_views.specs.declared.tc_part.TcPart.{TcPart}
 use Rattle.node_views.specs.Parts.{tc_row}
@@ -279,7 +279,7 @@ module _ (start : Start) (all : ℕ → List HostStep) (tx : TxId) (member : Mem
     are_prepared : (es : List HostStep) → IsMoment start all es → ArePrepared es
     are_prepared [] moment = λ none orphan stands.
         subst (SayAt tx (IsPreparedSomewhere start (logs_of start []) tx))
-        (sym (ap (λ (s : hosts_of.Host). takeover_in (resting member.node (first_layout start.shape)) s.parts)
+        (sym (ap (λ (s : hosts_of.HostBody). takeover_in (resting member.node (first_layout start.shape)) s.parts)
         (tc_started start member there)))
         (λ gathering. absurd (true≢false (sym gathering)))
     are_prepared (e ∷ es) moment = λ none orphan stands.

@@ -27,7 +27,7 @@ use Rattle.lqh_views.specs.Report.{is_orphaned}
 use Rattle.lqh_views.specs.State.{ReplicaState}
 use Rattle.lqh_views.specs.WholeReports.{ends, the_end}
 use Rattle.lqh_views.proofs.ReportSteps.{NoEnd}
-use Rattle.node_views.specs.declared.host.Host as node
+use Rattle.node_views.specs.declared.host_body.HostBody as node
 use Rattle.node_views.specs.WellFormed.{is_tx}
 use Rattle.world_core.specs.Start.{Start, made}
 use Rattle.world_core.specs.Steps.{Addressed, HostStep}
@@ -322,7 +322,7 @@ module _ (start : Start) (all : ℕ → List HostStep) (one : Member) (there : I
     first_behind = record {
       ends_behind = λ j. tt;
       stays_open = λ same.
-          inr (inl (ap (λ (s : node.Host). (rows_in (no_replica start one) s.parts).report)
+          inr (inl (ap (λ (s : node.HostBody). (rows_in (no_replica start one) s.parts).report)
           (ldm_started start one there)));
     }
 

@@ -19,7 +19,7 @@ use Rattle.sig_core.specs.declared.view.View.{View}
 use Rattle.sig_core.specs.Step.{Step}
 use Rattle.lqh_views.specs.Replica.{installed, replica_row}
 use Rattle.lqh_views.specs.State.{ReplicaState}
-use Rattle.node_views.specs.declared.host.Host as hosts
+use Rattle.node_views.specs.declared.host_body.HostBody as hosts
 use Rattle.node_views.specs.declared.ldm_part.LdmPart.{LdmPart}
 use Rattle.node_views.specs.declared.parts.Parts.TheVariants as part
 use Rattle.node_views.specs.Parts.{ldm_row}
@@ -111,7 +111,7 @@ module _ (start : Start) (all : ℕ → List HostStep) (e : HostStep) (es : List
       abbrev log : List HostStep
       log = old h
 
-      abbrev step : Step hosts.Host
+      abbrev step : Step hosts.HostBody
       step = step_after start h log e
 
       abbrev own : LdmStep start h log e
@@ -133,10 +133,10 @@ module _ (start : Start) (all : ℕ → List HostStep) (e : HostStep) (es : List
       now_is : (later : LdmPart) → step.state.parts ≡ part.Ldm later → rows_at start new member ≡ later.replica
       now_is later is =
           ap (rows_after start member) (log_of-own (machine start) e es h at)
-          ∙ rows_are start member h (e ∷ log) refl later (ap (λ (s : hosts.Host). s.parts) behind_is ∙ is)
+          ∙ rows_are start member h (e ∷ log) refl later (ap (λ (s : hosts.HostBody). s.parts) behind_is ∙ is)
 
       view_is : (seen : View) → step.state.standing.view ≡ seen → view_after start h (e ∷ log) ≡ seen
-      view_is seen is = ap (λ (s : hosts.Host). s.standing.view) behind_is ∙ is
+      view_is seen is = ap (λ (s : hosts.HostBody). s.standing.view) behind_is ∙ is
 
       marks_of : e.step.marks ≡ step.effects.marks
       marks_of =

@@ -12,7 +12,7 @@ use Rattle.sig_core.specs.declared.member.Member.{Member}
 use Rattle.sig_core.specs.declared.view.View.{View}
 use Rattle.serial_model.specs.Legal.{rows_of}
 use Rattle.node_core.specs.Fresh.{fresh_part}
-use Rattle.node_views.specs.declared.host.Host as node
+use Rattle.node_views.specs.declared.host_body.HostBody as node
 use Rattle.key_laws.specs.Replica.{Replica, at_key}
 use Rattle.host_laws.proofs.rows.Replicas.{keys_begin_at_rest}
 use Rattle.world_core.specs.Hosts.{hosts}
@@ -88,5 +88,5 @@ replicas_begin_at_rest start all moment key member is = record {
 
     begun : replica_at start (logs_of start []) member key ≡ at_key key (first_rows start member).lqh
     begun =
-        ap (λ (s : node.Host). at_key key (rows_in (no_replica start member) s.parts).lqh)
+        ap (λ (s : node.HostBody). at_key key (rows_in (no_replica start member) s.parts).lqh)
         (ldm_started start member (replica_made start all [] moment key member is))

@@ -40,7 +40,7 @@ use Rattle.key_laws.specs.Replica.{Event, Replica, aborts, ages, asks, at_key, c
 use Rattle.key_laws.specs.Replica.{expires_if, if_on, is_refused, key_after, rests, serves, serves_if}
 use Rattle.host_laws.specs.ReplicaLaws.{IsWell}
 use Rattle.node_core.specs.Fresh.{own_rows}
-use Rattle.node_views.specs.declared.host.Host as hosts
+use Rattle.node_views.specs.declared.host_body.HostBody as hosts
 use Rattle.world_core.specs.Start.{Start, made}
 use Rattle.world_core.specs.Steps.{HostStep}
 use Rattle.view_laws.specs.Runs.{WasInstalled, view_after}
@@ -327,7 +327,7 @@ module _ (start : Start) where
   none_first : (member : Member) → IsIn member (made start) → (key : List ℕ)
       → (replica_at start (logs_of start []) member key).cell.pending ≡ []
   none_first member there key =
-      ap (λ (s : hosts.Host). (at_key key (rows_in (no_replica start member) s.parts).lqh).cell.pending)
+      ap (λ (s : hosts.HostBody). (at_key key (rows_in (no_replica start member) s.parts).lqh).cell.pending)
       (ldm_started start member there)
       ∙ ap (λ (xs : List PendingRecord). map without_epoch (filter (is_on key) xs))
       (none_put no_rows (own_rows start.shape member.node start.rows) start.start_epoch refl)

@@ -32,7 +32,7 @@ use Rattle.api_views.specs.Client.{client_row}
 use Rattle.api_views.specs.Members.{noted}
 use Rattle.arbiter_block.specs.Arbiter.{arbiter_row}
 use Rattle.takeover_block.specs.State.{resting}
-use Rattle.node_views.specs.declared.host.Host as hosts_of
+use Rattle.node_views.specs.declared.host_body.HostBody as hosts_of
 use Rattle.node_views.specs.declared.parts.Parts.{Parts}
 use Rattle.node_views.specs.declared.parts.Parts.TheVariants.{Shell}
 use Rattle.node_views.specs.declared.shell_part.ShellPart.{ShellPart}
@@ -82,7 +82,7 @@ unfolding started
 said_first start = record {
   tells = λ member there stands runs can.
       subst (TellsAll _ _)
-      (sym (ap (λ (s : hosts_of.Host). takeover_in (resting member.node (first_layout start.shape)) s.parts)
+      (sym (ap (λ (s : hosts_of.HostBody). takeover_in (resting member.node (first_layout start.shape)) s.parts)
       (tc_started start member there)))
       (record { attended = tt; first = tt });
   last = λ i y newer older is body tx orphan. absurd (none y newer older is);

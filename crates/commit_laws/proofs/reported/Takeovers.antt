@@ -35,7 +35,7 @@ use Rattle.takeover_block.specs.declared.stage.Stage.TheVariants.{Aborting, Comm
 use Rattle.takeover_block.specs.Gather.{member_count}
 use Rattle.takeover_block.specs.Sends.{told_committed}
 use Rattle.takeover_block.specs.State.{TakeoverState}
-use Rattle.node_views.specs.declared.host.Host as hosts
+use Rattle.node_views.specs.declared.host_body.HostBody as hosts
 use Rattle.node_views.specs.declared.parts.Parts.{Parts}
 use Rattle.node_views.specs.declared.parts.Parts.TheVariants as part
 use Rattle.node_views.specs.declared.tc_part.TcPart.{TcPart}
@@ -197,7 +197,7 @@ module _ (list : GatheringsList) (start : Start) (all : ℕ → List HostStep) (
       abbrev view : View
       view = view_after start (tc_of start member) (e ∷ log)
 
-      abbrev step : Step hosts.Host
+      abbrev step : Step hosts.HostBody
       step = step_after start (tc_of start member) log e
 
       -- who has no coordinator now, and what was said before the event is sent
@@ -422,7 +422,7 @@ module _ (list : GatheringsList) (start : Start) (all : ℕ → List HostStep) (
               where
                 next_view : step.state.standing.view ≡ view
                 next_view =
-                    ap (λ (s : hosts.Host). s.standing.view) (sym (told_some h (part_some start kinds.Tc member) step))
+                    ap (λ (s : hosts.HostBody). s.standing.view) (sym (told_some h (part_some start kinds.Tc member) step))
 
                 by : HostGoes start.shape (part.Tc own.own) stood x step → Behind
                 by (halts is) = absurd (true≢false (sym (ap stops_by marks ∙ is) ∙ runs))
@@ -449,7 +449,7 @@ module _ (list : GatheringsList) (start : Start) (all : ℕ → List HostStep) (
                 let b = behind runs in
                 subst (TellsAll O (λ tx. IsSaid start new tx (sent n h 0 (e ∷ log))))
                 (sym (takeover_is start member h (e ∷ log) refl b.now
-                (ap (λ (s : hosts.Host). s.parts) (told_some h (part_some start kinds.Tc member) step) ∙ b.parts)))
+                (ap (λ (s : hosts.HostBody). s.parts) (told_some h (part_some start kinds.Tc member) step) ∙ b.parts)))
                 (tells_more O (SaidBy O S step.effects.sends) (λ tx. IsSaid start new tx (sent n h 0 (e ∷ log))) on
                 b.now.takeover b.tells)
               where
@@ -480,7 +480,7 @@ module _ (list : GatheringsList) (start : Start) (all : ℕ → List HostStep) (
           where
             next_view : step.state.standing.view ≡ view
             next_view =
-                ap (λ (s : hosts.Host). s.standing.view) (sym (told_some h (part_some start kinds.Tc member) step))
+                ap (λ (s : hosts.HostBody). s.standing.view) (sym (told_some h (part_some start kinds.Tc member) step))
 
             never : (sends : List Outgoing) → AreNoWords sends → IsIn o sends → S tx
             never sends all there =

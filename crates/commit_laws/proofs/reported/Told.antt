@@ -42,7 +42,7 @@ use Rattle.api_views.specs.Reports.{greater_of}
 use Rattle.api_views.specs.State.{ClientState}
 use Rattle.arbiter_block.specs.Arbiter.{arbiter_row}
 use Rattle.lqh_block.specs.Views.{is_coordinated, was_begun_by}
-use Rattle.node_views.specs.declared.host.Host as hosts
+use Rattle.node_views.specs.declared.host_body.HostBody as hosts
 use Rattle.node_views.specs.declared.parts.Parts.{Parts}
 use Rattle.node_views.specs.declared.parts.Parts.TheVariants.{Shell}
 use Rattle.node_views.specs.declared.shell_part.ShellPart.{ShellPart}
@@ -202,7 +202,7 @@ module _ (start : Start) (all : ℕ → List HostStep) (e : HostStep) (es : List
 
     -- where the shell's does, and goes on
     module _ (at : e.host ≡ 0) (runs : stops_by e.step.marks ≡ false) where
-      abbrev step : Step hosts.Host
+      abbrev step : Step hosts.HostBody
       step = step_after start 0 (logs_of start es 0) e
 
       abbrev own : ShellPart

@@ -17,7 +17,7 @@ use Rattle.lqh_block.specs.Commit.{is_marker}
 use Rattle.key_laws.specs.Records.{as_committed, found, if_committed, unless_committed, without_epoch}
 use Rattle.key_laws.specs.Replica.{at_key}
 use Rattle.node_core.specs.Fresh.{own_rows}
-use Rattle.node_views.specs.declared.host.Host as node
+use Rattle.node_views.specs.declared.host_body.HostBody as node
 use Rattle.node_views.specs.WellFormed.{is_tx}
 use Rattle.world_core.specs.Start.{Start, made}
 use Rattle.world_core.specs.Steps.{HostStep}
@@ -48,12 +48,12 @@ module _ (start : Start) (member : Member) (there : IsIn member (made start)) (t
     first_unknown = record {
       record_none =
           subst
-          (λ (s : node.Host). found tx (at_key key (rows_in (no_replica start member) s.parts).lqh).cell.pending ≡ None)
+          (λ (s : node.HostBody). found tx (at_key key (rows_in (no_replica start member) s.parts).lqh).cell.pending ≡ None)
           (sym (ldm_started start member there))
           (ap (λ (xs : List PendingRecord). found tx (map without_epoch (filter (is_on key) xs)))
           (none_pending no_rows (own_rows start.shape member.node start.rows) start.start_epoch));
       marker_none =
-          ap (λ (s : node.Host). list_any (is_marker tx key) (rows_in (no_replica start member) s.parts).lqh.markers)
+          ap (λ (s : node.HostBody). list_any (is_marker tx key) (rows_in (no_replica start member) s.parts).lqh.markers)
           (ldm_started start member there);
     }
 

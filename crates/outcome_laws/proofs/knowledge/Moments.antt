@@ -18,7 +18,7 @@ use Rattle.sig_core.specs.declared.signal.host.HostSignal.TheVariants.{Closed}
 use Rattle.sig_core.specs.declared.rows.PendingRecord.{PendingRecord}
 use Rattle.sig_core.specs.Rows.{no_rows}
 use Rattle.node_core.specs.Fresh.{own_rows, with_rows}
-use Rattle.node_views.specs.declared.host.Host as node
+use Rattle.node_views.specs.declared.host_body.HostBody as node
 use Rattle.node_views.specs.WellFormed.{is_well_formed}
 use Rattle.world_core.specs.Hosts.{member_at, part_by}
 use Rattle.world_core.specs.Start.{Start, made}
@@ -105,7 +105,7 @@ module _ (start : Start) where
       abbrev x : Signal
       x = e.step.taken
 
-      abbrev s : node.Host
+      abbrev s : node.HostBody
       s = after start e.host (old e.host)
 
       -- what is so of a log also with a step more

@@ -17,7 +17,7 @@ use Rattle.lqh_views.specs.Replica.{fresh_replica, installed, replica_row}
 use Rattle.lqh_views.specs.State.{ReplicaState}
 use Rattle.node_core.specs.Fresh.{own_rows, with_rows}
 use Rattle.node_views.specs.Blocks.{parts_entered, parts_row, settled_at}
-use Rattle.node_views.specs.declared.host.Host as hosts
+use Rattle.node_views.specs.declared.host_body.HostBody as hosts
 use Rattle.node_views.specs.declared.ldm_part.LdmPart.{LdmPart}
 use Rattle.node_views.specs.declared.parts.Parts.{Parts}
 use Rattle.node_views.specs.declared.parts.Parts.TheVariants.{Ldm}
@@ -77,7 +77,7 @@ module _ (So : ReplicaState → Type 0) (row : (s : ReplicaState) (x : Signal) �
           absurd (let none : None ≡ Some view = ap (λ (q : Parts). settled_at q x) (sym rows.is) ∙ is in cc);
     }
 
-    step_so : (h : ℕ) (s : hosts.Host) → AreRows s.parts → AreRows (told h (step_by h s x)).parts
+    step_so : (h : ℕ) (s : hosts.HostBody) → AreRows s.parts → AreRows (told h (step_by h s x)).parts
     step_so h s rows =
         next_comes Says x h s (record {
           stays = rows;
@@ -95,7 +95,7 @@ module _ (So : ReplicaState → Type 0) (row : (s : ReplicaState) (x : Signal) �
     where
       pub rows_so : (log : List HostStep) → AreRows (after start (ldm_of start member) log).parts
       rows_so [] =
-          subst (λ (s : hosts.Host). AreRows s.parts) (sym (ldm_started start member there))
+          subst (λ (s : hosts.HostBody). AreRows s.parts) (sym (ldm_started start member there))
           (record { part = _; is = refl; so = first })
       rows_so (e ∷ log) =
           step_so e.step.taken (ldm_of start member) (after start (ldm_of start member) log) (rows_so log)

@@ -9,7 +9,7 @@ use Rattle.sig_core.specs.declared.place.BlockId.{BlockId}
 use Rattle.sig_core.specs.declared.place.BlockId.TheVariants as block
 use Rattle.sig_core.specs.declared.signal.Signal.{Signal}
 use Rattle.sig_core.specs.declared.view.View.{View}
-use Rattle.node_views.specs.declared.host.Host as hosts
+use Rattle.node_views.specs.declared.host_body.HostBody as hosts
 use Rattle.node_views.specs.declared.main_part.MainPart.{MainPart}
 use Rattle.node_views.specs.declared.parts.Parts.{Parts}
 use Rattle.node_views.specs.declared.parts.Parts.TheVariants.{Main}
@@ -70,7 +70,7 @@ main_steps p view x events (plain passes) = taken_plain (main_takes_as p x event
 main_steps p view x events (entering above later is passes) =
     taken_entering above later is (main_takes_as (main_entered p x.view).state x later passes)
 
-pub membership_steps : (h : ℕ) (s : hosts.Host) (q : QmgrState) (x : Signal) → membership_in s.parts ≡ Some q
+pub membership_steps : (h : ℕ) (s : hosts.HostBody) (q : QmgrState) (x : Signal) → membership_in s.parts ≡ Some q
     → MembershipSteps q s.standing.view x (events_at is_membership h s x)
 membership_steps h s q x has = by s.parts has (steps_as is_membership h s x)
   where

@@ -1,4 +1,4 @@
-//! A host.
+//! What a host is made of.
 ghost use Rattle.std.specs.Prelude.{◌≡◌, ◌≤◌, ◌+◌, ◌<◌, ◌++◌, IfOk, None, OnErr, OnOk, [], length, option_to_list};
 ghost use Rattle.std.specs.Prelude.{true};
 ghost use Rattle.std.specs.List.{list_any};
@@ -30,22 +30,22 @@ use std::alloc::Global;
 
 /// A unit that takes signals, one after the other: the shell's, or a part of a data node.
 #[derive(Drop)]
-pub struct Host {
+pub struct HostBody {
     pub standing: Standing,
     pub parts: Parts,
 }
 
-impl Host {
+impl HostBody {
     /// The shell's host of a cluster that begins in this layout.
     ///
     /// # Errors
     /// `NoMemory`.
-    pub fn shell(alloc: Global, layout: &Layout) -> Result<Host, NoMemory>
+    pub fn shell(alloc: Global, layout: &Layout) -> Result<HostBody, NoMemory>
         ensures { IfOk result (λ host. host ≡ fresh_shell layout.now) }
     {
         let member = Member { node: 0, start: 0 };
         let part = ShellPart::new(alloc, layout.shape().nodes, layout.view())?;
-        Ok(Host {
+        Ok(HostBody {
             standing: Standing::new(alloc, member, layout)?,
             parts: Parts::Shell(part),
         })
@@ -61,11 +61,11 @@ impl Host {
         member: Member,
         layout: &Layout,
         epoch: u64,
-    ) -> Result<Host, NoMemory>
+    ) -> Result<HostBody, NoMemory>
         ensures { IfOk result (λ host. host ≡ fresh_main member layout.now epoch) }
     {
         let part = MainPart::new(alloc, member, layout, epoch)?;
-        Ok(Host {
+        Ok(HostBody {
             standing: Standing::new(alloc, member, layout)?,
             parts: Parts::Main(part),
         })
@@ -81,11 +81,11 @@ impl Host {
         layout: &Layout,
         epoch: u64,
         start: u64,
-    ) -> Result<Host, NoMemory>
+    ) -> Result<HostBody, NoMemory>
         ensures { IfOk result (λ host. host ≡ fresh_tc member layout.now epoch start) }
     {
         let part = TcPart::new(alloc, member, layout, epoch, start)?;
-        Ok(Host {
+        Ok(HostBody {
             standing: Standing::new(alloc, member, layout)?,
             parts: Parts::Tc(part),
         })
@@ -101,12 +101,12 @@ impl Host {
         layout: &Layout,
         rows: Store,
         start: u64,
-    ) -> Result<Host, NoMemory>
+    ) -> Result<HostBody, NoMemory>
         requires { rows.rows.pending ≡ [] }
         ensures { IfOk result (λ host. host ≡ fresh_ldm member layout.now rows.rows start) }
     {
         let part = LdmPart::new(alloc, member, layout, rows, start)?;
-        Ok(Host {
+        Ok(HostBody {
             standing: Standing::new(alloc, member, layout)?,
             parts: Parts::Ldm(part),
         })
