@@ -134,8 +134,8 @@ module _ (start : Start) (all : ℕ → List HostStep) (e : HostStep) (es : List
       durables = durables_next;
     }
 
-noted_first : (start : Start) → AllNoted start (logs_of start [])
-noted_first start = record {
+noted_first : (start : Start) → start.start_epoch < start.epoch → AllNoted start (logs_of start [])
+noted_first start some = record {
   said = λ i j. tt;
   epochs = epochs;
   masters = masters;
@@ -148,7 +148,7 @@ noted_first start = record {
         subst (λ (s : node.HostBody). HasNoted start (logs_of start []) (dih_in (fresh_dih 0 0 0 0) s.parts))
         (sym (tc_started start member there)) (record {
           noted = inl (omega arith);
-          reached = record { gives = omega arith; ordered = omega arith };
+          reached = record { gives = omega (arith, some); ordered = omega (arith, some) };
           least = omega arith;
         })
 
@@ -167,7 +167,7 @@ noted_first start = record {
 -- so it is at each moment
 pub all_noted : (start : Start) (all : ℕ → List HostStep) (es : List HostStep) → start.start_epoch < start.epoch
     → IsMoment start all es → AllNoted start (logs_of start es)
-all_noted start all [] some moment = noted_first start
+all_noted start all [] some moment = noted_first start some
 all_noted start all (e ∷ es) some moment =
     let less = moment_less start all e es moment in
     noted_next start all e es moment (epochs_stand start all es some less) (all_reached start all es some less)
