@@ -100,7 +100,7 @@ impl Places {
     pub fn note(&mut self, key: &HashedKey)
         ensures same { self.new ≡ self.old }
     {
-        self.index.note(key);
+        let _at = self.index.note(key);
     }
 
     /// Makes the memory for the key's place.

@@ -1,0 +1,4 @@
+use Rattle.frag_store.proofs.leads.Leads.forget.Goals as goal
+
+pub returns : goal.returns
+returns c = ?
