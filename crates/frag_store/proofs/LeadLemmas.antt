@@ -52,6 +52,22 @@ led_some index lead there other is =
 abbrev pub IsElsewhereAs : List ℕ → linear_hash.PlaceMap → linear_hash.PlaceMap → Type 0
 IsElsewhereAs key before after = (q : List ℕ) → same_key key q ≡ false → map.get after q ≡ map.get before q
 
+pub elsewhere-inserted : (places : linear_hash.Places) (key : List ℕ) (at : ℕ)
+    → IsElsewhereAs key places.at (linear_hash.inserted places key at).at
+unfolding linear_hash.inserted
+elsewhere-inserted places key at q differ = others-inserted places.at key q at differ
+
+pub elsewhere-removed : (places : linear_hash.Places) (key : List ℕ)
+    → IsElsewhereAs key places.at (linear_hash.removed places key).at
+unfolding linear_hash.removed
+elsewhere-removed places key q differ = others-removed places.at key q differ
+
+-- a key is where it was led
+pub led-inserted : (places : linear_hash.Places) (key : List ℕ) (at : ℕ)
+    → map.get (linear_hash.inserted places key at).at key ≡ Some at
+unfolding linear_hash.inserted
+led-inserted places key at = itself-inserted places.at key at
+
 -- keys with two numbers are two
 apart : (key other : HashedKey) → nat_eq other.hash key.hash ≡ false → same_key key.key other.key ≡ false
 apart key other differ = by (same_key key.key other.key) refl

@@ -64,7 +64,6 @@ impl Leads {
     }
 
     /// Forgets the key.
-    #[tactic(auto, using(crate::proofs::LeadLemmas::led_unless))]
     pub fn forget(&mut self, key: &HashedKey)
         ensures { (before after : PlaceMap) → AreLed before self.old → ((q : List ℕ) → same_key key.now.key q ≡ false → map.get after q ≡ map.get before q) → AreLed after self.new }
     {
