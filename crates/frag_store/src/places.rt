@@ -95,7 +95,7 @@ impl Places {
         }
     }
 
-    /// Notes a key that comes with its number, so that it is found without a digest until another one is
+    /// Notes a key that comes with its number, so that it is found without a digest until three others are
     /// asked for.
     pub fn note(&mut self, key: &HashedKey)
         ensures same { self.new ≡ self.old }

@@ -33,20 +33,16 @@ same_key-is (x ∷ a) (y ∷ b) e = by (nat_eq x y) refl e (same_key-is a b)
     by true p q rest = λ i. eqb-true x y p i ∷ rest q i
     by false p q rest = absurd (false≢true q)
 
-none_of : (b : Bool) → (b && false) ≡ false
-none_of true = refl
-none_of false = refl
-
--- keys with two numbers are two: numbers may be compared first
-pub same_numbered : (one other : ℕ) (a b : List ℕ) → one ≡ hash_of a → other ≡ hash_of b
-    → (nat_eq one other && same_key a b) ≡ same_key a b
-same_numbered one other a b one_is other_is = by (same_key a b) refl
+-- keys with two numbers are two
+pub numbered_apart : (one other : ℕ) (a b : List ℕ) → one ≡ hash_of a → other ≡ hash_of b → nat_eq one other ≡ false
+    → same_key a b ≡ false
+numbered_apart one other a b one_is other_is differ = by (same_key a b) refl
   where
-    by : (same : Bool) → same_key a b ≡ same → (nat_eq one other && same_key a b) ≡ same_key a b
+    by : (same : Bool) → same_key a b ≡ same → same ≡ false
     by true same =
-        ap (λ n. n && same_key a b)
-        (eq-eqb one other (one_is ∙ ap hash_of (same_key-is a b same) ∙ sym other_is))
-    by false same = ap (λ k. nat_eq one other && k) same ∙ none_of (nat_eq one other) ∙ sym same
+        absurd (true≢false
+        (sym (eq-eqb one other (one_is ∙ ap hash_of (same_key-is a b same) ∙ sym other_is)) ∙ differ))
+    by false same = refl
 
 -- the first of the two places, if there is one
 abbrev pub first_of_two : Option ℕ → Option ℕ → Option ℕ

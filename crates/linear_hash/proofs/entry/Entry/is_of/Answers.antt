@@ -1,5 +1,10 @@
-use Rattle.linear_hash.proofs.FoundLemmas.{same_numbered}
+use Rattle.std.proofs.Common.{sym}
+use Rattle.linear_hash.proofs.FoundLemmas.{numbered_apart}
 use Rattle.linear_hash.proofs.entry.Entry.is_of.Goals as goal
 
-pub returns : goal.returns
-returns c = ?
+-- the numbers differ, and so do the keys
+pub returns-else-self-key : goal.returns-else-self-key
+returns-else-self-key c =
+    let own = c.args.self.now in
+    let other = c.args.key.now in
+    sym (numbered_apart own.hash other.hash own.key other.key own.hashed other.hashed c.if-self-key.false)
