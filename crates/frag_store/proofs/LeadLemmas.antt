@@ -10,8 +10,7 @@ use Rattle.sig_core.specs.Same.{same_key}
 use Rattle.sig_core.specs.declared.hashed_key.HashedKey.{HashedKey}
 use Rattle.sig_core.proofs.Keys.{same_key-self, same_key-swap, tied-same_key}
 use Rattle.frag_store.specs.declared.lead.Lead.{Lead}
-use Rattle.frag_store.specs.declared.leads.Leads.{Leads}
-use Rattle.frag_store.specs.Leads.{AreLed, IsLed, is_numbered, unless}
+use Rattle.frag_store.specs.Leads.{IsElsewhereAs, IsLed, unless}
 
 -- what an index has of other keys once a key is put in or taken out
 pub others-removed : (index : linear_hash.PlaceMap) (key q : List ℕ) → same_key key q ≡ false
@@ -47,10 +46,6 @@ pub led_some : (index : linear_hash.PlaceMap) (lead : Lead) → map.get index le
 led_some index lead there other is =
     let one : lead ≡ other = cc in
     ap (λ (l : Lead). map.get index l.key.key) (sym one) ∙ there ∙ ap (λ (l : Lead). l.at) one
-
--- an index that another one agrees with on every key but one
-abbrev pub IsElsewhereAs : List ℕ → linear_hash.PlaceMap → linear_hash.PlaceMap → Type 0
-IsElsewhereAs key before after = (q : List ℕ) → same_key key q ≡ false → map.get after q ≡ map.get before q
 
 pub elsewhere-inserted : (places : linear_hash.Places) (key : List ℕ) (at : ℕ)
     → IsElsewhereAs key places.at (linear_hash.inserted places key at).at

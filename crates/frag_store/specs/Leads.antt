@@ -1,7 +1,8 @@
 -- What is remembered of the keys that were last asked for.
-use Rattle.std.specs.Prelude.{◌≡◌, ℕ, Bool, false, cond, nat_eq, Option, None, Some}
+use Rattle.std.specs.Prelude.{◌≡◌, ℕ, Bool, false, cond, nat_eq, List, Option, None, Some}
 use Rattle.std.specs.FinMap as map
 use Rattle.linear_hash.specs.Places.{PlaceMap}
+use Rattle.sig_core.specs.Same.{same_key}
 use Rattle.frag_store.specs.declared.lead.Lead.{Lead}
 use Rattle.frag_store.specs.declared.leads.Leads.{Leads}
 
@@ -14,6 +15,10 @@ pub record AreLed (index : PlaceMap) (leads : Leads) : Type 0 where
   pub last : IsLed index leads.last
   pub second : IsLed index leads.second
   pub third : IsLed index leads.third
+
+-- every key but one is led where it was
+abbrev pub IsElsewhereAs : List ℕ → PlaceMap → PlaceMap → Type 0
+IsElsewhereAs key before after = (q : List ℕ) → same_key key q ≡ false → map.get after q ≡ map.get before q
 
 -- it is of a key with this number
 abbrev pub is_numbered : ℕ → Option Lead → Bool

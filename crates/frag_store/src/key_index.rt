@@ -97,7 +97,6 @@ impl KeyIndex {
         ensures others { (q : List ℕ) → same_key key.now q ≡ false → map.get self.new.at q ≡ map.get self.old.at q }
     {
         let key = self.hashed(key);
-        self.leads.forget(&key);
         self.index.insert(&key, at)?;
         self.leads.push(Lead { key, at: Some(at) });
         Ok(())

@@ -1,9 +1,8 @@
 //! What is remembered of the keys that were last asked for.
-ghost use Rattle.std.specs.Prelude.{◌≡◌, IfSome, List, false, ℕ};
+ghost use Rattle.std.specs.Prelude.{◌≡◌, IfSome};
 ghost use Rattle.std.specs.FinMap as map;
 ghost use Rattle.linear_hash.specs.Places.{PlaceMap};
-ghost use Rattle.sig_core.specs.Same.{same_key};
-ghost use Rattle.frag_store.specs.Leads.{AreLed, is_numbered, unless};
+ghost use Rattle.frag_store.specs.Leads.{AreLed, IsElsewhereAs, is_numbered, unless};
 
 use crate::lead::Lead;
 use sig_core::{HashedKey, Key};
@@ -30,32 +29,32 @@ impl Leads {
     }
 
     /// What is remembered of the key.
-    pub fn find(&self, key: &Key) -> Option<Lead>
-        ensures key { IfSome result (λ lead. lead.key.key ≡ key.now) }
-        ensures place { (index : PlaceMap) → AreLed index self.now → IfSome result (λ lead. map.get index key.now ≡ lead.at) }
+    pub fn find(&self, key: &Key) -> Option<&Lead>
+        ensures key { IfSome result (λ lead. lead.now.key.key ≡ key.now) }
+        ensures place { (index : PlaceMap) → AreLed index self.now → IfSome result (λ lead. map.get index key.now ≡ lead.now.at) }
     {
-        match self.last {
+        match &self.last {
             Some(lead) if lead.key.key == *key => return Some(lead),
             _ => {}
         }
-        match self.second {
+        match &self.second {
             Some(lead) if lead.key.key == *key => return Some(lead),
             _ => {}
         }
-        match self.third {
+        match &self.third {
             Some(lead) if lead.key.key == *key => Some(lead),
             _ => None,
         }
     }
 
-    /// Remembers where a key is led that was asked for. If that was remembered already, no other one is
-    /// forgotten.
+    /// Remembers where a key is led that was asked for, now that no other key is led elsewhere. Another one
+    /// is forgotten only where there are three.
     pub fn push(&mut self, lead: Lead)
-        ensures { (index : PlaceMap) → map.get index lead.key.key ≡ lead.at → AreLed index self.old → AreLed index self.new }
+        ensures { (before after : PlaceMap) → AreLed before self.old → IsElsewhereAs lead.key.key before after → map.get after lead.key.key ≡ lead.at → AreLed after self.new }
     {
-        let hash = lead.key.hash;
-        if !is_numbered(hash, &self.last) {
-            if !is_numbered(hash, &self.second) {
+        self.forget(&lead.key);
+        if self.last.is_some() {
+            if self.second.is_some() {
                 self.third = self.second;
             }
             self.second = self.last;
@@ -63,13 +62,13 @@ impl Leads {
         self.last = Some(lead);
     }
 
-    /// Forgets the key.
+    /// Forgets the key, now that no other one is led elsewhere.
     pub fn forget(&mut self, key: &HashedKey)
-        ensures { (before after : PlaceMap) → AreLed before self.old → ((q : List ℕ) → same_key key.now.key q ≡ false → map.get after q ≡ map.get before q) → AreLed after self.new }
+        ensures { (before after : PlaceMap) → AreLed before self.old → IsElsewhereAs key.now.key before after → AreLed after self.new }
     {
-        self.last = unless(key.hash, self.last);
-        self.second = unless(key.hash, self.second);
-        self.third = unless(key.hash, self.third);
+        forget(key.hash, &mut self.last);
+        forget(key.hash, &mut self.second);
+        forget(key.hash, &mut self.third);
     }
 }
 
@@ -83,9 +82,11 @@ fn is_numbered(hash: u32, lead: &Option<Lead>) -> bool
     }
 }
 
-// What is remembered, unless it is of a key with this number.
-fn unless(hash: u32, lead: Option<Lead>) -> Option<Lead>
-    ensures { result ≡ unless hash lead }
+// Forgets what is remembered, if it is of a key with this number.
+fn forget(hash: u32, lead: &mut Option<Lead>)
+    ensures { lead.new ≡ unless hash lead.old }
 {
-    if is_numbered(hash, &lead) { None } else { lead }
+    if is_numbered(hash, lead) {
+        *lead = None;
+    }
 }

@@ -34,14 +34,12 @@ same_key-is (x ∷ a) (y ∷ b) e = by (nat_eq x y) refl e (same_key-is a b)
     by false p q rest = absurd (false≢true q)
 
 -- keys with two numbers are two
-pub numbered_apart : (one other : ℕ) (a b : List ℕ) → one ≡ hash_of a → other ≡ hash_of b → nat_eq one other ≡ false
+pub numbered_apart : (one other : ℕ) (a b : List ℕ) → one ≡ hash_of a → other ≡ hash_of b → one ≢ other
     → same_key a b ≡ false
 numbered_apart one other a b one_is other_is differ = by (same_key a b) refl
   where
     by : (same : Bool) → same_key a b ≡ same → same ≡ false
-    by true same =
-        absurd (true≢false
-        (sym (eq-eqb one other (one_is ∙ ap hash_of (same_key-is a b same) ∙ sym other_is)) ∙ differ))
+    by true same = absurd (differ (one_is ∙ ap hash_of (same_key-is a b same) ∙ sym other_is))
     by false same = refl
 
 -- the first of the two places, if there is one

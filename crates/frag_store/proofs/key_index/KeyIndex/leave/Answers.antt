@@ -1,6 +1,7 @@
 use Rattle.std.proofs.Common.{subst, sym}
 use Rattle.linear_hash.specs.Places.{Places}
-use Rattle.frag_store.proofs.LeadLemmas.{IsElsewhereAs, elsewhere-removed}
+use Rattle.frag_store.specs.Leads.{IsElsewhereAs}
+use Rattle.frag_store.proofs.LeadLemmas.{elsewhere-removed}
 use Rattle.frag_store.proofs.key_index.KeyIndex.leave.Goals as goal
 
 -- others are where they were
