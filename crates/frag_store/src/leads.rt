@@ -53,13 +53,20 @@ impl Leads {
         ensures { (before after : PlaceMap) → AreLed before self.old → IsElsewhereAs lead.key.key before after → map.get after lead.key.key ≡ lead.at → AreLed after self.new }
     {
         self.forget(&lead.key);
+        self.shift();
+        self.last = Some(lead);
+    }
+
+    // Moves those in front of a gap one place back; the third is forgotten where there is none.
+    fn shift(&mut self)
+        ensures { (index : PlaceMap) → AreLed index self.old → AreLed index self.new }
+    {
         if self.last.is_some() {
             if self.second.is_some() {
                 self.third = self.second;
             }
             self.second = self.last;
         }
-        self.last = Some(lead);
     }
 
     /// Forgets the key, now that no other one is led elsewhere.

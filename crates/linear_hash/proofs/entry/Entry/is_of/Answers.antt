@@ -1,4 +1,5 @@
-use Rattle.std.proofs.Common.{sym}
+use Rattle.std.proofs.Common.{sym, ◌∙◌}
+use Rattle.std.proofs.lemmas.Bool.{ne_eqb}
 use Rattle.linear_hash.proofs.FoundLemmas.{numbered_apart}
 use Rattle.linear_hash.proofs.entry.Entry.is_of.Goals as goal
 
@@ -7,4 +8,6 @@ pub returns-else-self-key : goal.returns-else-self-key
 returns-else-self-key c =
     let own = c.args.self.now in
     let other = c.args.key.now in
-    sym (numbered_apart own.hash other.hash own.key other.key own.hashed other.hashed c.if-self-key.false)
+    let differ = c.if-self-key.false in
+    ne_eqb own.hash other.hash differ
+    ∙ sym (numbered_apart own.hash other.hash own.key other.key own.hashed other.hashed differ)
