@@ -9,6 +9,9 @@ use sig_core::{HashedKey, NoMemory};
 use std::alloc::Global;
 use std::marker::Model;
 
+/// How many entries there is room for where a bucket is split off: twice as many as one has on average.
+const ROOM: usize = 8;
+
 /// The entries of a bucket, in the order in which they came. Contracts see their list.
 #[derive(Drop)]
 pub struct Bucket {
@@ -119,10 +122,11 @@ fn part_of(
     requires { IsGrowth growth }
     ensures { IfOk result (λ part. part.items ≡ part_of growth bucket entries.now) }
 {
-    let part = entries
-        .iter()
-        .filter(|entry| entry.is_in(growth, bucket))
-        .copied()
-        .collect(alloc)?;
+    let mut part = Vec::with_capacity(alloc, ROOM)?;
+    for entry in entries {
+        if entry.is_in(growth, bucket) {
+            part.push(*entry)?;
+        }
+    }
     Ok(part)
 }
