@@ -73,7 +73,7 @@ impl HeldPlaces {
         self.places.place_of(key)
     }
 
-    /// Notes a key that comes with its number, so that it is found without a digest until another one is
+    /// Notes a key that comes with its number, so that it is found without a digest until three others are
     /// asked for.
     pub fn note(&mut self, key: &HashedKey)
         ensures same { self.new ≡ self.old }

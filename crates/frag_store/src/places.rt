@@ -95,12 +95,12 @@ impl Places {
         }
     }
 
-    /// Notes a key that comes with its number, so that it is found without a digest until another one is
+    /// Notes a key that comes with its number, so that it is found without a digest until three others are
     /// asked for.
     pub fn note(&mut self, key: &HashedKey)
         ensures same { self.new ≡ self.old }
     {
-        self.index.note(key);
+        let _at = self.index.note(key);
     }
 
     /// Makes the memory for the key's place.
