@@ -24,7 +24,7 @@ fn show(alloc: Global, meant: Result<Option<Command>, LineFault>) -> Result<Vec<
     match meant {
         Ok(None) => Ok(b"-".to_vec(alloc)?),
         Ok(Some(Command::Operate { name, op })) => show_op(alloc, name, &op),
-        Ok(Some(command)) => spell(alloc, &spelling(&command)),
+        Ok(Some(command)) => spell(alloc, &spelled(&command)),
         Err(fault) => Ok(vec![in alloc; b'0' + fault.code() % 10]?),
     }
 }
@@ -101,7 +101,7 @@ fn begun(name: u16, node: Option<u8>) -> Spelling {
 }
 
 // Those with a name, or with two numbers.
-fn spelling(command: &Command) -> Spelling {
+fn spelled(command: &Command) -> Spelling {
     match command {
         Command::Begin { name, node } => begun(*name, *node),
         Command::Commit { name } => one(b"commit ", u32::from(*name)),
@@ -117,12 +117,12 @@ fn spelling(command: &Command) -> Spelling {
                 Some(u32::from(*other)),
             )
         }
-        _ => spelling_of_few(command),
+        _ => spelled_shortly(command),
     }
 }
 
 // Those with a number at most. No other command comes here.
-fn spelling_of_few(command: &Command) -> Spelling {
+fn spelled_shortly(command: &Command) -> Spelling {
     match command {
         Command::Batch => plain(b"batch"),
         Command::End => plain(b"end"),
