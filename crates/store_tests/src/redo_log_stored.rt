@@ -1,7 +1,7 @@
 use crate::redo_log_log::{pair, put};
 use crate::redo_log_replaying::PAIR;
-use redo_log::{Log, replay};
 use host_io::{Disk, MemDisk};
+use redo_log::{Log, replay};
 use sig_core::{Journal, Key, ReadFault, Redo, Table, Value};
 use std::test::Fail;
 

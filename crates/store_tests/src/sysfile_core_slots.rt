@@ -1,11 +1,11 @@
 //! Slots worked out by hand, each byte of them changed, slots that are cut short, and writes that are
 //! stopped at each of their calls.
-use sysfile_core::{
-    CONTROL_FILE, SYSTEM_FILE, control_bytes, read_control, read_system, system_bytes, write_slot,
-};
 use host_io::{Disk, MemDisk};
 use sig_core::{ControlSlot, ReadFault, Shape, SystemSlot};
 use std::test::Fail;
+use sysfile_core::{
+    CONTROL_FILE, SYSTEM_FILE, control_bytes, read_control, read_system, system_bytes, write_slot,
+};
 
 // A system slot of two nodes, generation 1 and epoch 5.
 const SYSTEM: [u8; 24] = [

@@ -1,7 +1,7 @@
 //! Places by hand.
-use tuple_pages::Pages;
 use sig_core::{Key, Value};
 use std::test::Fail;
+use tuple_pages::Pages;
 
 #[test]
 fn a_freed_place_is_taken_again(rt: HostRuntime) -> Result<(), Fail> {
