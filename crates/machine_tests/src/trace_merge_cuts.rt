@@ -1,11 +1,11 @@
 //! Merges and cuts of small logs, made by hand.
-use trace_merge::{CutFault, is_closed, merge};
 use sig_core::{
     ApiReq, Body, Boxed, CLIENT, Held, HostId, HostLog, HostSignal, LogStep, Marks, Member,
     Members, NoMemory, Seq, Signal, StopCause, View, Work,
 };
 use std::alloc::Global;
 use std::test::Fail;
+use trace_merge::{CutFault, is_closed, merge};
 
 const NOBODY: Member = Member { node: 0, start: 0 };
 

@@ -4,12 +4,12 @@ ghost use Rattle.frag_map.specs.Shape.{IsShape};
 ghost use Rattle.world_views.specs.Driven.{IsWorld};
 ghost use Rattle.world_views.specs.WorldOf.{whole_of};
 
-use world_views::World;
 use gcp_master::MICROS;
 use script_lang::{Command, parse_line, print_reply};
 use sig_core::{Answer, ApiReq, HeldOp, NoMemory, Shape, UAnswer};
 use std::alloc::Global;
 use std::sync::Wait;
+use world_views::World;
 
 fn request_of(alloc: Global, command: &Command) -> Result<Option<ApiReq>, NoMemory> {
     Ok(match command {
