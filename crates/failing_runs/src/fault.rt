@@ -5,7 +5,7 @@ use sig_core::{NoMemory, WordFault};
 use std::alloc::AllocFailed;
 
 /// Why a run has no verdict that it is fine.
-#[derive(Clone, Copy, Debug, PartialEq, Eq)]
+#[derive(Clone, Copy)]
 pub enum RunFault {
     Broken(Law),
     /// A key or value that was drawn is none.

@@ -67,7 +67,8 @@ fn unwaits_all(locks: &mut LockTable) -> bool {
 
 fn expires(locks: &LockTable, wait: Option<(u64, u8)>) -> bool {
     match (locks.expired(), wait) {
-        (Some((found, key)), Some((n, letter))) => found == tx(n) && key.bytes() == [letter],
+        (Some((found, key)), Some((n, letter))) => found == tx(n)
+            && key.bytes() == [letter].as_slice(),
         (None, None) => true,
         _ => false,
     }

@@ -4,7 +4,7 @@ use sig_core::NoMemory;
 use std::alloc::{AllocError, AllocFailed};
 
 /// A law of a life, as a judge finds it broken.
-#[derive(Clone, Copy, Debug, PartialEq, Eq)]
+#[derive(Clone, Copy)]
 pub enum Law {
     /// No step follows the one that stopped its host.
     NoStepAfterStop,
@@ -101,7 +101,7 @@ impl Law {
 }
 
 /// Why a life has no verdict that it is fine.
-#[derive(Clone, Copy, Debug, PartialEq, Eq)]
+#[derive(Clone, Copy)]
 pub enum Fault {
     Broken(Law),
     NoMemory,

@@ -45,14 +45,25 @@ fn promises_rise(log: &HostLog) -> bool {
     // The first view of a life has number 1, and nobody promises it.
     let mut last = 1;
     for step in log.steps.as_slice() {
-        for mark in step.marks.as_slice() {
-            if let Mark::Promised { number } = mark {
-                if *number <= last {
-                    return false;
-                }
-                last = *number;
-            }
+        match risen(step, last) {
+            Some(number) => last = number,
+            None => return false,
         }
     }
     true
+}
+
+// The number of the last view that is promised after a step, where that of the last one before it is this; none
+// where they don't rise.
+fn risen(step: &LogStep, before: u64) -> Option<u64> {
+    let mut last = before;
+    for mark in step.marks.as_slice() {
+        if let Mark::Promised { number } = mark {
+            if *number <= last {
+                return None;
+            }
+            last = *number;
+        }
+    }
+    Some(last)
 }

@@ -273,20 +273,8 @@ fn is_among(node: u32, members: &[Member]) -> bool {
 
 // Whether two views have the same members.
 fn is_same(one: &View, other: &View) -> bool {
-    are_same(one.full.as_slice(), other.full.as_slice())
-        && are_same(one.starting.as_slice(), other.starting.as_slice())
-}
-
-fn are_same(one: &[Member], other: &[Member]) -> bool {
-    if one.len() != other.len() {
-        return false;
-    }
-    for at in 0..one.len() {
-        if one[at].node != other[at].node || one[at].start != other[at].start {
-            return false;
-        }
-    }
-    true
+    one.full.as_slice() == other.full.as_slice()
+        && one.starting.as_slice() == other.starting.as_slice()
 }
 
 // Whether a host may stand in a view, which has its member. The shell's has none, and one that was made

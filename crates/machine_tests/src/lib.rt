@@ -1,5 +1,5 @@
-//! Tests of links, of lists of peers, and of worlds and their logs. They stand here and not in those crates, since a crate
-//! with tests is proved twice, and each test function with it.
+//! Tests of links, of lists of peers, and of worlds and their logs. They stand here and not in those crates, since a
+//! crate with tests is proved twice, and each test function with it.
 #![tactic(auto)]
 
 #[cfg(test)]

@@ -9,60 +9,67 @@ const TX: TxId = TxId {
     seq: 1,
 };
 
-// A call on the key of a letter, by one transaction.
+// A call on a key, by one transaction.
 #[derive(Clone, Copy)]
 enum Call {
-    Room(u8),
-    Put(u8, u64),
-    Prepare(u8),
-    Delete(u8),
-    Insert(u8),
-    Commit(u8, u64),
-    Abort(u8),
-    Complete(u8),
+    Room,
+    Put(u64),
+    Prepare,
+    Delete,
+    Insert,
+    Commit(u64),
+    Abort,
+    Complete,
 }
 
 // The first place that has a row, how many records there are, and the epoch of the row of the key.
 type Told = (Option<u64>, usize, Option<u64>);
 
-fn told(rows: &Store, key: &Key) -> Told {
-    (rows.place_from(0), rows.records(), rows.row_epoch(key))
+// The letter of a key, a call on it, and what is told then.
+type Line = (u8, Call, Told);
+
+// Prepares an image, whatever it is answered.
+fn prepare(rows: &mut Store, key: &Key, image: Option<Value>) {
+    let _answer = rows.prepare_image(TX, key, &image);
 }
 
-fn make(rows: &mut Store, call: Call) -> Result<Told, Fail> {
+fn insert(rows: &mut Store, key: &Key, value: Value) {
+    let _answer = rows.prepare(TX, &Op::Ins(*key, value));
+}
+
+fn make(rows: &mut Store, key: &Key, call: Call) -> Result<(), Fail> {
     let value = Value::new(b"x")?;
-    let (Call::Room(letter)
-    | Call::Put(letter, _)
-    | Call::Prepare(letter)
-    | Call::Delete(letter)
-    | Call::Insert(letter)
-    | Call::Commit(letter, _)
-    | Call::Abort(letter)
-    | Call::Complete(letter)) = call;
-    let key = Key::new(&[letter])?;
     match call {
-        Call::Room(_) => rows.make_room(&HashedKey::new(&key))?,
-        Call::Put(_, epoch) => rows.put_row(&key, &value, epoch)?,
-        Call::Prepare(_) => {
-            let _answer = rows.prepare_image(TX, &key, &Some(value));
-        }
-        Call::Delete(_) => {
-            let _answer = rows.prepare_image(TX, &key, &None);
-        }
-        Call::Insert(_) => {
-            let _answer = rows.prepare(TX, &Op::Ins(key, value));
-        }
-        Call::Commit(_, epoch) => rows.commit(TX, &key, epoch),
-        Call::Abort(_) => rows.abort(TX, &key),
-        Call::Complete(_) => rows.complete(TX, &key),
+        Call::Room => rows.make_room(&HashedKey::new(key))?,
+        Call::Put(epoch) => rows.put_row(key, &value, epoch)?,
+        Call::Prepare => prepare(rows, key, Some(value)),
+        Call::Delete => prepare(rows, key, None),
+        Call::Insert => insert(rows, key, value),
+        _ => end(rows, key, call),
     }
-    Ok(told(rows, &key))
+    Ok(())
+}
+
+// Those that end what was prepared. No other call comes here.
+fn end(rows: &mut Store, key: &Key, call: Call) {
+    match call {
+        Call::Commit(epoch) => rows.commit(TX, key, epoch),
+        Call::Abort => rows.abort(TX, key),
+        Call::Complete => rows.complete(TX, key),
+        _ => {}
+    }
+}
+
+fn comes_to(rows: &mut Store, line: &Line) -> Result<bool, Fail> {
+    let key = Key::new(&[line.0])?;
+    make(rows, &key, line.1)?;
+    Ok((rows.place_from(0), rows.records(), rows.row_epoch(&key)) == line.2)
 }
 
 // The first line whose call doesn't come to what it says.
-fn first_wrong(rows: &mut Store, lines: &[(Call, Told)]) -> Result<Option<usize>, Fail> {
-    for (at, (call, then)) in lines.iter().enumerate() {
-        if make(rows, *call)? != *then {
+fn first_wrong(rows: &mut Store, lines: &[Line]) -> Result<Option<usize>, Fail> {
+    for (at, line) in lines.iter().enumerate() {
+        if !comes_to(rows, line)? {
             return Ok(Some(at));
         }
     }
@@ -73,17 +80,17 @@ fn first_wrong(rows: &mut Store, lines: &[(Call, Told)]) -> Result<Option<usize>
 fn a_freed_place_is_taken_again(rt: HostRuntime) -> Result<(), Fail> {
     let mut rows = Store::new(rt.alloc())?;
     let lines = [
-        (Call::Put(b'a', 1), (Some(0), 0, Some(1))),
-        (Call::Put(b'b', 2), (Some(0), 0, Some(2))),
-        (Call::Delete(b'a'), (Some(0), 1, Some(1))),
-        (Call::Commit(b'a', 6), (Some(1), 1, None)),
-        (Call::Room(b'c'), (Some(1), 1, None)),
-        (Call::Complete(b'a'), (Some(1), 0, None)),
-        (Call::Prepare(b'c'), (Some(1), 1, None)),
-        (Call::Abort(b'c'), (Some(1), 0, None)),
-        (Call::Put(b'd', 7), (Some(0), 0, Some(7))),
-        (Call::Insert(b'e'), (Some(0), 1, None)),
-        (Call::Commit(b'e', 8), (Some(0), 1, Some(8))),
+        (b'a', Call::Put(1), (Some(0), 0, Some(1))),
+        (b'b', Call::Put(2), (Some(0), 0, Some(2))),
+        (b'a', Call::Delete, (Some(0), 1, Some(1))),
+        (b'a', Call::Commit(6), (Some(1), 1, None)),
+        (b'c', Call::Room, (Some(1), 1, None)),
+        (b'a', Call::Complete, (Some(1), 0, None)),
+        (b'c', Call::Prepare, (Some(1), 1, None)),
+        (b'c', Call::Abort, (Some(1), 0, None)),
+        (b'd', Call::Put(7), (Some(0), 0, Some(7))),
+        (b'e', Call::Insert, (Some(0), 1, None)),
+        (b'e', Call::Commit(8), (Some(0), 1, Some(8))),
     ];
     assert_eq!(rt; first_wrong(&mut rows, &lines)?, None);
     Ok(())
@@ -135,16 +142,16 @@ fn a_record_tells_the_epoch_of_its_first_commit(rt: HostRuntime) -> Result<(), F
 fn a_row_has_the_epoch_of_its_last_commit(rt: HostRuntime) -> Result<(), Fail> {
     let mut rows = Store::new(rt.alloc())?;
     let lines = [
-        (Call::Room(b'a'), (None, 0, None)),
-        (Call::Put(b'a', 3), (Some(0), 0, Some(3))),
-        (Call::Prepare(b'a'), (Some(0), 1, Some(3))),
-        (Call::Commit(b'a', 5), (Some(0), 1, Some(5))),
-        (Call::Complete(b'a'), (Some(0), 0, Some(5))),
-        (Call::Delete(b'a'), (Some(0), 1, Some(5))),
-        (Call::Commit(b'a', 6), (None, 1, None)),
-        (Call::Complete(b'a'), (None, 0, None)),
-        (Call::Prepare(b'a'), (None, 1, None)),
-        (Call::Commit(b'a', 8), (Some(0), 1, Some(8))),
+        (b'a', Call::Room, (None, 0, None)),
+        (b'a', Call::Put(3), (Some(0), 0, Some(3))),
+        (b'a', Call::Prepare, (Some(0), 1, Some(3))),
+        (b'a', Call::Commit(5), (Some(0), 1, Some(5))),
+        (b'a', Call::Complete, (Some(0), 0, Some(5))),
+        (b'a', Call::Delete, (Some(0), 1, Some(5))),
+        (b'a', Call::Commit(6), (None, 1, None)),
+        (b'a', Call::Complete, (None, 0, None)),
+        (b'a', Call::Prepare, (None, 1, None)),
+        (b'a', Call::Commit(8), (Some(0), 1, Some(8))),
     ];
     assert_eq!(rt; first_wrong(&mut rows, &lines)?, None);
     Ok(())

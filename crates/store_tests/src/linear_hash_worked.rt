@@ -1,57 +1,86 @@
 //! Buckets that were counted by hand.
 use linear_hash::Index;
 use sig_core::{HashedKey, Key};
-use std::process::Abort;
 use std::test::Fail;
 
-fn key_of(word: &[u8]) -> Result<HashedKey, Fail> {
-    Ok(HashedKey::new(&Key::new(word)?))
+// A call on the key of a letter, and what it is to come to.
+#[derive(Clone, Copy)]
+enum Line {
+    // At this place. So many buckets there are then.
+    Put(u8, u64, u64),
+    Find(u8, Option<u64>),
+    Remove(u8, Option<u64>),
 }
 
-// Puts in a key that isn't there.
-fn put(rt: &impl Abort, index: &mut Index, word: &[u8], at: u64) -> Result<(), Fail> {
-    let key = key_of(word)?;
-    assert!(rt; index.find(&key).is_none());
-    if index.find(&key).is_none() {
-        index.insert(&key, at)?;
+fn key_of(letter: u8) -> Result<HashedKey, Fail> {
+    Ok(HashedKey::new(&Key::new(&[letter])?))
+}
+
+// Puts in a key, and says whether it wasn't there.
+fn puts(index: &mut Index, key: &HashedKey, at: u64) -> Result<bool, Fail> {
+    if index.find(key).is_some() {
+        return Ok(false);
     }
-    Ok(())
+    index.insert(key, at)?;
+    Ok(true)
+}
+
+fn fits(index: &mut Index, line: Line) -> Result<bool, Fail> {
+    Ok(match line {
+        Line::Put(letter, at, buckets) => {
+            puts(index, &key_of(letter)?, at)? && index.buckets() == buckets
+        }
+        Line::Find(letter, at) => index.find(&key_of(letter)?) == at,
+        Line::Remove(letter, at) => index.remove(&key_of(letter)?) == at,
+    })
+}
+
+// The first line that doesn't come to what it says.
+fn first_wrong(index: &mut Index, lines: &[Line]) -> Result<Option<usize>, Fail> {
+    for (at, line) in lines.iter().enumerate() {
+        if !fits(index, *line)? {
+            return Ok(Some(at));
+        }
+    }
+    Ok(None)
 }
 
 #[test]
 fn the_fifth_key_splits_the_bucket(rt: HostRuntime) -> Result<(), Fail> {
     let mut index = Index::new(rt.alloc())?;
-    assert_eq!(rt; index.buckets(), 1);
-    for (word, at, buckets) in [
-        (b"a", 7, 1),
-        (b"b", 0, 1),
-        (b"c", 3, 1),
-        (b"d", 12, 1),
-        (b"e", 1, 2),
-    ] {
-        put(&rt, &mut index, word, at)?;
-        assert_eq!(rt; index.buckets(), buckets);
-    }
-    for (word, at) in [(b"a", 7), (b"b", 0), (b"c", 3), (b"d", 12), (b"e", 1)] {
-        assert_eq!(rt; index.find(&key_of(word)?), Some(at));
-    }
-    assert_eq!(rt; index.find(&key_of(b"f")?), None);
+    assert!(rt; index.buckets() == 1);
+    let lines = [
+        Line::Put(b'a', 7, 1),
+        Line::Put(b'b', 0, 1),
+        Line::Put(b'c', 3, 1),
+        Line::Put(b'd', 12, 1),
+        Line::Put(b'e', 1, 2),
+        Line::Find(b'a', Some(7)),
+        Line::Find(b'b', Some(0)),
+        Line::Find(b'c', Some(3)),
+        Line::Find(b'd', Some(12)),
+        Line::Find(b'e', Some(1)),
+        Line::Find(b'f', None),
+    ];
+    assert_eq!(rt; first_wrong(&mut index, &lines)?, None);
     Ok(())
 }
 
 #[test]
 fn a_removed_key_leaves_its_buckets(rt: HostRuntime) -> Result<(), Fail> {
     let mut index = Index::new(rt.alloc())?;
-    for (word, at) in [(b"a", 7), (b"b", 0), (b"c", 3), (b"d", 12), (b"e", 1)] {
-        put(&rt, &mut index, word, at)?;
-    }
-    let key = key_of(b"c")?;
-    assert_eq!(rt; index.remove(&key), Some(3));
-    assert_eq!(rt; index.remove(&key), None);
-    assert_eq!(rt; index.find(&key), None);
-    assert_eq!(rt; index.buckets(), 2);
-    put(&rt, &mut index, b"c", 9)?;
-    assert_eq!(rt; index.find(&key), Some(9));
-    assert_eq!(rt; index.buckets(), 2);
+    let lines = [
+        Line::Put(b'a', 7, 1),
+        Line::Put(b'b', 0, 1),
+        Line::Put(b'c', 3, 1),
+        Line::Put(b'd', 12, 1),
+        Line::Put(b'e', 1, 2),
+        Line::Remove(b'c', Some(3)),
+        Line::Remove(b'c', None),
+        Line::Find(b'c', None),
+        Line::Put(b'c', 9, 2),
+        Line::Find(b'c', Some(9)),
+    ];
+    assert_eq!(rt; first_wrong(&mut index, &lines)?, None);
     Ok(())
 }

@@ -1,3 +1,5 @@
+ghost use Rattle.std.specs.Prelude.{◌≤◌};
+
 use crate::redo_log_log::{pair, put};
 use crate::redo_log_replaying::PAIR;
 use host_io::{Disk, MemDisk};
@@ -97,16 +99,30 @@ fn what_is_synced_is_replayed_after_a_crash(rt: HostRuntime) -> Result<(), Fail>
     Ok(())
 }
 
+// What replay between two places of the log answers, and whether it made the row of `a`.
+fn replayed(
+    rt: &HostRuntime,
+    disk: &mut MemDisk,
+    parity: u8,
+    from: u64,
+    to: u64,
+) -> Result<(Result<(), ReadFault>, bool), Fail>
+    requires parity { parity ≤ 1 }
+    requires order { from ≤ to }
+{
+    let mut rows = Table::new(rt.alloc());
+    let done = replay(rt.alloc(), &mut rows, disk, parity, from, to, 1);
+    Ok((done, rows.get(&Key::new(b"a")?).is_some()))
+}
+
 // What replay answers of the first bytes of the pair, where 48 are to be there, and whether it made
 // a row.
 fn answer(rt: &HostRuntime, len: usize, from: u64) -> Result<(Result<(), ReadFault>, bool), Fail> {
     let mut disk = disk_of(rt, &[])?;
-    let mut rows = Table::new(rt.alloc());
     if len > 48 || from > 48 || disk.write(8, 0, &PAIR[..len]).is_err() {
         return Err(Fail::from("the bytes are written"));
     }
-    let done = replay(rt.alloc(), &mut rows, &mut disk, 1, from, 48, 1);
-    Ok((done, rows.get(&Key::new(b"a")?).is_some()))
+    replayed(rt, &mut disk, 1, from, 48)
 }
 
 #[test]
@@ -133,14 +149,12 @@ fn a_commit_without_its_prepare_makes_no_row(rt: HostRuntime) -> Result<(), Fail
 // of replay begin with the third, and whether it made a row.
 fn across(rt: &HostRuntime, fails: &[u64]) -> Result<(Result<(), ReadFault>, bool), Fail> {
     let mut disk = disk_of(rt, fails)?;
-    let mut rows = Table::new(rt.alloc());
     let written = disk.write(4, 4_194_280, &PAIR[..24]).is_ok()
         && disk.write(5, 0, &PAIR[24..]).is_ok();
     if !written {
         return Err(Fail::from("the bytes are written"));
     }
-    let done = replay(rt.alloc(), &mut rows, &mut disk, 0, 4_194_280, 4_194_328, 1);
-    Ok((done, rows.get(&Key::new(b"a")?).is_some()))
+    replayed(rt, &mut disk, 0, 4_194_280, 4_194_328)
 }
 
 #[test]
