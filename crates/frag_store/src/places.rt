@@ -1,6 +1,8 @@
 //! Places in pages, and an index of their keys.
-ghost use Rattle.std.specs.Prelude.{◌≡◌, ◌+◌, ◌<◌, ◌^◌, ◌||◌, IfOk, IfSome, IsOk, List, MatchOption, None, OnOk, Some, [], drop, false, nat_eq, position, slice_index_or, slice_set, true, ℕ};
-ghost use Rattle.sig_core.specs.Rows.{freed_by, has_row, is_at, next_by, no_row, place_of, placed, set_row, taken, with_place};
+ghost use Rattle.std.specs.Prelude.{◌≡◌, ◌+◌, ◌<◌, ◌^◌, ◌||◌, IfOk, IfSome, IsOk, List, MatchOption, None, OnOk, Some};
+ghost use Rattle.std.specs.Prelude.{[], drop, false, nat_eq, position, slice_index_or, slice_set, true, ℕ};
+ghost use Rattle.sig_core.specs.Rows.{freed_by, has_row, is_at, next_by, no_row, place_of, placed, set_row, taken};
+ghost use Rattle.sig_core.specs.Rows.{with_place};
 ghost use Rattle.tuple_pages.specs.Free.{first_free};
 ghost use Rattle.frag_store.specs.Places.{IsAhead, IsReady};
 

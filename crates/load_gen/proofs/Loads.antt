@@ -1,5 +1,6 @@
 -- What a load asks for next.
-use Rattle.std.proofs.Common.{◌≡◌, ℕ, zero, suc, ◌+◌, ◌-◌, ◌*◌, ◌<◌, Bool, List, [], ◌∷◌, ◌++◌, refl, ap, sym, ◌∙◌, arith}
+use Rattle.std.proofs.Common.{◌≡◌, ℕ, zero, suc, ◌+◌, ◌-◌, ◌*◌, ◌<◌, Bool, List, [], ◌∷◌, ◌++◌, refl, ap, sym, ◌∙◌}
+use Rattle.std.proofs.Common.{arith}
 use Rattle.script_lang.specs.declared.command.Command.{Command}
 use Rattle.load_gen.specs.declared.load.Asked.TheVariants.{Wave}
 use Rattle.load_gen.specs.Random.{drawn, first}

@@ -1,5 +1,6 @@
 -- What a load asks for.
-use Rattle.std.specs.Prelude.{ℕ, zero, suc, ◌+◌, ◌-◌, ◌*◌, ◌/◌, ◌%◌, ◌==◌, ◌||◌, Bool, min, if◌then◌else◌, List, [], ◌∷◌, ◌++◌}
+use Rattle.std.specs.Prelude.{ℕ, zero, suc, ◌+◌, ◌-◌, ◌*◌, ◌/◌, ◌%◌, ◌==◌, ◌||◌, Bool, min, if◌then◌else◌, List, []}
+use Rattle.std.specs.Prelude.{◌∷◌, ◌++◌}
 use Rattle.load_gen.specs.declared.load.Asked.{Asked}
 use Rattle.load_gen.specs.declared.load.Asked.TheVariants.{Wave, Checkpoint}
 use Rattle.load_gen.specs.Wave.{wave}

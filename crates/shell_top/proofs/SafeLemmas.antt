@@ -23,7 +23,8 @@ use Rattle.outcome_laws.proofs.order.ReportsBeforeAsks.{histories_in_strict_orde
 use Rattle.talk_laws.proofs.Told.{decided_as_told}
 use Rattle.closing_laws.proofs.settled.ClosedStayClosed.{closed_stay_closed}
 use Rattle.closing_laws.proofs.durable.All.{durable_were_closed}
-use Rattle.commit_laws.proofs.led.CutLaws.{aborts_effectless, commits_effective, histories_legal, records_alike, resting_rows}
+use Rattle.commit_laws.proofs.led.CutLaws.{aborts_effectless, commits_effective, histories_legal, records_alike}
+use Rattle.commit_laws.proofs.led.CutLaws.{resting_rows}
 use Rattle.commit_laws.proofs.views.Greatest.{greatest_viable}
 use Rattle.shell_top.specs.Safe.{AreSafe, IsSafe}
 
