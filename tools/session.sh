@@ -1,0 +1,83 @@
+# What ./ndb and ./try have in common: which program is run, and how. Both set `top`, and `me` to how they are called.
+# Sourced, not run.
+
+# A crate's sources, or the list of crates, changed since a program was built.
+is_stale() {
+    [ ! -x "$1" ] ||
+        [ -n "$(find "$top/crates.txt" "$top/crates" -name out -prune -o -type f -newer "$1" -print -quit)" ]
+}
+
+# How the program is called.
+usage() {
+    cat <<END
+$me [--nodes N] [--replicas R] [--fragments F] [FILE]
+    A cluster of N nodes, 1 to 8 (2), with R replicas of each row, 1 to 4 (2), which divide N, and
+    F fragments, 1 to 32 (4). It runs the script in FILE, or on standard input.
+$me --help, $me --version
+END
+    [ "$me" != try ] || echo 'try runs the program unproved; ./ndb is the one that is proved.'
+    cat <<END
+
+status   0 the input was read to its end, or to \`quit\`    1 words refused     2 a line refused
+         3 reading failed    4 writing failed    5 memory is wanting    9 a line too long
+docs/SCRIPT.md is the manual, docs/TUTORIAL.md a first hour.
+END
+}
+
+# The program's version is that of its sources.
+version() {
+    local at
+    at=$(git -C "$top" describe --always --dirty --tags 2>/dev/null) || at='without git'
+    echo "ndb $at, built with $(rt version 2>/dev/null || echo 'no Rattle toolchain')"
+}
+
+# An exit status in words, where somebody sees them.
+tell_status() {
+    local words
+    case $1 in
+        0) return ;;
+        1) words="words refused: $me --help tells which there are" ;;
+        2) words='a line is outside the grammar; the last line tells which, and docs/SCRIPT.md what its code means' ;;
+        3) words='reading failed' ;;
+        4) words='writing failed' ;;
+        5) words='memory is wanting' ;;
+        9) words='a line is too long: more than 512 bytes, or the 65,537th' ;;
+        *) words='the program was stopped' ;;
+    esac
+    [ ! -t 2 ] || echo "$me: status $1: $words" >&2
+}
+
+# Takes the words. Leaves those of the program in `words`, and the script's file in `script`.
+take_words() {
+    words=()
+    script=
+    while [ $# -gt 0 ]; do
+        case $1 in
+            --help | -h) usage; exit 0 ;;
+            --version | -V) version; exit 0 ;;
+            --nodes | --replicas | --fragments)
+                words+=("$1")
+                [ $# -lt 2 ] || { shift; words+=("$1"); }
+                ;;
+            -*) words+=("$1") ;;
+            *)
+                if [ -z "$script" ] && [ -f "$1" ]; then script=$1; else words+=("$1"); fi
+                ;;
+        esac
+        shift
+    done
+}
+
+# Runs a program on the words, and tells its status where it is seen.
+run_program() {
+    local program=$1 status=0
+    . "$top/crates/ndb_shell/settings.sh"
+    if [ -n "$script" ]; then
+        "$program" "${words[@]}" <"$script" || status=$?
+    else
+        [ -t 1 ] || [ -t 2 ] || exec "$program" "${words[@]}"
+        "$program" "${words[@]}" || status=$?
+    fi
+    tell_status "$status"
+    exit "$status"
+}
