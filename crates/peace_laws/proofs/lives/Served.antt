@@ -85,7 +85,7 @@ module _ (hosts_level : HostsAreLevel) (closes : ClosingGoesOn) (start : Start) 
       let rests : Rests start start.epoch (λ h. []) = lives_rest start rows in
       record {
         stands = rests.stands;
-        rests = λ quiet. record { epoch = start.epoch; some = some; rests = rests };
+        rests = λ quiet. record { epoch = start.epoch; some = omega (arith, some); rests = rests };
         asked = none_asked;
       }
 
