@@ -9,6 +9,6 @@ play_lines-requires g c =
       shape = c.shape_of-shape.result;
       epoch = c.epochs_of-epochs.result.first;
       start_epoch = c.epochs_of-epochs.result.start;
-      rows = c.in_ok-rows.rows.items;
+      rows = c.as_slice.result.now;
     })
     c.in_ok-world.ensures
