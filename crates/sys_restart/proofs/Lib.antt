@@ -1,0 +1,11 @@
+pub mod DisksLemmas
+pub mod FaultLemmas
+pub mod FileLemmas
+pub mod GroupsLemmas
+pub mod LatestLemmas
+pub mod OwnLemmas
+pub mod PieceLemmas
+pub mod PlacesLemmas
+pub mod PrepareLemmas
+pub mod RedoneLemmas
+pub mod TurnLemmas

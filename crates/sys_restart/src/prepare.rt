@@ -1,0 +1,176 @@
+//! What one node's disk is given for the next life: a checkpoint, and a control slot that names it.
+ghost use Rattle.std.specs.Prelude.{◌≡◌, ◌≤◌, ◌++◌, List, Some, false, is_ok, IfOk, OnErr, OnOk, length, map};
+ghost use Rattle.std.specs.List.{flat_map};
+ghost use Rattle.sig_core.specs.Checkpoint.{row_bytes};
+ghost use Rattle.frag_map.specs.Shape.{IsShape};
+ghost use Rattle.host_io.specs.Call.{Call};
+ghost use Rattle.host_io.specs.Fault.{Rose};
+ghost use Rattle.redo_log.specs.Stored.{files_of};
+ghost use Rattle.sysfile_core.specs.Runs.{Runs};
+ghost use Rattle.sys_restart.specs.Answers.{HasCauseOf};
+ghost use Rattle.sys_restart.specs.Calls.{RunsOrWants, checkpoint_for, file_calls, is_used_up, next_file, next_parity, next_slot, node_calls, piece_calls, row_at, write_calls};
+ghost use Rattle.sys_restart.specs.Prepared.{HasPrepared, KeepsRestart, MayPrepare};
+
+use crate::listing::to_rows;
+use crate::places::{Places, control_places};
+use crate::restored::Restored;
+use frag_map::group_of;
+use host_io::{Disk, Failed};
+use lcp_store::{put_head, put_row2};
+use sig_core::{ControlSlot, Key, NoMemory, PIECE_BYTES, RestartFault, Shape, Value};
+use std::alloc::Global;
+use sysfile_core::{CONTROL_FILE, control_bytes, write_slot};
+
+/// Writes what a node begins the next life with, beside what is in use: a checkpoint of the rows of its
+/// group, an empty log, and a control slot of the next generation.
+///
+/// # Errors
+/// `NoMemory`, and then the disk is as it was; `DiskFault`: a call on the disk failed, and none was made
+/// behind it.
+pub fn prepare_node<D: Disk>(
+    alloc: Global,
+    disk: &mut D,
+    node: u8,
+    shape: Shape,
+    restored: &Restored,
+) -> Result<(), RestartFault>
+    requires shape { IsShape shape }
+    requires unused { is_used_up restored.now ≡ false }
+    // Just these calls are made, up to the first that fails.
+    ensures runs { (calls : List Call) → D.told disk.old ≡ Some calls → RunsOrWants (node_calls calls shape node restored.now) calls (D.told disk.new) result }
+    // A stop at any moment leaves a restart as it was.
+    ensures stands { (calls now : List Call) → D.told disk.old ≡ Some calls → D.told disk.new ≡ Some now → KeepsRestart shape node restored.now calls now }
+    // In the end the disk is prepared.
+    ensures prepared { (calls now : List Call) → D.told disk.old ≡ Some calls → D.told disk.new ≡ Some now → OnOk result (MayPrepare shape node restored.now calls → HasPrepared shape node restored.now now) }
+    ensures cause { HasCauseOf node (D.faults disk.old) (D.faults disk.new) result }
+    ensures steady { D.faults disk.old ≤ D.faults disk.new }
+{
+    let places = match control_places(disk, restored.generation) {
+        Ok(places) => places,
+        Err(count) => return Err(RestartFault::DiskFault { node, count }),
+    };
+    let Ok(bytes) = checkpoint_bytes(alloc, node, &shape, restored) else {
+        return Err(RestartFault::NoMemory);
+    };
+    let slot = next_slot(restored, &places, bytes.len() as u64);
+    match write_node(disk, places.free, &slot, &bytes) {
+        Ok(()) => Ok(()),
+        Err(Failed) => Err(RestartFault::DiskFault {
+            node,
+            count: disk.faults(),
+        }),
+    }
+}
+
+// The control slot that is the first of its generation.
+fn next_slot(restored: &Restored, places: &Places, size: u64) -> ControlSlot
+    requires { is_used_up restored.now ≡ false }
+    ensures value { result ≡ next_slot restored.now places.now.in_use size }
+    ensures file { 2 ≤ result.ckpt_file }
+{
+    ControlSlot {
+        ckpt_file: next_file(&places.in_use),
+        parity: next_parity(&places.in_use),
+        generation: restored.generation + 1,
+        serial: 1,
+        saved: restored.epoch,
+        redo_start: 0,
+        redo_end: 0,
+        ckpt_size: size,
+    }
+}
+
+// The checkpoint file that isn't in use.
+fn next_file(in_use: &Option<ControlSlot>) -> u8
+    ensures value { result ≡ next_file in_use.now }
+    ensures least { 2 ≤ result }
+{
+    match in_use {
+        Some(slot) if slot.ckpt_file == 2 => 3,
+        _ => 2,
+    }
+}
+
+// The parity that isn't in use.
+fn next_parity(in_use: &Option<ControlSlot>) -> u8
+    ensures { result ≡ next_parity in_use.now }
+{
+    match in_use {
+        Some(slot) if slot.parity == 0 => 1,
+        _ => 0,
+    }
+}
+
+// A checkpoint of the rows of a node's group, each as of the epoch.
+#[tactic(auto, unfolding(crate::specs::Calls::checkpoint_for))]
+fn checkpoint_bytes(
+    alloc: Global,
+    node: u8,
+    shape: &Shape,
+    restored: &Restored,
+) -> Result<Vec<u8>, NoMemory>
+    requires { IsShape shape.now }
+    ensures { IfOk result (λ bytes. bytes.items ≡ checkpoint_for shape.now node restored.now) }
+{
+    let mut bytes = Vec::new(alloc);
+    put_head(&mut bytes)?;
+    let group = group_of(node, shape) as usize;
+    let groups = restored.groups.as_slice();
+    if group < groups.len() {
+        let rows = to_rows(alloc, &groups[group])?;
+        put_rows(&mut bytes, restored.epoch, &rows)?;
+    }
+    Ok(bytes)
+}
+
+// Appends rows, each as of the epoch.
+fn put_rows(bytes: &mut Vec<u8>, epoch: u64, rows: &[(Key, Value)]) -> Result<(), NoMemory>
+    ensures { OnOk result (bytes.new.items ≡ bytes.old.items ++ flat_map row_bytes (map (row_at epoch) rows.now)) }
+{
+    for (key, value) in rows {
+        put_row2(bytes, key, epoch, value)?;
+    }
+    Ok(())
+}
+
+// Writes the checkpoint, and the slot behind it.
+fn write_node<D: Disk>(
+    disk: &mut D,
+    which: u8,
+    slot: &ControlSlot,
+    bytes: &[u8],
+) -> Result<(), Failed>
+    requires which { which ≤ 1 }
+    requires file { 2 ≤ slot.now.ckpt_file }
+    ensures runs { (calls : List Call) → D.told disk.old ≡ Some calls → Runs (write_calls (files_of calls CONTROL_FILE) which slot.now bytes.now) calls (D.told disk.new) (is_ok result) }
+    ensures cause { OnErr result (Rose (D.faults disk.old) (D.faults disk.new)) }
+    ensures steady { D.faults disk.old ≤ D.faults disk.new }
+{
+    write_file(disk, slot.ckpt_file, bytes)?;
+    write_slot(disk, CONTROL_FILE, which, &control_bytes(slot))
+}
+
+// Writes bytes to a file, and syncs it.
+fn write_file<D: Disk>(disk: &mut D, file: u8, bytes: &[u8]) -> Result<(), Failed>
+    ensures runs { (calls : List Call) → D.told disk.old ≡ Some calls → Runs (file_calls file bytes.now) calls (D.told disk.new) (is_ok result) }
+    ensures cause { OnErr result (Rose (D.faults disk.old) (D.faults disk.new)) }
+    ensures steady { D.faults disk.old ≤ D.faults disk.new }
+{
+    write_pieces(disk, file, bytes)?;
+    disk.sync(file)
+}
+
+// Writes bytes from the first place of a file on, piece by piece.
+fn write_pieces<D: Disk>(disk: &mut D, file: u8, bytes: &[u8]) -> Result<(), Failed>
+    ensures runs { (calls : List Call) → D.told disk.old ≡ Some calls → Runs (piece_calls (length bytes.now) file 0 bytes.now) calls (D.told disk.new) (is_ok result) }
+    ensures cause { OnErr result (Rose (D.faults disk.old) (D.faults disk.new)) }
+    ensures steady { D.faults disk.old ≤ D.faults disk.new }
+{
+    let mut at = 0;
+    'pieces: while at < bytes.len() {
+        let len = PIECE_BYTES.min(bytes.len() - at);
+        disk.write(file, at as u64, &bytes[at..at + len])?;
+        at += len;
+    }
+    Ok(())
+}
