@@ -73,7 +73,7 @@ listed_ends mask other node zero none = refl
 listed_ends mask other node (suc more) none = absurd (omega (arith, none))
 
 -- one more group
-rows_fail : (disks : Disks) (system : SystemSlot) (replicas group more : ℕ) (fault : RestartFault)
+pub rows_fail : (disks : Disks) (system : SystemSlot) (replicas group more : ℕ) (fault : RestartFault)
     → rows_from disks system replicas group more (Err fault) ≡ Err fault
 unfolding rows_from
 rows_fail disks system replicas group zero fault = refl
