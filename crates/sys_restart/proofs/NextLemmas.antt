@@ -100,6 +100,10 @@ pub control_size : (slot : ControlSlot) → 1 + length (drop 1 (control_bytes sl
 unfolding control_bytes
 control_size slot = refl
 
+pub control_long : (slot : ControlSlot) → length (control_bytes slot) ≡ CONTROL_BYTES
+unfolding control_bytes
+control_long slot = refl
+
 -- the calls are on the files that they should be
 pub pieces_on : (more file at end : ℕ) (bytes : List ℕ) → at + PIECE_BYTES * more ≤ end
     → AreOn file end (piece_calls more file at bytes ++ Synced file ∷ [])
