@@ -1,10 +1,11 @@
 //! Forms of disks: empty ones, other shapes, old versions, nodes that aren't listed, sizes at the limits.
 use crate::layout::{Layout, PAIR, first_checkpoint};
-use crate::pair::{disk_of, has_rows, restore_pair};
+use crate::pair::{disk_of, has_rows, have_rows, restore_pair};
+use frag_map::holds;
 use crate::stops::laid_out;
 use crate::trouble::Trouble;
 use host_io::{Disk, MemDisk};
-use sig_core::{ControlSlot, Key, ReadFault, RestartFault, Shape, Table, Value};
+use sig_core::{ControlSlot, Key, ReadFault, RestartFault, Seq, Shape, Table, Value};
 use std::alloc::Global;
 use sys_restart::{Restored, prepare_life, read_rows, restore, restore_own};
 use sysfile_core::read_control;
@@ -41,13 +42,13 @@ fn empty_disks(alloc: Global) -> Result<(), Trouble> {
     if first.generation != 0 || first.epoch != 0 {
         return Err(Trouble::Other);
     }
-    has_rows(&first.rows, &[])?;
+    have_rows(first.groups.as_slice(), &[])?;
     prepare_life(alloc, &mut disks, PAIR, &first)?;
     let second = restore(alloc, &mut disks, PAIR)?;
     if second.generation != 1 || second.epoch != 0 {
         return Err(Trouble::Other);
     }
-    has_rows(&second.rows, &[])
+    have_rows(second.groups.as_slice(), &[])
 }
 
 fn another_shape(alloc: Global) -> Result<(), Trouble> {
@@ -83,7 +84,7 @@ fn a_first_version(alloc: Global) -> Result<(), Trouble> {
     layout.system(0, 7, 2, 3)?;
     let mut disks = [laid_out(&layout)?, laid_out(&layout)?];
     let restored = restore(alloc, &mut disks, PAIR)?;
-    has_rows(&restored.rows, &[(b'a', b'1'), (b'b', b'2')])?;
+    have_rows(restored.groups.as_slice(), &[(b'a', b'1'), (b'b', b'2')])?;
     prepare_life(alloc, &mut disks, PAIR, &restored)?;
     let mut bytes = [0; 26];
     let wanted = b"\0\x02\x01a\0\0\0\0\0\0\0\x02\x011\x01b\0\0\0\0\0\0\0\x02\x012";
@@ -166,23 +167,25 @@ fn three_groups(alloc: Global) -> Result<(), Trouble> {
         laid_out(&none)?,
         laid_out(&none)?,
     ];
-    let mut rows = Table::new(alloc);
+    let mut groups = Seq::new(alloc);
     let mut wanted = Vec::new(alloc);
+    for node in [1, 3, 5] {
+        groups.push(letters_of(alloc, node, &shape)?)?;
+    }
     for key in b'a'..=b'z' {
-        rows.insert(Key::new(&[key])?, Value::new(&[key])?)?;
         wanted.push((key, key))?;
     }
     let next = Restored {
         generation: 1,
         epoch: 9,
-        rows,
+        groups,
     };
     prepare_life(alloc, &mut disks, shape, &next)?;
     let found = restore(alloc, &mut disks, shape)?;
     if found.generation != 2 || found.epoch != 9 {
         return Err(Trouble::Other);
     }
-    has_rows(&found.rows, &wanted)?;
+    have_rows(found.groups.as_slice(), &wanted)?;
     let mut all = 0u64;
     for disk in &mut disks {
         let size = disk.size(2).unwrap_or(0);
@@ -195,22 +198,26 @@ fn three_groups(alloc: Global) -> Result<(), Trouble> {
     if all == 624 { Ok(()) } else { Err(Trouble::Other) }
 }
 
+// The letters that a node's group has, each with itself as its value.
+fn letters_of(alloc: Global, node: u8, shape: &Shape) -> Result<Table, Trouble> {
+    let mut rows = Table::new(alloc);
+    for letter in b'a'..=b'z' {
+        let key = Key::new(&[letter])?;
+        if holds(node, &key, shape) {
+            rows.insert(key, Value::new(&[letter])?)?;
+        }
+    }
+    Ok(rows)
+}
+
 // The greatest generation, epoch and serial that a life may follow, and the longest words.
 fn the_greatest_numbers(alloc: Global) -> Result<(), Trouble> {
     let none = Layout::new(alloc);
     let mut disks = [laid_out(&none)?, laid_out(&none)?];
-    let mut rows = Table::new(alloc);
-    for letter in b'a'..=b'z' {
-        for digit in b'0'..=b'9' {
-            let mut key = [letter; 32];
-            key[31] = digit;
-            rows.insert(Key::new(&key)?, Value::new(&[digit; 200])?)?;
-        }
-    }
     let last = Restored {
         generation: u64::MAX - 1,
         epoch: (u32::MAX as u64) << 32,
-        rows,
+        groups: longest_words(alloc)?,
     };
     let used = prepare_life(alloc, &mut disks, PAIR, &last);
     let fault = RestartFault::UsedUp {
@@ -220,30 +227,55 @@ fn the_greatest_numbers(alloc: Global) -> Result<(), Trouble> {
     if used != Err(fault) || called(&disks) {
         return Err(Trouble::NotRefused);
     }
-    let Restored { rows, .. } = last;
+    let Restored { groups, .. } = last;
     let next = Restored {
         generation: u64::MAX - 1,
         epoch: ((u32::MAX as u64) << 32) - 1,
-        rows,
+        groups,
     };
     prepare_life(alloc, &mut disks, PAIR, &next)?;
     let found = restore(alloc, &mut disks, PAIR)?;
     if found.generation != u64::MAX || found.epoch != next.epoch {
         return Err(Trouble::Other);
     }
-    for letter in b'a'..=b'z' {
-        for digit in b'0'..=b'9' {
-            let mut key = [letter; 32];
-            key[31] = digit;
-            if found.rows.get(&Key::new(&key)?) != Some(Value::new(&[digit; 200])?) {
-                return Err(Trouble::Other);
-            }
-        }
-    }
+    have_longest_words(&found)?;
     match prepare_life(alloc, &mut disks, PAIR, &found) {
         Err(RestartFault::UsedUp { .. }) => Ok(()),
         _ => Err(Trouble::NotRefused),
     }
+}
+
+// One group with keys and values as long as they may be.
+fn longest_words(alloc: Global) -> Result<Seq<Table>, Trouble> {
+    let mut rows = Table::new(alloc);
+    for letter in b'a'..=b'z' {
+        for digit in b'0'..=b'9' {
+            rows.insert(longest_key(letter, digit)?, Value::new(&[digit; 200])?)?;
+        }
+    }
+    let mut groups = Seq::new(alloc);
+    groups.push(rows)?;
+    Ok(groups)
+}
+
+fn longest_key(letter: u8, digit: u8) -> Result<Key, Trouble> {
+    let mut key = [letter; 32];
+    key[31] = digit;
+    Ok(Key::new(&key)?)
+}
+
+fn have_longest_words(found: &Restored) -> Result<(), Trouble> {
+    for group in found.groups.as_slice() {
+        for letter in b'a'..=b'z' {
+            for digit in b'0'..=b'9' {
+                let wanted = Some(Value::new(&[digit; 200])?);
+                if group.get(&longest_key(letter, digit)?) != wanted {
+                    return Err(Trouble::Other);
+                }
+            }
+        }
+    }
+    Ok(())
 }
 
 fn called(disks: &[MemDisk; 2]) -> bool {

@@ -84,19 +84,42 @@ pub fn check(restored: &Restored, least: u64, most: u64) -> Result<(), Trouble> 
     if restored.generation < least || most < restored.generation || restored.epoch != 5 {
         return Err(Trouble::Other);
     }
-    has_rows(&restored.rows, &ROWS)
+    have_rows(restored.groups.as_slice(), &ROWS)
 }
 
 /// A table has these rows, and of the letters no others.
 pub fn has_rows(table: &Table, rows: &[(u8, u8)]) -> Result<(), Trouble> {
     for key in b'a'..=b'z' {
-        let mut wanted = None;
-        for row in rows {
-            if row.0 == key {
-                wanted = Some(Value::new(&[row.1])?);
-            }
+        if table.get(&Key::new(&[key])?) != value_in(rows, key)? {
+            return Err(Trouble::Other);
         }
-        if table.get(&Key::new(&[key])?) != wanted {
+    }
+    Ok(())
+}
+
+// The value of the last row of a letter, among rows.
+fn value_in(rows: &[(u8, u8)], key: u8) -> Result<Option<Value>, Trouble> {
+    let mut wanted = None;
+    for row in rows {
+        if row.0 == key {
+            wanted = Some(Value::new(&[row.1])?);
+        }
+    }
+    Ok(wanted)
+}
+
+/// Groups have these rows between them, and of the letters no others. None has a row that another has.
+pub fn have_rows(groups: &[Table], rows: &[(u8, u8)]) -> Result<(), Trouble> {
+    for key in b'a'..=b'z' {
+        let mut found = None;
+        for group in groups {
+            let value = group.get(&Key::new(&[key])?);
+            if found.is_some() && value.is_some() {
+                return Err(Trouble::Other);
+            }
+            found = value.or(found);
+        }
+        if found != value_in(rows, key)? {
             return Err(Trouble::Other);
         }
     }

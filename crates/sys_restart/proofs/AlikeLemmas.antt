@@ -91,23 +91,24 @@ module _ (shape : Shape) (system : SystemSlot) (one two : Disks)
       none_there : (source : Source) → ◌≡◌ {A = Result (Option Source) RestartFault} (Ok None) (Ok (Some source)) → ⊥
       none_there source is = cc
   sources_alike node (suc more) source is =
-      by (is_listed system.mask node) (control_of_file system.generation (one node CONTROL_FILE)) refl refl
+      by (is_listed system.mask node) (control_of_file system.generation (one node CONTROL_FILE))
+      (sources_alike (node + 1) more source) refl refl
     where
-      rest : Result (Option Source) RestartFault
-      rest = source_of one system (node + 1) more
-
-      by : (listed : Bool) (found : Result (Option ControlSlot) ReadFault) → is_listed system.mask node ≡ listed
+      by : (listed : Bool) (found : Result (Option ControlSlot) ReadFault)
+          → (source_of one system (node + 1) more ≡ Ok (Some source)
+          → (source_of two system (node + 1) more ≡ Ok (Some source)) × IsThere system one source)
+          → is_listed system.mask node ≡ listed
           → control_of_file system.generation (one node CONTROL_FILE) ≡ found
           → (source_of two system node (suc more) ≡ Ok (Some source)) × IsThere system one source
-      by false found e f =
+      by false found again e f =
           let first = sym (unlisted node more one found false e f) ∙ is in
-          let behind = sources_alike (node + 1) more source first in
+          let behind = again first in
           (unlisted node more two _ false e refl ∙ behind.0, behind.1)
-      by true (Ok None) e f =
+      by true (Ok None) again e f =
           let first = sym (unlisted node more one (Ok None) true e f) ∙ is in
-          let behind = sources_alike (node + 1) more source first in
+          let behind = again first in
           (unlisted node more two (Ok None) true e ((alike node).slots None f) ∙ behind.0, behind.1)
-      by true (Ok (Some slot)) e f =
+      by true (Ok (Some slot)) again e f =
           let it : Source = record { node = node; slot = slot } in
           let first : ◌≡◌ {A = Result (Option Source) RestartFault} (Ok (Some it)) (Ok (Some source)) =
           sym (unlisted node more one (Ok (Some slot)) true e f) ∙ is in
@@ -116,7 +117,7 @@ module _ (shape : Shape) (system : SystemSlot) (one two : Disks)
             unlisted node more two (Ok (Some slot)) true e ((alike node).slots (Some slot) f) ∙ first,
             subst (IsThere system one) same f,
           )
-      by true (Err fault) e f =
+      by true (Err fault) again e f =
           absurd (no_answer _ (Some source) _ (unlisted node more one (Err fault) true e f) is)
 
   pub group_alike : (first count : ℕ) (part : Rows) → rows_of_group one system first count ≡ Ok part
@@ -142,21 +143,25 @@ module _ (shape : Shape) (system : SystemSlot) (one two : Disks)
   unfolding rows_from
   groups_alike replicas group zero before all is = is
   groups_alike replicas group (suc more) before all is =
-      by (rows_of_group one system (group * replicas + 1) replicas) refl
+      by (rows_of_group one system (group * replicas + 1) replicas)
+      (λ part. groups_alike replicas (group + 1) more (before ++ part ∷ []) all) refl
     where
-      by : (part : Result Rows RestartFault) → rows_of_group one system (group * replicas + 1) replicas ≡ part
+      by : (part : Result Rows RestartFault)
+          → ((part : Rows) → rows_from one system replicas (group + 1) more (Ok (before ++ part ∷ [])) ≡ Ok all
+          → rows_from two system replicas (group + 1) more (Ok (before ++ part ∷ [])) ≡ Ok all)
+          → rows_of_group one system (group * replicas + 1) replicas ≡ part
           → rows_from two system replicas group (suc more) (Ok before) ≡ Ok all
-      by (Err fault) e =
+      by (Err fault) again e =
           absurd (no_answer fault all _
           (ap (λ part. rows_from one system replicas (group + 1) more (and_rows (Ok before) part)) e
           ∙ rows_fail one system replicas (group + 1) more fault)
           is)
-      by (Ok part) e =
+      by (Ok part) again e =
           let rest : rows_from one system replicas (group + 1) more (Ok (before ++ part ∷ [])) ≡ Ok all =
           sym (ap (λ part. rows_from one system replicas (group + 1) more (and_rows (Ok before) part)) e) ∙ is in
           ap (λ part. rows_from two system replicas (group + 1) more (and_rows (Ok before) part))
           (group_alike (group * replicas + 1) replicas part e)
-          ∙ groups_alike replicas (group + 1) more (before ++ part ∷ []) all rest
+          ∙ again part rest
 
 -- a restart from one is that from the other
 pub restored_alike : (shape : Shape) (one two : Disks) (r : Restored) → AllAlike shape r.generation one two

@@ -52,7 +52,7 @@ names_in place bytes slot is = by (control_fault bytes) refl
         let found : Some (control_of bytes) ≡ Some slot =
         same_answer (Some (control_of bytes)) (Some slot) _
         (ap (unless_damaged CONTROL_FILE place bytes (control_of bytes)) e) is in
-        let same : control_of bytes ≡ slot = same_some (control_of bytes) slot _ refl (sym found) in
+        let same : control_of bytes ≡ slot = same_some (control_of bytes) slot _ refl found in
         subst NamesFiles same (fit_names bytes e)
 
 names_at : (which : ℕ) (bytes : List ℕ) (slot : ControlSlot) → control_at which bytes ≡ Ok (Some slot) → NamesFiles slot

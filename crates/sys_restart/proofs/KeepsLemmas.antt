@@ -154,7 +154,7 @@ module _ (before : List Call) (shape : Shape) (node : ℕ) (r : Restored) where
   first_on = pieces_on (length bytes) file 0 (0 + PIECE_BYTES * length bytes) bytes (omega arith)
 
   nothing_else : LeavesOthers file (state_of before) before
-  nothing_else other apart = refl
+  nothing_else other away = refl
 
   -- once the checkpoint is written
   pub mid_leaves : LeavesOthers file (state_of before) mid
@@ -205,7 +205,7 @@ module _ (before : List Call) (shape : Shape) (node : ℕ) (r : Restored) where
           (others_kept CONTROL_FILE place_end (state_of mid))
           (slot_on (stands_closed (place_of places_now.free) control) CONTROL_FILE (place_of places_now.free) place_end
           (drop 1 (control_bytes slot)) (omega (arith, control_size slot)))
-          (λ other apart. refl))
+          (λ other away. refl))
           write.runs split long
 
   -- at each moment of all
@@ -233,8 +233,7 @@ module _ (before : List Call) (shape : Shape) (node : ℕ) (r : Restored) where
       let range = next_file_is places_now.in_use in
       restored_alike shape (with_files disks node (files_of before)) (with_files disks node image) r
       (disks_alike shape r.generation node disks (files_of before) image
-      (λ other.
-      near_alike before shape other file r.generation image
+      (near_alike before shape node file r.generation image
       (near_always after newer older ok numbers kept settles runs split long image left) range.0 range.1
       (λ found here. other_file r.generation control found here)))
       is
@@ -245,7 +244,7 @@ pub keeps_without_calls : (before : List Call) (shape : Shape) (node : ℕ) (r :
 keeps_without_calls before shape node r kept settles disks is newer older split long image left =
     restored_alike shape (with_files disks node (files_of before)) (with_files disks node image) r
     (disks_alike shape r.generation node disks (files_of before) image
-    (λ other. settled_alike before shape other r.generation image same))
+    (settled_alike before shape node r.generation image same))
     is
   where
     at : older ≡ before

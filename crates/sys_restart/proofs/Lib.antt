@@ -6,7 +6,11 @@ pub mod FileLemmas
 pub mod GroupsLemmas
 pub mod KeepsLemmas
 pub mod LatestLemmas
+pub mod ListedLemmas
 pub mod MomentLemmas
+pub mod NameLemmas
+pub mod NamedLemmas
+pub mod NamingLemmas
 pub mod NextLemmas
 pub mod OwnLemmas
 pub mod PieceLemmas
@@ -15,6 +19,7 @@ pub mod PrepareLemmas
 pub mod PreparedLemmas
 pub mod RedoneLemmas
 pub mod SameRows
+pub mod SeatLemmas
 pub mod SlotWrite
 pub mod StandsLemmas
 pub mod StoredLemmas

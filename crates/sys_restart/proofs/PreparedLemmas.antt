@@ -108,7 +108,7 @@ module _ (before : List Call) (shape : Shape) (node : ℕ) (r : Restored) (numbe
       the_second the_mid (others_kept CONTROL_FILE (place_of free + CONTROL_BYTES) (state_of the_mid))
       (slot_on (stands_closed (place_of free) (control before shape node r)) CONTROL_FILE (place_of free)
       (place_of free + CONTROL_BYTES) (drop 1 (control_bytes the_slot)) (omega (arith, control_size the_slot)))
-      (λ other apart. refl))
+      (λ other away. refl))
 
   pieces : List Call
   pieces = done (piece_calls (length (bytes before shape node r)) the_file 0 (bytes before shape node r)) before

@@ -78,7 +78,7 @@ module _ (mid after older : List Call) (ok : Bool) (file : ℕ) (old : List ℕ)
           → HasPlace old place whole (image file)
       by (inl none) = inl none
       by (inr (inl new)) = inr (inl new)
-      by (inr (inr (before, (is, same)))) =
+      by (inr (inr (before, is, same))) =
           inr (inr (sym same ∙ ap (slot_at place (length whole)) (settled_is_kept old before is)))
 
   -- another place keeps its slot, where the file reaches so far

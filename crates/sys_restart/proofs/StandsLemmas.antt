@@ -1,7 +1,7 @@
 -- Whatever a crash leaves while a node's disk is prepared, a restart is the same.
-use Rattle.std.proofs.Common.{◌≡◌, ◌∙◌, ℕ, ◌+◌, ◌≤◌, ◌<◌, ◌==◌, Bool, true, false, List, refl, ap, subst, arith, if◌then◌else◌}
+use Rattle.std.proofs.Common.{◌≡◌, ◌∙◌, ℕ, ◌+◌, ◌≤◌, ◌<◌, ◌==◌, Bool, true, false, List, refl, ap, sym, subst, arith, if◌then◌else◌}
 use Rattle.std.specs.Prelude.{Option, Some, Ok}
-use Rattle.std.proofs.lemmas.Bool.{ne_eqb}
+use Rattle.std.proofs.lemmas.Bool.{eqb-true, ne_eqb}
 use Rattle.host_io.specs.Call.{Call}
 use Rattle.host_io.specs.DiskState.{FileState, settled, state_of}
 use Rattle.host_io.specs.Image.{IsImage, IsLeft}
@@ -101,13 +101,13 @@ settled_alike before shape node generation image same = record {
       (λ position. same (file_of slot.parity position) (redo_file slot.parity position names.parity).1);
 }
 
--- all disks are alike where one is
+-- all disks are alike where those of one node are
 pub disks_alike : (shape : Shape) (generation node : ℕ) (disks : Disks) (one two : Files)
-    → ((other : ℕ) → AreAlike shape other generation one two)
+    → AreAlike shape node generation one two
     → AllAlike shape generation (with_files disks node one) (with_files disks node two)
-disks_alike shape generation node disks one two alike other = by (other == node)
+disks_alike shape generation node disks one two alike other = by (other == node) refl
   where
-    by : (b : Bool)
+    by : (b : Bool) → (other == node) ≡ b
         → AreAlike shape other generation (if b then one else disks other) (if b then two else disks other)
-    by true = alike other
-    by false = alike_itself shape other generation (disks other)
+    by true e = subst (λ (n : ℕ). AreAlike shape n generation one two) (sym (eqb-true other node e)) alike
+    by false e = alike_itself shape other generation (disks other)

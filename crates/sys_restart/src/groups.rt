@@ -12,7 +12,6 @@ ghost use Rattle.sys_restart.specs.SlotRows.{rows_of_slot};
 use crate::on_node::of_node;
 use crate::slot_rows::rows_of_slot;
 use host_io::{Disk, Failed};
-use frag_map::groups;
 use sig_core::{ControlSlot, NoMemory, RestartFault, Seq, Shape, SystemSlot, Table};
 use std::alloc::Global;
 use sysfile_core::{CONTROL_FILE, read_control};
@@ -45,7 +44,7 @@ pub(crate) fn rows_of_groups<D: Disk>(
     ensures steady { AreSteady (map D.faults disks.old) (map D.faults disks.new) }
 {
     let mut rows = Seq::new(alloc);
-    for group in 0..groups(&shape) {
+    for group in 0..shape.nodes / shape.replicas {
         let first = first_of(group, &shape);
         match rows_of_group(alloc, disks, first, shape.replicas, system) {
             Ok(part) => {
@@ -60,6 +59,7 @@ pub(crate) fn rows_of_groups<D: Disk>(
 }
 
 // The first node of a group.
+#[tactic(auto, using(crate::proofs::SeatLemmas::seats))]
 fn first_of(group: u8, shape: &Shape) -> u8
     requires shape { IsShape shape.now }
     requires group { group < groups shape.now }

@@ -11,7 +11,6 @@ use crate::groups::rows_of_groups;
 use crate::latest::latest;
 use crate::restored::Restored;
 use host_io::Disk;
-use frag_map::groups;
 use sig_core::{NoMemory, RestartFault, Seq, Shape, Table};
 use std::alloc::Global;
 
@@ -55,7 +54,7 @@ fn nothing(alloc: Global, shape: &Shape) -> Result<Restored, RestartFault>
     ensures read { ReadsAll (Ok (nothing shape.now)) result }
     ensures cause { (before now : List ℕ) → HasCauseAmong before now result }
 {
-    let Ok(groups) = without_rows(alloc, groups(shape)) else {
+    let Ok(groups) = without_rows(alloc, shape.nodes / shape.replicas) else {
         return Err(RestartFault::NoMemory);
     };
     Ok(Restored {
