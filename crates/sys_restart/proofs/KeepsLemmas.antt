@@ -51,22 +51,22 @@ at_the_place mid after older ok control which generation slot image moment write
     place : ℕ
     place = place_of which
 
-    as : (found : Option (List ℕ)) → slot_at place (length (control_bytes slot)) (image CONTROL_FILE) ≡ found
+    read_as : (found : Option (List ℕ)) → slot_at place (length (control_bytes slot)) (image CONTROL_FILE) ≡ found
         → control_at which (image CONTROL_FILE) ≡ control_by place found
-    as found is =
+    read_as found is =
         ap (λ (n : ℕ). control_by place (slot_at place n (image CONTROL_FILE))) (sym (control_long slot))
         ∙ ap (control_by place) is
 
     by : HasPlace control place (control_bytes slot) (image CONTROL_FILE)
         → IsOtherOr generation (control_at which control) (control_at which (image CONTROL_FILE))
-    by (inl none) = inr (None, (as None none, refl))
+    by (inl none) = inr (None, (read_as None none, refl))
     by (inr (inl new)) =
         inr (Some slot, (
-          as (Some (control_bytes slot)) new ∙ read_back place slot readable,
+          read_as (Some (control_bytes slot)) new ∙ read_back place slot readable,
           ap (λ (b : Bool). if b then Some slot else None) other,
         ))
     by (inr (inr old)) =
-        inl (as (slot_at place (length (control_bytes slot)) control) old
+        inl (read_as (slot_at place (length (control_bytes slot)) control) old
         ∙ ap (λ (n : ℕ). control_by place (slot_at place n control)) (control_long slot))
 
 -- another place is as it was, where its slot is

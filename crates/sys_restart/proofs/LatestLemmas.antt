@@ -10,7 +10,7 @@ use Rattle.sys_restart.specs.Files.{Disks}
 use Rattle.sys_restart.specs.Latest.{later, latest_from, latest_on}
 
 -- what is wrong with one node is wrong with all
-latest_fails : (shape : Shape) (disks : Disks) (node more : ℕ) (fault : RestartFault)
+pub latest_fails : (shape : Shape) (disks : Disks) (node more : ℕ) (fault : RestartFault)
     → latest_from shape disks node more (Err fault) ≡ Err fault
 unfolding latest_from
 latest_fails shape disks node zero fault = refl

@@ -6,6 +6,7 @@ pub mod FileLemmas
 pub mod GroupsLemmas
 pub mod KeepsLemmas
 pub mod LatestLemmas
+pub mod LifeLemmas
 pub mod ListedLemmas
 pub mod MomentLemmas
 pub mod NameLemmas
@@ -17,6 +18,8 @@ pub mod PieceLemmas
 pub mod PlacesLemmas
 pub mod PrepareLemmas
 pub mod PreparedLemmas
+pub mod ReadyDisks
+pub mod ReadyLemmas
 pub mod RedoneLemmas
 pub mod SameRows
 pub mod SeatLemmas

@@ -1,7 +1,7 @@
 -- Once a node's disk was prepared it has what it should.
 use Rattle.std.proofs.Common.{◌≡◌, ◌∙◌, ◌⊎◌, ℕ, ◌+◌, ◌-◌, ◌*◌, ◌^◌, ◌≤◌, ◌<◌, ◌==◌, Bool, true, false, nat_lt, List, [], ◌∷◌, ◌++◌, length, drop, take, refl, ap, sym, subst, arith, inl, inr, append_assoc, if◌then◌else◌}
 use Rattle.std.specs.Prelude.{Option, None, Some, Result, Ok}
-use Rattle.std.proofs.lemmas.Bool.{eqb-true, le-ltb, true≢false}
+use Rattle.std.proofs.lemmas.Bool.{eqb-true, ne_eqb, true≢false}
 use Rattle.host_io.specs.Call.{Call, Synced, Wrote}
 use Rattle.host_io.specs.DiskState.{FileState, settled, state_of}
 use Rattle.host_io.specs.Image.{IsRecord}
@@ -15,7 +15,7 @@ use Rattle.sig_core.specs.declared.piece.TheConstants.{PIECE_BYTES}
 use Rattle.sig_core.specs.declared.slots.ControlSlot.{ControlSlot}
 use Rattle.sig_core.specs.declared.view.Shape.{Shape}
 use Rattle.sysfile_core.specs.declared.control.TheConstants.{CONTROL_BYTES}
-use Rattle.sysfile_core.specs.declared.place.TheConstants.{CONTROL_FILE, OPEN}
+use Rattle.sysfile_core.specs.declared.place.TheConstants.{CONTROL_FILE, OPEN, SYSTEM_FILE}
 use Rattle.sysfile_core.specs.Laws.{IsWrite}
 use Rattle.sysfile_core.specs.Places.{place_of, slot_at}
 use Rattle.sysfile_core.specs.Reading.{control_at, control_by, control_of_file, later_control, of_generation}
@@ -36,13 +36,13 @@ use Rattle.sys_restart.proofs.ControlLemmas.{both_are, free_either, second_free}
 use Rattle.sys_restart.proofs.FaultLemmas.{rows_whole}
 use Rattle.sys_restart.proofs.KeepsLemmas.{HasNumbers, apart, bytes, control, file, first, mid, mid_leaves, places_now, readable, reaches, same_slot, second, slot, slot_write}
 use Rattle.sys_restart.proofs.MomentLemmas.{done_then, kept_in_the_end, longer, runs_record, runs_split}
-use Rattle.sys_restart.proofs.NextLemmas.{control_long, control_size, control_split, read_back, slot_on}
+use Rattle.sys_restart.proofs.NextLemmas.{control_long, control_size, control_split, next_file_is, read_back, slot_on}
 use Rattle.sys_restart.proofs.SlotWrite.{IsMoment, IsSlotWrite, behind_has, is_write, other_has}
 use Rattle.sys_restart.proofs.StandsLemmas.{LeavesOthers, others_kept}
 use Rattle.sys_restart.proofs.StoredLemmas.{after_synced, pieces_front, read_again}
 
 -- right after a sync nothing of a file is dirty
-sync_settles : (file : ℕ) (calls : List Call)
+pub sync_settles : (file : ℕ) (calls : List Call)
     → state_of (Synced file ∷ calls) file ≡ settled (files_of (Synced file ∷ calls) file)
 sync_settles file calls =
     ap (λ (b : Bool). if b then settled (files_of calls file) else state_of calls file) (same_number file)
@@ -141,6 +141,15 @@ module _ (before : List Call) (shape : Shape) (node : ℕ) (r : Restored) (numbe
           let left : state_of the_mid other ≡ state_of before other = mid_leaves before shape node r other f in
           same (slot_leaves other e)
           (left ∙ may.settled other there ∙ ap (λ (s : FileState). settled s.bytes) (sym left))
+
+  -- the system slots are as they were
+  pub system_stays : files_of after SYSTEM_FILE ≡ files_of before SYSTEM_FILE
+  system_stays =
+      ap (λ (s : FileState). s.bytes)
+      (slot_leaves SYSTEM_FILE refl
+      ∙ mid_leaves before shape node r SYSTEM_FILE
+      (ne_eqb the_file SYSTEM_FILE
+      (λ same. absurd (omega (arith, same, (next_file_is (places_now before shape node r).in_use).0)))))
 
   -- the disk as it reads is what a crash leaves in the end
   moment_now : IsMoment the_mid after after (files_of after)

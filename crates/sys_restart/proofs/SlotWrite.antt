@@ -45,7 +45,7 @@ HasPlace old place whole image =
 module _ (mid after older : List Call) (ok : Bool) (file : ℕ) (old : List ℕ) (place : ℕ) (whole : List ℕ) (image : Files)
     (write : IsSlotWrite mid after ok file old place whole) (moment : IsMoment mid after older image) where
   size_is : 1 + length (drop 1 whole) ≡ length whole
-  size_is = ap length write.opened
+  size_is = omega (arith, ap length write.opened)
 
   pub is_write : IsWrite mid after ok file place (drop 1 whole)
   is_write = record {

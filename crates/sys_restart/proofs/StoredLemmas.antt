@@ -1,12 +1,12 @@
 -- A checkpoint of rows is read as these rows, and a file that was written piece by piece begins with it.
-use Rattle.std.proofs.Common.{◌≡◌, ◌∙◌, ℕ, zero, suc, ◌+◌, ◌-◌, ◌^◌, ◌≤◌, ◌<◌, ◌==◌, Bool, true, false, cond, ◌&&◌, T, List, [], ◌∷◌, ◌++◌, length, map, take, drop, replicate, refl, ap, sym, subst, arith, inl, inr, append_assoc, append-nil, length-append, Ordering, Less, if◌then◌else◌}
+use Rattle.std.proofs.Common.{◌≡◌, ◌∙◌, ℕ, zero, suc, ◌+◌, ◌-◌, ◌^◌, ◌≤◌, ◌<◌, ◌==◌, Bool, true, false, cond, ◌&&◌, T, List, [], ◌∷◌, ◌++◌, length, map, take, drop, replicate, refl, ap, sym, subst, arith, inl, inr, append_assoc, append-nil, length-append, Ordering, Less, Equal, Greater, if◌then◌else◌}
 use Rattle.std.specs.Prelude.{Option, None, Some, Result, Ok, Err}
 use Rattle.std.specs.Ordering.{eq_by_cmp, is_eq, is_lt, nat_cmp}
 use Rattle.std.specs.Cmp.Lexicographic.{slice_cmp, nat_list_cmp_total}
 use Rattle.std.specs.FinMap as finmap
 use Rattle.std.specs.FinMap.Entries.{below_all, find, is_sorted}
 use Rattle.std.specs.List.{AllByRecursion, flat_map}
-use Rattle.std.proofs.lemmas.Bool.{cases_lt}
+use Rattle.std.proofs.lemmas.Bool.{cases_lt, true≢false}
 use Rattle.std.proofs.lemmas.List.{drop_all, length-drop, length-take, length-take-le, take-append-drop, take-append-le, take_all, take_at}
 use Rattle.host_io.specs.Call.{Call, Synced, Wrote}
 use Rattle.host_io.specs.DiskState.{filled_up, laid, settled, state_of, written}
@@ -31,8 +31,10 @@ in_order = slice_cmp nat_cmp
 abbrev Pairs : Type 0
 Pairs = List (List ℕ × List ℕ)
 
-tied : (o : Ordering) → is_eq o ≡ true → o ≡ Ordering.Equal
-tied o is = cc
+tied : (o : Ordering) → is_eq o ≡ true → o ≡ Equal
+tied Less is = absurd (true≢false (sym is))
+tied Equal is = refl
+tied Greater is = absurd (true≢false (sym is))
 
 first_of : (a b : Bool) → T (a && b) → T a
 first_of true b is = tt
@@ -44,7 +46,8 @@ second_of false b is = absurd is
 
 is_less : (o : Ordering) → T (is_lt o) → is_eq o ≡ false
 is_less Less is = refl
-is_less other is = cc
+is_less Equal is = absurd is
+is_less Greater is = absurd is
 
 -- a key that ties with one below all isn't there
 absent : (q x : List ℕ) (rows : Pairs) → eq_by_cmp in_order q x ≡ true → T (below_all in_order x rows)
