@@ -1,3 +1,4 @@
+pub mod AnswerLemmas
 pub mod AlikeLemmas
 pub mod ControlLemmas
 pub mod DisksLemmas

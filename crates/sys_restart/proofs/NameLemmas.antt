@@ -62,10 +62,10 @@ pub next_is_system : (shape : Shape) (r : Restored) → IsShape shape → HasNum
 next_is_system shape r is numbers = record {
   nodes = both_true (nat_le 1 shape.nodes) (nat_le shape.nodes 8) (le-leb 1 shape.nodes is.nodes_some)
       (le-leb shape.nodes 8 is.nodes_few);
-  replicas = both_true (nat_le 1 shape.replicas) (nat_le shape.replicas 4 && (shape.nodes % shape.replicas == 0))
-      (le-leb 1 shape.replicas is.replicas_some)
-      (both_true (nat_le shape.replicas 4) (shape.nodes % shape.replicas == 0) (le-leb shape.replicas 4 is.replicas_few)
-      (eq-eqb (shape.nodes % shape.replicas) 0 is.even));
+  replicas = both_true (nat_le 1 shape.replicas && nat_le shape.replicas 4) (shape.nodes % shape.replicas == 0)
+      (both_true (nat_le 1 shape.replicas) (nat_le shape.replicas 4) (le-leb 1 shape.replicas is.replicas_some)
+      (le-leb shape.replicas 4 is.replicas_few))
+      (eq-eqb (shape.nodes % shape.replicas) 0 is.even);
   fragments = both_true (nat_le 1 shape.fragments) (nat_le shape.fragments 32)
       (le-leb 1 shape.fragments is.fragments_some) (le-leb shape.fragments 32 is.fragments_few);
   mask = all_named shape.nodes is.nodes_some is.nodes_few;

@@ -62,7 +62,7 @@ of_shape_when shape node found b is =
 -- a shape is the same as itself
 pub itself : (shape : Shape) → same_shape shape shape ≡ true
 itself shape =
-    ap (λ (b : Bool). b && ((shape.replicas == shape.replicas) && (shape.fragments == shape.fragments)))
+    ap (λ (b : Bool). b && (shape.replicas == shape.replicas) && (shape.fragments == shape.fragments))
     (same_number shape.nodes)
     ∙ ap (λ (b : Bool). b && (shape.fragments == shape.fragments)) (same_number shape.replicas)
     ∙ same_number shape.fragments
@@ -74,7 +74,7 @@ fits shape node (Err fault) slot is = absurd (no_answer _ slot _ refl is)
 fits shape node (Ok None) slot is = ap Ok (same_answer None slot _ refl is)
 fits shape node (Ok (Some found)) slot is = by (same_shape found.shape shape) refl
   where
-    by : (b : Bool) → same_shape found.shape shape ≡ b → Ok (Some found) ≡ Ok slot
+    by : (b : Bool) → same_shape found.shape shape ≡ b → ◌≡◌ {A = Result (Option SystemSlot) ReadFault} (Ok (Some found)) (Ok slot)
     by true e = ap Ok (same_answer (Some found) slot _ (of_shape_when shape node found true e) is)
     by false e = absurd (no_answer _ slot _ (of_shape_when shape node found false e) is)
 
@@ -119,7 +119,7 @@ free_either None b = inl refl
 free_either (Some one) None = inr refl
 free_either (Some one) (Some other) = by (is_earlier one other)
   where
-    by : (earlier : Bool) → ((if earlier then 0 else 1) ≡ 0) ⊎ ((if earlier then 0 else 1) ≡ 1)
+    by : (earlier : Bool) → (◌≡◌ {A = ℕ} (if earlier then 0 else 1) 0) ⊎ (◌≡◌ {A = ℕ} (if earlier then 0 else 1) 1)
     by true = inl refl
     by false = inr refl
 
@@ -128,7 +128,7 @@ first_lost None b free = refl
 first_lost (Some one) None free = absurd (omega (arith, free))
 first_lost (Some one) (Some other) free = by (is_earlier one other) free
   where
-    by : (earlier : Bool) → (if earlier then 0 else 1) ≡ 0 → Some other ≡ (if earlier then Some other else Some one)
+    by : (earlier : Bool) → ◌≡◌ {A = ℕ} (if earlier then 0 else 1) 0 → Some other ≡ (if earlier then Some other else Some one)
     by true free = refl
     by false free = absurd (omega (arith, free))
 
@@ -137,7 +137,7 @@ second_lost None b free = absurd (omega (arith, free))
 second_lost (Some one) None free = refl
 second_lost (Some one) (Some other) free = by (is_earlier one other) free
   where
-    by : (earlier : Bool) → (if earlier then 0 else 1) ≡ 1 → Some one ≡ (if earlier then Some other else Some one)
+    by : (earlier : Bool) → ◌≡◌ {A = ℕ} (if earlier then 0 else 1) 1 → Some one ≡ (if earlier then Some other else Some one)
     by true free = absurd (omega (arith, free))
     by false free = refl
 
@@ -366,16 +366,16 @@ not_named shape node r disks before image are latest same = by are.same
 
 -- one of which it is restarts as the life that is named
 is_named : (shape : Shape) (node : ℕ) (r : Restored) (disks : Disks) (before : List Call) (image : Files)
-    → IsShape shape → 1 ≤ node → node ≤ shape.nodes → AreToBeNamed shape node r disks before
+    → IsShape shape → AreToBeNamed shape node r disks before
     → latest_on shape node image ≡ Ok (Some (next_system shape r))
     → ((file : ℕ) → file < FILES → (SYSTEM_FILE == file) ≡ false → image file ≡ files_of before file)
     → RestartsAs shape r (with_files disks node image)
-is_named shape node r disks before image is least most are latest same = (
+is_named shape node r disks before image is are latest same = (
   record { generation = r.generation + 1; epoch = r.epoch; groups = r.groups },
   (
     restored_named shape r now is each_slot are.groups
         (latest_named shape r now 1 shape.nodes None (inr tt) each_latest
-        (inr (node, (least, (omega (arith, most), here_latest))))),
+        (inr (node, (are.least, (omega (arith, are.most), here_latest))))),
     record { generation = inr refl; epoch = refl; groups = refl },
   ),
 )
@@ -417,7 +417,7 @@ is_named shape node r disks before image is least most are latest same = (
         by : (b : Bool) → (other == node) ≡ b → Prepared other (now other)
         by true e =
             let at : node ≡ other = sym (eqb-true other node e) in
-            subst (λ (n : ℕ). Prepared n (now n)) at (prepared_here (are.others node least most).0)
+            subst (λ (n : ℕ). Prepared n (now n)) at (prepared_here (are.others node are.least are.most).0)
         by false e =
             subst (Prepared other) (sym (else_is other (other == node) refl e)) (are.others other some few).0
 
@@ -436,9 +436,9 @@ is_named shape node r disks before image is least most are latest same = (
             subst (Named other) (sym (else_is other (other == node) refl e)) (are.others other some (omega (arith, few))).1
 
 pub keeps_or_names : (before after : List Call) (ok : Bool) (shape : Shape) (node : ℕ) (r : Restored) → IsShape shape
-    → HasNumbers r → 1 ≤ node → node ≤ shape.nodes → Runs (name_calls before shape r) before (Some after) ok
+    → HasNumbers r → Runs (name_calls before shape r) before (Some after) ok
     → KeepsOrNames shape node r before after
-keeps_or_names before after ok shape node r is numbers least most runs disks are newer older split long image left =
+keeps_or_names before after ok shape node r is numbers runs disks are newer older split long image left =
     by (image_latest before after older ok shape node r is numbers are.kept are.settled runs image moment are.below.0
     are.below.1.0 are.below.1.1)
   where
@@ -450,7 +450,7 @@ keeps_or_names before after ok shape node r is numbers least most runs disks are
 
     by : IsSameOrNamed shape node r image are.below.0 → RestartsAs shape r (with_files disks node image)
     by (inl latest) = not_named shape node r disks before image are (latest ∙ sym are.below.1.0) same
-    by (inr latest) = is_named shape node r disks before image is least most are latest same
+    by (inr latest) = is_named shape node r disks before image is are latest same
 
 -- where no call was made a restart is as before
 pub keeps_unnamed : (before : List Call) (shape : Shape) (node : ℕ) (r : Restored) → KeepsOrNames shape node r before before

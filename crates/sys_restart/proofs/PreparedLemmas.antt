@@ -114,6 +114,7 @@ module _ (before : List Call) (shape : Shape) (node : ℕ) (r : Restored) (numbe
   pieces = done (piece_calls (length (bytes before shape node r)) the_file 0 (bytes before shape node r)) before
 
   mid_is : the_mid ≡ Synced the_file ∷ pieces
+  unfolding pieces piece_calls
   mid_is = done_then (piece_calls (length (bytes before shape node r)) the_file 0 (bytes before shape node r)) (Synced the_file ∷ []) before
 
   -- nothing is dirty

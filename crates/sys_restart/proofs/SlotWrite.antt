@@ -65,11 +65,13 @@ module _ (mid after older : List Call) (ok : Bool) (file : ℕ) (old : List ℕ)
   found =
       subst (λ (s : FileState). IsOldOrNew s place (length whole) whole (slot_at place (length whole) (image file)))
       write.settled_so
+      (subst (λ (n : ℕ). IsOldOrNew (state_of mid file) place n whole (slot_at place n (image file))) size_is
       (subst
-      (λ (bytes : List ℕ). IsOldOrNew (state_of mid file) place (length bytes) bytes (slot_at place (length bytes) (image file)))
+      (λ (bytes : List ℕ). IsOldOrNew (state_of mid file) place (1 + length (drop 1 whole)) bytes
+      (slot_at place (1 + length (drop 1 whole)) (image file)))
       write.opened
       (open_is_whole mid after ok file place (drop 1 whole) is_write may moment.newer older moment.split moment.long
-      image moment.left))
+      image moment.left)))
 
   pub place_has : HasPlace old place whole (image file)
   place_has = by found

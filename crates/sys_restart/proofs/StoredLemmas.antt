@@ -125,8 +125,7 @@ laid_front at (byte ∷ bytes) old within =
     let full = filled_up last old in
     let front : take at full ≡ take at old = take-append-le at old (replicate (last - length old) 0) within in
     let long : length (take at full) ≡ at = ap length front ∙ length-take-le at old within in
-    ap (take last) (sym (append_assoc (take at full) piece (drop last full)))
-    ∙ take_at (take at full ++ piece) (drop last full) last (length-append (take at full) piece ∙ ap (λ n. n + length piece) long)
+    take_at (take at full ++ piece) (drop last full) last (length-append (take at full) piece ∙ ap (λ n. n + length piece) long)
     ∙ ap (λ (w : List ℕ). w ++ piece) front
 
 laid_long : (at : ℕ) (piece old : List ℕ) → at ≤ length old → at + length piece ≤ length (laid at piece old)
@@ -163,7 +162,10 @@ pieces_front (suc more) file at [] calls few within =
 pieces_front (suc more) file at (byte ∷ bytes) calls few within =
     elim (cases_lt (length all) PIECE_BYTES) [
       | inl last ↦ at_last (omega (arith, last))
-      | inr many ↦ on many
+      | inr many ↦
+          on many
+          (pieces_front more file (at + PIECE_BYTES) (drop PIECE_BYTES (byte ∷ bytes))
+          (Wrote file at (take PIECE_BYTES (byte ∷ bytes)) ∷ calls))
     ]
   where
     all : List ℕ
@@ -194,8 +196,11 @@ pieces_front (suc more) file at (byte ∷ bytes) calls few within =
         ∙ laid_front at all old within
 
     on : PIECE_BYTES ≤ length all
+        → (length rest ≤ more → at + PIECE_BYTES ≤ length (files_of next file)
+        → take (at + PIECE_BYTES + length rest) (files_of (done (piece_calls more file (at + PIECE_BYTES) rest) next) file)
+        ≡ take (at + PIECE_BYTES) (files_of next file) ++ rest)
         → take (at + length all) (files_of (done (piece_calls more file (at + PIECE_BYTES) rest) next) file) ≡ take at old ++ all
-    on many =
+    on many again =
         let size : length piece ≡ PIECE_BYTES = length-take-le PIECE_BYTES all many in
         let sizes : at + length all ≡ at + PIECE_BYTES + length rest =
         omega (arith, many, length-drop PIECE_BYTES all) in
@@ -205,7 +210,7 @@ pieces_front (suc more) file at (byte ∷ bytes) calls few within =
         ap (λ (n : ℕ). take (at + n) (files_of next file)) (sym size)
         ∙ ap (take (at + length piece)) read ∙ laid_front at piece old within in
         ap (λ (n : ℕ). take n (files_of (done (piece_calls more file (at + PIECE_BYTES) rest) next) file)) sizes
-        ∙ pieces_front more file (at + PIECE_BYTES) rest next (omega (arith, few, length-drop PIECE_BYTES all)) long
+        ∙ again (omega (arith, few, length-drop PIECE_BYTES all)) long
         ∙ ap (λ (w : List ℕ). w ++ rest) front
         ∙ append_assoc (take at old) piece rest
         ∙ ap (λ (w : List ℕ). take at old ++ w) (take-append-drop PIECE_BYTES all)

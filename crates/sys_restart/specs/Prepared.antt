@@ -114,6 +114,8 @@ RestartsAs shape r disks = (found : Restored) × ((restored_of shape disks ≡ O
 pub record AreToBeNamed (shape : Shape) (node : ℕ) (r : Restored) (disks : Disks) (calls : List Call) : Type 0 where
   pub kept : IsRecord calls
   pub settled : IsSettled calls
+  pub least : 1 ≤ node
+  pub most : node ≤ shape.nodes
   pub groups : length r.groups ≡ groups shape
   pub others :
       (other : ℕ) → 1 ≤ other → other ≤ shape.nodes

@@ -12,6 +12,7 @@ use crate::name::name_node;
 use crate::prepare::prepare_node;
 use crate::restored::Restored;
 use host_io::Disk;
+use lcp_store::checkpoints_are_read;
 use sig_core::{RestartFault, Shape};
 use std::alloc::Global;
 
@@ -54,6 +55,7 @@ pub fn prepare_life<D: Disk>(
             epoch: restored.epoch,
         });
     }
+    checkpoints_are_read();
     match prepare_all(alloc, disks, shape, restored) {
         Ok(()) => name_all(disks, shape, restored),
         Err(fault) => Err(fault),

@@ -34,6 +34,22 @@ pub fn name_node<D: Disk>(
     ensures cause { HasCauseOf node (D.faults disk.old) (D.faults disk.new) result }
     ensures steady { D.faults disk.old ≤ D.faults disk.new }
 {
+    name_disk(disk, node, shape, restored)
+}
+
+// The same, of which the calls alone are told.
+fn name_disk<D: Disk>(
+    disk: &mut D,
+    node: u8,
+    shape: Shape,
+    restored: &Restored,
+) -> Result<(), RestartFault>
+    requires shape { IsShape shape }
+    requires unused { is_used_up restored.now ≡ false }
+    ensures runs { (calls : List Call) → D.told disk.old ≡ Some calls → RunsOrWants (name_calls calls shape restored.now) calls (D.told disk.new) result }
+    ensures cause { HasCauseOf node (D.faults disk.old) (D.faults disk.new) result }
+    ensures steady { D.faults disk.old ≤ D.faults disk.new }
+{
     let which = match free_system(disk) {
         Ok(which) => which,
         Err(count) => return Err(RestartFault::DiskFault { node, count }),

@@ -16,7 +16,7 @@ use crate::places::{Places, control_places};
 use crate::restored::Restored;
 use frag_map::group_of;
 use host_io::{Disk, Failed};
-use lcp_store::{put_head, put_row2};
+use lcp_store::{checkpoints_are_read, put_head, put_row2};
 use sig_core::{ControlSlot, Key, NoMemory, PIECE_BYTES, RestartFault, Shape, Value};
 use std::alloc::Global;
 use sysfile_core::{CONTROL_FILE, control_bytes, write_slot};
@@ -42,6 +42,24 @@ pub fn prepare_node<D: Disk>(
     ensures stands { (calls now : List Call) → D.told disk.old ≡ Some calls → D.told disk.new ≡ Some now → KeepsRestart shape node restored.now calls now }
     // In the end the disk is prepared.
     ensures prepared { (calls now : List Call) → D.told disk.old ≡ Some calls → D.told disk.new ≡ Some now → OnOk result (MayPrepare shape node restored.now calls → HasPrepared shape node restored.now now) }
+    ensures cause { HasCauseOf node (D.faults disk.old) (D.faults disk.new) result }
+    ensures steady { D.faults disk.old ≤ D.faults disk.new }
+{
+    checkpoints_are_read();
+    prepare_disk(alloc, disk, node, shape, restored)
+}
+
+// The same, of which the calls alone are told.
+fn prepare_disk<D: Disk>(
+    alloc: Global,
+    disk: &mut D,
+    node: u8,
+    shape: Shape,
+    restored: &Restored,
+) -> Result<(), RestartFault>
+    requires shape { IsShape shape }
+    requires unused { is_used_up restored.now ≡ false }
+    ensures runs { (calls : List Call) → D.told disk.old ≡ Some calls → RunsOrWants (node_calls calls shape node restored.now) calls (D.told disk.new) result }
     ensures cause { HasCauseOf node (D.faults disk.old) (D.faults disk.new) result }
     ensures steady { D.faults disk.old ≤ D.faults disk.new }
 {
