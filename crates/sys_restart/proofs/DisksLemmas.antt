@@ -50,7 +50,7 @@ steady_then first second third one other at =
 pub steady_itself : (counts : List ℕ) → AreSteady counts counts
 steady_itself counts at = omega arith
 
-mapped : {A : Type 0} (F : A → ℕ) (xs : List A) → length (map F xs) ≡ length xs
+pub mapped : {A : Type 0} (F : A → ℕ) (xs : List A) → length (map F xs) ≡ length xs
 mapped F [] = refl
 mapped F (x ∷ xs) = ap suc (mapped F xs)
 
