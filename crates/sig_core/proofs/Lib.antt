@@ -2,6 +2,7 @@ pub mod ChainLemmas
 pub mod Firsts
 pub mod KeyLemmas
 pub mod Keys
+pub mod ListingLemmas
 pub mod PortionLemmas
 pub mod TableLemmas
 pub mod TxLemmas

@@ -9,6 +9,8 @@ use std::alloc::Global;
 use std::collections::BTreeMap;
 use std::marker::Model;
 
+mod listing;
+
 /// Rows by their keys. Contracts see a finite map.
 #[derive(Drop)]
 pub struct Table {
