@@ -77,7 +77,7 @@ pub life_ready : (shape : Shape) (r : Restored) (records : List (List Call)) (mi
     → HasRun (prepare_asks shape r records) records mid (Ok tt) → RunsAll shape r records told result
     → OnOk result (AreToPrepare shape r records → AreReady shape r told)
 life_ready shape r records mid told (Err fault) fits numbers law many nodes first runs = tt
-life_ready shape r records mid told (Ok done) fits numbers law many nodes first (inl (last, (less, turns))) =
+life_ready shape r records mid told (Ok done) fits numbers law many nodes first (inl (last, less, turns)) =
     λ are. absurd (omega (arith, less, turns.last))
 life_ready shape r records mid told (Ok done) fits numbers law many nodes first (inr (last, all)) =
     λ are. all_ready shape r records mid told fits numbers law many nodes are first last all.named

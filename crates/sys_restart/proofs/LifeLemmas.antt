@@ -99,7 +99,7 @@ ends_within asks records told count last (Err fault) ends = omega (arith, ends.0
 pub stops_preparing : (shape : Shape) (r : Restored) (records : List (List Call)) (told : List (Option (List Call)))
     (fault : RestartFault) → HasRun (prepare_asks shape r records) records told (Err fault)
     → RunsAll shape r records told (Err fault)
-stops_preparing shape r records told fault (last, turns) = inl (last, (turns.last.0, turns))
+stops_preparing shape r records told fault (last, turns) = inl (last, turns.last.0, turns)
 
 module _ (shape : Shape) (r : Restored) (records : List (List Call)) (mid told : List (Option (List Call)))
     (result : Result (Unit {0}) RestartFault) (many : length mid ≡ length records)

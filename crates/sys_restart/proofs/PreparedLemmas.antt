@@ -21,7 +21,7 @@ use Rattle.sysfile_core.specs.Places.{place_of, slot_at}
 use Rattle.sysfile_core.specs.Reading.{control_at, control_by, control_of_file, later_control, of_generation}
 use Rattle.sysfile_core.specs.Runs.{Runs}
 use Rattle.sysfile_core.specs.Slots.{IsControlSlot, control_bytes}
-use Rattle.sysfile_core.specs.Writing.{closing_by, slot_calls, stands_closed}
+use Rattle.sysfile_core.specs.Writing.{closing_by, opening, slot_calls, stands_closed}
 use Rattle.sysfile_core.proofs.RunLemmas.{all_done, done}
 use Rattle.sysfile_core.proofs.WriteLemmas.{written_stays}
 use Rattle.sys_restart.specs.declared.places.Places.{Places}
@@ -47,6 +47,15 @@ pub sync_settles : (file : ℕ) (calls : List Call)
 sync_settles file calls =
     ap (λ (b : Bool). if b then settled (files_of calls file) else state_of calls file) (same_number file)
     ∙ ap settled (sym (after_synced file calls))
+
+-- so it is behind the write of a slot
+pub slot_settles : (stands : Bool) (file place : ℕ) (body : List ℕ) (calls : List Call)
+    → state_of (done (closing_by stands file place ∷ opening file place body) calls) file
+    ≡ settled (files_of (done (closing_by stands file place ∷ opening file place body) calls) file)
+slot_settles stands file place body calls =
+    sync_settles file
+    (Wrote file place (OPEN ∷ []) ∷ Synced file ∷ Wrote file (place + 1) body ∷ Synced file ∷ closing_by stands file place
+    ∷ calls)
 
 -- no redo
 none_redone : (epoch : ℕ) (rows : Rows) (files : Files) (parity : ℕ) → redone epoch rows files parity 0 0 ≡ Ok rows
@@ -131,7 +140,8 @@ module _ (before : List Call) (shape : Shape) (node : ℕ) (r : Restored) (numbe
           let here : CONTROL_FILE ≡ other = eqb-true CONTROL_FILE other e in
           subst (λ (n : ℕ). state_of after n ≡ settled (files_of after n)) here
           (subst (λ (calls : List Call). state_of calls CONTROL_FILE ≡ settled (files_of calls CONTROL_FILE)) (sym is_after)
-          (sync_settles CONTROL_FILE _))
+          (slot_settles (stands_closed (place_of free) (control before shape node r)) CONTROL_FILE (place_of free)
+          (drop 1 (control_bytes the_slot)) the_mid))
       by false true e f =
           let here : the_file ≡ other = eqb-true the_file other f in
           same (slot_leaves other e)
@@ -244,11 +254,13 @@ module _ (before : List Call) (shape : Shape) (node : ℕ) (r : Restored) (numbe
 
   -- the file has the checkpoint in front
   file_front : take (length (bytes before shape node r)) (files_of after the_file) ≡ bytes before shape node r
+  unfolding pieces
   file_front =
       let read : files_of after the_file ≡ files_of pieces the_file =
       ap (λ (s : FileState). s.bytes) (slot_leaves the_file other_way)
       ∙ ap (λ (calls : List Call). files_of calls the_file) mid_is ∙ after_synced the_file pieces in
       ap (take (length (bytes before shape node r))) read
+      ∙ ap (λ (n : ℕ). take n (files_of pieces the_file)) (omega arith)
       ∙ pieces_front (length (bytes before shape node r)) the_file 0 (bytes before shape node r) before (omega arith) (omega arith)
     where
       other_way : (CONTROL_FILE == the_file) ≡ false

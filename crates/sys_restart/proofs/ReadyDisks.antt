@@ -108,7 +108,7 @@ module _ (shape : Shape) (r : Restored) (records : List (List Call)) (mid told :
     (is : IsShape shape) (numbers : HasNumbers r) (law : CheckpointsAreRead) (many : length mid ≡ length records)
     (nodes : length records ≡ shape.nodes) (are : AreToPrepare shape r records)
     (first : HasRun (prepare_asks shape r records) records mid (Ok tt)) where
-  prepared : ℕ → List Call
+  abbrev prepared : ℕ → List Call
   prepared node = prepared_record shape r (record_of records) node
 
   may_name : (node : ℕ) → 1 ≤ node → node ≤ shape.nodes → MayName shape node r (prepared node)
@@ -148,7 +148,8 @@ module _ (shape : Shape) (r : Restored) (records : List (List Call)) (mid told :
       (prepared_record shape r (record_of records)) told (length records) (Ok tt) last → AreReady shape r told
   all_ready last turns node some few =
       let asks = name_calls (prepared node) shape r in
-      let runs = turns.whole node some (omega (arith, few, nodes, turns.last)) in
+      let runs : Runs asks (prepared node) (told_by told node) true =
+      turns.whole node some (omega (arith, few, nodes, turns.last)) in
       let now = made_record asks (prepared node) (told_by told node) runs in
       (
         _,

@@ -30,7 +30,7 @@ use Rattle.sys_restart.proofs.MomentLemmas.{kept_in_the_end, longer, runs_record
 use Rattle.sys_restart.proofs.NameLemmas.{both_below, first_named, next_is_system, second_named, system_back, system_long, system_split}
 use Rattle.sys_restart.proofs.NamingLemmas.{AreRead, both_read, free_either, others_same, place_same, reaches, some_first, still_prepared, write}
 use Rattle.sys_restart.proofs.NextLemmas.{slot_on}
-use Rattle.sys_restart.proofs.PreparedLemmas.{sync_settles}
+use Rattle.sys_restart.proofs.PreparedLemmas.{slot_settles}
 use Rattle.sys_restart.proofs.SlotWrite.{IsMoment, IsSlotWrite, behind_has, is_write, other_has}
 use Rattle.sys_restart.proofs.StandsLemmas.{LeavesOthers, others_kept}
 
@@ -86,7 +86,8 @@ module _ (before after : List Call) (shape : Shape) (node : ℕ) (r : Restored) 
       by true e =
           subst (λ (n : ℕ). state_of after n ≡ settled (files_of after n)) (eqb-true SYSTEM_FILE other e)
           (subst (λ (calls : List Call). state_of calls SYSTEM_FILE ≡ settled (files_of calls SYSTEM_FILE)) (sym is_after)
-          (sync_settles SYSTEM_FILE _))
+          (slot_settles (stands_closed (place_of free) system) SYSTEM_FILE (place_of free) (drop 1 (system_bytes next))
+          before))
       by false e =
           leaves other e ∙ may.prepared.0 other there ∙ ap (λ (s : FileState). settled s.bytes) (sym (leaves other e))
 
