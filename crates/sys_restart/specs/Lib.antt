@@ -1,5 +1,4 @@
 pub mod Answers
-pub mod CallBy
 pub mod Calls
 pub mod Checkpoint
 pub mod Files
@@ -13,4 +12,3 @@ pub mod ReadyDisks
 pub mod Redone
 pub mod Restored
 pub mod SlotRows
-pub mod Words

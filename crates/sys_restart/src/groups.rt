@@ -152,7 +152,8 @@ fn control_on<D: Disk>(
     node: u8,
     system: &SystemSlot,
 ) -> Result<Option<ControlSlot>, RestartFault>
-    requires { 1 ≤ node }
+    requires first { 1 ≤ node }
+    requires few { node ≤ 8 }
     ensures read { (calls : List Call) → D.told disk.old ≡ Some calls → ReadsAll (control_on system.now node (files_of calls)) result }
     ensures redo { IfOk result (λ slot. IfSome slot HasRedo) }
     ensures unrecorded { D.told disk.new ≡ D.told disk.old }
