@@ -1,5 +1,5 @@
 //! Forms of disks: empty ones, other shapes, old versions, nodes that aren't listed, sizes at the limits.
-use crate::layout::{Layout, PAIR, first_checkpoint};
+use crate::layout::{Layout, PAIR, checkpoint, first_checkpoint};
 use crate::pair::{disk_of, has_rows, have_rows, restore_pair};
 use frag_map::holds;
 use crate::stops::laid_out;
@@ -24,7 +24,10 @@ pub fn try_all(alloc: Global) -> Result<u64, Trouble> {
     three_groups(alloc)?;
     the_greatest_numbers(alloc)?;
     a_size_above_the_file(alloc)?;
-    Ok(9)
+    the_later_slots(alloc, 0, 4_096)?;
+    the_later_slots(alloc, 4_096, 0)?;
+    disks_that_disagree(alloc)?;
+    Ok(12)
 }
 
 fn refused_as(answer: Result<Restored, RestartFault>, fault: RestartFault) -> Result<(), Trouble> {
@@ -99,6 +102,55 @@ fn a_first_version(alloc: Global) -> Result<(), Trouble> {
         }
     }
     Ok(())
+}
+
+// Of two system slots and of two control slots the later one counts, at whichever place it stands.
+fn the_later_slots(alloc: Global, earlier: u64, later: u64) -> Result<(), Trouble> {
+    let mut layout = Layout::new(alloc);
+    layout.put(2, 0, &checkpoint(alloc, &[(b'a', b'1', 4)])?)?;
+    layout.put(3, 0, &checkpoint(alloc, &[(b'a', b'2', 5)])?)?;
+    layout.control(earlier, &one_row(2, 7, 1, 4))?;
+    layout.control(later, &one_row(3, 7, 2, 5))?;
+    layout.system(earlier, 7, 4, 3)?;
+    layout.system(later, 7, 5, 3)?;
+    let mut disks = [laid_out(&layout)?, laid_out(&layout)?];
+    let restored = restore(alloc, &mut disks, PAIR)?;
+    if restored.generation != 7 || restored.epoch != 5 {
+        return Err(Trouble::Other);
+    }
+    have_rows(restored.groups.as_slice(), &[(b'a', b'2')])
+}
+
+// A slot that names a checkpoint of one row of version 2, and no redo.
+fn one_row(file: u8, generation: u64, serial: u64, saved: u64) -> ControlSlot {
+    ControlSlot {
+        ckpt_file: file,
+        parity: 0,
+        generation,
+        serial,
+        saved,
+        redo_start: 0,
+        redo_end: 0,
+        ckpt_size: 14,
+    }
+}
+
+// A greater generation counts before a greater epoch, and lists who has it.
+fn disks_that_disagree(alloc: Global) -> Result<(), Trouble> {
+    let mut first = Layout::new(alloc);
+    first.put(2, 0, &checkpoint(alloc, &[(b'a', b'1', 9)])?)?;
+    first.control(0, &one_row(2, 3, 1, 9))?;
+    first.system(0, 3, 9, 3)?;
+    let mut second = Layout::new(alloc);
+    second.put(3, 0, &checkpoint(alloc, &[(b'z', b'2', 1)])?)?;
+    second.control(4_096, &one_row(3, 4, 1, 1))?;
+    second.system(4_096, 4, 1, 2)?;
+    let mut disks = [laid_out(&first)?, laid_out(&second)?];
+    let restored = restore(alloc, &mut disks, PAIR)?;
+    if restored.generation != 4 || restored.epoch != 1 {
+        return Err(Trouble::Other);
+    }
+    have_rows(restored.groups.as_slice(), &[(b'z', b'2')])
 }
 
 // What a node has that isn't listed isn't read, and is no harm.
