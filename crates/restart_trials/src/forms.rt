@@ -1,9 +1,9 @@
 //! Forms of disks: empty ones, other shapes, old versions, nodes that aren't listed, sizes at the limits.
 use crate::layout::{Layout, PAIR, checkpoint, first_checkpoint};
 use crate::pair::{disk_of, has_rows, have_rows, restore_pair};
-use frag_map::holds;
 use crate::stops::laid_out;
 use crate::trouble::Trouble;
+use frag_map::holds;
 use host_io::{Disk, MemDisk};
 use sig_core::{ControlSlot, Key, ReadFault, RestartFault, Seq, Shape, Table, Value};
 use std::alloc::Global;
@@ -61,10 +61,7 @@ fn another_shape(alloc: Global) -> Result<(), Trouble> {
         fragments: 5,
         ..PAIR
     };
-    let fault = RestartFault::OtherShape {
-        found: PAIR,
-        asked,
-    };
+    let fault = RestartFault::OtherShape { found: PAIR, asked };
     refused_as(restore(alloc, &mut disks, asked), fault)
 }
 
@@ -247,7 +244,11 @@ fn three_groups(alloc: Global) -> Result<(), Trouble> {
         all = all.saturating_add(size.saturating_sub(2));
     }
     // each of 26 rows of 12 bytes stands on two disks
-    if all == 624 { Ok(()) } else { Err(Trouble::Other) }
+    if all == 624 {
+        Ok(())
+    } else {
+        Err(Trouble::Other)
+    }
 }
 
 // The letters that a node's group has, each with itself as its value.

@@ -44,7 +44,13 @@ impl Layout {
     }
 
     /// A system slot of the pair, which lists these nodes.
-    pub fn system(&mut self, at: u64, generation: u64, epoch: u64, mask: u8) -> Result<(), Trouble> {
+    pub fn system(
+        &mut self,
+        at: u64,
+        generation: u64,
+        epoch: u64,
+        mask: u8,
+    ) -> Result<(), Trouble> {
         let slot = SystemSlot {
             shape: PAIR,
             mask,
@@ -101,7 +107,12 @@ pub fn checkpoint(alloc: Global, rows: &[(u8, u8, u64)]) -> Result<Vec<u8>, Trou
     let mut bytes = Vec::new(alloc);
     put_head(&mut bytes)?;
     for (key, value, epoch) in rows {
-        put_row2(&mut bytes, &Key::new(&[*key])?, *epoch, &Value::new(&[*value])?)?;
+        put_row2(
+            &mut bytes,
+            &Key::new(&[*key])?,
+            *epoch,
+            &Value::new(&[*value])?,
+        )?;
     }
     Ok(bytes)
 }

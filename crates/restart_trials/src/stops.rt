@@ -26,9 +26,15 @@ pub fn stop_everywhere(alloc: Global) -> Result<u64, Trouble> {
     for kind in 0..12u64 {
         let picks = picks_of(alloc, kind)?;
         for pass in 0..MANY {
-            let one = [first.on_disk(Some(pass), &picks)?, second.on_disk(None, &picks)?];
+            let one = [
+                first.on_disk(Some(pass), &picks)?,
+                second.on_disk(None, &picks)?,
+            ];
             stops = stops.saturating_add(stop_once(alloc, one)?);
-            let other = [first.on_disk(None, &picks)?, second.on_disk(Some(pass), &picks)?];
+            let other = [
+                first.on_disk(None, &picks)?,
+                second.on_disk(Some(pass), &picks)?,
+            ];
             stops = stops.saturating_add(stop_once(alloc, other)?);
         }
     }

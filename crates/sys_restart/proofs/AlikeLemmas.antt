@@ -81,7 +81,8 @@ module _ (shape : Shape) (system : SystemSlot) (one two : Disks)
       ≡ source_or (source_of disks system (node + 1) more) node (if listed then on_node node found else Ok None)
   unfolding source_of
   unlisted node more disks found listed is so =
-      ap (source_or (source_of disks system (node + 1) more) node) (control_as system node (disks node) listed found is so)
+      ap (source_or (source_of disks system (node + 1) more) node)
+      (control_as system node (disks node) listed found is so)
 
   pub sources_alike : (node more : ℕ) (source : Source) → source_of one system node more ≡ Ok (Some source)
       → (source_of two system node more ≡ Ok (Some source)) × IsThere system one source
@@ -112,8 +113,7 @@ module _ (shape : Shape) (system : SystemSlot) (one two : Disks)
           let it : Source = record { node = node; slot = slot } in
           let first : ◌≡◌ {A = Result (Option Source) RestartFault} (Ok (Some it)) (Ok (Some source)) =
           sym (unlisted node more one (Ok (Some slot)) true e f) ∙ is in
-          let same : it ≡ source = cc in
-          (
+          let same : it ≡ source = cc in (
             unlisted node more two (Ok (Some slot)) true e ((alike node).slots (Some slot) f) ∙ first,
             subst (IsThere system one) same f,
           )
@@ -172,7 +172,8 @@ restored_alike shape one two r alike is = by (latest_of shape one) refl
     latest : latest_of shape two ≡ latest_of shape one
     latest = latest_alike shape r.generation one two alike 1 shape.nodes (Ok None)
 
-    rows_by_slot : (system : SystemSlot) (rows : Result (List Rows) RestartFault) → latest_of shape one ≡ Ok (Some system)
+    rows_by_slot : (system : SystemSlot) (rows : Result (List Rows) RestartFault)
+        → latest_of shape one ≡ Ok (Some system)
         → rows_of_groups shape one system ≡ rows → restored_by shape two (latest_of shape two) ≡ Ok r
     rows_by_slot system (Err fault) e f =
         absurd (no_answer fault r _ (ap (restored_by shape one) e ∙ ap (with_rows system) f) is)

@@ -22,15 +22,18 @@ use Rattle.sys_restart.proofs.PreparedLemmas.{prepares}
 use Rattle.sys_restart.proofs.ReadyDisks.{all_ready}
 use Rattle.sys_restart.proofs.ReadyLemmas.{is_ready}
 
-module _ (calls now : List Call) (shape : Shape) (node : ℕ) (r : Restored) (told : Option (List Call)) (is : told ≡ Some now)
+module _ (calls now : List Call) (shape : Shape) (node : ℕ) (r : Restored) (told : Option (List Call))
+    (is : told ≡ Some now)
     (numbers : HasNumbers r) where
-  pub keeps_by : (result : Result (Unit {0}) RestartFault) → RunsOrWants (node_calls calls shape node r) calls told result
+  pub keeps_by : (result : Result (Unit {0}) RestartFault)
+      → RunsOrWants (node_calls calls shape node r) calls told result
       → KeepsRestart shape node r calls now
   keeps_by (Ok done) runs =
       keeps_restart calls shape node r now true numbers
       (subst (λ (end : Option (List Call)). Runs (node_calls calls shape node r) calls end true) is runs)
   keeps_by (Err NoMemory) none =
-      subst (KeepsRestart shape node r calls) (same_some calls now told none is) (keeps_without_calls calls shape node r)
+      subst (KeepsRestart shape node r calls) (same_some calls now told none is)
+      (keeps_without_calls calls shape node r)
   keeps_by (Err (DiskFault of count)) runs =
       keeps_restart calls shape node r now false numbers
       (subst (λ (end : Option (List Call)). Runs (node_calls calls shape node r) calls end false) is runs)

@@ -97,14 +97,16 @@ pub both_are : (generation : ℕ) (bytes : List ℕ) (one other : Option Control
 both_are generation bytes one other e f =
     ap (λ read. later_by generation read (control_at 1 bytes)) e ∙ ap (later_by generation (Ok one)) f
 
-kept_by : (generation : ℕ) (one slot : ControlSlot) (is : Bool) → (if is then Some one else None) ≡ Some slot → one ≡ slot
+kept_by : (generation : ℕ) (one slot : ControlSlot) (is : Bool) → (if is then Some one else None) ≡ Some slot
+    → one ≡ slot
 kept_by generation one slot true is = same_some one slot _ refl is
 kept_by generation one slot false is = absurd (not_none slot _ refl is)
 
 of_this_generation : (generation : ℕ) (one : Option ControlSlot) (slot : ControlSlot)
     → of_generation generation one ≡ Some slot → one ≡ Some slot
 of_this_generation generation None slot is = absurd (not_none slot _ refl is)
-of_this_generation generation (Some one) slot is = ap Some (kept_by generation one slot (one.generation == generation) is)
+of_this_generation generation (Some one) slot is =
+    ap Some (kept_by generation one slot (one.generation == generation) is)
 
 later_is_one : (a b : Option ControlSlot) (slot : ControlSlot) → later_control a b ≡ Some slot
     → (a ≡ Some slot) ⊎ (b ≡ Some slot)
@@ -145,7 +147,8 @@ pub places_are : (generation : ℕ) (bytes : List ℕ) (one other : Option Contr
     → control_places generation bytes ≡ places_of (of_generation generation one) (of_generation generation other)
 places_are generation bytes one other e f =
     ap
-    (λ read. places_of (of_generation generation (usable read)) (of_generation generation (usable (control_at 1 bytes))))
+    (λ read. places_of (of_generation generation (usable read))
+    (of_generation generation (usable (control_at 1 bytes))))
     e
     ∙ ap (λ read. places_of (of_generation generation one) (of_generation generation (usable read))) f
 

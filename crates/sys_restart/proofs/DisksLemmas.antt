@@ -65,8 +65,7 @@ one_cause F first xs k x new (DiskFault node count) below long steady (at, rose,
     let less = steady k in
     let many : length (map F first) ≡ length first = mapped F first in
     let here : Rose (get_or (map F first) k 0) (get_or (map F (set xs k new)) k 0) =
-    omega (arith, less, before, after, rose) in
-    (
+    omega (arith, less, before, after, rose) in (
       omega (arith, at),
       omega (arith, at, below, long, many),
       subst (λ (p : ℕ). Rose (get_or (map F first) p 0) (get_or (map F (set xs k new)) p 0)) (sym place) here,

@@ -33,7 +33,8 @@ row_fault file saved bytes (DiskFault count) is inside = absurd is
 row_fault file saved bytes (Damaged of at byte) is inside = is
 row_fault file saved bytes NoMemory is inside = absurd (true≢false inside)
 
-pub row_cause : (file saved before now : ℕ) (bytes : List ℕ) (fault : ReadFault) → lcp.Reads file saved bytes (Err fault)
+pub row_cause : (file saved before now : ℕ) (bytes : List ℕ) (fault : ReadFault)
+    → lcp.Reads file saved bytes (Err fault)
     → IsCause before now fault
 row_cause file saved before now bytes (DiskFault count) is = absurd is
 row_cause file saved before now bytes (Damaged of at byte) is = tt

@@ -12,7 +12,8 @@ use Rattle.sys_restart.specs.Answers.{is_outer, is_outside, of_node}
 use Rattle.sys_restart.specs.Files.{Disks}
 use Rattle.sys_restart.specs.Groups.{and_rows, control_on, first_listed, is_listed, rows_from, rows_of_group, source_of, source_or}
 
-next_source : (disks : Disks) (system : SystemSlot) (node more less : ℕ) (answer : Result (Option ControlSlot) RestartFault)
+next_source : (disks : Disks) (system : SystemSlot) (node more less : ℕ)
+    (answer : Result (Option ControlSlot) RestartFault)
     → more ≡ suc less → control_on system node (disks node) ≡ answer
     → source_of disks system node more ≡ source_or (source_of disks system (node + 1) less) node answer
 unfolding source_of
@@ -94,7 +95,8 @@ next_rows disks system replicas group (suc more) less rows answer size is =
     same
     ∙ ap (λ part. rows_from disks system replicas (group + 1) less (and_rows rows part)) is
 
-pub rows_more : (disks : Disks) (system : SystemSlot) (replicas group more less : ℕ) (rows all : List Rows) (part : Rows)
+pub rows_more : (disks : Disks) (system : SystemSlot) (replicas group more less : ℕ) (rows all : List Rows)
+    (part : Rows)
     → more ≡ suc less → rows_of_group disks system (group * replicas + 1) replicas ≡ Ok part
     → all ≡ rows ++ part ∷ []
     → rows_from disks system replicas (group + 1) less (Ok all) ≡ rows_from disks system replicas group more (Ok rows)

@@ -61,10 +61,13 @@ at_the_place mid after older ok control which generation slot image moment write
         → IsOtherOr generation (control_at which control) (control_at which (image CONTROL_FILE))
     by (inl none) = inr (None, (read_as None none, refl))
     by (inr (inl new)) =
-        inr (Some slot, (
-          read_as (Some (control_bytes slot)) new ∙ read_back place slot readable,
-          ap (λ (b : Bool). if b then Some slot else None) other,
-        ))
+        inr (
+          Some slot,
+          (
+            read_as (Some (control_bytes slot)) new ∙ read_back place slot readable,
+            ap (λ (b : Bool). if b then Some slot else None) other,
+          ),
+        )
     by (inr (inr old)) =
         inl (read_as (slot_at place (length (control_bytes slot)) control) old
         ∙ ap (λ (n : ℕ). control_by place (slot_at place n control)) (control_long slot))
@@ -91,7 +94,8 @@ reaches which control slot is =
 -- the control slot in use is still in use while the next one is written
 slots_stand : (mid after older : List Call) (ok : Bool) (control : List ℕ) (generation : ℕ) (slot : ControlSlot)
     (image : Files) → IsMoment mid after older image
-    → IsSlotWrite mid after ok CONTROL_FILE control (place_of (control_places generation control).free) (control_bytes slot)
+    → IsSlotWrite mid after ok CONTROL_FILE control (place_of (control_places generation control).free)
+    (control_bytes slot)
     → IsControlSlot slot → (slot.generation == generation) ≡ false → (found : Option ControlSlot)
     → control_of_file generation control ≡ Ok found → control_of_file generation (image CONTROL_FILE) ≡ Ok found
 slots_stand mid after older ok control generation slot image moment write readable other found is =
@@ -165,8 +169,11 @@ module _ (before : List Call) (shape : Shape) (node : ℕ) (r : Restored) where
   pub readable : HasNumbers r → Runs first before (Some mid) true → IsControlSlot slot
   readable numbers made =
       next_is_slot r places_now.in_use (length bytes) numbers.generation numbers.epoch numbers.unused
-      (omega (arith, pieces_fit (length bytes) file 0 bytes before (Some mid) made (omega arith)
-      (some_checkpoint shape node r)))
+      (omega (
+        arith,
+        pieces_fit (length bytes) file 0 bytes before (Some mid) made (omega arith)
+            (some_checkpoint shape node r),
+      ))
 
   pub slot_write : (after : List Call) (ok : Bool) → IsRecord before → IsSettled before
       → Runs first before (Some mid) true → Runs second mid (Some after) ok
@@ -223,7 +230,8 @@ module _ (before : List Call) (shape : Shape) (node : ℕ) (r : Restored) where
       (slot_on (stands_closed (place_of places_now.free) control) CONTROL_FILE (place_of places_now.free)
       (place_of places_now.free + CONTROL_BYTES) (drop 1 (control_bytes slot)) (omega (arith, control_size slot)))
       (λ made behind late image left.
-      near_slot after newer older ok image settles (slot_write after ok kept settles made behind) (readable numbers made)
+      near_slot after newer older ok image settles (slot_write after ok kept settles made behind)
+      (readable numbers made)
       split late left)
       runs split long
 

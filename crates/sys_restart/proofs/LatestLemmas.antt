@@ -16,7 +16,8 @@ unfolding latest_from
 latest_fails shape disks node zero fault = refl
 latest_fails shape disks node (suc more) fault = latest_fails shape disks (node + 1) more fault
 
-next_latest : (shape : Shape) (disks : Disks) (node more less : ℕ) (found answer : Result (Option SystemSlot) RestartFault)
+next_latest : (shape : Shape) (disks : Disks) (node more less : ℕ)
+    (found answer : Result (Option SystemSlot) RestartFault)
     → more ≡ suc less → latest_on shape node (disks node) ≡ answer
     → latest_from shape disks node more found ≡ latest_from shape disks (node + 1) less (later found answer)
 unfolding latest_from
@@ -29,12 +30,14 @@ next_latest shape disks node (suc more) less found answer size is =
 -- the slots of one more node
 pub latest_more : (shape : Shape) (disks : Disks) (node more less : ℕ) (found slot : Option SystemSlot)
     → more ≡ suc less → latest_on shape node (disks node) ≡ Ok slot
-    → latest_from shape disks (node + 1) less (Ok (later_system found slot)) ≡ latest_from shape disks node more (Ok found)
+    → latest_from shape disks (node + 1) less (Ok (later_system found slot))
+    ≡ latest_from shape disks node more (Ok found)
 latest_more shape disks node more less found slot size is =
     sym (next_latest shape disks node more less (Ok found) (Ok slot) size is)
 
 -- where they aren't read, neither are all
-pub latest_stops : (shape : Shape) (disks : Disks) (node more less : ℕ) (found : Option SystemSlot) (fault : RestartFault)
+pub latest_stops : (shape : Shape) (disks : Disks) (node more less : ℕ) (found : Option SystemSlot)
+    (fault : RestartFault)
     (all : Result (Option SystemSlot) RestartFault)
     → more ≡ suc less → (is_outside fault ≡ false → latest_on shape node (disks node) ≡ Err fault)
     → latest_from shape disks node more (Ok found) ≡ all → is_outside fault ≡ false → all ≡ Err fault

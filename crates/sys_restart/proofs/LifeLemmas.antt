@@ -39,7 +39,8 @@ unfolding listed
 length_listed records node zero = refl
 length_listed records node (suc more) = ap suc (length_listed records (node + 1) more)
 
-listed_at : (records : ℕ → List Call) (node more k : ℕ) → k < more → get_or (listed records node more) k [] ≡ records (node + k)
+listed_at : (records : ℕ → List Call) (node more k : ℕ) → k < more
+    → get_or (listed records node more) k [] ≡ records (node + k)
 unfolding listed
 listed_at records node zero k below = absurd (omega (arith, below))
 listed_at records node (suc more) zero below = ap records (omega arith)
@@ -117,7 +118,8 @@ module _ (shape : Shape) (r : Restored) (records : List (List Call)) (mid told :
       by (last, turns) =
           let runs = turns.whole node some (omega (arith, few, turns.last)) in
           subst (λ now. Runs (node_calls (record_of records node) shape node r) (record_of records node) now true)
-          (made_record (node_calls (record_of records node) shape node r) (record_of records node) (told_by mid node) runs) runs
+          (made_record (node_calls (record_of records node) shape node r) (record_of records node) (told_by mid node)
+          runs) runs
 
   told_now : (node : ℕ) → 1 ≤ node → node ≤ length records → told_by mid node ≡ Some (prepared node)
   told_now node some few = by first
@@ -136,19 +138,24 @@ module _ (shape : Shape) (r : Restored) (records : List (List Call)) (mid told :
       ∙ told_now (1 + k) (omega arith) (omega (arith, below, many)))
       ∙ ap (λ (n : ℕ). map Some (listed prepared 1 n)) many
 
-  pub then_named : HasRun (name_asks shape r (listed prepared 1 (length records))) (listed prepared 1 (length records)) told result
+  pub then_named : HasRun (name_asks shape r (listed prepared 1 (length records))) (listed prepared 1 (length records))
+      told result
       → RunsAll shape r records told result
   then_named (last, turns) =
       let all = listed prepared 1 (length records) in
       let size : length all ≡ length records = length_listed prepared 1 (length records) in
       let counted : RunInTurn (name_asks shape r all) (record_of all) told (length records) result last =
       subst (λ (n : ℕ). RunInTurn (name_asks shape r all) (record_of all) told n result last) size turns in
-      inr (last, record {
-        prepared = each_made;
-        named = turns_as (name_asks shape r all) (λ node. name_calls (prepared node) shape r) (record_of all) prepared told
-            (length records) result last
-            (λ node some few.
-            ap (λ calls. name_calls calls shape r) (record_listed prepared (length records) node some few))
-            (record_listed prepared (length records)) counted
-            (ends_within (name_asks shape r all) (record_of all) told (length records) last result counted.last);
-      })
+      inr (
+        last,
+        record {
+          prepared = each_made;
+          named =
+              turns_as (name_asks shape r all) (λ node. name_calls (prepared node) shape r) (record_of all) prepared told
+              (length records) result last
+              (λ node some few.
+              ap (λ calls. name_calls calls shape r) (record_listed prepared (length records) node some few))
+              (record_listed prepared (length records)) counted
+              (ends_within (name_asks shape r all) (record_of all) told (length records) last result counted.last);
+        },
+      )

@@ -18,35 +18,47 @@ listed_all (suc (suc (suc (suc zero)))) (suc zero) some within few = refl
 listed_all (suc (suc (suc (suc zero)))) (suc (suc zero)) some within few = refl
 listed_all (suc (suc (suc (suc zero)))) (suc (suc (suc zero))) some within few = refl
 listed_all (suc (suc (suc (suc zero)))) (suc (suc (suc (suc zero)))) some within few = refl
-listed_all (suc (suc (suc (suc zero)))) (suc (suc (suc (suc (suc more))))) some within few = absurd (omega (arith, within))
+listed_all (suc (suc (suc (suc zero)))) (suc (suc (suc (suc (suc more))))) some within few =
+    absurd (omega (arith, within))
 listed_all (suc (suc (suc (suc (suc zero))))) (suc zero) some within few = refl
 listed_all (suc (suc (suc (suc (suc zero))))) (suc (suc zero)) some within few = refl
 listed_all (suc (suc (suc (suc (suc zero))))) (suc (suc (suc zero))) some within few = refl
 listed_all (suc (suc (suc (suc (suc zero))))) (suc (suc (suc (suc zero)))) some within few = refl
 listed_all (suc (suc (suc (suc (suc zero))))) (suc (suc (suc (suc (suc zero))))) some within few = refl
-listed_all (suc (suc (suc (suc (suc zero))))) (suc (suc (suc (suc (suc (suc more)))))) some within few = absurd (omega (arith, within))
+listed_all (suc (suc (suc (suc (suc zero))))) (suc (suc (suc (suc (suc (suc more)))))) some within few =
+    absurd (omega (arith, within))
 listed_all (suc (suc (suc (suc (suc (suc zero)))))) (suc zero) some within few = refl
 listed_all (suc (suc (suc (suc (suc (suc zero)))))) (suc (suc zero)) some within few = refl
 listed_all (suc (suc (suc (suc (suc (suc zero)))))) (suc (suc (suc zero))) some within few = refl
 listed_all (suc (suc (suc (suc (suc (suc zero)))))) (suc (suc (suc (suc zero)))) some within few = refl
 listed_all (suc (suc (suc (suc (suc (suc zero)))))) (suc (suc (suc (suc (suc zero))))) some within few = refl
 listed_all (suc (suc (suc (suc (suc (suc zero)))))) (suc (suc (suc (suc (suc (suc zero)))))) some within few = refl
-listed_all (suc (suc (suc (suc (suc (suc zero)))))) (suc (suc (suc (suc (suc (suc (suc more))))))) some within few = absurd (omega (arith, within))
+listed_all (suc (suc (suc (suc (suc (suc zero)))))) (suc (suc (suc (suc (suc (suc (suc more))))))) some within few =
+    absurd (omega (arith, within))
 listed_all (suc (suc (suc (suc (suc (suc (suc zero))))))) (suc zero) some within few = refl
 listed_all (suc (suc (suc (suc (suc (suc (suc zero))))))) (suc (suc zero)) some within few = refl
 listed_all (suc (suc (suc (suc (suc (suc (suc zero))))))) (suc (suc (suc zero))) some within few = refl
 listed_all (suc (suc (suc (suc (suc (suc (suc zero))))))) (suc (suc (suc (suc zero)))) some within few = refl
 listed_all (suc (suc (suc (suc (suc (suc (suc zero))))))) (suc (suc (suc (suc (suc zero))))) some within few = refl
-listed_all (suc (suc (suc (suc (suc (suc (suc zero))))))) (suc (suc (suc (suc (suc (suc zero)))))) some within few = refl
-listed_all (suc (suc (suc (suc (suc (suc (suc zero))))))) (suc (suc (suc (suc (suc (suc (suc zero))))))) some within few = refl
-listed_all (suc (suc (suc (suc (suc (suc (suc zero))))))) (suc (suc (suc (suc (suc (suc (suc (suc more)))))))) some within few = absurd (omega (arith, within))
+listed_all (suc (suc (suc (suc (suc (suc (suc zero))))))) (suc (suc (suc (suc (suc (suc zero)))))) some within few =
+    refl
+listed_all (suc (suc (suc (suc (suc (suc (suc zero))))))) (suc (suc (suc (suc (suc (suc (suc zero))))))) some within few
+    = refl
+listed_all (suc (suc (suc (suc (suc (suc (suc zero))))))) (suc (suc (suc (suc (suc (suc (suc (suc more)))))))) some
+    within few = absurd (omega (arith, within))
 listed_all (suc (suc (suc (suc (suc (suc (suc (suc zero)))))))) (suc zero) some within few = refl
 listed_all (suc (suc (suc (suc (suc (suc (suc (suc zero)))))))) (suc (suc zero)) some within few = refl
 listed_all (suc (suc (suc (suc (suc (suc (suc (suc zero)))))))) (suc (suc (suc zero))) some within few = refl
 listed_all (suc (suc (suc (suc (suc (suc (suc (suc zero)))))))) (suc (suc (suc (suc zero)))) some within few = refl
-listed_all (suc (suc (suc (suc (suc (suc (suc (suc zero)))))))) (suc (suc (suc (suc (suc zero))))) some within few = refl
-listed_all (suc (suc (suc (suc (suc (suc (suc (suc zero)))))))) (suc (suc (suc (suc (suc (suc zero)))))) some within few = refl
-listed_all (suc (suc (suc (suc (suc (suc (suc (suc zero)))))))) (suc (suc (suc (suc (suc (suc (suc zero))))))) some within few = refl
-listed_all (suc (suc (suc (suc (suc (suc (suc (suc zero)))))))) (suc (suc (suc (suc (suc (suc (suc (suc zero)))))))) some within few = refl
-listed_all (suc (suc (suc (suc (suc (suc (suc (suc zero)))))))) (suc (suc (suc (suc (suc (suc (suc (suc (suc more))))))))) some within few = absurd (omega (arith, within))
-listed_all (suc (suc (suc (suc (suc (suc (suc (suc (suc nodes))))))))) (suc node) some within few = absurd (omega (arith, few))
+listed_all (suc (suc (suc (suc (suc (suc (suc (suc zero)))))))) (suc (suc (suc (suc (suc zero))))) some within few =
+    refl
+listed_all (suc (suc (suc (suc (suc (suc (suc (suc zero)))))))) (suc (suc (suc (suc (suc (suc zero)))))) some within few
+    = refl
+listed_all (suc (suc (suc (suc (suc (suc (suc (suc zero)))))))) (suc (suc (suc (suc (suc (suc (suc zero))))))) some
+    within few = refl
+listed_all (suc (suc (suc (suc (suc (suc (suc (suc zero)))))))) (suc (suc (suc (suc (suc (suc (suc (suc zero))))))))
+    some within few = refl
+listed_all (suc (suc (suc (suc (suc (suc (suc (suc zero))))))))
+    (suc (suc (suc (suc (suc (suc (suc (suc (suc more))))))))) some within few = absurd (omega (arith, within))
+listed_all (suc (suc (suc (suc (suc (suc (suc (suc (suc nodes))))))))) (suc node) some within few =
+    absurd (omega (arith, few))

@@ -11,7 +11,8 @@ use Rattle.sysfile_core.specs.Runs.{Runs}
 use Rattle.sysfile_core.proofs.RunLemmas.{HoldsThrough, done, moments}
 
 -- calls that come behind others: either one of the others failed, or they were all made
-pub runs_split : (asks more calls : List Call) (told : Option (List Call)) (ok : Bool) → Runs (asks ++ more) calls told ok
+pub runs_split : (asks more calls : List Call) (told : Option (List Call)) (ok : Bool)
+    → Runs (asks ++ more) calls told ok
     → (Runs asks calls told false × (ok ≡ false))
     ⊎ (Runs asks calls (Some (done asks calls)) true × Runs more (done asks calls) told ok)
 runs_split [] more calls told ok runs = inr ((refl, refl), runs)
@@ -68,23 +69,21 @@ pub record IsKeptBy (file end : ℕ) (Holds : List Call → Type 0) : Type 0 whe
 pub kept_through : (file end : ℕ) (Holds : List Call → Type 0) (asks calls : List Call) → IsKeptBy file end Holds
     → AreOn file end asks → Holds calls → HoldsThrough Holds asks calls
 kept_through file end Holds [] calls by are holds = holds
-kept_through file end Holds (Wrote to at bytes ∷ asks) calls by (same, (fits, are)) holds =
-    (
-      holds,
-      (
-        λ piece few.
-            subst (λ (f : ℕ). Holds (Tore f at bytes piece ∷ calls)) (sym same)
-            (by.by_tear calls at bytes piece few fits holds),
-        kept_through file end Holds asks (Wrote to at bytes ∷ calls) by are
-            (subst (λ (f : ℕ). Holds (Wrote f at bytes ∷ calls)) (sym same) (by.by_write calls at bytes fits holds)),
-      ),
-    )
-kept_through file end Holds (Synced to ∷ asks) calls by (same, are) holds =
-    (
-      holds,
-      kept_through file end Holds asks (Synced to ∷ calls) by are
-          (subst (λ (f : ℕ). Holds (Synced f ∷ calls)) (sym same) (by.by_sync calls holds)),
-    )
+kept_through file end Holds (Wrote to at bytes ∷ asks) calls by (same, (fits, are)) holds = (
+  holds,
+  (
+    λ piece few.
+        subst (λ (f : ℕ). Holds (Tore f at bytes piece ∷ calls)) (sym same)
+        (by.by_tear calls at bytes piece few fits holds),
+    kept_through file end Holds asks (Wrote to at bytes ∷ calls) by are
+        (subst (λ (f : ℕ). Holds (Wrote f at bytes ∷ calls)) (sym same) (by.by_write calls at bytes fits holds)),
+  ),
+)
+kept_through file end Holds (Synced to ∷ asks) calls by (same, are) holds = (
+  holds,
+  kept_through file end Holds asks (Synced to ∷ calls) by are
+      (subst (λ (f : ℕ). Holds (Synced f ∷ calls)) (sym same) (by.by_sync calls holds)),
+)
 kept_through file end Holds (Tore to at asked piece ∷ asks) calls by are holds = absurd are
 kept_through file end Holds (Lost files ∷ asks) calls by are holds = absurd are
 
@@ -108,10 +107,12 @@ LeavesElse file other s calls = (file == other) ≡ false → state_of calls oth
 pub else_kept : (file other end : ℕ) (s : FileState) → IsKeptBy file end (LeavesElse file other s)
 else_kept file other end s = record {
   by_write = λ calls at bytes fits holds apart.
-      ap (λ (b : Bool). if b then written (state_of calls other) at (length bytes) bytes else state_of calls other) apart
+      ap (λ (b : Bool). if b then written (state_of calls other) at (length bytes) bytes else state_of calls other)
+      apart
       ∙ holds apart;
   by_tear = λ calls at asked piece few fits holds apart.
-      ap (λ (b : Bool). if b then written (state_of calls other) at (length asked) piece else state_of calls other) apart
+      ap (λ (b : Bool). if b then written (state_of calls other) at (length asked) piece else state_of calls other)
+      apart
       ∙ holds apart;
   by_sync = λ calls holds apart.
       ap (λ (b : Bool). if b then settled (state_of calls other).bytes else state_of calls other) apart ∙ holds apart;
@@ -124,11 +125,13 @@ EndsWithin file end calls = length (state_of calls file).bytes ≤ end
 pub end_kept : (file end : ℕ) → IsKeptBy file end (EndsWithin file end)
 end_kept file end = record {
   by_write = λ calls at bytes fits holds.
-      subst (λ (b : Bool). length (if b then written (state_of calls file) at (length bytes) bytes else state_of calls file).bytes ≤ end)
+      subst (λ (b : Bool). length (if b then written (state_of calls file) at (length bytes) bytes else state_of calls
+      file).bytes ≤ end)
       (sym (same_number file))
       (laid_ends at end bytes (state_of calls file).bytes holds fits);
   by_tear = λ calls at asked piece few fits holds.
-      subst (λ (b : Bool). length (if b then written (state_of calls file) at (length asked) piece else state_of calls file).bytes ≤ end)
+      subst (λ (b : Bool). length (if b then written (state_of calls file) at (length asked) piece else state_of calls
+      file).bytes ≤ end)
       (sym (same_number file))
       (laid_ends at end piece (state_of calls file).bytes holds (omega (arith, few, fits)));
   by_sync = λ calls holds.
@@ -141,14 +144,13 @@ pub through_map : (Holds Follows : List Call → Type 0) (asks calls : List Call
     → ((moment : List Call) → Holds moment → Follows moment)
     → HoldsThrough Holds asks calls → HoldsThrough Follows asks calls
 through_map Holds Follows [] calls follow holds = follow calls holds
-through_map Holds Follows (Wrote file at bytes ∷ asks) calls follow holds =
-    (
-      follow calls holds.0,
-      (
-        λ piece few. follow (Tore file at bytes piece ∷ calls) (holds.1.0 piece few),
-        through_map Holds Follows asks (Wrote file at bytes ∷ calls) follow holds.1.1,
-      ),
-    )
+through_map Holds Follows (Wrote file at bytes ∷ asks) calls follow holds = (
+  follow calls holds.0,
+  (
+    λ piece few. follow (Tore file at bytes piece ∷ calls) (holds.1.0 piece few),
+    through_map Holds Follows asks (Wrote file at bytes ∷ calls) follow holds.1.1,
+  ),
+)
 through_map Holds Follows (Synced file ∷ asks) calls follow holds =
     (follow calls holds.0, through_map Holds Follows asks (Synced file ∷ calls) follow holds.1)
 through_map Holds Follows (Tore file at asked piece ∷ asks) calls follow holds = absurd holds
@@ -171,7 +173,8 @@ HoldsBelow Holds bound moment = length moment < bound → Holds moment
 
 -- It holds at each moment of calls of which some come behind others: at those of the first ones, and at those of the
 -- others once the first are made.
-pub moments_then : (Holds : List Call → Type 0) (file end : ℕ) (asks more calls after newer older : List Call) (ok : Bool)
+pub moments_then : (Holds : List Call → Type 0) (file end : ℕ) (asks more calls after newer older : List Call)
+    (ok : Bool)
     → HoldsThrough Holds asks calls → AreOn file end more
     → (Runs asks calls (Some (done asks calls)) true → Runs more (done asks calls) (Some after) ok
     → length (done asks calls) ≤ length older → Holds older)

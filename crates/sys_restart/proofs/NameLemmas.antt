@@ -124,7 +124,8 @@ both_below generation None b below = (tt, below)
 both_below generation (Some one) None below = (below, tt)
 both_below generation (Some one) (Some other) below = by (is_earlier one other) refl
   where
-    by : (earlier : Bool) → is_earlier one other ≡ earlier → (one.generation < generation) × (other.generation < generation)
+    by : (earlier : Bool) → is_earlier one other ≡ earlier
+        → (one.generation < generation) × (other.generation < generation)
     by true e =
         let last : other.generation < generation = subst (IsBelow generation) (later_when one other true e) below in
         (omega (arith, last, earlier_least one other e), last)
@@ -137,7 +138,8 @@ pub first_named : (shape : Shape) (r : Restored) (b : Option SystemSlot) → IsN
     → later_system (Some (next_system shape r)) b ≡ Some (next_system shape r)
 first_named shape r None is = refl
 first_named shape r (Some other) (inl named) =
-    ap (later_system (Some (next_system shape r))) named ∙ itself (is_earlier (next_system shape r) (next_system shape r))
+    ap (later_system (Some (next_system shape r))) named
+    ∙ itself (is_earlier (next_system shape r) (next_system shape r))
   where
     itself : (b : Bool)
         → (if b then Some (next_system shape r) else Some (next_system shape r)) ≡ Some (next_system shape r)

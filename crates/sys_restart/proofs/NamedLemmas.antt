@@ -105,7 +105,8 @@ module _ (shape : Shape) (r : Restored) (disks : Disks) (is : IsShape shape) (ea
   groups_named group zero less all size = ap Ok (take_all group r.groups (omega (arith, all, many)))
   groups_named group (suc more) less all size =
       ap
-      (λ part. rows_from disks (next_system shape r) shape.replicas (group + 1) more (and_rows (Ok (take group r.groups)) part))
+      (λ part. rows_from disks (next_system shape r) shape.replicas (group + 1) more
+      (and_rows (Ok (take group r.groups)) part))
       (one_group group less (omega (arith, all)) size)
       ∙ ap (λ rows. rows_from disks (next_system shape r) shape.replicas (group + 1) more (Ok rows))
       (sym (take_more r.groups group finmap.empty (omega (arith, all, many))))

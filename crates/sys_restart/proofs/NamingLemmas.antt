@@ -74,7 +74,8 @@ fits shape node (Err fault) slot is = absurd (no_answer _ slot _ refl is)
 fits shape node (Ok None) slot is = ap Ok (same_answer None slot _ refl is)
 fits shape node (Ok (Some found)) slot is = by (same_shape found.shape shape) refl
   where
-    by : (b : Bool) → same_shape found.shape shape ≡ b → ◌≡◌ {A = Result (Option SystemSlot) ReadFault} (Ok (Some found)) (Ok slot)
+    by : (b : Bool) → same_shape found.shape shape ≡ b
+        → ◌≡◌ {A = Result (Option SystemSlot) ReadFault} (Ok (Some found)) (Ok slot)
     by true e = ap Ok (same_answer (Some found) slot _ (of_shape_when shape node found true e) is)
     by false e = absurd (no_answer _ slot _ (of_shape_when shape node found false e) is)
 
@@ -128,7 +129,8 @@ first_lost None b free = refl
 first_lost (Some one) None free = absurd (omega (arith, free))
 first_lost (Some one) (Some other) free = by (is_earlier one other) free
   where
-    by : (earlier : Bool) → ◌≡◌ {A = ℕ} (if earlier then 0 else 1) 0 → Some other ≡ (if earlier then Some other else Some one)
+    by : (earlier : Bool) → ◌≡◌ {A = ℕ} (if earlier then 0 else 1) 0
+        → Some other ≡ (if earlier then Some other else Some one)
     by true free = refl
     by false free = absurd (omega (arith, free))
 
@@ -137,7 +139,8 @@ second_lost None b free = absurd (omega (arith, free))
 second_lost (Some one) None free = refl
 second_lost (Some one) (Some other) free = by (is_earlier one other) free
   where
-    by : (earlier : Bool) → ◌≡◌ {A = ℕ} (if earlier then 0 else 1) 1 → Some one ≡ (if earlier then Some other else Some one)
+    by : (earlier : Bool) → ◌≡◌ {A = ℕ} (if earlier then 0 else 1) 1
+        → Some one ≡ (if earlier then Some other else Some one)
     by true free = absurd (omega (arith, free))
     by false free = refl
 
@@ -189,10 +192,12 @@ module _ (before after older : List Call) (ok : Bool) (shape : Shape) (node : �
 
       stays : LeavesOthers SYSTEM_FILE (state_of before) older
       stays =
-          moments (LeavesOthers SYSTEM_FILE (state_of before)) (name_calls before shape r) before after moment.newer older ok
+          moments (LeavesOthers SYSTEM_FILE (state_of before)) (name_calls before shape r) before after moment.newer
+          older ok
           (kept_through SYSTEM_FILE last (LeavesOthers SYSTEM_FILE (state_of before)) (name_calls before shape r) before
           (others_kept SYSTEM_FILE last (state_of before))
-          (slot_on (stands_closed (place_of (free_system system)) system) SYSTEM_FILE (place_of (free_system system)) last
+          (slot_on (stands_closed (place_of (free_system system)) system) SYSTEM_FILE (place_of (free_system system))
+          last
           (drop 1 (system_bytes next)) (omega (arith, ap length (system_split next), system_long next)))
           (λ other away. refl))
           runs moment.split moment.long
@@ -202,7 +207,8 @@ module _ (before after older : List Call) (ok : Bool) (shape : Shape) (node : �
       → slot_at (place_of which) (length (system_bytes next)) (image SYSTEM_FILE) ≡ found
       → system_at which (image SYSTEM_FILE) ≡ system_by (place_of which) found
   place_read which found same =
-      ap (λ (n : ℕ). system_by (place_of which) (slot_at (place_of which) n (image SYSTEM_FILE))) (sym (system_long next))
+      ap (λ (n : ℕ). system_by (place_of which) (slot_at (place_of which) n (image SYSTEM_FILE)))
+      (sym (system_long next))
       ∙ ap (system_by (place_of which)) same
 
   pub place_same : (which : ℕ)
@@ -224,7 +230,8 @@ module _ (before after older : List Call) (ok : Bool) (shape : Shape) (node : �
       ⊎ (of_shape shape node (system_at which (image SYSTEM_FILE)) ≡ Ok slot))
   at_free which slot free reads shaped =
       by (place_has before after older ok SYSTEM_FILE system (place_of which) (system_bytes next) image
-      (subst (λ (w : ℕ). IsSlotWrite before after ok SYSTEM_FILE system (place_of w) (system_bytes next)) free write) moment)
+      (subst (λ (w : ℕ). IsSlotWrite before after ok SYSTEM_FILE system (place_of w) (system_bytes next)) free write)
+      moment)
     where
       by : HasPlace system (place_of which) (system_bytes next) (image SYSTEM_FILE)
           → (of_shape shape node (system_at which (image SYSTEM_FILE)) ≡ Ok None)
@@ -252,7 +259,8 @@ module _ (before after older : List Call) (ok : Bool) (shape : Shape) (node : �
           ∙ ap (λ found. free_of read.one (usable found)) read.second
 
       lower : IsBelow (r.generation + 1) read.one × IsBelow (r.generation + 1) read.other
-      lower = both_below (r.generation + 1) read.one read.other (subst (IsBelow (r.generation + 1)) (sym read.later) below)
+      lower =
+          both_below (r.generation + 1) read.one read.other (subst (IsBelow (r.generation + 1)) (sym read.later) below)
 
       by_first : free_of read.one read.other ≡ 0 → of_shape shape node (system_at 1 (image SYSTEM_FILE)) ≡ Ok read.other
           → (of_shape shape node (system_at 0 (image SYSTEM_FILE)) ≡ Ok None)
@@ -285,20 +293,24 @@ module _ (before after older : List Call) (ok : Bool) (shape : Shape) (node : �
       by : (free_of read.one read.other ≡ 0) ⊎ (free_of read.one read.other ≡ 1) → IsSameOrNamed shape node r image slot
       by (inl free) =
           let at : free_system system ≡ 0 = free_is ∙ free in
-          let first = subst (λ (w : ℕ). IsSlotWrite before after ok SYSTEM_FILE system (place_of w) (system_bytes next)) at write in
+          let first = subst (λ (w : ℕ). IsSlotWrite before after ok SYSTEM_FILE system (place_of w) (system_bytes next))
+          at write in
           by_first free
           (ap (of_shape shape node)
-          (place_same 1 (behind_has before after older ok SYSTEM_FILE system (place_of 0) (system_bytes next) image first moment
+          (place_same 1 (behind_has before after older ok SYSTEM_FILE system (place_of 0) (system_bytes next) image
+          first moment
           (place_of 1) (omega (arith, system_long next)))
           ∙ read.second)
           ∙ read.second_fits)
           (at_free 0 read.one at read.first read.first_fits)
       by (inr free) =
           let at : free_system system ≡ 1 = free_is ∙ free in
-          let second = subst (λ (w : ℕ). IsSlotWrite before after ok SYSTEM_FILE system (place_of w) (system_bytes next)) at write in
+          let second = subst (λ (w : ℕ). IsSlotWrite before after ok SYSTEM_FILE system (place_of w)
+          (system_bytes next)) at write in
           by_second free
           (ap (of_shape shape node)
-          (place_same 0 (other_has before after older ok SYSTEM_FILE system (place_of 1) (system_bytes next) image second moment
+          (place_same 0 (other_has before after older ok SYSTEM_FILE system (place_of 1) (system_bytes next) image
+          second moment
           (place_of 0) (inl (omega (arith, system_long next)))
           (omega (arith, system_long next, reaches 0 system read.one read.first (some_first read.one read.other free))))
           ∙ read.first)
@@ -433,7 +445,8 @@ is_named shape node r disks before image is are latest same = (
             let at : node ≡ other = sym (eqb-true other node e) in
             subst (λ (n : ℕ). Named n (now n)) at (Some (next_system shape r), (here_latest, inl refl))
         by false e =
-            subst (Named other) (sym (else_is other (other == node) refl e)) (are.others other some (omega (arith, few))).1
+            subst (Named other) (sym (else_is other (other == node) refl e))
+            (are.others other some (omega (arith, few))).1
 
 pub keeps_or_names : (before after : List Call) (ok : Bool) (shape : Shape) (node : ℕ) (r : Restored) → IsShape shape
     → HasNumbers r → Runs (name_calls before shape r) before (Some after) ok
@@ -453,7 +466,8 @@ keeps_or_names before after ok shape node r is numbers runs disks are newer olde
     by (inr latest) = is_named shape node r disks before image is are latest same
 
 -- where no call was made a restart is as before
-pub keeps_unnamed : (before : List Call) (shape : Shape) (node : ℕ) (r : Restored) → KeepsOrNames shape node r before before
+pub keeps_unnamed : (before : List Call) (shape : Shape) (node : ℕ) (r : Restored)
+    → KeepsOrNames shape node r before before
 keeps_unnamed before shape node r disks are newer older split long image left =
     not_named shape node r disks before image are
     (ap

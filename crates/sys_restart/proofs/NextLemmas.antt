@@ -110,14 +110,13 @@ pub pieces_on : (more file at end : ℕ) (bytes : List ℕ) → at + PIECE_BYTES
 unfolding piece_calls
 pieces_on zero file at end bytes room = (refl, tt)
 pieces_on (suc more) file at end [] room = (refl, tt)
-pieces_on (suc more) file at end (byte ∷ bytes) room =
-    (
-      refl,
-      (
-        omega (arith, room, length-take PIECE_BYTES (byte ∷ bytes)),
-        pieces_on more file (at + PIECE_BYTES) end (drop PIECE_BYTES (byte ∷ bytes)) (omega (arith, room)),
-      ),
-    )
+pieces_on (suc more) file at end (byte ∷ bytes) room = (
+  refl,
+  (
+    omega (arith, room, length-take PIECE_BYTES (byte ∷ bytes)),
+    pieces_on more file (at + PIECE_BYTES) end (drop PIECE_BYTES (byte ∷ bytes)) (omega (arith, room)),
+  ),
+)
 
 pub slot_on : (stands : Bool) (file place end : ℕ) (body : List ℕ) → place + (1 + length body) ≤ end
     → AreOn file end (closing_by stands file place ∷ opening file place body)

@@ -81,7 +81,8 @@ pub writing_more : (file at len : ℕ) (bytes piece : List ℕ) (calls : List Ca
     → piece ≡ take len (drop at bytes)
     → ((now : List Call) → told ≡ Some now → IsWritten now after file at piece true)
     → IsWriting file (at + len) bytes calls after
-writing_more file at len bytes piece calls told after writing some is same written = by writing.more writing.few writing.runs
+writing_more file at len bytes piece calls told after writing some is same written =
+    by writing.more writing.few writing.runs
   where
     added : IsAdded writing.now after (Wrote file at piece)
     added = written writing.now writing.tells
@@ -108,7 +109,8 @@ pub writing_stops : (file at len : ℕ) (bytes piece : List ℕ) (calls : List C
     → piece ≡ take len (drop at bytes)
     → ((now : List Call) → told ≡ Some now → IsWritten now after file at piece false)
     → Runs (piece_calls (length bytes) file 0 bytes) calls after false
-writing_stops file at len bytes piece calls told after writing some is same written = by writing.more writing.few writing.runs
+writing_stops file at len bytes piece calls told after writing some is same written =
+    by writing.more writing.few writing.runs
   where
     by : (more : ℕ) → length bytes - at ≤ more
         → ((end : Option (List Call)) (ok : Bool) → Runs (piece_calls more file at (drop at bytes)) writing.now end ok

@@ -20,7 +20,8 @@ pub usable_is : {S : Type 0} (found read : Result (Option S) ReadFault) (slot : 
     → usable_or_count read ≡ Ok slot → slot ≡ usable found
 usable_is found (Ok one) slot reads is = sym (same_ok one slot (Ok one) refl is) ∙ sym (ap usable reads)
 usable_is found (Err (DiskFault count)) slot reads is = absurd (not_both slot count (Err count) refl is)
-usable_is found (Err (Damaged file at byte)) slot reads is = sym (same_ok None slot (Ok None) refl is) ∙ sym (ap usable reads)
+usable_is found (Err (Damaged file at byte)) slot reads is =
+    sym (same_ok None slot (Ok None) refl is) ∙ sym (ap usable reads)
 usable_is found (Err NoMemory) slot reads is = absurd reads
 
 same_err : {A : Type 0} (x y : ℕ) (read : Result A ℕ) → read ≡ Err x → read ≡ Err y → x ≡ y
@@ -29,7 +30,8 @@ same_err x y read one other = cc
 pub count_is : {S : Type 0} (before now count : ℕ) (read : Result (Option S) ReadFault) → HasCause before now read
     → usable_or_count read ≡ Err count → Rose before now × (count ≡ now)
 count_is before now count (Ok slot) cause is = absurd (not_both slot count (Ok slot) is refl)
-count_is before now count (Err (DiskFault one)) cause is = (cause.0, sym (same_err one count (Err one) refl is) ∙ cause.1)
+count_is before now count (Err (DiskFault one)) cause is =
+    (cause.0, sym (same_err one count (Err one) refl is) ∙ cause.1)
 count_is before now count (Err (Damaged file at byte)) cause is = absurd (not_both None count (Ok None) is refl)
 count_is before now count (Err NoMemory) cause is = absurd cause
 

@@ -54,7 +54,8 @@ pub none_prepared : (calls : List Call) (shape : Shape) (node : ℕ) (r : Restor
 none_prepared calls shape node r told is =
     let places = control_places r.generation (files_of calls CONTROL_FILE) in
     let bytes = checkpoint_for shape node r in
-    none_written (files_of calls CONTROL_FILE) places.free (next_slot r places.in_use (length bytes)) bytes calls told is
+    none_written (files_of calls CONTROL_FILE) places.free (next_slot r places.in_use (length bytes)) bytes calls told
+    is
 
 -- the calls that were made are those of the node
 pub node_made : (calls : List Call) (shape : Shape) (node : ℕ) (r : Restored) (places : Places) (slot : ControlSlot)
@@ -69,7 +70,8 @@ node_made calls shape node r places slot bytes told ok are is so runs =
     subst (λ s. Runs (write_calls control places.free s bytes) calls told ok) so runs in
     let two : Runs (write_calls control places.free
     (next_slot r places.in_use (length (checkpoint_for shape node r))) (checkpoint_for shape node r)) calls told ok =
-    subst (λ (b : List ℕ). Runs (write_calls control places.free (next_slot r places.in_use (length b)) b) calls told ok)
+    subst (λ (b : List ℕ). Runs (write_calls control places.free (next_slot r places.in_use (length b)) b) calls told
+    ok)
     is one in
     subst
     (λ (p : Places). Runs (write_calls control p.free
@@ -83,10 +85,12 @@ pub name_made : (calls : List Call) (shape : Shape) (r : Restored) (which : ℕ)
     → Runs (name_calls calls shape r) calls told ok
 name_made calls shape r which slot told ok is so runs =
     let system = files_of calls SYSTEM_FILE in
-    let one : Runs (slot_calls system SYSTEM_FILE (place_of which) (drop 1 (system_bytes (next_system shape r)))) calls told ok =
+    let one : Runs (slot_calls system SYSTEM_FILE (place_of which) (drop 1 (system_bytes (next_system shape r)))) calls
+    told ok =
     subst (λ (s : List ℕ). Runs (slot_calls system SYSTEM_FILE (place_of which) (drop 1 s)) calls told ok) so runs in
     subst
-    (λ (w : ℕ). Runs (slot_calls system SYSTEM_FILE (place_of w) (drop 1 (system_bytes (next_system shape r)))) calls told ok)
+    (λ (w : ℕ). Runs (slot_calls system SYSTEM_FILE (place_of w) (drop 1 (system_bytes (next_system shape r)))) calls
+    told ok)
     is one
 
 -- calls on a file leave another
@@ -109,27 +113,34 @@ file_leaves (suc more) file at other [] calls after apart runs = sync_leaves fil
 file_leaves (suc more) file at other (byte ∷ bytes) calls after apart (inl (fails, not_so)) = absurd (true≢false not_so)
 file_leaves (suc more) file at other (byte ∷ bytes) calls after apart (inr (may, runs)) =
     let piece = take PIECE_BYTES (byte ∷ bytes) in
-    file_leaves more file (at + PIECE_BYTES) other (drop PIECE_BYTES (byte ∷ bytes)) (Wrote file at piece ∷ calls) after apart runs
-    ∙ ap (λ (b : Bool). (if b then written (state_of calls other) at (length piece) piece else state_of calls other).bytes) apart
+    file_leaves more file (at + PIECE_BYTES) other (drop PIECE_BYTES (byte ∷ bytes)) (Wrote file at piece ∷ calls) after
+    apart runs
+    ∙ ap (λ (b : Bool). (if b then written (state_of calls other) at (length piece) piece else state_of calls
+    other).bytes) apart
 
 -- a file was written and synced, and then a slot
-pub both_made : (file which : ℕ) (slot : ControlSlot) (bytes : List ℕ) (calls : List Call) (mid told : Option (List Call))
+pub both_made : (file which : ℕ) (slot : ControlSlot) (bytes : List ℕ) (calls : List Call)
+    (mid told : Option (List Call))
     (ok : Bool) → (file == CONTROL_FILE) ≡ false → slot.ckpt_file ≡ file
     → Runs (file_calls file bytes) calls mid true
     → ((after : List Call) → mid ≡ Some after
-    → Runs (slot_calls (files_of after CONTROL_FILE) CONTROL_FILE (place_of which) (drop 1 (control_bytes slot))) after told ok)
+    → Runs (slot_calls (files_of after CONTROL_FILE) CONTROL_FILE (place_of which) (drop 1 (control_bytes slot))) after
+    told ok)
     → Runs (write_calls (files_of calls CONTROL_FILE) which slot bytes) calls told ok
 both_made file which slot bytes calls mid told ok apart is first second =
     subst
     (λ (f : ℕ). Runs (file_calls f bytes
-    ++ slot_calls (files_of calls CONTROL_FILE) CONTROL_FILE (place_of which) (drop 1 (control_bytes slot))) calls told ok)
+    ++ slot_calls (files_of calls CONTROL_FILE) CONTROL_FILE (place_of which) (drop 1 (control_bytes slot))) calls told
+    ok)
     (sym is)
     (runs_then (file_calls file bytes)
-    (slot_calls (files_of calls CONTROL_FILE) CONTROL_FILE (place_of which) (drop 1 (control_bytes slot))) calls mid told ok
+    (slot_calls (files_of calls CONTROL_FILE) CONTROL_FILE (place_of which) (drop 1 (control_bytes slot))) calls mid
+    told ok
     first
     (λ after made.
     subst
-    (λ (control : List ℕ). Runs (slot_calls control CONTROL_FILE (place_of which) (drop 1 (control_bytes slot))) after told ok)
+    (λ (control : List ℕ). Runs (slot_calls control CONTROL_FILE (place_of which) (drop 1 (control_bytes slot))) after
+    told ok)
     (file_leaves (length bytes) file 0 CONTROL_FILE bytes calls after apart
     (subst (λ (m : Option (List Call)). Runs (file_calls file bytes) calls m true) made first))
     (second after made)))

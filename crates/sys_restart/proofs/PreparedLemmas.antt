@@ -54,7 +54,8 @@ pub slot_settles : (stands : Bool) (file place : ℕ) (body : List ℕ) (calls :
     ≡ settled (files_of (done (closing_by stands file place ∷ opening file place body) calls) file)
 slot_settles stands file place body calls =
     sync_settles file
-    (Wrote file place (OPEN ∷ []) ∷ Synced file ∷ Wrote file (place + 1) body ∷ Synced file ∷ closing_by stands file place
+    (Wrote file place (OPEN ∷ []) ∷ Synced file ∷ Wrote file (place + 1) body ∷ Synced file ∷ closing_by stands file
+    place
     ∷ calls)
 
 -- no redo
@@ -103,7 +104,8 @@ module _ (before : List Call) (shape : Shape) (node : ℕ) (r : Restored) (numbe
   is_after : after ≡ done the_second the_mid
   is_after = all_done the_second the_mid after both_runs.1
 
-  write : IsSlotWrite the_mid after true CONTROL_FILE (control before shape node r) (place_of free) (control_bytes the_slot)
+  write : IsSlotWrite the_mid after true CONTROL_FILE (control before shape node r) (place_of free)
+      (control_bytes the_slot)
   write = slot_write before shape node r after true may.kept may.settled both_runs.0 both_runs.1
 
   fits : IsControlSlot the_slot
@@ -124,7 +126,8 @@ module _ (before : List Call) (shape : Shape) (node : ℕ) (r : Restored) (numbe
 
   mid_is : the_mid ≡ Synced the_file ∷ pieces
   unfolding pieces piece_calls
-  mid_is = done_then (piece_calls (length (bytes before shape node r)) the_file 0 (bytes before shape node r)) (Synced the_file ∷ []) before
+  mid_is = done_then (piece_calls (length (bytes before shape node r)) the_file 0 (bytes before shape node r))
+      (Synced the_file ∷ []) before
 
   -- nothing is dirty
   settled_now : IsSettled after
@@ -139,7 +142,8 @@ module _ (before : List Call) (shape : Shape) (node : ℕ) (r : Restored) (numbe
       by true b e f =
           let here : CONTROL_FILE ≡ other = eqb-true CONTROL_FILE other e in
           subst (λ (n : ℕ). state_of after n ≡ settled (files_of after n)) here
-          (subst (λ (calls : List Call). state_of calls CONTROL_FILE ≡ settled (files_of calls CONTROL_FILE)) (sym is_after)
+          (subst (λ (calls : List Call). state_of calls CONTROL_FILE ≡ settled (files_of calls CONTROL_FILE))
+          (sym is_after)
           (slot_settles (stands_closed (place_of free) (control before shape node r)) CONTROL_FILE (place_of free)
           (drop 1 (control_bytes the_slot)) the_mid))
       by false true e f =
@@ -188,6 +192,7 @@ module _ (before : List Call) (shape : Shape) (node : ℕ) (r : Restored) (numbe
       ap (λ (n : ℕ). control_by place (slot_at place n (files_of after CONTROL_FILE))) (sym (control_size the_slot))
       ∙ ap (control_by place) (stands ∙ ap Some (control_split the_slot))
       ∙ read_back place the_slot fits
+
   -- and the other one as before
   in_use : control_of_file (r.generation + 1) (files_of after CONTROL_FILE) ≡ Ok (Some the_slot)
   in_use = by may.control
@@ -201,13 +206,16 @@ module _ (before : List Call) (shape : Shape) (node : ℕ) (r : Restored) (numbe
       at_zero : (kept : Option ControlSlot) → free ≡ 0 → control_at 1 (control before shape node r) ≡ Ok kept
           → of_generation (r.generation + 1) kept ≡ None → control_of_file (r.generation + 1) now ≡ Ok (Some the_slot)
       at_zero kept is reads none =
-          let one : control_at 0 now ≡ Ok (Some the_slot) = subst (λ (w : ℕ). control_at w now ≡ Ok (Some the_slot)) is at_free in
+          let one : control_at 0 now ≡ Ok (Some the_slot) =
+          subst (λ (w : ℕ). control_at w now ≡ Ok (Some the_slot)) is at_free in
           let other : control_at 1 now ≡ Ok kept =
           same_slot 1 (length (control_bytes the_slot)) (control before shape node r) now (control_long the_slot)
-          (behind_has the_mid after after true CONTROL_FILE (control before shape node r) (place_of 0) (control_bytes the_slot)
+          (behind_has the_mid after after true CONTROL_FILE (control before shape node r) (place_of 0)
+          (control_bytes the_slot)
           (files_of after)
           (subst
-          (λ (w : ℕ). IsSlotWrite the_mid after true CONTROL_FILE (control before shape node r) (place_of w) (control_bytes the_slot))
+          (λ (w : ℕ). IsSlotWrite the_mid after true CONTROL_FILE (control before shape node r) (place_of w)
+          (control_bytes the_slot))
           is write)
           moment_now (place_of 1) (omega (arith, control_long the_slot)))
           ∙ reads in
@@ -218,14 +226,17 @@ module _ (before : List Call) (shape : Shape) (node : ℕ) (r : Restored) (numbe
       at_one : (kept : Option ControlSlot) → free ≡ 1 → control_at 0 (control before shape node r) ≡ Ok kept
           → of_generation (r.generation + 1) kept ≡ None → control_of_file (r.generation + 1) now ≡ Ok (Some the_slot)
       at_one kept is reads none =
-          let other : control_at 1 now ≡ Ok (Some the_slot) = subst (λ (w : ℕ). control_at w now ≡ Ok (Some the_slot)) is at_free in
+          let other : control_at 1 now ≡ Ok (Some the_slot) =
+          subst (λ (w : ℕ). control_at w now ≡ Ok (Some the_slot)) is at_free in
           let there = second_free r.generation (control before shape node r) is in
           let one : control_at 0 now ≡ Ok kept =
           same_slot 0 (length (control_bytes the_slot)) (control before shape node r) now (control_long the_slot)
-          (other_has the_mid after after true CONTROL_FILE (control before shape node r) (place_of 1) (control_bytes the_slot)
+          (other_has the_mid after after true CONTROL_FILE (control before shape node r) (place_of 1)
+          (control_bytes the_slot)
           (files_of after)
           (subst
-          (λ (w : ℕ). IsSlotWrite the_mid after true CONTROL_FILE (control before shape node r) (place_of w) (control_bytes the_slot))
+          (λ (w : ℕ). IsSlotWrite the_mid after true CONTROL_FILE (control before shape node r) (place_of w)
+          (control_bytes the_slot))
           is write)
           moment_now (place_of 0) (inl (omega (arith, control_long the_slot)))
           (omega (arith, control_long the_slot, reaches 0 (control before shape node r) there.0 there.1)))
@@ -242,12 +253,14 @@ module _ (before : List Call) (shape : Shape) (node : ℕ) (r : Restored) (numbe
           (of_generation r.generation (usable (control_at 1 (control before shape node r))))) [
             | inl zero_free ↦
                 at_zero kept zero_free
-                (sym (ap (λ (w : ℕ). if w == 0 then control_at 1 (control before shape node r) else control_at 0 (control before shape node r)) zero_free)
+                (sym (ap (λ (w : ℕ). if w == 0 then control_at 1 (control before shape node r) else control_at 0
+                (control before shape node r)) zero_free)
                 ∙ reads)
                 none
             | inr one_free ↦
                 at_one kept one_free
-                (sym (ap (λ (w : ℕ). if w == 0 then control_at 1 (control before shape node r) else control_at 0 (control before shape node r)) one_free)
+                (sym (ap (λ (w : ℕ). if w == 0 then control_at 1 (control before shape node r) else control_at 0
+                (control before shape node r)) one_free)
                 ∙ reads)
                 none
           ]
@@ -261,7 +274,8 @@ module _ (before : List Call) (shape : Shape) (node : ℕ) (r : Restored) (numbe
       ∙ ap (λ (calls : List Call). files_of calls the_file) mid_is ∙ after_synced the_file pieces in
       ap (take (length (bytes before shape node r))) read
       ∙ ap (λ (n : ℕ). take n (files_of pieces the_file)) (omega arith)
-      ∙ pieces_front (length (bytes before shape node r)) the_file 0 (bytes before shape node r) before (omega arith) (omega arith)
+      ∙ pieces_front (length (bytes before shape node r)) the_file 0 (bytes before shape node r) before (omega arith)
+      (omega arith)
     where
       other_way : (CONTROL_FILE == the_file) ≡ false
       other_way = by (CONTROL_FILE == the_file) refl

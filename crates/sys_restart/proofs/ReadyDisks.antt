@@ -43,11 +43,10 @@ each_from : (shape : Shape) (generation : ℕ) (disks : Disks) (node more : ℕ)
     → latest_from shape disks node more (Ok found) ≡ Ok last → IsBelow generation last
     → IsBelow generation found × ((k : ℕ) → node ≤ k → k < node + more → HasBelow shape generation disks k)
 unfolding latest_from
-each_from shape generation disks node zero found last is below =
-    (
-      subst (IsBelow generation) (sym (same_answer found last _ refl is)) below,
-      λ k low high. absurd (omega (arith, low, high)),
-    )
+each_from shape generation disks node zero found last is below = (
+  subst (IsBelow generation) (sym (same_answer found last _ refl is)) below,
+  λ k low high. absurd (omega (arith, low, high)),
+)
 each_from shape generation disks node (suc more) found last is below =
     by (latest_on shape node (disks node))
     (λ slot rest. each_from shape generation disks (node + 1) more (later_system found slot) last rest below) refl
@@ -64,9 +63,9 @@ each_from shape generation disks node (suc more) found last is below =
         ∙ latest_fails shape disks (node + 1) more fault)
         is)
     by (Ok slot) again e =
-        let rest = again slot (sym (ap (λ read. latest_from shape disks (node + 1) more (later (Ok found) read)) e) ∙ is) in
-        let both = both_below generation found slot rest.0 in
-        (
+        let rest =
+        again slot (sym (ap (λ read. latest_from shape disks (node + 1) more (later (Ok found) read)) e) ∙ is) in
+        let both = both_below generation found slot rest.0 in (
           both.0,
           λ k low high.
               elim (cases_lt node k) [
@@ -138,7 +137,8 @@ module _ (shape : Shape) (r : Restored) (records : List (List Call)) (mid told :
       by (slot, (latest, below)) = (
         slot,
         (
-          ap (λ bytes. later (of_shape shape node (system_at 0 bytes)) (of_shape shape node (system_at 1 bytes))) stays ∙ latest,
+          ap (λ bytes. later (of_shape shape node (system_at 0 bytes)) (of_shape shape node (system_at 1 bytes))) stays
+              ∙ latest,
           below,
         ),
       )
@@ -150,8 +150,7 @@ module _ (shape : Shape) (r : Restored) (records : List (List Call)) (mid told :
       let asks = name_calls (prepared node) shape r in
       let runs : Runs asks (prepared node) (told_by told node) true =
       turns.whole node some (omega (arith, few, nodes, turns.last)) in
-      let now = made_record asks (prepared node) (told_by told node) runs in
-      (
+      let now = made_record asks (prepared node) (told_by told node) runs in (
         _,
         (
           now,

@@ -39,7 +39,8 @@ in_use : (system : List ℕ) (a b : Option SystemSlot) → system_at 0 system �
     → system_of_file system ≡ Ok (later_system a b)
 in_use system a b e f = ap (λ read. later_of read (system_at 1 system)) e ∙ ap (later_of (Ok a)) f
 
-module _ (before after : List Call) (shape : Shape) (node : ℕ) (r : Restored) (is : IsShape shape) (numbers : HasNumbers r)
+module _ (before after : List Call) (shape : Shape) (node : ℕ) (r : Restored) (is : IsShape shape)
+    (numbers : HasNumbers r)
     (may : MayName shape node r before) (runs : Runs (name_calls before shape r) before (Some after) true) where
   abbrev system : List ℕ
   system = files_of before SYSTEM_FILE
@@ -85,7 +86,8 @@ module _ (before after : List Call) (shape : Shape) (node : ℕ) (r : Restored) 
       by : (b : Bool) → (SYSTEM_FILE == other) ≡ b → state_of after other ≡ settled (files_of after other)
       by true e =
           subst (λ (n : ℕ). state_of after n ≡ settled (files_of after n)) (eqb-true SYSTEM_FILE other e)
-          (subst (λ (calls : List Call). state_of calls SYSTEM_FILE ≡ settled (files_of calls SYSTEM_FILE)) (sym is_after)
+          (subst (λ (calls : List Call). state_of calls SYSTEM_FILE ≡ settled (files_of calls SYSTEM_FILE))
+          (sym is_after)
           (slot_settles (stands_closed (place_of free) system) SYSTEM_FILE (place_of free) (drop 1 (system_bytes next))
           before))
       by false e =
@@ -100,7 +102,8 @@ module _ (before after : List Call) (shape : Shape) (node : ℕ) (r : Restored) 
         (
           slot,
           still_prepared before shape node r (files_of after)
-              (others_same before after after true shape node r is numbers may.kept may.prepared.0 runs (files_of after) moment)
+              (others_same before after after true shape node r is numbers may.kept may.prepared.0 runs (files_of after)
+              moment)
               slot has,
         ),
       )
@@ -111,7 +114,8 @@ module _ (before after : List Call) (shape : Shape) (node : ℕ) (r : Restored) 
       let body = drop 1 (system_bytes next) in
       let stands : slot_at place (1 + length body) now ≡ Some (OPEN ∷ body) =
       (written_stays before after SYSTEM_FILE place body
-      (is_write before after after true SYSTEM_FILE system place (system_bytes next) (files_of after) written moment)).1 in
+      (is_write before after after true SYSTEM_FILE system place (system_bytes next) (files_of after) written moment)).1
+      in
       let size : 1 + length body ≡ SYSTEM_BYTES = omega (arith, ap length (system_split next), system_long next) in
       ap (λ (n : ℕ). system_by place (slot_at place n now)) (sym size)
       ∙ ap (system_by place) (stands ∙ ap Some (system_split next))
@@ -135,22 +139,27 @@ module _ (before after : List Call) (shape : Shape) (node : ℕ) (r : Restored) 
       same : (which : ℕ) → slot_at (place_of which) (length (system_bytes next)) now
           ≡ slot_at (place_of which) (length (system_bytes next)) system → system_at which now ≡ system_at which system
       same =
-          place_same before after after true shape node r is numbers may.kept may.prepared.0 runs (files_of after) moment
+          place_same before after after true shape node r is numbers may.kept may.prepared.0 runs (files_of after)
+          moment
 
       by : (free_of read.one read.other ≡ 0) ⊎ (free_of read.one read.other ≡ 1) → system_of_file now ≡ Ok (Some next)
       by (inl none) =
           let at : free ≡ 0 = free_is ∙ none in
-          let first = subst (λ (w : ℕ). IsSlotWrite before after true SYSTEM_FILE system (place_of w) (system_bytes next)) at written in
+          let first = subst (λ (w : ℕ). IsSlotWrite before after true SYSTEM_FILE system (place_of w)
+          (system_bytes next)) at written in
           in_use now (Some next) read.other (subst (λ (w : ℕ). system_at w now ≡ Ok (Some next)) at at_free)
-          (same 1 (behind_has before after after true SYSTEM_FILE system (place_of 0) (system_bytes next) (files_of after) first
+          (same 1 (behind_has before after after true SYSTEM_FILE system (place_of 0) (system_bytes next)
+          (files_of after) first
           moment (place_of 1) (omega (arith, system_long next)))
           ∙ read.second)
           ∙ ap Ok (first_named shape r read.other (inr lower.1))
       by (inr one) =
           let at : free ≡ 1 = free_is ∙ one in
-          let second = subst (λ (w : ℕ). IsSlotWrite before after true SYSTEM_FILE system (place_of w) (system_bytes next)) at written in
+          let second = subst (λ (w : ℕ). IsSlotWrite before after true SYSTEM_FILE system (place_of w)
+          (system_bytes next)) at written in
           in_use now read.one (Some next)
-          (same 0 (other_has before after after true SYSTEM_FILE system (place_of 1) (system_bytes next) (files_of after) second
+          (same 0 (other_has before after after true SYSTEM_FILE system (place_of 1) (system_bytes next)
+          (files_of after) second
           moment (place_of 0) (inl (omega (arith, system_long next)))
           (omega (arith, system_long next, reaches 0 system read.one read.first (some_first read.one read.other one))))
           ∙ read.first)

@@ -46,13 +46,15 @@ log_is files parity from (suc count) [] stored =
     let here : from + 0 ≡ from = omega arith in
     let short : length (files (file_of parity from)) ≤ place_of from =
     subst (λ (p : ℕ). length (files (file_of parity p)) ≤ place_of p) here (stored.all (omega arith)) in
-    ap (λ there. byte_if there (slice_index (files (file_of parity from)) (place_of from)) (log_of files parity (from + 1) count))
+    ap (λ there. byte_if there (slice_index (files (file_of parity from)) (place_of from))
+    (log_of files parity (from + 1) count))
     (le-ltb (place_of from) (length (files (file_of parity from))) short)
 log_is files parity from (suc count) (byte ∷ bytes) stored =
     let here : from + 0 ≡ from = omega arith in
     let first : IsStored files parity from byte =
     subst (λ (p : ℕ). IsStored files parity p byte) here (stored.each 0 (omega arith)) in
-    ap (λ there. byte_if there (slice_index (files (file_of parity from)) (place_of from)) (log_of files parity (from + 1) count))
+    ap (λ there. byte_if there (slice_index (files (file_of parity from)) (place_of from))
+    (log_of files parity (from + 1) count))
     (lt-ltb (place_of from) (length (files (file_of parity from))) first.there)
     ∙ ap (λ one. one ∷ log_of files parity (from + 1) count) (sym first.same)
     ∙ ap (λ rest. byte ∷ rest)
@@ -82,9 +84,6 @@ few_records : (newest : List Redo) → length newest ≤ length (log_bytes newes
 few_records [] = omega arith
 few_records (redo ∷ older) =
     omega (arith, few_records older, length-append (log_bytes older) (bytes_of redo), some_bytes redo)
-
-
-
 
 -- where no record follows the reading ends
 ends : (more : ℕ) (newest : List Redo) (rest : List ℕ) (fault : FormatFault) → decoded rest ≡ Err fault
@@ -118,7 +117,8 @@ whole_by : (epoch : ℕ) (before rows : Rows) (parity from count : ℕ) (bytes :
 whole_by epoch before rows parity from count bytes newest is whole =
     ap (redone_by epoch before parity from count bytes)
     (read_as epoch before rows bytes newest [] (NotRecord 0) is none_in_none)
-    ∙ ap (λ (cut : Bool). if cut then Err (damage parity from bytes (length bytes)) else Ok (replayed epoch before newest))
+    ∙ ap (λ (cut : Bool). if cut then Err (damage parity from bytes (length bytes)) else Ok
+    (replayed epoch before newest))
     (le-ltb (length bytes) count (omega (arith, whole)))
     ∙ ap Ok (sym is.made)
 
@@ -129,7 +129,8 @@ short_by : (epoch : ℕ) (before rows : Rows) (parity from count : ℕ) (bytes :
 short_by epoch before rows parity from count bytes newest is short =
     ap (redone_by epoch before parity from count bytes)
     (read_as epoch before rows bytes newest [] (NotRecord 0) is none_in_none)
-    ∙ ap (λ (cut : Bool). if cut then Err (damage parity from bytes (length bytes)) else Ok (replayed epoch before newest))
+    ∙ ap (λ (cut : Bool). if cut then Err (damage parity from bytes (length bytes)) else Ok
+    (replayed epoch before newest))
     (lt-ltb (length bytes) count short)
 
 -- something that is no record stands behind some

@@ -14,7 +14,8 @@ use Rattle.sys_restart.specs.SlotRows.{rows_of_slot, with_redo}
 pub redo_file : (parity position : ℕ) → parity ≤ 1 → (4 ≤ file_of parity position) × (file_of parity position < 16)
 redo_file parity position least = (omega arith, omega (arith, least))
 
-module _ (one two : Files) (parity : ℕ) (same : (position : ℕ) → two (file_of parity position) ≡ one (file_of parity position)) where
+module _ (one two : Files) (parity : ℕ) (same : (position : ℕ) → two (file_of parity position) ≡ one
+    (file_of parity position)) where
   log_same : (from more : ℕ) → log_of two parity from more ≡ log_of one parity from more
   unfolding log_of
   log_same from zero = refl

@@ -20,7 +20,8 @@ use Rattle.sys_restart.proofs.MomentLemmas.{AreOn, EndsWithin, end_kept, kept_th
 use Rattle.sys_restart.proofs.NextLemmas.{slot_on}
 
 -- The bytes of an open slot are written at a place of a file, which has these bytes.
-pub record IsSlotWrite (mid after : List Call) (ok : Bool) (file : ℕ) (old : List ℕ) (place : ℕ) (whole : List ℕ) : Type 0 where
+pub record IsSlotWrite (mid after : List Call) (ok : Bool) (file : ℕ) (old : List ℕ) (place : ℕ) (whole : List ℕ) : Type
+    0 where
   pub kept : IsRecord mid
   pub there : file < FILES
   pub opened : OPEN ∷ drop 1 whole ≡ whole
@@ -42,7 +43,8 @@ HasPlace old place whole image =
     ⊎ ((slot_at place (length whole) image ≡ Some whole)
     ⊎ (slot_at place (length whole) image ≡ slot_at place (length whole) old))
 
-module _ (mid after older : List Call) (ok : Bool) (file : ℕ) (old : List ℕ) (place : ℕ) (whole : List ℕ) (image : Files)
+module _ (mid after older : List Call) (ok : Bool) (file : ℕ) (old : List ℕ) (place : ℕ) (whole : List ℕ)
+    (image : Files)
     (write : IsSlotWrite mid after ok file old place whole) (moment : IsMoment mid after older image) where
   size_is : 1 + length (drop 1 whole) ≡ length whole
   size_is = omega (arith, ap length write.opened)
@@ -109,7 +111,8 @@ module _ (mid after older : List Call) (ok : Bool) (file : ℕ) (old : List ℕ)
       let through : HoldsThrough (EndsWithin file last) calls mid =
       kept_through file last (EndsWithin file last) calls mid (end_kept file last) are first in
       let here : EndsWithin file last older =
-      moments (EndsWithin file last) calls mid after moment.newer older ok through write.runs moment.split moment.long in
+      moments (EndsWithin file last) calls mid after moment.newer older ok through write.runs moment.split moment.long
+      in
       let ends = (moment.left file write.there).to_end in
       short_slot other (length whole) (image file) (omega (arith, here, ends, write.some))
       ∙ sym (short_slot other (length whole) old short)

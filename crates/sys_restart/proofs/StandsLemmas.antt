@@ -72,7 +72,8 @@ pub near_alike : (before : List Call) (shape : Shape) (node file generation : 鈩
 near_alike before shape node file generation image near least most apart = record {
   system = ap
       (位 bytes. later (of_shape shape node (system_at 0 bytes)) (of_shape shape node (system_at 1 bytes)))
-      (near.others SYSTEM_FILE (omega arith) (ne_eqb file SYSTEM_FILE (位 same. absurd (omega (arith, same, least)))) refl);
+      (near.others SYSTEM_FILE (omega arith) (ne_eqb file SYSTEM_FILE (位 same. absurd (omega (arith, same, least))))
+      refl);
   slots = near.slots;
   rows = 位 slot epoch is.
       let names = in_use_names generation (files_of before CONTROL_FILE) slot is in

@@ -56,7 +56,8 @@ absent q x [] tie below = refl
 absent q x (row ∷ rows) tie below =
     let same : in_order q row.0 ≡ in_order x row.0 = nat_list_cmp_total.congr q x row.0 (tied (in_order q x) tie) in
     let apart : eq_by_cmp in_order q row.0 ≡ false =
-    ap is_eq same ∙ is_less (in_order x row.0) (first_of (is_lt (in_order x row.0)) (below_all in_order x rows) below) in
+    ap is_eq same ∙ is_less (in_order x row.0) (first_of (is_lt (in_order x row.0)) (below_all in_order x rows) below)
+    in
     ap (λ (b : Bool). cond b (Some row.1) (find in_order q rows)) apart
     ∙ absent q x rows tie (second_of (is_lt (in_order x row.0)) (below_all in_order x rows) below)
 
@@ -125,7 +126,8 @@ laid_front at (byte ∷ bytes) old within =
     let full = filled_up last old in
     let front : take at full ≡ take at old = take-append-le at old (replicate (last - length old) 0) within in
     let long : length (take at full) ≡ at = ap length front ∙ length-take-le at old within in
-    take_at (take at full ++ piece) (drop last full) last (length-append (take at full) piece ∙ ap (λ n. n + length piece) long)
+    take_at (take at full ++ piece) (drop last full) last
+    (length-append (take at full) piece ∙ ap (λ n. n + length piece) long)
     ∙ ap (λ (w : List ℕ). w ++ piece) front
 
 laid_long : (at : ℕ) (piece old : List ℕ) → at ≤ length old → at + length piece ≤ length (laid at piece old)
@@ -142,7 +144,8 @@ pub after_synced : (file : ℕ) (calls : List Call) → files_of (Synced file �
 after_synced file calls =
     ap (λ (b : Bool). (if b then settled (state_of calls file).bytes else state_of calls file).bytes) (same_number file)
 
-no_more : (more file at : ℕ) (bytes : List ℕ) (calls : List Call) → bytes ≡ [] → done (piece_calls more file at bytes) calls ≡ calls
+no_more : (more file at : ℕ) (bytes : List ℕ) (calls : List Call) → bytes ≡ []
+    → done (piece_calls more file at bytes) calls ≡ calls
 unfolding piece_calls
 no_more zero file at bytes calls none = refl
 no_more (suc more) file at [] calls none = refl
@@ -187,7 +190,8 @@ pieces_front (suc more) file at (byte ∷ bytes) calls few within =
     read = after_wrote file at piece calls
 
     at_last : length all ≤ PIECE_BYTES
-        → take (at + length all) (files_of (done (piece_calls more file (at + PIECE_BYTES) rest) next) file) ≡ take at old ++ all
+        → take (at + length all) (files_of (done (piece_calls more file (at + PIECE_BYTES) rest) next) file)
+        ≡ take at old ++ all
     at_last short =
         let whole : piece ≡ all = take_all PIECE_BYTES all short in
         ap (λ (made : List Call). take (at + length all) (files_of made file))
@@ -197,9 +201,11 @@ pieces_front (suc more) file at (byte ∷ bytes) calls few within =
 
     on : PIECE_BYTES ≤ length all
         → (length rest ≤ more → at + PIECE_BYTES ≤ length (files_of next file)
-        → take (at + PIECE_BYTES + length rest) (files_of (done (piece_calls more file (at + PIECE_BYTES) rest) next) file)
+        → take (at + PIECE_BYTES + length rest)
+        (files_of (done (piece_calls more file (at + PIECE_BYTES) rest) next) file)
         ≡ take (at + PIECE_BYTES) (files_of next file) ++ rest)
-        → take (at + length all) (files_of (done (piece_calls more file (at + PIECE_BYTES) rest) next) file) ≡ take at old ++ all
+        → take (at + length all) (files_of (done (piece_calls more file (at + PIECE_BYTES) rest) next) file)
+        ≡ take at old ++ all
     on many again =
         let size : length piece ≡ PIECE_BYTES = length-take-le PIECE_BYTES all many in
         let sizes : at + length all ≡ at + PIECE_BYTES + length rest =

@@ -38,7 +38,8 @@ source_or behind node (Err fault) = Err fault
 source_or behind node (Ok None) = behind
 source_or behind node (Ok (Some slot)) = Ok (Some (record { node = node; slot = slot }))
 
--- The source of the rows of a group: of so many nodes the first that is listed and has a control slot of the generation.
+-- The source of the rows of a group: of so many nodes the first that is listed and has a control slot of the
+-- generation.
 unfoldable pub source_of : Disks → SystemSlot → ℕ → ℕ → Result (Option Source) RestartFault
 source_of disks system node zero = Ok None
 source_of disks system node (suc more) =

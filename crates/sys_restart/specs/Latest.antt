@@ -31,7 +31,8 @@ later (Ok one) (Ok other) = Ok (later_system one other)
 -- the later of the two that a node's disk has
 abbrev pub latest_on : Shape → ℕ → Files → Result (Option SystemSlot) RestartFault
 latest_on shape node files =
-    later (of_shape shape node (system_at 0 (files SYSTEM_FILE))) (of_shape shape node (system_at 1 (files SYSTEM_FILE)))
+    later (of_shape shape node (system_at 0 (files SYSTEM_FILE)))
+    (of_shape shape node (system_at 1 (files SYSTEM_FILE)))
 
 -- the latest of one that was found and those of so many nodes
 unfoldable pub latest_from : Shape → Disks → ℕ → ℕ → Result (Option SystemSlot) RestartFault

@@ -30,7 +30,8 @@ EndsAt asks records told count done (Err fault) =
 
 -- Calls were made on the disks of so many nodes, one node after the other, up to the first that failed. Those behind it
 -- are as they were.
-pub record RunInTurn (asks records : ℕ → List Call) (told : List (Option (List Call))) (count : ℕ) (result : Result (Unit {0}) RestartFault) (done : ℕ) : Type 0 where
+pub record RunInTurn (asks records : ℕ → List Call) (told : List (Option (List Call))) (count : ℕ)
+    (result : Result (Unit {0}) RestartFault) (done : ℕ) : Type 0 where
   pub whole :
       (node : ℕ) → 1 ≤ node → node ≤ done
       → RunsOrWants (asks node) (records node) (told_by told node) (Ok tt)
@@ -38,7 +39,8 @@ pub record RunInTurn (asks records : ℕ → List Call) (told : List (Option (Li
   pub behind : (node : ℕ) → done + 2 ≤ node → node ≤ count → told_by told node ≡ Some (records node)
 
 -- some disks have had their calls so
-abbrev pub HasRun : (ℕ → List Call) → List (List Call) → List (Option (List Call)) → Result (Unit {0}) RestartFault → Type 0
+abbrev pub HasRun : (ℕ → List Call) → List (List Call) → List (Option (List Call)) → Result (Unit {0}) RestartFault
+    → Type 0
 HasRun asks records told result =
     (done : ℕ) × RunInTurn asks (record_of records) told (length records) result done
 
@@ -55,7 +57,8 @@ prepared_record shape r records node =
     after_calls (node_calls (records node) shape node r) (records node)
 
 -- all are prepared, and then named
-pub record AreNamed (shape : Shape) (r : Restored) (records : ℕ → List Call) (told : List (Option (List Call))) (count : ℕ) (result : Result (Unit {0}) RestartFault) (done : ℕ) : Type 0 where
+pub record AreNamed (shape : Shape) (r : Restored) (records : ℕ → List Call) (told : List (Option (List Call)))
+    (count : ℕ) (result : Result (Unit {0}) RestartFault) (done : ℕ) : Type 0 where
   pub prepared :
       (node : ℕ) → 1 ≤ node → node ≤ count
       → Runs (node_calls (records node) shape node r) (records node)
@@ -65,7 +68,8 @@ pub record AreNamed (shape : Shape) (r : Restored) (records : ℕ → List Call)
       (prepared_record shape r records) told count result done
 
 -- Each disk is prepared, in the order of the nodes, and then each is named, up to the first call that failed.
-abbrev pub RunsAll : Shape → Restored → List (List Call) → List (Option (List Call)) → Result (Unit {0}) RestartFault → Type 0
+abbrev pub RunsAll : Shape → Restored → List (List Call) → List (Option (List Call)) → Result (Unit {0}) RestartFault
+    → Type 0
 RunsAll shape r records told result =
     ((done : ℕ) × (done < length records)
     × RunInTurn (λ node. node_calls (record_of records node) shape node r) (record_of records) told

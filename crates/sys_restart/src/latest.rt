@@ -62,9 +62,7 @@ fn latest_on<D: Disk>(
 pub(crate) fn same_shape(one: &Shape, other: &Shape) -> bool
     ensures { result ≡ same_shape one.now other.now }
 {
-    one.nodes == other.nodes
-        && one.replicas == other.replicas
-        && one.fragments == other.fragments
+    one.nodes == other.nodes && one.replicas == other.replicas && one.fragments == other.fragments
 }
 
 // A system slot that was read, unless it is of another shape.

@@ -11,8 +11,8 @@ mod on_node;
 mod own;
 mod places;
 mod prepare;
-mod restoring;
 mod restored;
+mod restoring;
 mod rows;
 mod slot_rows;
 
@@ -20,6 +20,6 @@ pub use life::{is_used_up, prepare_life};
 pub use name::name_node;
 pub use own::restore_own;
 pub use prepare::prepare_node;
-pub use restoring::restore;
 pub use restored::Restored;
+pub use restoring::restore;
 pub use rows::read_rows;

@@ -86,11 +86,7 @@ fn prepare_all<D: Disk>(
 }
 
 // Names the life on each disk, in the order of the nodes.
-fn name_all<D: Disk>(
-    disks: &mut [D],
-    shape: Shape,
-    restored: &Restored,
-) -> Result<(), RestartFault>
+fn name_all<D: Disk>(disks: &mut [D], shape: Shape, restored: &Restored) -> Result<(), RestartFault>
     requires shape { IsShape shape }
     requires nodes { length disks.old ≡ shape.nodes }
     requires unused { is_used_up restored.now ≡ false }

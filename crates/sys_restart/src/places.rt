@@ -46,13 +46,7 @@ fn free_of(one: Option<SystemSlot>, other: Option<SystemSlot>) -> u8
     match (one, other) {
         (None, _) => 0,
         (Some(_), None) => 1,
-        (Some(first), Some(second)) => {
-            if is_earlier(&first, &second) {
-                0
-            } else {
-                1
-            }
-        }
+        (Some(first), Some(second)) => { if is_earlier(&first, &second) { 0 } else { 1 } }
     }
 }
 

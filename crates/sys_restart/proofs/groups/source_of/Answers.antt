@@ -102,5 +102,6 @@ loop-more-preserved g c =
 pub returns-clause-read : goal.returns-clause-read
 returns-clause-read g c = λ records told.
     sym (c.loop-more.invariant.read records told)
-    ∙ source_ends (disks_of records) c.args.system.now (c.args.first + c.loop-more.more) (c.args.count - c.loop-more.more)
+    ∙ source_ends (disks_of records) c.args.system.now (c.args.first + c.loop-more.more)
+    (c.args.count - c.loop-more.more)
     (omega (arith, c.loop-more-test.false))

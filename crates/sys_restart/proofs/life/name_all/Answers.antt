@@ -40,8 +40,7 @@ returns-in-Err-clause-runs g c =
     λ records told.
     let turns = c.loop-index.invariant.turns records told in
     let within : c.loop-index.index < length records =
-    omega (arith, below, long, same_length g.D.Disk.told c.args.disks.now records told) in
-    (
+    omega (arith, below, long, same_length g.D.Disk.told c.args.disks.now records told) in (
       c.loop-index.index,
       turns_stop g.D.Disk.told c.loop-index.disks (name_asks c.args.shape c.args.restored.now records)
           (record_of records) (length records) c.loop-index.index c.name_node.new.disk c.in-Err.fault turns below within
@@ -69,8 +68,7 @@ returns-in-Err-clause-cause g c =
 -- all disks have had their calls
 pub returns-clause-runs : goal.returns-clause-runs
 returns-clause-runs g c = λ records told.
-    let all : c.loop-index.index ≡ length c.args.disks.now = search rules in
-    (
+    let all : c.loop-index.index ≡ length c.args.disks.now = search rules in (
       c.loop-index.index,
       turns_end (name_asks c.args.shape c.args.restored.now records) (record_of records)
           (map g.D.Disk.told c.loop-index.disks) (length records) c.loop-index.index

@@ -11,5 +11,6 @@ abbrev pub invariant-loop-index : goal.invariant-loop-index
 invariant-loop-index g l = record {
   steady : AreSteady (map g.D.Disk.faults l.fn.disks) (map g.D.Disk.faults l.disks);
   turns : (records : List (List Call)) → map g.D.Disk.told l.fn.disks ≡ map Some records
-      → Turns (name_asks l.shape l.restored records) (record_of records) (map g.D.Disk.told l.disks) (length records) l.index;
+      → Turns (name_asks l.shape l.restored records) (record_of records) (map g.D.Disk.told l.disks) (length records)
+      l.index;
 }

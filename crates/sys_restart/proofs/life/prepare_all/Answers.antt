@@ -40,11 +40,11 @@ returns-in-Err-clause-runs g c =
     λ records told.
     let turns = c.loop-index.invariant.turns records told in
     let within : c.loop-index.index < length records =
-    omega (arith, below, long, same_length g.D.Disk.told c.args.disks.now records told) in
-    (
+    omega (arith, below, long, same_length g.D.Disk.told c.args.disks.now records told) in (
       c.loop-index.index,
       turns_stop g.D.Disk.told c.loop-index.disks (prepare_asks c.args.shape c.args.restored.now records)
-          (record_of records) (length records) c.loop-index.index c.prepare_node.new.disk c.in-Err.fault turns below within
+          (record_of records) (length records) c.loop-index.index c.prepare_node.new.disk c.in-Err.fault turns below
+          within
           (c.in-Err.ensures.runs (record_of records (c.loop-index.index + 1))
           (own_record g.D.Disk.told c.loop-index.disks records (prepare_asks c.args.shape c.args.restored.now records)
           c.loop-index.index c.index-disks-index.result turns below within)),
@@ -69,8 +69,7 @@ returns-in-Err-clause-cause g c =
 -- all disks have had their calls
 pub returns-clause-runs : goal.returns-clause-runs
 returns-clause-runs g c = λ records told.
-    let all : c.loop-index.index ≡ length c.args.disks.now = search rules in
-    (
+    let all : c.loop-index.index ≡ length c.args.disks.now = search rules in (
       c.loop-index.index,
       turns_end (prepare_asks c.args.shape c.args.restored.now records) (record_of records)
           (map g.D.Disk.told c.loop-index.disks) (length records) c.loop-index.index

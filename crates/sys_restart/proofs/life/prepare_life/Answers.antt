@@ -23,10 +23,12 @@ returns-in-Ok-clause-runs g c = λ records told unused.
     mapped g.D.Disk.told c.prepare_all.new.disks ∙ search rules
     ∙ same_length g.D.Disk.told c.args.disks.now records told in
     let first = c.in-Ok.ensures.runs records told in
-    then_named c.args.shape c.args.restored.now records mid (map g.D.Disk.told c.name_all.new.disks) c.name_all.result many first
+    then_named c.args.shape c.args.restored.now records mid (map g.D.Disk.told c.name_all.new.disks) c.name_all.result
+    many first
     (c.name_all.ensures.runs
     (listed (prepared_record c.args.shape c.args.restored.now (record_of records)) 1 (length records))
-    (mid_listed c.args.shape c.args.restored.now records mid (map g.D.Disk.told c.name_all.new.disks) c.name_all.result many
+    (mid_listed c.args.shape c.args.restored.now records mid (map g.D.Disk.told c.name_all.new.disks) c.name_all.result
+    many
     first))
 
 pub returns-in-Ok-clause-ready : goal.returns-in-Ok-clause-ready
@@ -39,10 +41,12 @@ returns-in-Ok-clause-ready g c = λ records told.
     let numbers : HasNumbers c.args.restored.now =
     record { generation = search rules; epoch = search rules; unused = search rules } in
     let runs =
-    then_named c.args.shape c.args.restored.now records mid (map g.D.Disk.told c.name_all.new.disks) c.name_all.result many first
+    then_named c.args.shape c.args.restored.now records mid (map g.D.Disk.told c.name_all.new.disks) c.name_all.result
+    many first
     (c.name_all.ensures.runs
     (listed (prepared_record c.args.shape c.args.restored.now (record_of records)) 1 (length records))
-    (mid_listed c.args.shape c.args.restored.now records mid (map g.D.Disk.told c.name_all.new.disks) c.name_all.result many
+    (mid_listed c.args.shape c.args.restored.now records mid (map g.D.Disk.told c.name_all.new.disks) c.name_all.result
+    many
     first)) in
     life_ready c.args.shape c.args.restored.now records mid (map g.D.Disk.told c.name_all.new.disks) c.name_all.result
     c.requires.shape numbers c.checkpoints_are_read.ensures many (sym disks ∙ c.requires.nodes) first runs

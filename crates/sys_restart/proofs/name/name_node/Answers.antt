@@ -7,12 +7,14 @@ pub returns-clause-stands : goal.returns-clause-stands
 returns-clause-stands g c = λ calls now told told_now.
     let numbers : HasNumbers c.args.restored.now =
     record { generation = search rules; epoch = search rules; unused = c.requires.unused } in
-    names_by calls now c.args.shape c.args.node c.args.restored.now (g.D.Disk.told c.name_disk.new.disk) told_now numbers
+    names_by calls now c.args.shape c.args.node c.args.restored.now (g.D.Disk.told c.name_disk.new.disk) told_now
+    numbers
     c.requires.shape c.name_disk.result (c.name_disk.ensures.runs calls told)
 
 pub returns-clause-named : goal.returns-clause-named
 returns-clause-named g c = λ calls now told told_now.
     let numbers : HasNumbers c.args.restored.now =
     record { generation = search rules; epoch = search rules; unused = c.requires.unused } in
-    ready_by calls now c.args.shape c.args.node c.args.restored.now (g.D.Disk.told c.name_disk.new.disk) told_now numbers
+    ready_by calls now c.args.shape c.args.node c.args.restored.now (g.D.Disk.told c.name_disk.new.disk) told_now
+    numbers
     c.requires.shape c.name_disk.result (c.name_disk.ensures.runs calls told)

@@ -7,7 +7,8 @@ pub returns-clause-stands : goal.returns-clause-stands
 returns-clause-stands g c = λ calls now told told_now.
     let numbers : HasNumbers c.args.restored.now =
     record { generation = search rules; epoch = search rules; unused = c.requires.unused } in
-    keeps_by calls now c.args.shape c.args.node c.args.restored.now (g.D.Disk.told c.prepare_disk.new.disk) told_now numbers
+    keeps_by calls now c.args.shape c.args.node c.args.restored.now (g.D.Disk.told c.prepare_disk.new.disk) told_now
+    numbers
     c.prepare_disk.result (c.prepare_disk.ensures.runs calls told)
 
 pub returns-clause-prepared : goal.returns-clause-prepared

@@ -11,7 +11,8 @@ returns-in-Ok-replay-clause-read g c = λ calls told.
     let slot = c.args.slot.now in
     slot_reads c.args.epoch (files_of calls) slot c.in-Ok.rows c.replay.new.rows (Ok c.in-Ok-replay.field-0)
     (c.in-Ok.ensures.read calls told)
-    (redone_reads c.args.epoch c.in-Ok.rows (files_of calls) slot.parity slot.redo_start (slot.redo_end - slot.redo_start)
+    (redone_reads c.args.epoch c.in-Ok.rows (files_of calls) slot.parity slot.redo_start
+    (slot.redo_end - slot.redo_start)
     c.replay.new.rows (Ok c.in-Ok-replay.field-0)
     (c.in-Ok-replay.ensures.replayed calls (c.in-Ok.ensures.unrecorded ∙ told)))
 
@@ -21,6 +22,7 @@ returns-in-Err-replay-clause-read g c = λ calls told.
     let slot = c.args.slot.now in
     slot_reads c.args.epoch (files_of calls) slot c.in-Ok.rows c.replay.new.rows (Err c.in-Err-replay.fault)
     (c.in-Ok.ensures.read calls told)
-    (redone_reads c.args.epoch c.in-Ok.rows (files_of calls) slot.parity slot.redo_start (slot.redo_end - slot.redo_start)
+    (redone_reads c.args.epoch c.in-Ok.rows (files_of calls) slot.parity slot.redo_start
+    (slot.redo_end - slot.redo_start)
     c.replay.new.rows (Err c.in-Err-replay.fault)
     (c.in-Err-replay.ensures.replayed calls (c.in-Ok.ensures.unrecorded ∙ told)))
