@@ -25,12 +25,12 @@ pub fn is_used_up(restored: &Restored) -> bool
 }
 
 /// Makes the disks of a cluster ready for its next life: each node's is prepared, in the order of the
-/// nodes, and then each is given the system slot that names the life.
+/// nodes, and then each is given the system slot that names the life. What a stop leaves is told of
+/// `prepare_node` and `name_node`.
 ///
 /// # Errors
 /// `UsedUp` exactly where the numbers are, before any call on a disk; `DiskFault` only where the count of
-/// that node's disk rose; `NoMemory`. A restart behind any of them, and behind a stop at any moment, gives
-/// the same epoch and rows.
+/// that node's disk rose; `NoMemory`.
 pub fn prepare_life<D: Disk>(
     alloc: Global,
     disks: &mut [D],

@@ -1,7 +1,8 @@
 //! What one node's disk is given last: the system slot that names the next life.
-ghost use Rattle.std.specs.Prelude.{◌≡◌, ◌≤◌, ◌-◌, ◌^◌, List, Some, OnOk, false};
+ghost use Rattle.std.specs.Prelude.{◌≡◌, ◌≤◌, ◌-◌, ◌^◌, List, Err, OnOk, Some, false};
 ghost use Rattle.frag_map.specs.Shape.{IsShape};
 ghost use Rattle.host_io.specs.Call.{Call};
+ghost use Rattle.sig_core.specs.declared.fault.RestartFault.TheVariants.{NoMemory};
 ghost use Rattle.sys_restart.specs.Answers.{HasCauseOf};
 ghost use Rattle.sys_restart.specs.Calls.{RunsOrWants, is_used_up, name_calls, next_system};
 ghost use Rattle.sys_restart.specs.Prepared.{IsReady, KeepsOrNames, MayName};
@@ -16,7 +17,7 @@ use sysfile_core::{SYSTEM_FILE, system_bytes, write_slot};
 /// one in use.
 ///
 /// # Errors
-/// `DiskFault`: a call on the disk failed, and none was made behind it.
+/// `DiskFault`: a call on the disk failed, and none was made behind it. It wants no memory.
 pub fn name_node<D: Disk>(
     disk: &mut D,
     node: u8,
@@ -31,6 +32,7 @@ pub fn name_node<D: Disk>(
     ensures stands { (calls now : List Call) → D.told disk.old ≡ Some calls → D.told disk.new ≡ Some now → KeepsOrNames shape node restored.now calls now }
     // In the end the life is named.
     ensures named { (calls now : List Call) → D.told disk.old ≡ Some calls → D.told disk.new ≡ Some now → OnOk result (MayName shape node restored.now calls → IsReady shape node restored.now now) }
+    ensures memory { result ≡ Err NoMemory → ⊥ }
     ensures cause { HasCauseOf node (D.faults disk.old) (D.faults disk.new) result }
     ensures steady { D.faults disk.old ≤ D.faults disk.new }
 {
@@ -47,6 +49,7 @@ fn name_disk<D: Disk>(
     requires shape { IsShape shape }
     requires unused { is_used_up restored.now ≡ false }
     ensures runs { (calls : List Call) → D.told disk.old ≡ Some calls → RunsOrWants (name_calls calls shape restored.now) calls (D.told disk.new) result }
+    ensures memory { result ≡ Err NoMemory → ⊥ }
     ensures cause { HasCauseOf node (D.faults disk.old) (D.faults disk.new) result }
     ensures steady { D.faults disk.old ≤ D.faults disk.new }
 {
