@@ -53,7 +53,7 @@ are_bytes n small (suc (suc (suc (suc (suc (suc zero)))))) = omega arith
 are_bytes n small (suc (suc (suc (suc (suc (suc (suc zero))))))) = omega (arith, small)
 are_bytes n small (suc (suc (suc (suc (suc (suc (suc (suc i)))))))) = omega arith
 
-small_bytes : (n : ℕ) → n < 256 → to_be_bytes w64 n ≡ 0 ∷ 0 ∷ 0 ∷ 0 ∷ 0 ∷ 0 ∷ 0 ∷ n ∷ []
+pub small_bytes : (n : ℕ) → n < 256 → to_be_bytes w64 n ≡ 0 ∷ 0 ∷ 0 ∷ 0 ∷ 0 ∷ 0 ∷ 0 ∷ n ∷ []
 small_bytes n small = be_bytes_8 (0 ∷ 0 ∷ 0 ∷ 0 ∷ 0 ∷ 0 ∷ 0 ∷ n ∷ []) n refl (are_bytes n small) (omega arith)
 
 few_again : (most n : ℕ) (rest : List ℕ) → most < 256 → n ≤ most → few_at most (u64_bytes n ++ rest) ≡ Ok (n, rest)

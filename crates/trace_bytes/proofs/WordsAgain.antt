@@ -25,7 +25,7 @@ use Rattle.trace_bytes.proofs.ListsAgain.{again_short_list}
 pub again_u8 : Again IsU8 u8_bytes u8_at
 again_u8 = from_reads (reads_byte 0 255) (λ n is. (omega arith, omega (arith, is)))
 
-two_bytes : IsWidth w16 (2 ^ 16)
+pub two_bytes : IsWidth w16 (2 ^ 16)
 two_bytes = record {
   size = λ n. refl;
   spelled = λ bytes len are. be_bytes_2 bytes _ len are refl;

@@ -6,4 +6,4 @@ pub mod kinds;
 mod laws;
 
 pub use header::Header;
-pub use laws::{no_two_lives_have_one_trace, traces_are_read};
+pub use laws::{no_two_lives_have_one_trace, traces_are_read, what_is_read_is_written};
