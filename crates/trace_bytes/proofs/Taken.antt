@@ -1,5 +1,5 @@
 -- Readers that read only what is written, of bytes.
-use Rattle.std.proofs.Common.{◌≡◌, ℕ, zero, suc, ◌-◌, ◌≤◌, ◌<◌, ⊥, Bool, true, false, List, [], ◌∷◌, ◌++◌, length, get_or, refl, sym, ap, subst, ◌∙◌, append_assoc, arith}
+use Rattle.std.proofs.Common.{◌≡◌, ℕ, zero, suc, ◌-◌, ◌≤◌, ◌<◌, Bool, true, false, List, [], ◌∷◌, ◌++◌, length, get_or, refl, sym, ap, subst, ◌∙◌, append_assoc, arith}
 use Rattle.std.specs.Prelude.{Result, Ok, Err, ◌==◌, nat_lt, if◌then◌else◌}
 use Rattle.std.proofs.lemmas.Bool.{eqb-true, eqb-false}
 use Rattle.std.proofs.lemmas.Bool.Decides.{nat_tests}
@@ -91,19 +91,21 @@ pub record TakesKind {A : Type 0} (Fits : A → Type 0) (spelled : A → List �
       → of number bytes ≡ Ok x → IsRead Fits spelled (number ∷ bytes) x
 
 -- which way a test of the number goes
-by_kind : {B P : Type 0} {one other : List ℕ → Result (B × List ℕ) ℕ} {number kind : ℕ} (bytes : List ℕ) {y : B × List ℕ}
+by_kind : {B P : Type 0} (one other : List ℕ → Result (B × List ℕ) ℕ) (bytes : List ℕ) {number kind : ℕ}
+    {y : B × List ℕ}
     → (number ≡ kind → one bytes ≡ Ok y → P)
     → ((number ≡ kind → ⊥) → other bytes ≡ Ok y → P)
     → (b : Bool) → (number == kind) ≡ b → (if b then one else other) bytes ≡ Ok y → P
-by_kind {number = number} {kind = kind} bytes yes no true same e = yes (eqb-true number kind same) e
-by_kind {number = number} {kind = kind} bytes yes no false same e = no (eqb-false number kind same) e
+by_kind one other bytes {number = number} {kind = kind} so not_so true same e = so (eqb-true number kind same) e
+by_kind one other bytes {number = number} {kind = kind} so not_so false same e = not_so (eqb-false number kind same) e
 
-by_test : {B P : Type 0} {one other : List ℕ → Result (B × List ℕ) ℕ} {test : Bool} (bytes : List ℕ) {y : B × List ℕ}
+by_test : {B P : Type 0} (one other : List ℕ → Result (B × List ℕ) ℕ) (bytes : List ℕ) {test : Bool}
+    {y : B × List ℕ}
     → (test ≡ true → one bytes ≡ Ok y → P)
     → (test ≡ false → other bytes ≡ Ok y → P)
     → (b : Bool) → test ≡ b → (if b then one else other) bytes ≡ Ok y → P
-by_test bytes yes no true same e = yes same e
-by_test bytes yes no false same e = no same e
+by_test one other bytes so not_so true same e = so same e
+by_test one other bytes so not_so false same e = not_so same e
 
 later : (kind number : ℕ) → kind ≤ number → (number ≡ kind → ⊥) → suc kind ≤ number
 later kind number ge isnt = omega (arith, ge, isnt)
@@ -128,7 +130,7 @@ pub or_kind : {A B : Type 0} {F : A → Type 0} {s : A → List ℕ} {r : List �
     → TakesKind G t (λ number. if number == kind then told f r else other number) kind most
 or_kind {r = r} {other = other} {most = most} G t kind f one fits same more = record {
   takes = λ number bytes y are ge le e.
-      by_kind bytes (λ is found. subst (λ (n : ℕ). IsRead G t (n ∷ bytes) y) (sym is)
+      by_kind (told f r) (other number) bytes (λ is found. subst (λ (n : ℕ). IsRead G t (n ∷ bytes) y) (sym is)
       (as_read G t (kind ∷ []) f one fits same bytes y are found))
       (λ isnt found. more.takes number bytes y are (later kind number ge isnt) le found)
       (number == kind) refl e;
@@ -155,7 +157,7 @@ pub or_plain : {B : Type 0} {other : ℕ → List ℕ → Result (B × List ℕ)
     → TakesKind G t (λ number. if number == kind then always x else other number) kind most
 or_plain {other = other} {most = most} G t kind x fits same more = record {
   takes = λ number bytes y are ge le e.
-      by_kind bytes (λ is found. subst (λ (n : ℕ). IsRead G t (n ∷ bytes) y) (sym is)
+      by_kind (always x) (other number) bytes (λ is found. subst (λ (n : ℕ). IsRead G t (n ∷ bytes) y) (sym is)
       (nothing_read G t kind x fits same bytes y found))
       (λ isnt found. more.takes number bytes y are (later kind number ge isnt) le found)
       (number == kind) refl e;
@@ -166,9 +168,9 @@ pub split_kind : {B : Type 0} {G : B → Type 0} {t : B → List ℕ} {less more
     {least most : ℕ} (from : ℕ)
     → TakesKind G t less least (from - 1) → TakesKind G t more from most
     → TakesKind G t (λ number. if nat_lt number from then less number else more number) least most
-split_kind from below above = record {
+split_kind {less = less} {more = more} from below above = record {
   takes = λ number bytes y are ge le e.
-      by_test bytes (λ is found. below.takes number bytes y are ge (grind (arith, nat_tests, is)) found)
+      by_test (less number) (more number) bytes (λ is found. below.takes number bytes y are ge (grind (arith, nat_tests, is)) found)
       (λ isnt found. above.takes number bytes y are (grind (arith, nat_tests, isnt)) le found)
       (nat_lt number from) refl e;
 }
@@ -182,7 +184,7 @@ behind {B = B} count of bytes x e =
     let first = bind_ok (count bytes) (λ y. of y.0 y.1 >>= λ z. Ok ((y.0, z.0), z.1)) pair.0 pair.1 in
     let second = bind_ok (of first.0.0 first.0.1) (λ z. Ok ((first.0.0, z.0), z.1)) pair.0 first.2 in
     let there : good (second.0.0, second.0.1) ≡ good x =
-    ap (λ (z : (ℕ × B) × List ℕ). good (z.0.1, z.1)) (ok_is ((first.0.0, second.0.0), second.0.1) pair.0 second.2)
+    ap (λ (z : (ℕ × B) × List ℕ). good {A = B × List ℕ} (z.0.1, z.1)) (ok_is ((first.0.0, second.0.0), second.0.1) pair.0 second.2)
     ∙ pair.2 in
     (first.0, first.1, second.1 ∙ there)
 

@@ -1,8 +1,8 @@
 -- What is read of numbers, words, members and views is what is written.
 use Rattle.std.proofs.Common.{◌≡◌, ℕ, zero, suc, ◌+◌, ◌-◌, ◌≤◌, ◌<◌, ◌^◌, Bool, true, false, List, [], ◌∷◌, ◌++◌, length, drop, refl, sym, ap, subst, ◌∙◌, arith}
-use Rattle.std.specs.Prelude.{Option, None, Some, Result, Ok, nat_lt, position, ◌==◌, ◌&&◌, if◌then◌else◌}
+use Rattle.std.specs.Prelude.{Option, None, Some, Result, Ok, nat_lt, leb, cond, position, ◌==◌, ◌&&◌, if◌then◌else◌}
 use Rattle.std.specs.Int.{w16, w32, w64}
-use Rattle.std.proofs.lemmas.Bool.{eqb-true}
+use Rattle.std.proofs.lemmas.Bool.{eqb-true, le-leb}
 use Rattle.std.proofs.lemmas.Bool.Decides.{nat_tests}
 use Rattle.sig_core.specs.declared.key.TheConstants.{SPACE}
 use Rattle.sig_core.specs.IndexKey.{is_index, word_in}
@@ -97,6 +97,11 @@ spaced_run len (b ∷ rest) x are le is e =
     subst (λ (z : List ℕ × List ℕ). IsKey z.0 × (len ∷ b ∷ rest ≡ word z.0 ++ z.1))
     (ok_is (SPACE ∷ first.0.0, first.0.1) x first.2) ((some, few, a.0.1), all)
 
+spoils : (run : List ℕ) → position is_unprintable (SPACE ∷ run) ≡ Some 0
+spoils run =
+    let some : leb 1 (suc (length run)) ≡ true = le-leb 1 (suc (length run)) (omega arith) in
+    ap (λ (b : Bool). cond b (Some 0) None) some
+
 -- a run that begins with none
 plain_key : (byte : ℕ) (run : List ℕ) (space : Bool) → (byte == SPACE) ≡ space → length (byte ∷ run) ≤ 32
     → IsPlain (byte ∷ run)
@@ -104,6 +109,7 @@ plain_key : (byte : ℕ) (run : List ℕ) (space : Bool) → (byte == SPACE) ≡
 plain_key byte run true same few plain =
     let is : byte ≡ SPACE = eqb-true byte SPACE same in
     let spoilt : IsPlain (SPACE ∷ run) = subst (λ (b : ℕ). IsPlain (b ∷ run)) is plain in
+    let apart : Some 0 ≡ None = sym (spoils run) ∙ spoilt in
     absurd cc
 plain_key byte run false same few plain =
     let all : word_in (byte ∷ run) ≡ byte ∷ run = rw same refl in

@@ -1,3 +1,4 @@
 pub mod Stops
 pub mod Wholes
 pub mod ListLoops
+pub mod Found

@@ -1,6 +1,6 @@
 //! Traces as a whole.
-ghost use Rattle.std.specs.Prelude.{◌≡◌, ◌-◌, length};
-ghost use Rattle.trace_bytes.specs.Lives.{read_of};
+ghost use Rattle.std.specs.Prelude.{◌≡◌, ◌-◌, IfOk, length};
+ghost use Rattle.trace_bytes.specs.Lives.{IsLife, IsShape, read_of, trace_of};
 ghost use Rattle.trace_read.specs.Traces.{Answers};
 ghost use Rattle.trace_read.specs.declared.fault.TraceFault.TheVariants.{NotTrace};
 
@@ -15,8 +15,16 @@ use std::alloc::Global;
 ///
 /// # Errors
 /// `NotTrace` exactly where it is no trace, and `NoMemory`.
-#[tactic(auto, unfolding(trace_bytes::specs::Lives::read_of), using(crate::proofs::Wholes::wholes))]
 pub fn read_trace(alloc: Global, bytes: &[u8]) -> Result<(Shape, Life), TraceFault>
+    ensures exact { Answers result (read_of bytes.now) }
+    ensures found { IfOk result (λ x. IsShape x.0 × IsLife x.1 × (bytes.now ≡ trace_of x.0 x.1)) }
+{
+    told(alloc, bytes)
+}
+
+// What reading gives of these bytes.
+#[tactic(auto, unfolding(trace_bytes::specs::Lives::read_of), using(crate::proofs::Wholes::wholes))]
+fn told(alloc: Global, bytes: &[u8]) -> Result<(Shape, Life), TraceFault>
     ensures { Answers result (read_of bytes.now) }
 {
     let mut input = Input::new(bytes);

@@ -7,4 +7,4 @@ mod trace;
 mod write;
 
 pub use fault::WriteFault;
-pub use trace::{TRACE_BYTES, write_trace};
+pub use trace::{TRACE_BYTES, write_step, write_trace};

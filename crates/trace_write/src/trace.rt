@@ -1,12 +1,12 @@
 //! Traces as a whole.
 ghost use Rattle.std.specs.Prelude.{◌≡◌, ◌<◌, ◌≤◌, length, Err, IfOk, true};
-ghost use Rattle.trace_bytes.specs.Lives.{trace_of};
+ghost use Rattle.trace_bytes.specs.Lives.{step_bytes, trace_of};
 ghost use Rattle.trace_write.specs.Own.{has_own};
 ghost use Rattle.trace_write.specs.declared.fault.WriteFault.TheVariants.{OwnRows, TooLong};
 
 use crate::fault::WriteFault;
 use crate::output::Output;
-use sig_core::{Life, Seq, Shape, Slots};
+use sig_core::{Life, LogStep, NoMemory, Seq, Shape, Slots};
 use std::alloc::Global;
 
 /// The most bytes of a trace, 1 GiB.
@@ -41,4 +41,16 @@ fn have_own_rows(slots: &[Slots]) -> bool
     ensures { result ≡ has_own slots.now }
 {
     slots.iter().any(|found| found.own.is_some())
+}
+
+/// The bytes of a step of a log, as they stand in a trace.
+///
+/// # Errors
+/// `NoMemory`.
+pub fn write_step(alloc: Global, step: &LogStep) -> Result<Seq<u8>, NoMemory>
+    ensures { IfOk result (λ bytes. bytes ≡ step_bytes step.now) }
+{
+    let mut out = Output::new(alloc);
+    out.step(step)?;
+    Ok(out.into_seq())
 }

@@ -1,0 +1,74 @@
+-- The logs of hosts, step by step, and what is looked for in them.
+use Rattle.std.proofs.Common.{◌≡◌, ℕ, suc, ◌+◌, ◌-◌, ◌<◌, ◌≤◌, Bool, true, false, List, [], ◌∷◌, ◌++◌, length, get_or, take, drop, reverse, refl, ap, sym, ◌∙◌, add-one, reverse-append, arith}
+use Rattle.std.specs.Prelude.{map, ◌||◌}
+use Rattle.std.proofs.Math.Seq.{take-suc}
+use Rattle.sig_core.specs.declared.entry.Entry.{Entry}
+use Rattle.sig_core.specs.declared.log.LogStep.{LogStep}
+use Rattle.sig_core.specs.declared.mark.Mark.{Mark}
+use Rattle.sig_core.specs.declared.mark.Mark.TheVariants as mark
+use Rattle.world_core.specs.Entries.{entries_in, entries_of, entry_of, insert, insert_all, is_before}
+use Rattle.world_core.specs.Steps.{HostStep}
+use Rattle.world_core.specs.World.{of_host}
+use Rattle.log_history.specs.Logs.{added, log_of}
+
+pub log_more : (h : ℕ) (steps : List LogStep) (step : LogStep)
+    → log_of h (steps ++ step ∷ []) ≡ of_host h step ∷ log_of h steps
+log_more h steps step = ap (map (of_host h)) (reverse-append steps (step ∷ []))
+
+-- one step more
+pub log_taken : (h at : ℕ) (steps : List LogStep) (step : LogStep) → at < length steps → step ≡ get_or steps at step
+    → log_of h (take (at + 1) steps) ≡ of_host h step ∷ log_of h (take at steps)
+log_taken h at steps step few here =
+    let front : take (at + 1) steps ≡ take at steps ++ step ∷ [] =
+    rw add-one (take-suc steps at step few ∙ ap (λ y. take at steps ++ (y ∷ [])) (sym here)) in
+    ap (log_of h) front ∙ log_more h (take at steps) step
+
+-- marks add their entries one by one
+pub added_is : (h stamp : ℕ) (log : List HostStep) (marks : List Mark) (before into : List Entry)
+    → insert_all (entries_in h stamp log marks before) into ≡ added h stamp log marks (insert_all before into)
+added_is h stamp log [] before into = refl
+added_is h stamp log (mark.Decided tx epoch ∷ marks) before into =
+    added_is h stamp log marks (entry_of h stamp log tx epoch ∷ before) into
+added_is h stamp log (mark.Prepared tx key ∷ marks) before into = added_is h stamp log marks before into
+added_is h stamp log (mark.Applied tx key ∷ marks) before into = added_is h stamp log marks before into
+added_is h stamp log (mark.Done tx key ∷ marks) before into = added_is h stamp log marks before into
+added_is h stamp log (mark.Expired tx key ∷ marks) before into = added_is h stamp log marks before into
+added_is h stamp log (mark.Promised number ∷ marks) before into = added_is h stamp log marks before into
+added_is h stamp log (mark.Installed view ∷ marks) before into = added_is h stamp log marks before into
+added_is h stamp log (mark.Reported tx outcome ∷ marks) before into = added_is h stamp log marks before into
+added_is h stamp log (mark.Durable epoch ∷ marks) before into = added_is h stamp log marks before into
+added_is h stamp log (mark.CutOff host ∷ marks) before into = added_is h stamp log marks before into
+added_is h stamp log (mark.Down group ∷ marks) before into = added_is h stamp log marks before into
+added_is h stamp log (mark.Stopped cause ∷ marks) before into = added_is h stamp log marks before into
+added_is h stamp log (mark.Closed epoch ∷ marks) before into = added_is h stamp log marks before into
+
+-- the entries of a log with one step more
+pub entries_more : (h at : ℕ) (steps : List LogStep) (step : LogStep) (all old more : List Entry)
+    → at < length steps → step ≡ get_or steps at step
+    → all ≡ insert_all (entries_of h (log_of h (take at steps))) old
+    → more ≡ added h step.stamp (log_of h (take (at + 1) steps)) step.marks all
+    → more ≡ insert_all (entries_of h (log_of h (take (at + 1) steps))) old
+entries_more h at steps step all old more few here is goes =
+    let longer = log_taken h at steps step few here in
+    goes
+    ∙ ap (λ log. added h step.stamp log step.marks all) longer
+    ∙ ap (added h step.stamp (of_host h step ∷ log_of h (take at steps)) step.marks) is
+    ∙ sym (added_is h step.stamp (of_host h step ∷ log_of h (take at steps)) step.marks
+    (entries_of h (log_of h (take at steps))) old)
+    ∙ ap (λ log. insert_all (entries_of h log) old) (sym longer)
+
+-- ---- the place of an entry
+
+-- an entry that isn't before the one at this place
+pub not_here : (entry other : Entry) (all : List Entry) (place : ℕ) → place < length all
+    → other ≡ get_or all place other
+    → is_before entry other ≡ false
+    → take place all ++ insert entry (drop place all)
+    ≡ take (place + 1) all ++ insert entry (drop (place + 1) all)
+not_here entry other all place few here after = ?
+
+pub here : (entry other : Entry) (all : List Entry) (place : ℕ) → place < length all
+    → other ≡ get_or all place other
+    → is_before entry other ≡ true
+    → take place all ++ insert entry (drop place all) ≡ take place all ++ entry ∷ drop place all
+here entry other all place few at before = ?

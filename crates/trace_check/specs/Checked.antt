@@ -1,0 +1,26 @@
+-- What a trace is whose check says yes.
+use Rattle.std.specs.Prelude.{◌≡◌, ℕ, List}
+use Rattle.run_theory.specs.Runs.{AreLogs, IsWithin}
+use Rattle.sig_core.specs.declared.entry.Entry.{Entry}
+use Rattle.sig_core.specs.declared.log.Life.{Life}
+use Rattle.sig_core.specs.declared.view.Shape.{Shape}
+use Rattle.trace_bytes.specs.Lives.{trace_of}
+use Rattle.world_core.specs.History.{history}
+use Rattle.world_core.specs.Hosts.{hosts}
+use Rattle.world_core.specs.Lives.{logs_of}
+use Rattle.world_views.specs.Lives.{start_of}
+use Rattle.world_views.specs.Machine.{machine}
+
+-- The bytes are the trace of this life, whose logs are right, from the start that the life states: so they sort into a
+-- run of the machine. The entries are the history of these logs.
+pub record IsChecked (bytes : List ℕ) (shape : Shape) (life : Life) (entries : List Entry) : Type 0 where
+  pub trace : bytes ≡ trace_of shape life
+  pub right : AreLogs (machine (start_of shape life)) (logs_of life)
+  pub within : IsWithin (hosts (start_of shape life)) (logs_of life)
+  pub entries : entries ≡ history (hosts (start_of shape life)) (logs_of life)
+
+-- they are the trace of some such life
+pub record IsTraceOfRun (bytes : List ℕ) (entries : List Entry) : Type 0 where
+  pub shape : Shape
+  pub life : Life
+  pub is : IsChecked bytes shape life entries

@@ -1,0 +1,78 @@
+//! The check of a trace.
+ghost use Rattle.std.specs.Prelude.{◌≡◌, Err, IfOk};
+ghost use Rattle.trace_bytes.specs.Lives.{read_of};
+ghost use Rattle.trace_check.specs.Checked.{IsTraceOfRun};
+ghost use Rattle.trace_check.specs.declared.fault.CheckFault.TheVariants.{NotTrace};
+ghost use Rattle.world_core.specs.Start.{Start};
+ghost use Rattle.world_views.specs.Driven.{IsSound};
+
+use crate::compare::fault_of;
+use crate::fault::CheckFault;
+use crate::history::history;
+use crate::replay::{Replayed, replay};
+use sig_core::{Entry, HostLog, Life, NoMemory, Seq, Shape};
+use std::alloc::Global;
+use trace_merge::{RunStep, merge};
+use trace_read::{TraceFault, read_trace};
+use trace_write::{WriteFault, write_trace};
+use world_views::World;
+
+/// The first epoch of each checkpoint number is a multiple of this.
+const MICROS: u64 = 0x1_0000_0000;
+
+/// Checks a trace: has a world make the steps that it tells, in their order, and compares bytes. Gives the
+/// history of its logs where they are right; then they are a run of the machine, from the start that the trace
+/// states.
+///
+/// # Errors
+/// `NotTrace` only where the bytes are no trace, with the place of the first byte that doesn't fit. `NotStep` at
+/// the first step, by stamp and host, that the world doesn't make or makes otherwise; `NotLife` where it makes
+/// all, but the trace tells of disks, or hasn't one log for each host. `NotMadeAgain` where a host stopped for want
+/// of memory or stamps, which no world is made to do; nor is one made to lose signals with a stop. `NoMemory`.
+pub fn check(alloc: Global, bytes: &[u8]) -> Result<Seq<Entry>, CheckFault>
+    ensures yes { IfOk result (λ entries. IsTraceOfRun bytes.now entries) }
+    ensures no_trace { (at : ℕ) → result ≡ Err (NotTrace at) → read_of bytes.now ≡ Err at }
+{
+    match read_trace(alloc, bytes) {
+        Ok((shape, life)) => checked(alloc, bytes, shape, life),
+        Err(TraceFault::NotTrace { at }) => Err(CheckFault::NotTrace { at }),
+        Err(TraceFault::NoMemory) => Err(CheckFault::NoMemory),
+    }
+}
+
+// Checks a life of a cluster of this shape, whose trace these bytes are.
+fn checked(alloc: Global, bytes: &[u8], shape: Shape, life: Life) -> Result<Seq<Entry>, CheckFault>
+    requires { IsShape shape }
+    requires { life.start_epoch < LAST_START }
+    ensures yes { IfOk result (λ entries. IsTraceOfRun bytes.now entries) }
+    ensures no_trace { (at : ℕ) → result ≢ Err (NotTrace at) }
+{
+    let run = merge(alloc, life.logs.as_slice())?;
+    let start = (life.start_epoch / MICROS + 1) * MICROS;
+    let mut world = World::new(alloc, shape, start, life.start_rows.as_slice())?;
+    let replayed = replay(alloc, &mut world, life.logs.as_slice(), run.as_slice())?;
+    let done = world.end_life(alloc);
+    let rows = Seq::from_vec(Vec::from_slice(alloc, life.start_rows.as_slice())?);
+    let made = Life {
+        start_epoch: life.start_epoch,
+        start_rows: rows,
+        logs: done.logs,
+        slots: Seq::new(alloc),
+    };
+    if is_told(alloc, shape, &made, bytes)? {
+        return Ok(history(alloc, made.logs.as_slice())?);
+    }
+    let told = life.logs.as_slice();
+    Err(fault_of(alloc, told, made.logs.as_slice(), run.as_slice(), replayed)?)
+}
+
+// Whether the bytes are the trace of a life.
+fn is_told(alloc: Global, shape: Shape, life: &Life, bytes: &[u8]) -> Result<bool, NoMemory>
+    ensures { IfOk result (λ told. told ≡ true → bytes.now ≡ trace_of shape life.now) }
+{
+    match write_trace(alloc, shape, life) {
+        Ok(trace) => Ok(trace.as_slice() == bytes),
+        Err(WriteFault::NoMemory) => Err(NoMemory),
+        Err(_) => Ok(false),
+    }
+}

@@ -1,0 +1,15 @@
+//! Traces checked: whether bytes are the trace of a run of the machine, and which history that run has.
+#![tactic(auto)]
+
+mod check;
+mod compare;
+mod deed;
+mod entries;
+mod fault;
+mod history;
+mod replay;
+mod request;
+
+pub use check::check;
+pub use fault::CheckFault;
+pub use history::history;
