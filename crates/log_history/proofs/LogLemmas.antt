@@ -1,12 +1,15 @@
 -- The logs of hosts, step by step, and what is looked for in them.
-use Rattle.std.proofs.Common.{◌≡◌, ℕ, suc, ◌+◌, ◌-◌, ◌<◌, ◌≤◌, Bool, true, false, List, [], ◌∷◌, ◌++◌, length, get_or, take, drop, reverse, refl, ap, sym, ◌∙◌, add-one, reverse-append, arith}
-use Rattle.std.specs.Prelude.{map, ◌||◌}
+use Rattle.std.proofs.Common.{◌≡◌, ℕ, suc, ◌+◌, ◌-◌, ◌<◌, ◌≤◌, Bool, true, false, List, [], ◌∷◌, ◌++◌, length, get_or, take, drop, drop-cons, reverse, refl, ap, sym, ◌∙◌, add-one, append_assoc, arith}
+use Rattle.std.specs.List.{list_any}
+use Rattle.std.specs.Prelude.{map, ◌||◌, if◌then◌else◌}
+use Rattle.std.proofs.lemmas.List.{reverse-append}
 use Rattle.std.proofs.Math.Seq.{take-suc}
 use Rattle.sig_core.specs.declared.entry.Entry.{Entry}
 use Rattle.sig_core.specs.declared.log.LogStep.{LogStep}
 use Rattle.sig_core.specs.declared.mark.Mark.{Mark}
 use Rattle.sig_core.specs.declared.mark.Mark.TheVariants as mark
 use Rattle.world_core.specs.Entries.{entries_in, entries_of, entry_of, insert, insert_all, is_before}
+use Rattle.world_core.specs.Marks.{has_mark}
 use Rattle.world_core.specs.Steps.{HostStep}
 use Rattle.world_core.specs.World.{of_host}
 use Rattle.log_history.specs.Logs.{added, log_of}
@@ -59,16 +62,50 @@ entries_more h at steps step all old more few here is goes =
 
 -- ---- the place of an entry
 
+entry_at : (all : List Entry) (place : ℕ) (other : Entry) → place < length all → other ≡ get_or all place other
+    → drop place all ≡ other ∷ drop (suc place) all
+entry_at all place other few there =
+    drop-cons all place other few ∙ ap (λ y. y ∷ drop (suc place) all) (sym there)
+
 -- an entry that isn't before the one at this place
 pub not_here : (entry other : Entry) (all : List Entry) (place : ℕ) → place < length all
     → other ≡ get_or all place other
     → is_before entry other ≡ false
-    → take place all ++ insert entry (drop place all)
-    ≡ take (place + 1) all ++ insert entry (drop (place + 1) all)
-not_here entry other all place few here after = ?
+    → take (place + 1) all ++ insert entry (drop (place + 1) all)
+    ≡ take place all ++ insert entry (drop place all)
+not_here entry other all place few there after =
+    let rest = drop (suc place) all in
+    let front : take (suc place) all ≡ take place all ++ other ∷ [] =
+    take-suc all place other few ∙ ap (λ y. take place all ++ (y ∷ [])) (sym there) in
+    let behind : insert entry (drop place all) ≡ other ∷ insert entry rest =
+    ap (insert entry) (entry_at all place other few there)
+    ∙ ap (λ b. if b then entry ∷ other ∷ rest else other ∷ insert entry rest) after in
+    rw add-one
+    (ap (λ w. w ++ insert entry rest) front
+    ∙ append_assoc (take place all) (other ∷ []) (insert entry rest)
+    ∙ ap (λ w. take place all ++ w) (sym behind))
 
+-- one that is
 pub here : (entry other : Entry) (all : List Entry) (place : ℕ) → place < length all
     → other ≡ get_or all place other
     → is_before entry other ≡ true
     → take place all ++ insert entry (drop place all) ≡ take place all ++ entry ∷ drop place all
-here entry other all place few at before = ?
+here entry other all place few there before =
+    let is = entry_at all place other few there in
+    let behind : insert entry (drop place all) ≡ entry ∷ drop place all =
+    ap (insert entry) is
+    ∙ ap (λ b. if b then entry ∷ other ∷ drop (suc place) all else other ∷ insert entry (drop (suc place) all)) before
+    ∙ ap (λ w. entry ∷ w) (sym is) in
+    ap (λ w. take place all ++ w) behind
+
+-- ---- marks
+
+pub mark_more : (h at : ℕ) (steps : List LogStep) (step : LogStep) (test : Mark → Bool) (before now : Bool)
+    → at < length steps → step ≡ get_or steps at step
+    → before ≡ has_mark test (log_of h (take at steps))
+    → now ≡ (list_any test step.marks || before)
+    → now ≡ has_mark test (log_of h (take (at + 1) steps))
+mark_more h at steps step test before now few there is goes =
+    goes
+    ∙ ap (λ b. list_any test step.marks || b) is
+    ∙ ap (has_mark test) (sym (log_taken h at steps step few there))

@@ -6,7 +6,7 @@ ghost use Rattle.world_core.specs.History.{history, is_done, is_kept};
 ghost use Rattle.world_core.specs.World.{logs_at};
 
 use crate::entries::add_log;
-use crate::marks::{is_applied, is_reported};
+use crate::marks::{Sought, have_mark};
 use sig_core::{Answer, Entry, HostLog, NoMemory, Op, Seq};
 use std::alloc::Global;
 
@@ -46,9 +46,9 @@ fn is_kept(logs: &[HostLog], entry: &Entry) -> bool
     ensures { result ≡ is_kept (length logs.now) (logs_at logs.now) entry.now }
 {
     if writes(entry.ops.as_slice()) {
-        is_applied(logs, entry.tx)
+        have_mark(logs, Sought::Applied, entry.tx)
     } else {
-        is_reported(logs, entry.tx)
+        have_mark(logs, Sought::Reported, entry.tx)
     }
 }
 

@@ -8,8 +8,11 @@ use Rattle.trace_bytes.specs.Lives.{trace_of}
 use Rattle.world_core.specs.History.{history}
 use Rattle.world_core.specs.Hosts.{hosts}
 use Rattle.world_core.specs.Lives.{logs_of}
+use Rattle.world_core.specs.Start.{Start}
+use Rattle.world_views.specs.Driven.{IsSound}
 use Rattle.world_views.specs.Lives.{start_of}
 use Rattle.world_views.specs.Machine.{machine}
+use Rattle.world_views.specs.World.{Whole}
 
 -- The bytes are the trace of this life, whose logs are right, from the start that the life states: so they sort into a
 -- run of the machine. The entries are the history of these logs.
@@ -24,3 +27,7 @@ pub record IsTraceOfRun (bytes : List ℕ) (entries : List Entry) : Type 0 where
   pub shape : Shape
   pub life : Life
   pub is : IsChecked bytes shape life entries
+
+-- a world that was right from some start still is
+abbrev pub StaysRight : Whole → Whole → Type 0
+StaysRight w t = (start : Start) → IsSound start w → IsSound start t

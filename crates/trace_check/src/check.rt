@@ -1,18 +1,16 @@
 //! The check of a trace.
-ghost use Rattle.std.specs.Prelude.{◌≡◌, Err, IfOk};
-ghost use Rattle.trace_bytes.specs.Lives.{read_of};
+ghost use Rattle.std.specs.Prelude.{◌≡◌, ◌≢◌, ◌<◌, ℕ, Err, IfOk, true};
+ghost use Rattle.trace_bytes.specs.Lives.{IsShape, LAST_START, read_of, trace_of};
 ghost use Rattle.trace_check.specs.Checked.{IsTraceOfRun};
 ghost use Rattle.trace_check.specs.declared.fault.CheckFault.TheVariants.{NotTrace};
-ghost use Rattle.world_core.specs.Start.{Start};
-ghost use Rattle.world_views.specs.Driven.{IsSound};
 
 use crate::compare::fault_of;
 use crate::fault::CheckFault;
-use crate::history::history;
-use crate::replay::{Replayed, replay};
-use sig_core::{Entry, HostLog, Life, NoMemory, Seq, Shape};
+use crate::replay::replay;
+use log_history::history;
+use sig_core::{Entry, Life, NoMemory, Seq, Shape};
 use std::alloc::Global;
-use trace_merge::{RunStep, merge};
+use trace_merge::merge;
 use trace_read::{TraceFault, read_trace};
 use trace_write::{WriteFault, write_trace};
 use world_views::World;
@@ -42,8 +40,8 @@ pub fn check(alloc: Global, bytes: &[u8]) -> Result<Seq<Entry>, CheckFault>
 
 // Checks a life of a cluster of this shape, whose trace these bytes are.
 fn checked(alloc: Global, bytes: &[u8], shape: Shape, life: Life) -> Result<Seq<Entry>, CheckFault>
-    requires { IsShape shape }
-    requires { life.start_epoch < LAST_START }
+    requires shape { IsShape shape }
+    requires epoch { life.start_epoch < LAST_START }
     ensures yes { IfOk result (λ entries. IsTraceOfRun bytes.now entries) }
     ensures no_trace { (at : ℕ) → result ≢ Err (NotTrace at) }
 {

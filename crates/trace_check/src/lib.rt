@@ -4,12 +4,9 @@
 mod check;
 mod compare;
 mod deed;
-mod entries;
 mod fault;
-mod history;
 mod replay;
 mod request;
 
 pub use check::check;
 pub use fault::CheckFault;
-pub use history::history;

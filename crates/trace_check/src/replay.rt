@@ -1,7 +1,7 @@
 //! A world that does what a trace tells.
 ghost use Rattle.std.specs.Prelude.{OnOk};
-ghost use Rattle.world_core.specs.Start.{Start};
-ghost use Rattle.world_views.specs.Driven.{IsSound};
+ghost use Rattle.trace_check.specs.Checked.{StaysRight};
+ghost use Rattle.world_views.specs.Driven.{IsWorld};
 ghost use Rattle.world_views.specs.WorldOf.{whole_of};
 
 use crate::deed::{Deed, deed_of};
@@ -40,9 +40,8 @@ pub fn replay(
     logs: &[HostLog],
     run: &[RunStep],
 ) -> Result<Replayed, NoMemory>
-    ghost start: { Start }
-    requires { IsSound start (whole_of world.old) }
-    ensures { OnOk result (IsSound start (whole_of world.new)) }
+    requires { IsWorld (whole_of world.old) }
+    ensures { OnOk result (StaysRight (whole_of world.old) (whole_of world.new)) }
 {
     let mut steps = 0;
     'run: for at in run {
@@ -65,9 +64,8 @@ fn make(
     logs: &[HostLog],
     at: RunStep,
 ) -> Result<Made, NoMemory>
-    ghost start: { Start }
-    requires { IsSound start (whole_of world.old) }
-    ensures { OnOk result (IsSound start (whole_of world.new)) }
+    requires { IsWorld (whole_of world.old) }
+    ensures { OnOk result (StaysRight (whole_of world.old) (whole_of world.new)) }
 {
     let Some(deed) = deed_at(alloc, logs, at)? else {
         return Ok(Made::Not);
@@ -97,9 +95,8 @@ fn ask(
     host: HostId,
     request: ApiReq,
 ) -> Result<Made, NoMemory>
-    ghost start: { Start }
-    requires { IsSound start (whole_of world.old) }
-    ensures { OnOk result (IsSound start (whole_of world.new)) }
+    requires { IsWorld (whole_of world.old) }
+    ensures { OnOk result (StaysRight (whole_of world.old) (whole_of world.new)) }
 {
     if host.0 > 0 || !world.runs(HostId(0)) {
         return Ok(Made::Not);
@@ -109,13 +106,13 @@ fn ask(
 }
 
 fn pick_one(alloc: Global, world: &mut World, pick: Pick) -> Result<Made, NoMemory>
-    ghost start: { Start }
-    requires { IsSound start (whole_of world.old) }
-    ensures { OnOk result (IsSound start (whole_of world.new)) }
+    requires { IsWorld (whole_of world.old) }
+    ensures { OnOk result (StaysRight (whole_of world.old) (whole_of world.new)) }
 {
     match world.schedule(alloc, &[pick]) {
         Ok(()) => Ok(Made::Done),
+        Err(ScheduleFault::Empty { at: _ }) => Ok(Made::Not),
+        Err(ScheduleFault::Gone { at: _ }) => Ok(Made::Not),
         Err(ScheduleFault::NoMemory) => Err(NoMemory),
-        Err(_) => Ok(Made::Not),
     }
 }
