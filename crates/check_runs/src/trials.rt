@@ -29,7 +29,7 @@ fn is_refused(
     }
 }
 
-/// Each step left out, doubled, or moved behind the next.
+/// Each step left out, doubled, or moved behind the next. Where the last of a log is left out, the rest may be a run.
 pub fn bears_moves(alloc: Global, parts: &Parts) -> Result<bool, NoMemory> {
     for log in 0..parts.logs.len() {
         for step in 0..parts.logs[log].steps.len() {
@@ -50,7 +50,7 @@ fn bears_change(
     let out = is_changed_refused(alloc, parts, log, step, Change::LeftOut)?;
     let double = is_changed_refused(alloc, parts, log, step, Change::Doubled)?;
     let last = step + 1 == parts.logs[log].steps.len();
-    Ok(out && double && (last || is_changed_refused(alloc, parts, log, step, Change::Moved)?))
+    Ok((last || out) && double && (last || is_changed_refused(alloc, parts, log, step, Change::Moved)?))
 }
 
 fn is_changed_refused(

@@ -2,10 +2,11 @@
 #![tactic(auto)]
 
 mod entries;
-mod history;
+
 mod insert;
 mod marks;
 mod ops;
 mod same;
+mod whole;
 
-pub use history::history;
+pub use whole::history;

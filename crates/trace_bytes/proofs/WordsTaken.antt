@@ -97,6 +97,13 @@ spaced_run len (b ∷ rest) x are le is e =
     subst (λ (z : List ℕ × List ℕ). IsKey z.0 × (len ∷ b ∷ rest ≡ word z.0 ++ z.1))
     (ok_is (SPACE ∷ first.0.0, first.0.1) x first.2) ((some, few, a.0.1), all)
 
+abbrev IsThere : Option ℕ → Type 0
+IsThere None = ⊥
+IsThere (Some n) = Unit {0}
+
+not_none : (n : ℕ) → Some n ≡ None → ⊥
+not_none n e = subst IsThere e tt
+
 spoils : (run : List ℕ) → position is_unprintable (SPACE ∷ run) ≡ Some 0
 spoils run =
     let some : leb 1 (suc (length run)) ≡ true = le-leb 1 (suc (length run)) (omega arith) in
@@ -109,8 +116,7 @@ plain_key : (byte : ℕ) (run : List ℕ) (space : Bool) → (byte == SPACE) ≡
 plain_key byte run true same few plain =
     let is : byte ≡ SPACE = eqb-true byte SPACE same in
     let spoilt : IsPlain (SPACE ∷ run) = subst (λ (b : ℕ). IsPlain (b ∷ run)) is plain in
-    let apart : Some 0 ≡ None = sym (spoils run) ∙ spoilt in
-    absurd cc
+    absurd (not_none 0 (sym (spoils run) ∙ spoilt))
 plain_key byte run false same few plain =
     let all : word_in (byte ∷ run) ≡ byte ∷ run = rw same refl in
     (

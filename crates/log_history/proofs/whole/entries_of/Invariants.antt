@@ -1,7 +1,7 @@
 use Rattle.std.proofs.Common.{◌≡◌}
 use Rattle.world_core.specs.Entries.{entries}
 use Rattle.world_core.specs.World.{logs_at}
-use Rattle.log_history.proofs.history.entries_of.Given as goal
+use Rattle.log_history.proofs.whole.entries_of.Given as goal
 
 -- the entries of the hosts before this one
 abbrev pub invariant-hosts : goal.invariant-hosts
