@@ -8,7 +8,7 @@ use crate::compare::fault_of;
 use crate::fault::CheckFault;
 use crate::replay::replay;
 use log_history::history;
-use sig_core::{Entry, Life, NoMemory, Seq, Shape};
+use sig_core::{Entry, Key, Life, NoMemory, Seq, Shape, Value};
 use std::alloc::Global;
 use trace_merge::merge;
 use trace_read::{TraceFault, read_trace};
@@ -50,10 +50,9 @@ fn checked(alloc: Global, bytes: &[u8], shape: Shape, life: Life) -> Result<Seq<
     let mut world = World::new(alloc, shape, start, life.start_rows.as_slice())?;
     let replayed = replay(alloc, &mut world, life.logs.as_slice(), run.as_slice())?;
     let done = world.end_life(alloc);
-    let rows = Seq::from_vec(Vec::from_slice(alloc, life.start_rows.as_slice())?);
     let made = Life {
         start_epoch: life.start_epoch,
-        start_rows: rows,
+        start_rows: copied_rows(alloc, life.start_rows.as_slice())?,
         logs: done.logs,
         slots: Seq::new(alloc),
     };
@@ -62,6 +61,12 @@ fn checked(alloc: Global, bytes: &[u8], shape: Shape, life: Life) -> Result<Seq<
     }
     let told = life.logs.as_slice();
     Err(fault_of(alloc, told, made.logs.as_slice(), run.as_slice(), replayed)?)
+}
+
+fn copied_rows(alloc: Global, rows: &[(Key, Value)]) -> Result<Seq<(Key, Value)>, NoMemory>
+    ensures { IfOk result (λ copies. copies ≡ rows.now) }
+{
+    Ok(Seq::from_vec(Vec::from_slice(alloc, rows)?))
 }
 
 // Whether the bytes are the trace of a life.
