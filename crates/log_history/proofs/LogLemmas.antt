@@ -1,15 +1,13 @@
 -- The logs of hosts, step by step, and what is looked for in them.
 use Rattle.std.proofs.Common.{◌≡◌, ℕ, suc, ◌+◌, ◌-◌, ◌<◌, ◌≤◌, Bool, true, false, List, [], ◌∷◌, ◌++◌, length, get_or, take, drop, drop-cons, reverse, refl, ap, sym, ◌∙◌, add-one, append_assoc, arith}
-use Rattle.std.specs.List.{list_any}
-use Rattle.std.specs.Prelude.{map, ◌||◌, if◌then◌else◌}
-use Rattle.std.proofs.lemmas.List.{reverse-append}
+use Rattle.std.specs.Prelude.{map, if◌then◌else◌}
+use Rattle.std.proofs.lemmas.List.{drop_all, reverse-append, take_all}
 use Rattle.std.proofs.Math.Seq.{take-suc}
 use Rattle.sig_core.specs.declared.entry.Entry.{Entry}
 use Rattle.sig_core.specs.declared.log.LogStep.{LogStep}
 use Rattle.sig_core.specs.declared.mark.Mark.{Mark}
 use Rattle.sig_core.specs.declared.mark.Mark.TheVariants as mark
-use Rattle.world_core.specs.Entries.{entries_in, entries_of, entry_of, insert, insert_all, is_before}
-use Rattle.world_core.specs.Marks.{has_mark}
+use Rattle.world_core.specs.Entries.{entries_in, entries_of, entry_of, insert, insert_all, installed_in, is_before, view_at}
 use Rattle.world_core.specs.Steps.{HostStep}
 use Rattle.world_core.specs.World.{of_host}
 use Rattle.log_history.specs.Logs.{added, log_of}
@@ -46,19 +44,32 @@ added_is h stamp log (mark.Stopped cause ∷ marks) before into = added_is h sta
 added_is h stamp log (mark.Closed epoch ∷ marks) before into = added_is h stamp log marks before into
 
 -- the entries of a log with one step more
-pub entries_more : (h at : ℕ) (steps : List LogStep) (step : LogStep) (all old more : List Entry)
-    → at < length steps → step ≡ get_or steps at step
+pub entries_more : (h at : ℕ) (steps : List LogStep) (step : LogStep) (marks : List Mark) (all old more : List Entry)
+    → at < length steps → step ≡ get_or steps at step → marks ≡ step.marks
     → all ≡ insert_all (entries_of h (log_of h (take at steps))) old
-    → more ≡ added h step.stamp (log_of h (take (at + 1) steps)) step.marks all
+    → more ≡ added h step.stamp (log_of h (take (at + 1) steps)) marks all
     → more ≡ insert_all (entries_of h (log_of h (take (at + 1) steps))) old
-entries_more h at steps step all old more few here is goes =
+entries_more h at steps step marks all old more few here same is goes =
     let longer = log_taken h at steps step few here in
     goes
+    ∙ ap (λ ms. added h step.stamp (log_of h (take (at + 1) steps)) ms all) same
     ∙ ap (λ log. added h step.stamp log step.marks all) longer
     ∙ ap (added h step.stamp (of_host h step ∷ log_of h (take at steps)) step.marks) is
     ∙ sym (added_is h step.stamp (of_host h step ∷ log_of h (take at steps)) step.marks
     (entries_of h (log_of h (take at steps))) old)
     ∙ ap (λ log. insert_all (entries_of h log) old) (sym longer)
+
+-- and the view behind it
+pub view_more : (h at : ℕ) (steps : List LogStep) (step : LogStep) (marks : List Mark) (before now : ℕ)
+    → at < length steps → step ≡ get_or steps at step → marks ≡ step.marks
+    → before ≡ view_at (log_of h (take at steps))
+    → now ≡ installed_in marks before
+    → now ≡ view_at (log_of h (take (at + 1) steps))
+view_more h at steps step marks before now few here same is goes =
+    goes
+    ∙ ap (λ ms. installed_in ms before) same
+    ∙ ap (installed_in step.marks) is
+    ∙ ap view_at (sym (log_taken h at steps step few here))
 
 -- ---- the place of an entry
 
@@ -98,14 +109,12 @@ here entry other all place few there before =
     ∙ ap (λ w. entry ∷ w) (sym is) in
     ap (λ w. take place all ++ w) behind
 
--- ---- marks
-
-pub mark_more : (h at : ℕ) (steps : List LogStep) (step : LogStep) (test : Mark → Bool) (before now : Bool)
-    → at < length steps → step ≡ get_or steps at step
-    → before ≡ has_mark test (log_of h (take at steps))
-    → now ≡ (list_any test step.marks || before)
-    → now ≡ has_mark test (log_of h (take (at + 1) steps))
-mark_more h at steps step test before now few there is goes =
-    goes
-    ∙ ap (λ b. list_any test step.marks || b) is
-    ∙ ap (has_mark test) (sym (log_taken h at steps step few there))
+-- or behind all
+pub at_end : (entry : Entry) (all : List Entry) (place : ℕ) → length all ≤ place
+    → take place all ++ insert entry (drop place all) ≡ take (length all) all ++ entry ∷ drop (length all) all
+at_end entry all place past =
+    let own : length all ≤ length all = omega arith in
+    ap (λ w. w ++ insert entry (drop place all)) (take_all place all past)
+    ∙ ap (λ w. all ++ insert entry w) (drop_all place all past)
+    ∙ sym (ap (λ w. w ++ entry ∷ drop (length all) all) (take_all (length all) all own)
+    ∙ ap (λ w. all ++ entry ∷ w) (drop_all (length all) all own))

@@ -1,5 +1,5 @@
 //! The order of entries.
-ghost use Rattle.std.specs.Prelude.{◌≡◌, OnOk};
+ghost use Rattle.std.specs.Prelude.{◌≡◌, ◌≤◌, ◌∷◌, ◌++◌, drop, length, take, OnOk};
 ghost use Rattle.world_core.specs.Entries.{insert, is_before};
 
 use sig_core::{Entry, NoMemory};
@@ -11,14 +11,22 @@ use sig_core::{Entry, NoMemory};
 pub fn insert(all: &mut Vec<Entry>, entry: Entry) -> Result<(), NoMemory>
     ensures { OnOk result (all.new.items ≡ insert entry all.old.items) }
 {
+    let place = place_of(all.as_slice(), &entry);
+    all.insert(place, entry)?;
+    Ok(())
+}
+
+// The place of an entry among others.
+fn place_of(all: &[Entry], entry: &Entry) -> usize
+    ensures bound { result ≤ length all.now }
+    ensures place { insert entry.now all.now ≡ take result all.now ++ entry.now ∷ drop result all.now }
+{
     'places: for place in 0..all.len() {
-        if is_before(&entry, &all[place]) {
-            all.insert(place, entry)?;
-            return Ok(());
+        if is_before(entry, &all[place]) {
+            return place;
         }
     }
-    all.push(entry)?;
-    Ok(())
+    all.len()
 }
 
 fn is_before(one: &Entry, other: &Entry) -> bool

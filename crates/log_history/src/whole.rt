@@ -1,6 +1,6 @@
 //! The history of logs.
 ghost use Rattle.std.specs.List.{list_any};
-ghost use Rattle.std.specs.Prelude.{◌≡◌, filter, length, IfOk};
+ghost use Rattle.std.specs.Prelude.{◌≡◌, ◌≤◌, ◌^◌, filter, length, IfOk};
 ghost use Rattle.world_core.specs.Entries.{entries};
 ghost use Rattle.world_core.specs.History.{history, is_done, is_kept};
 ghost use Rattle.world_core.specs.World.{logs_at};
@@ -10,21 +10,22 @@ use crate::marks::{Sought, have_mark};
 use sig_core::{Answer, Entry, HostLog, NoMemory, Op, Seq};
 use std::alloc::Global;
 
-/// The history of logs, which are one for each host, in the order of hosts: the transactions that were applied,
+/// The history of logs, which are one for each host, in the order of hosts, whose numbers have 32 bits: the transactions that were applied,
 /// or reported committed where they write nothing, by view, stamp and host.
 ///
 /// # Errors
 /// `NoMemory`.
 pub fn history(alloc: Global, logs: &[HostLog]) -> Result<Seq<Entry>, NoMemory>
+    requires { length logs.now ≤ 2 ^ 32 }
     ensures { IfOk result (λ entries. entries ≡ history (length logs.now) (logs_at logs.now)) }
 {
-    let mut all = entries_of(alloc, logs)?;
-    keep(logs, &mut all);
-    Ok(Seq::from_vec(all))
+    let all = entries_of(alloc, logs)?;
+    kept(alloc, logs, all.as_slice())
 }
 
 // The entries of all logs, in their order.
 fn entries_of(alloc: Global, logs: &[HostLog]) -> Result<Vec<Entry>, NoMemory>
+    requires { length logs.now ≤ 2 ^ 32 }
     ensures { IfOk result (λ all. all.items ≡ entries (length logs.now) (logs_at logs.now)) }
 {
     let mut all = Vec::new(alloc);
@@ -34,11 +35,31 @@ fn entries_of(alloc: Global, logs: &[HostLog]) -> Result<Vec<Entry>, NoMemory>
     Ok(all)
 }
 
-// Only those stay that took effect.
-fn keep(logs: &[HostLog], entries: &mut Vec<Entry>)
-    ensures { entries.new.items ≡ filter (is_kept (length logs.now) (logs_at logs.now)) entries.old.items }
+// Copies of those that took effect.
+fn kept(alloc: Global, logs: &[HostLog], entries: &[Entry]) -> Result<Seq<Entry>, NoMemory>
+    ensures { IfOk result (λ kept. kept ≡ filter (is_kept (length logs.now) (logs_at logs.now)) entries.now) }
 {
-    entries.retain(|entry| is_kept(logs, entry));
+    let mut kept = Seq::new(alloc);
+    'entries: for entry in entries {
+        if is_kept(logs, entry) {
+            kept.push(copied(alloc, entry)?)?;
+        }
+    }
+    Ok(kept)
+}
+
+fn copied(alloc: Global, entry: &Entry) -> Result<Entry, NoMemory>
+    ensures { IfOk result (λ copy. copy ≡ entry.now) }
+{
+    let ops = Vec::from_slice(alloc, entry.ops.as_slice())?;
+    Ok(Entry {
+        tx: entry.tx,
+        view: entry.view,
+        stamp: entry.stamp,
+        host: entry.host,
+        epoch: entry.epoch,
+        ops: Seq::from_vec(ops),
+    })
 }
 
 // Whether a transaction took effect.

@@ -1,16 +1,16 @@
 //! The check of a trace.
 ghost use Rattle.std.specs.Prelude.{◌≡◌, ◌≢◌, ◌<◌, ℕ, Err, IfOk, true};
 ghost use Rattle.trace_bytes.specs.Lives.{IsShape, LAST_START, read_of, trace_of};
-ghost use Rattle.trace_check.specs.Checked.{IsTraceOfRun};
+ghost use Rattle.trace_check.specs.Checked.{IsRightLife, IsTraceOfRun};
 ghost use Rattle.trace_check.specs.declared.fault.CheckFault.TheVariants.{NotTrace};
 
 use crate::compare::fault_of;
 use crate::fault::CheckFault;
-use crate::replay::replay;
+use crate::replay::{Replayed, replay};
 use log_history::history;
 use sig_core::{Entry, Key, Life, NoMemory, Seq, Shape, Value};
 use std::alloc::Global;
-use trace_merge::merge;
+use trace_merge::{RunStep, merge};
 use trace_read::{TraceFault, read_trace};
 use trace_write::{WriteFault, write_trace};
 use world_views::World;
@@ -46,21 +46,40 @@ fn checked(alloc: Global, bytes: &[u8], shape: Shape, life: Life) -> Result<Seq<
     ensures no_trace { (at : ℕ) → result ≢ Err (NotTrace at) }
 {
     let run = merge(alloc, life.logs.as_slice())?;
+    let (made, replayed) = made_again(alloc, shape, &life, run.as_slice())?;
+    if is_told(alloc, shape, &made, bytes)? {
+        let entries = history(alloc, made.logs.as_slice())?;
+        return Ok(entries);
+    }
+    let told = life.logs.as_slice();
+    let done = made.logs.as_slice();
+    let fault = fault_of(alloc, told, done, run.as_slice(), replayed)?;
+    Err(fault)
+}
+
+// The life of a world that does what a life tells, from the same start, in the order of this run.
+fn made_again(
+    alloc: Global,
+    shape: Shape,
+    life: &Life,
+    run: &[RunStep],
+) -> Result<(Life, Replayed), NoMemory>
+    requires shape { IsShape shape }
+    requires epoch { life.now.start_epoch < LAST_START }
+    ensures { IfOk result (λ made. IsRightLife shape made.0) }
+{
     let start = (life.start_epoch / MICROS + 1) * MICROS;
-    let mut world = World::new(alloc, shape, start, life.start_rows.as_slice())?;
-    let replayed = replay(alloc, &mut world, life.logs.as_slice(), run.as_slice())?;
+    let rows = copied_rows(alloc, life.start_rows.as_slice())?;
+    let mut world = World::new(alloc, shape, start, rows.as_slice())?;
+    let replayed = replay(alloc, &mut world, life.logs.as_slice(), run)?;
     let done = world.end_life(alloc);
     let made = Life {
         start_epoch: life.start_epoch,
-        start_rows: copied_rows(alloc, life.start_rows.as_slice())?,
+        start_rows: rows,
         logs: done.logs,
         slots: Seq::new(alloc),
     };
-    if is_told(alloc, shape, &made, bytes)? {
-        return Ok(history(alloc, made.logs.as_slice())?);
-    }
-    let told = life.logs.as_slice();
-    Err(fault_of(alloc, told, made.logs.as_slice(), run.as_slice(), replayed)?)
+    Ok((made, replayed))
 }
 
 fn copied_rows(alloc: Global, rows: &[(Key, Value)]) -> Result<Seq<(Key, Value)>, NoMemory>

@@ -1,4 +1,7 @@
 //! What a trace tells, beside what a world did.
+ghost use Rattle.std.specs.Prelude.{IfOk};
+ghost use Rattle.trace_check.specs.Checked.{IsOfSteps};
+
 use crate::fault::CheckFault;
 use crate::replay::{Made, Replayed};
 use sig_core::{HostLog, LogStep, Mark, NoMemory, StopCause};
@@ -16,7 +19,9 @@ pub fn fault_of(
     done: &[HostLog],
     run: &[RunStep],
     replayed: Replayed,
-) -> Result<CheckFault, NoMemory> {
+) -> Result<CheckFault, NoMemory>
+    ensures { IfOk result (λ fault. IsOfSteps fault) }
+{
     let mut steps = 0;
     for at in run {
         if steps == replayed.steps {
@@ -48,7 +53,9 @@ fn is_same(alloc: Global, one: Option<&LogStep>, other: Option<&LogStep>) -> Res
     }
 }
 
-fn stopped_at(at: RunStep, last: Made) -> CheckFault {
+fn stopped_at(at: RunStep, last: Made) -> CheckFault
+    ensures { IsOfSteps result }
+{
     match last {
         Made::Never => CheckFault::NotMadeAgain {
             host: at.host,
@@ -62,7 +69,9 @@ fn stopped_at(at: RunStep, last: Made) -> CheckFault {
 }
 
 // Where the world's own host wanted memory, the check did.
-fn differs_at(at: RunStep, done: Option<&LogStep>) -> CheckFault {
+fn differs_at(at: RunStep, done: Option<&LogStep>) -> CheckFault
+    ensures { IsOfSteps result }
+{
     if let Some(step) = done {
         if step.marks.as_slice().iter().any(|mark| wants_memory(mark)) {
             return CheckFault::NoMemory;

@@ -1,6 +1,6 @@
 //! A world that does what a trace tells.
 ghost use Rattle.std.specs.Prelude.{OnOk};
-ghost use Rattle.trace_check.specs.Checked.{StaysRight};
+ghost use Rattle.trace_check.specs.Checked.{StaysRight, StaysUnlessWanting};
 ghost use Rattle.world_views.specs.Driven.{IsWorld};
 ghost use Rattle.world_views.specs.WorldOf.{whole_of};
 
@@ -101,18 +101,32 @@ fn ask(
     if host.0 > 0 || !world.runs(HostId(0)) {
         return Ok(Made::Not);
     }
-    world.ask(alloc, request)?;
+    ask_world(alloc, world, request)?;
     Ok(Made::Done)
+}
+
+fn ask_world(alloc: Global, world: &mut World, request: ApiReq) -> Result<(), NoMemory>
+    requires { IsWorld (whole_of world.old) }
+    ensures { OnOk result (StaysRight (whole_of world.old) (whole_of world.new)) }
+{
+    world.ask(alloc, request)
 }
 
 fn pick_one(alloc: Global, world: &mut World, pick: Pick) -> Result<Made, NoMemory>
     requires { IsWorld (whole_of world.old) }
     ensures { OnOk result (StaysRight (whole_of world.old) (whole_of world.new)) }
 {
-    match world.schedule(alloc, &[pick]) {
+    match schedule_one(alloc, world, pick) {
         Ok(()) => Ok(Made::Done),
         Err(ScheduleFault::Empty { at: _ }) => Ok(Made::Not),
         Err(ScheduleFault::Gone { at: _ }) => Ok(Made::Not),
         Err(ScheduleFault::NoMemory) => Err(NoMemory),
     }
+}
+
+fn schedule_one(alloc: Global, world: &mut World, pick: Pick) -> Result<(), ScheduleFault>
+    requires { IsWorld (whole_of world.old) }
+    ensures { StaysUnlessWanting (whole_of world.old) (whole_of world.new) result }
+{
+    world.schedule(alloc, &[pick])
 }

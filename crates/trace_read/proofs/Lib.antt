@@ -1,5 +1,5 @@
 pub mod Stops
-pub mod Kinds
+pub mod Behind
 pub mod Wholes
 pub mod ListLoops
 pub mod Found

@@ -1,5 +1,5 @@
 use Rattle.trace_bytes.specs.Operations.{answer_at, answer_of}
-use Rattle.trace_read.proofs.Kinds.{kind_read}
+use Rattle.trace_read.proofs.Behind.{kind_read}
 use Rattle.trace_read.proofs.input.Input.answer.Goals as goal
 
 pub returns : goal.returns

@@ -1,5 +1,5 @@
 use Rattle.trace_bytes.specs.Causes.{outcome_at, outcome_of}
-use Rattle.trace_read.proofs.Kinds.{kind_read}
+use Rattle.trace_read.proofs.Behind.{kind_read}
 use Rattle.trace_read.proofs.input.Input.outcome.Goals as goal
 
 pub returns : goal.returns

@@ -1,5 +1,5 @@
 use Rattle.trace_bytes.specs.Operations.{rowwork_at, rowwork_of}
-use Rattle.trace_read.proofs.Kinds.{kind_read}
+use Rattle.trace_read.proofs.Behind.{kind_read}
 use Rattle.trace_read.proofs.input.Input.rowwork.Goals as goal
 
 pub returns : goal.returns

@@ -1,5 +1,5 @@
 use Rattle.trace_bytes.specs.Bodies.{body_at, body_of}
-use Rattle.trace_read.proofs.Kinds.{kind_read_or_wants}
+use Rattle.trace_read.proofs.Behind.{kind_read_or_wants}
 use Rattle.trace_read.proofs.read.bodies.read_body.Goals as goal
 
 pub returns : goal.returns

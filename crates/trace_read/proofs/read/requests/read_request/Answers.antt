@@ -1,5 +1,5 @@
 use Rattle.trace_bytes.specs.Requests.{request_at, request_of}
-use Rattle.trace_read.proofs.Kinds.{kind_read_or_wants}
+use Rattle.trace_read.proofs.Behind.{kind_read_or_wants}
 use Rattle.trace_read.proofs.read.requests.read_request.Goals as goal
 
 pub returns : goal.returns
