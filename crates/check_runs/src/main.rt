@@ -31,8 +31,23 @@ fn main(rt: HostRuntime) -> Result<ExitCode, Fail> {
     let mut failed = false;
     let mut trace = trace_of_run(&rt, alloc)?;
     let parts = parts_of(alloc, &trace)?;
-    tell(&rt, "a run's trace is taken, and has its two entries", is_taken(alloc, &trace)?, &mut failed)?;
-    tell(&rt, "each step doubled, moved, or left out from before another is refused", bears_moves(alloc, &parts)?, &mut failed)?;
-    tell(&rt, "each byte changed is refused, or tells another run", bears_changes(alloc, &mut trace)?, &mut failed)?;
+    tell(
+        &rt,
+        "a run's trace is taken, and has its two entries",
+        is_taken(alloc, &trace)?,
+        &mut failed,
+    )?;
+    tell(
+        &rt,
+        "each step doubled, moved, or left out from before another is refused",
+        bears_moves(alloc, &parts)?,
+        &mut failed,
+    )?;
+    tell(
+        &rt,
+        "each byte changed is refused, or tells another run",
+        bears_changes(alloc, &mut trace)?,
+        &mut failed,
+    )?;
     Ok(ExitCode::from(if failed { 1 } else { 0 }))
 }

@@ -37,12 +37,7 @@ fn drive<W: Wait>(rt: &W, alloc: Global, world: &mut World) -> Result<(), NoMemo
 }
 
 // The shell asks for something, and signals are taken to quiet.
-fn serve<W: Wait>(
-    rt: &W,
-    alloc: Global,
-    world: &mut World,
-    request: ApiReq,
-) -> Result<(), NoMemory>
+fn serve<W: Wait>(rt: &W, alloc: Global, world: &mut World, request: ApiReq) -> Result<(), NoMemory>
     requires { IsWorld (whole_of world.old) }
     ensures { OnOk result (IsWorld (whole_of world.new)) }
 {
@@ -60,7 +55,12 @@ fn put(alloc: Global, key: &[u8], value: &[u8]) -> Result<ApiReq, Fail> {
 }
 
 // What the hosts did.
-fn life_of<W: Wait>(rt: &W, alloc: Global, first: ApiReq, second: ApiReq) -> Result<Life, NoMemory> {
+fn life_of<W: Wait>(
+    rt: &W,
+    alloc: Global,
+    first: ApiReq,
+    second: ApiReq,
+) -> Result<Life, NoMemory> {
     let mut world = World::new(alloc, SHAPE, FIRST_EPOCH, &[])?;
     serve(rt, alloc, &mut world, first)?;
     serve(rt, alloc, &mut world, ApiReq::Gcp)?;

@@ -17,10 +17,7 @@ pub fn is_taken(alloc: Global, trace: &[u8]) -> Result<bool, NoMemory> {
 }
 
 // Whether the check refuses it, for a step or at a byte from this place on.
-fn is_refused(
-    found: &Result<Seq<Entry>, CheckFault>,
-    place: usize,
-) -> Result<bool, NoMemory> {
+fn is_refused(found: &Result<Seq<Entry>, CheckFault>, place: usize) -> Result<bool, NoMemory> {
     match found {
         Ok(_) => Ok(false),
         Err(CheckFault::NoMemory) => Err(NoMemory),
@@ -41,16 +38,15 @@ pub fn bears_moves(alloc: Global, parts: &Parts) -> Result<bool, NoMemory> {
     Ok(parts.logs.len() > 0)
 }
 
-fn bears_change(
-    alloc: Global,
-    parts: &Parts,
-    log: usize,
-    step: usize,
-) -> Result<bool, NoMemory> {
+fn bears_change(alloc: Global, parts: &Parts, log: usize, step: usize) -> Result<bool, NoMemory> {
     let out = is_changed_refused(alloc, parts, log, step, Change::LeftOut)?;
     let double = is_changed_refused(alloc, parts, log, step, Change::Doubled)?;
     let last = step + 1 == parts.logs[log].steps.len();
-    Ok((last || out) && double && (last || is_changed_refused(alloc, parts, log, step, Change::Moved)?))
+    Ok(
+        (last || out)
+            && double
+            && (last || is_changed_refused(alloc, parts, log, step, Change::Moved)?),
+    )
 }
 
 fn is_changed_refused(

@@ -26,13 +26,7 @@ use std::test::Fail;
 use wanted::{Wanted, parse};
 
 // The lines of a wave; whatever the cluster, each is one of a batch.
-fn add_wave(
-    alloc: Global,
-    seed: u64,
-    w: u32,
-    n: u8,
-    text: &mut Vec<u8>,
-) -> Result<(), NoMemory> {
+fn add_wave(alloc: Global, seed: u64, w: u32, n: u8, text: &mut Vec<u8>) -> Result<(), NoMemory> {
     let commands = wave(alloc, seed, w, n)?;
     for command in commands.as_slice() {
         let mut line = Vec::new(alloc);

@@ -28,7 +28,15 @@ pub fn add_log(
         let step = &steps[at];
         view = installed_in(step.marks.as_slice(), view);
         let past = &steps[..at + 1];
-        add_marks(alloc, all, host, view, step.stamp, past, step.marks.as_slice())?;
+        add_marks(
+            alloc,
+            all,
+            host,
+            view,
+            step.stamp,
+            past,
+            step.marks.as_slice(),
+        )?;
     }
     Ok(())
 }

@@ -2,7 +2,6 @@
 #![tactic(auto)]
 
 mod entries;
-
 mod insert;
 mod marks;
 mod ops;

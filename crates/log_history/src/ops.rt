@@ -4,9 +4,7 @@ ghost use Rattle.log_history.specs.Logs.{log_of};
 ghost use Rattle.world_core.specs.Entries.{ops_of, verified_by};
 
 use crate::same::same_tx;
-use sig_core::{
-    Answer, Body, EpochSignal, HeldAnswer, HeldOp, LogStep, NoMemory, Op, Seq, TxId,
-};
+use sig_core::{Answer, Body, EpochSignal, HeldAnswer, HeldOp, LogStep, NoMemory, Op, Seq, TxId};
 use std::alloc::Global;
 
 /// The operations and answers of the latest request for an epoch for a transaction in these steps of a host.

@@ -10,8 +10,8 @@ use crate::marks::{Sought, have_mark};
 use sig_core::{Answer, Entry, HostLog, NoMemory, Op, Seq};
 use std::alloc::Global;
 
-/// The history of logs, which are one for each host, in the order of hosts, whose numbers have 32 bits: the transactions that were applied,
-/// or reported committed where they write nothing, by view, stamp and host.
+/// The history of logs, which are one for each host, in the order of hosts, whose numbers have 32 bits: the
+/// transactions that were applied, or reported committed where they write nothing, by view, stamp and host.
 ///
 /// # Errors
 /// `NoMemory`.

@@ -13,7 +13,9 @@ cause_taken =
     or_plain IsCause cause_bytes 0 Request tt refl
     (or_plain IsCause cause_bytes 1 Timeout tt refl
     (or_kind IsCause cause_bytes 2 (λ x. NodeFail x) takes_u64 (λ x fits. fits) (λ x fits. refl)
-    (or_kind IsCause cause_bytes 3 (λ x. LogFull x.0 x.1.0 x.1.1) (takes_both takes_u64 (takes_both takes_u64 takes_u64)) (λ x fits. (fits.0, fits.1.0, fits.1.1)) (λ x fits. refl)
+    (or_kind IsCause cause_bytes 3 (λ x. LogFull x.0 x.1.0 x.1.1)
+        (takes_both takes_u64 (takes_both takes_u64 takes_u64)) (λ x fits. (fits.0, fits.1.0, fits.1.1))
+            (λ x fits. refl)
     (or_kind IsCause cause_bytes 4 (λ x. TableFull x) takes_u64 (λ x fits. fits) (λ x fits. refl)
     (last_plain IsCause cause_bytes 5 Down tt refl)))))
 

@@ -14,6 +14,8 @@ unfolding host_signal_bytes host_signal_of
 host_signal_taken =
     or_plain IsBody body_bytes 0 (Host Round) tt refl
     (or_kind IsBody body_bytes 1 (λ x. Host (Kill x)) takes_u32 (λ x fits. fits) (λ x fits. refl)
-    (or_kind IsBody body_bytes 2 (λ x. Host (Cut x.0 x.1)) (takes_both takes_u8 takes_host) (λ x fits. (fits.0, fits.1)) (λ x fits. refl)
+    (or_kind IsBody body_bytes 2 (λ x. Host (Cut x.0 x.1)) (takes_both takes_u8 takes_host) (λ x fits. (fits.0, fits.1))
+        (λ x fits. refl)
     (or_kind IsBody body_bytes 3 (λ x. Host (Closed x)) takes_stop (λ x fits. fits) (λ x fits. refl)
-    (last_kind IsBody body_bytes 4 (λ x. Host (Continue x.0 x.1)) (takes_both takes_work takes_u64) (λ x fits. (fits.0, fits.1)) (λ x fits. refl)))))
+    (last_kind IsBody body_bytes 4 (λ x. Host (Continue x.0 x.1)) (takes_both takes_work takes_u64)
+        (λ x fits. (fits.0, fits.1)) (λ x fits. refl)))))

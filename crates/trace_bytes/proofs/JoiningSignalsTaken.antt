@@ -10,10 +10,12 @@ use Rattle.trace_bytes.proofs.WordsTaken.{takes_member, takes_opt_u64, takes_tx}
 pub starting_taken : TakesKind IsBody body_bytes starting_of 77 80
 unfolding joining_signal_bytes starting_of
 starting_taken =
-    or_kind IsBody body_bytes 77 (λ x. Joining (StartReq x.0 x.1)) (takes_both takes_member takes_opt_u64) (λ x fits. (fits.0, fits.1)) (λ x fits. refl)
+    or_kind IsBody body_bytes 77 (λ x. Joining (StartReq x.0 x.1)) (takes_both takes_member takes_opt_u64)
+        (λ x fits. (fits.0, fits.1)) (λ x fits. refl)
     (or_kind IsBody body_bytes 78 (λ x. Joining (StartRep x)) takes_member (λ x fits. fits) (λ x fits. refl)
     (or_kind IsBody body_bytes 79 (λ x. Joining (StartEnd x)) takes_member (λ x fits. fits) (λ x fits. refl)
-    (last_kind IsBody body_bytes 80 (λ x. Joining (CopyOrd x.0 x.1)) (takes_both takes_member takes_opt_u64) (λ x fits. (fits.0, fits.1)) (λ x fits. refl))))
+    (last_kind IsBody body_bytes 80 (λ x. Joining (CopyOrd x.0 x.1)) (takes_both takes_member takes_opt_u64)
+        (λ x fits. (fits.0, fits.1)) (λ x fits. refl))))
 
 pub draining_taken : TakesKind IsBody body_bytes draining_of 88 90
 unfolding joining_signal_bytes draining_of

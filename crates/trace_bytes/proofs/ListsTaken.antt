@@ -23,8 +23,7 @@ more_taken {spelled = spelled} {item = item} one read (suc count) bytes x are e 
     let first = bind_ok (item bytes) (λ y. more_at item (read ++ y.0 ∷ []) count y.1) x e in
     let a = one.takes bytes first.0 are first.1 in
     let rest : IsBytes first.0.1 = rest_bytes (spelled first.0.0) first.0.1 (subst IsBytes a.1 are) in
-    let more = more_taken one (read ++ first.0.0 ∷ []) count first.0.1 x rest first.2 in
-    (
+    let more = more_taken one (read ++ first.0.0 ∷ []) count first.0.1 x rest first.2 in (
       first.0.0 ∷ more.0,
       more.1 ∙ append_assoc read (first.0.0 ∷ []) more.0,
       ap suc more.2,
@@ -47,7 +46,8 @@ counted {A = A} {Is = Is} {spelled = spelled} Few one bytes n x are few front e 
     front ∙ ap (λ (w : List ℕ). u64_bytes n.0 ++ w) more.4
     ∙ sym (append_assoc (u64_bytes n.0) (flat_map spelled more.0) x.1)
     ∙ ap (λ (k : ℕ). (u64_bytes k ++ flat_map spelled more.0) ++ x.1) (sym more.2) in
-    subst (λ (xs : List A). (Few (length xs) × All Is xs) × (bytes ≡ (u64_bytes (length xs) ++ flat_map spelled xs) ++ x.1))
+    subst (λ (xs : List A). (Few (length xs) × All Is xs) × (bytes ≡ (u64_bytes (length xs) ++ flat_map spelled xs) ++
+        x.1))
     (sym more.1) ((subst Few (sym more.2) few, more.3), all)
 
 pub takes_list : {A : Type 0} {Is : A → Type 0} {spelled : A → List ℕ} {item : List ℕ → Result (A × List ℕ) ℕ}
@@ -85,8 +85,7 @@ few_taken most bytes x small are e =
     let found = behind (zeros_at 7) (λ _. byte_at 0 most) bytes x e in
     let front = zeros_taken 7 bytes found.0 are found.1 in
     let rest : IsBytes found.0.1 = rest_bytes (zeros 7) found.0.1 (subst IsBytes front are) in
-    let a = (reads_byte 0 most).takes found.0.1 x rest found.2 in
-    (
+    let a = (reads_byte 0 most).takes found.0.1 x rest found.2 in (
       a.0.1,
       front ∙ ap (λ (w : List ℕ). zeros 7 ++ w) a.1
           ∙ ap (λ (w : List ℕ). w ++ x.1) (sym (small_bytes x.0 (omega (arith, small, a.0.1)))),

@@ -78,7 +78,12 @@ takes_shape =
     (takes_then {G = λ nodes p. IsDivisor nodes p.0 × ((1 ≤ p.1) × (p.1 ≤ 32))} (takes_byte 1 8)
     (λ nodes is. takes_both (takes_divisor nodes) (takes_byte 1 32)))
     (λ x fits. (
-      fits.0.0, fits.0.1, fits.1.0.0, fits.1.0.1, fits.1.0.2, fits.1.1.0,
+      fits.0.0,
+      fits.0.1,
+      fits.1.0.0,
+      fits.1.0.1,
+      fits.1.0.2,
+      fits.1.1.0,
       fits.1.1.1,
     ))
     (λ x fits. refl)
@@ -86,7 +91,8 @@ takes_shape =
 takes_system : Takes IsSystem system_bytes system_at
 unfolding system_at
 takes_system =
-    takes_as IsSystem system_bytes system_of (takes_both takes_shape (takes_both takes_u8 (takes_both takes_u64 takes_u64)))
+    takes_as IsSystem system_bytes system_of
+        (takes_both takes_shape (takes_both takes_u8 (takes_both takes_u64 takes_u64)))
     (λ x fits. (fits.0, fits.1.0, fits.1.1.0, fits.1.1.1)) (λ x fits. refl)
 
 takes_opt_system : Takes (IsOption IsSystem) opt_system_bytes opt_system_at
@@ -155,7 +161,8 @@ takes_life : Takes IsLife life_bytes life_at
 unfolding life_bytes life_at
 takes_life =
     takes_as IsLife life_bytes life_of
-    (takes_both takes_start (takes_both (takes_list takes_row) (takes_both (takes_list takes_log) (takes_list takes_slots))))
+    (takes_both takes_start (takes_both (takes_list takes_row)
+        (takes_both (takes_list takes_log) (takes_list takes_slots))))
     (λ x fits. (fits.0, fits.1.0, fits.1.1.0, fits.1.1.1)) (λ x fits. refl)
 
 all_read : {A : Type 0} (bytes : List ℕ) (read : Result (A × List ℕ) ℕ) (x : A) → whole bytes read ≡ Ok x

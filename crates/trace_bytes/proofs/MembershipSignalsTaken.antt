@@ -22,8 +22,11 @@ promising_taken =
 pub granting_taken : TakesKind IsBody body_bytes granting_of 41 45
 unfolding membership_signal_bytes granting_of
 granting_taken =
-    or_kind IsBody body_bytes 41 (λ x. Membership (ArbitReq x.0 x.1.0 x.1.1)) (takes_both takes_u64 (takes_both takes_members takes_opt_member)) (λ x fits. (fits.0, fits.1.0, fits.1.1)) (λ x fits. refl)
+    or_kind IsBody body_bytes 41 (λ x. Membership (ArbitReq x.0 x.1.0 x.1.1))
+        (takes_both takes_u64 (takes_both takes_members takes_opt_member)) (λ x fits. (fits.0, fits.1.0, fits.1.1))
+            (λ x fits. refl)
     (or_kind IsBody body_bytes 42 (λ x. Membership (ArbitConf x)) takes_u64 (λ x fits. fits) (λ x fits. refl)
-    (or_kind IsBody body_bytes 43 (λ x. Membership (ArbitRef x.0 x.1)) (takes_both takes_u64 takes_members) (λ x fits. (fits.0, fits.1)) (λ x fits. refl)
+    (or_kind IsBody body_bytes 43 (λ x. Membership (ArbitRef x.0 x.1)) (takes_both takes_u64 takes_members)
+        (λ x fits. (fits.0, fits.1)) (λ x fits. refl)
     (or_kind IsBody body_bytes 44 (λ x. Membership (StopSet x)) takes_stop (λ x fits. fits) (λ x fits. refl)
     (last_plain IsBody body_bytes 45 (Membership CommitFailReq) tt refl))))

@@ -13,9 +13,12 @@ unfolding op_bytes op_of
 op_taken =
     or_kind IsOp op_bytes 0 (λ x. Get x) takes_key (λ x fits. fits) (λ x fits. refl)
     (or_kind IsOp op_bytes 1 (λ x. GetX x) takes_key (λ x fits. fits) (λ x fits. refl)
-    (or_kind IsOp op_bytes 2 (λ x. Put x.0 x.1) (takes_both takes_key takes_value) (λ x fits. (fits.0, fits.1)) (λ x fits. refl)
-    (or_kind IsOp op_bytes 3 (λ x. Ins x.0 x.1) (takes_both takes_key takes_value) (λ x fits. (fits.0, fits.1)) (λ x fits. refl)
-    (or_kind IsOp op_bytes 4 (λ x. Upd x.0 x.1) (takes_both takes_key takes_value) (λ x fits. (fits.0, fits.1)) (λ x fits. refl)
+    (or_kind IsOp op_bytes 2 (λ x. Put x.0 x.1) (takes_both takes_key takes_value) (λ x fits. (fits.0, fits.1))
+        (λ x fits. refl)
+    (or_kind IsOp op_bytes 3 (λ x. Ins x.0 x.1) (takes_both takes_key takes_value) (λ x fits. (fits.0, fits.1))
+        (λ x fits. refl)
+    (or_kind IsOp op_bytes 4 (λ x. Upd x.0 x.1) (takes_both takes_key takes_value) (λ x fits. (fits.0, fits.1))
+        (λ x fits. refl)
     (last_kind IsOp op_bytes 5 (λ x. Del x) takes_key (λ x fits. fits) (λ x fits. refl))))))
 
 pub takes_op : Takes IsOp op_bytes op_at
@@ -51,7 +54,8 @@ rowwork_taken : TakesKind IsRowwork rowwork_bytes rowwork_of 0 1
 unfolding rowwork_bytes rowwork_of
 rowwork_taken =
     or_kind IsRowwork rowwork_bytes 0 (λ x. Operate x) takes_op (λ x fits. fits) (λ x fits. refl)
-    (last_kind IsRowwork rowwork_bytes 1 (λ x. Store x.0 x.1) (takes_both takes_key takes_opt_value) (λ x fits. (fits.0, fits.1)) (λ x fits. refl))
+    (last_kind IsRowwork rowwork_bytes 1 (λ x. Store x.0 x.1) (takes_both takes_key takes_opt_value)
+        (λ x fits. (fits.0, fits.1)) (λ x fits. refl))
 
 pub takes_rowwork : Takes IsRowwork rowwork_bytes rowwork_at
 unfolding rowwork_at

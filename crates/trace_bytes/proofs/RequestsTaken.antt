@@ -11,8 +11,10 @@ use Rattle.trace_bytes.proofs.WordsTaken.{takes_name, takes_opt_u64, takes_opt_u
 request_1_taken : TakesKind IsRequest request_bytes request_of_1 0 5
 unfolding request_bytes request_of_1
 request_1_taken =
-    or_kind IsRequest request_bytes 0 (λ x. Begin x.0 x.1) (takes_both takes_u16 takes_opt_u8) (λ x fits. (fits.0, fits.1)) (λ x fits. refl)
-    (or_kind IsRequest request_bytes 1 (λ x. Operate x.0 x.1) (takes_both takes_name takes_op) (λ x fits. (fits.0, fits.1)) (λ x fits. refl)
+    or_kind IsRequest request_bytes 0 (λ x. Begin x.0 x.1) (takes_both takes_u16 takes_opt_u8)
+        (λ x fits. (fits.0, fits.1)) (λ x fits. refl)
+    (or_kind IsRequest request_bytes 1 (λ x. Operate x.0 x.1) (takes_both takes_name takes_op)
+        (λ x fits. (fits.0, fits.1)) (λ x fits. refl)
     (or_kind IsRequest request_bytes 2 (λ x. Commit x) takes_u16 (λ x fits. fits) (λ x fits. refl)
     (or_kind IsRequest request_bytes 3 (λ x. Abort x) takes_u16 (λ x fits. fits) (λ x fits. refl)
     (or_kind IsRequest request_bytes 4 (λ x. Batch x) (takes_list takes_line) (λ x fits. fits) (λ x fits. refl)
@@ -21,11 +23,14 @@ request_1_taken =
 request_2_taken : TakesKind IsRequest request_bytes request_of_2 6 11
 unfolding request_bytes request_of_2
 request_2_taken =
-    or_kind IsRequest request_bytes 6 (λ x. Cut x.0 x.1) (takes_both takes_u8 takes_u8) (λ x fits. (fits.0, fits.1)) (λ x fits. refl)
-    (or_kind IsRequest request_bytes 7 (λ x. Tick x.0 x.1) (takes_both takes_u8 takes_u8) (λ x fits. (fits.0, fits.1)) (λ x fits. refl)
+    or_kind IsRequest request_bytes 6 (λ x. Cut x.0 x.1) (takes_both takes_u8 takes_u8) (λ x fits. (fits.0, fits.1))
+        (λ x fits. refl)
+    (or_kind IsRequest request_bytes 7 (λ x. Tick x.0 x.1) (takes_both takes_u8 takes_u8) (λ x fits. (fits.0, fits.1))
+        (λ x fits. refl)
     (or_plain IsRequest request_bytes 8 Gcp tt refl
     (or_plain IsRequest request_bytes 9 Lcp tt refl
-    (or_kind IsRequest request_bytes 10 (λ x. Start x.0 x.1) (takes_both takes_u8 takes_opt_u64) (λ x fits. (fits.0, fits.1)) (λ x fits. refl)
+    (or_kind IsRequest request_bytes 10 (λ x. Start x.0 x.1) (takes_both takes_u8 takes_opt_u64)
+        (λ x fits. (fits.0, fits.1)) (λ x fits. refl)
     (last_plain IsRequest request_bytes 11 Crash tt refl)))))
 
 request_3_taken : TakesKind IsRequest request_bytes request_of_3 12 17
@@ -46,8 +51,10 @@ request_4_taken =
     (or_kind IsRequest request_bytes 20 (λ x. Unsubscribe x) takes_u16 (λ x fits. fits) (λ x fits. refl)
     (or_kind IsRequest request_bytes 21 (λ x. Backup x) takes_u32 (λ x fits. fits) (λ x fits. refl)
     (or_kind IsRequest request_bytes 22 (λ x. Dump x) takes_u32 (λ x fits. fits) (λ x fits. refl)
-    (last_kind IsRequest request_bytes 23 (λ x. Unique x.0 x.1) (takes_both takes_name takes_op) (λ x fits. (fits.0, fits.1)) (λ x fits. refl))))))
+    (last_kind IsRequest request_bytes 23 (λ x. Unique x.0 x.1) (takes_both takes_name takes_op)
+        (λ x fits. (fits.0, fits.1)) (λ x fits. refl))))))
 
 pub takes_request : Takes IsRequest request_bytes request_at
 unfolding request_at
-takes_request = takes_known (split_kind 6 request_1_taken (split_kind 12 request_2_taken (split_kind 18 request_3_taken request_4_taken)))
+takes_request = takes_known (split_kind 6 request_1_taken (split_kind 12 request_2_taken
+    (split_kind 18 request_3_taken request_4_taken)))

@@ -81,7 +81,7 @@ as_read {B = B} {s = s} {r = r} G t front f one fits same bytes y are e =
 pub takes_as : {A B : Type 0} {F : A → Type 0} {s : A → List ℕ} {r : List ℕ → Result (A × List ℕ) ℕ}
     (G : B → Type 0) (t : B → List ℕ) (f : A → B) → Takes F s r → ((x : A) → F x → G (f x))
     → ((x : A) → F x → t (f x) ≡ s x) → Takes G t (told f r)
-takes_as G t f one fits same = record { takes = λ bytes y are e. as_read G t [] f one fits same bytes y are e; }
+takes_as G t f one fits same = record { takes = λ bytes y are e. as_read G t [] f one fits same bytes y are e }
 
 -- ---- kinds: a number from `least` to `most`, and what stands behind it
 
@@ -170,7 +170,8 @@ pub split_kind : {B : Type 0} {G : B → Type 0} {t : B → List ℕ} {less more
     → TakesKind G t (λ number. if nat_lt number from then less number else more number) least most
 split_kind {less = less} {more = more} from below above = record {
   takes = λ number bytes y are ge le e.
-      by_test (less number) (more number) bytes (λ is found. below.takes number bytes y are ge (grind (arith, nat_tests, is)) found)
+      by_test (less number) (more number) bytes
+          (λ is found. below.takes number bytes y are ge (grind (arith, nat_tests, is)) found)
       (λ isnt found. above.takes number bytes y are (grind (arith, nat_tests, isnt)) le found)
       (nat_lt number from) refl e;
 }
@@ -184,7 +185,8 @@ behind {B = B} count of bytes x e =
     let first = bind_ok (count bytes) (λ y. of y.0 y.1 >>= λ z. Ok ((y.0, z.0), z.1)) pair.0 pair.1 in
     let second = bind_ok (of first.0.0 first.0.1) (λ z. Ok ((first.0.0, z.0), z.1)) pair.0 first.2 in
     let there : good (second.0.0, second.0.1) ≡ good x =
-    ap (λ (z : (ℕ × B) × List ℕ). good {A = B × List ℕ} (z.0.1, z.1)) (ok_is ((first.0.0, second.0.0), second.0.1) pair.0 second.2)
+    ap (λ (z : (ℕ × B) × List ℕ). good {A = B × List ℕ} (z.0.1, z.1))
+        (ok_is ((first.0.0, second.0.0), second.0.1) pair.0 second.2)
     ∙ pair.2 in
     (first.0, first.1, second.1 ∙ there)
 

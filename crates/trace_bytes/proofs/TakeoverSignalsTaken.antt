@@ -13,6 +13,8 @@ unfolding takeover_signal_bytes takeover_of
 takeover_taken =
     or_plain IsBody body_bytes 46 (Takeover TakeoverOrd) tt refl
     (or_plain IsBody body_bytes 47 (Takeover LqhTransReq) tt refl
-    (or_kind IsBody body_bytes 48 (λ x. Takeover (LqhTransConf x.0 x.1.0 x.1.1.0 x.1.1.1)) (takes_both takes_tx (takes_both takes_key (takes_both takes_state takes_u64))) (λ x fits. (fits.0, fits.1.0, fits.1.1.0, fits.1.1.1)) (λ x fits. refl)
+    (or_kind IsBody body_bytes 48 (λ x. Takeover (LqhTransConf x.0 x.1.0 x.1.1.0 x.1.1.1))
+        (takes_both takes_tx (takes_both takes_key (takes_both takes_state takes_u64)))
+            (λ x fits. (fits.0, fits.1.0, fits.1.1.0, fits.1.1.1)) (λ x fits. refl)
     (or_plain IsBody body_bytes 49 (Takeover LqhTransEnd) tt refl
     (last_plain IsBody body_bytes 50 (Takeover TakeoverEnd) tt refl))))

@@ -11,5 +11,7 @@ use Rattle.trace_bytes.proofs.WordsTaken.{takes_tx}
 pub unique_taken : TakesKind IsBody body_bytes unique_of 119 120
 unfolding unique_signal_bytes unique_of
 unique_taken =
-    or_kind IsBody body_bytes 119 (λ x. Unique (TcUniqueReq x.0 x.1)) (takes_both takes_tx takes_op) (λ x fits. (fits.0, fits.1)) (λ x fits. refl)
-    (last_kind IsBody body_bytes 120 (λ x. Unique (TcUniqueConf x.0 x.1)) (takes_both takes_tx takes_uanswer) (λ x fits. (fits.0, fits.1)) (λ x fits. refl))
+    or_kind IsBody body_bytes 119 (λ x. Unique (TcUniqueReq x.0 x.1)) (takes_both takes_tx takes_op)
+        (λ x fits. (fits.0, fits.1)) (λ x fits. refl)
+    (last_kind IsBody body_bytes 120 (λ x. Unique (TcUniqueConf x.0 x.1)) (takes_both takes_tx takes_uanswer)
+        (λ x fits. (fits.0, fits.1)) (λ x fits. refl))

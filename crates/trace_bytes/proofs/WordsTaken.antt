@@ -118,8 +118,7 @@ plain_key byte run true same few plain =
     let spoilt : IsPlain (SPACE ∷ run) = subst (λ (b : ℕ). IsPlain (b ∷ run)) is plain in
     absurd (not_none 0 (sym (spoils run) ∙ spoilt))
 plain_key byte run false same few plain =
-    let all : word_in (byte ∷ run) ≡ byte ∷ run = rw same refl in
-    (
+    let all : word_in (byte ∷ run) ≡ byte ∷ run = rw same refl in (
       subst (λ (w : List ℕ). 1 ≤ length w) (sym all) (omega arith),
       few,
       subst (λ (w : List ℕ). position is_unprintable w ≡ None) (sym all) plain,

@@ -42,7 +42,11 @@ fn step_at(logs: &[HostLog], at: RunStep) -> Option<&LogStep> {
 }
 
 // Steps are the same where their bytes are.
-fn is_same(alloc: Global, one: Option<&LogStep>, other: Option<&LogStep>) -> Result<bool, NoMemory> {
+fn is_same(
+    alloc: Global,
+    one: Option<&LogStep>,
+    other: Option<&LogStep>,
+) -> Result<bool, NoMemory> {
     match (one, other) {
         (Some(one), Some(other)) => {
             let told = write_step(alloc, one)?;

@@ -28,10 +28,12 @@ pub fn deed_of(alloc: Global, host: HostId, signal: &Signal) -> Result<Deed, NoM
         return Ok(Deed::Pick(take));
     }
     Ok(match &signal.body {
-        Body::Host(HostSignal::Continue {
-            work: Work::Request(request),
-            at: _,
-        }) => Deed::Ask(copied(alloc, request)?),
+        Body::Host(
+            HostSignal::Continue {
+                work: Work::Request(request),
+                at: _,
+            },
+        ) => Deed::Ask(copied(alloc, request)?),
         Body::Host(HostSignal::Cut { node, first: _ }) => {
             Deed::Pick(Pick::Cut { host, node: *node })
         }

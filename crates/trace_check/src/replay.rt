@@ -58,12 +58,7 @@ pub fn replay(
 }
 
 // Has a world make a step.
-fn make(
-    alloc: Global,
-    world: &mut World,
-    logs: &[HostLog],
-    at: RunStep,
-) -> Result<Made, NoMemory>
+fn make(alloc: Global, world: &mut World, logs: &[HostLog], at: RunStep) -> Result<Made, NoMemory>
     requires { IsWorld (whole_of world.old) }
     ensures { OnOk result (StaysRight (whole_of world.old) (whole_of world.new)) }
 {
@@ -89,12 +84,7 @@ fn deed_at(alloc: Global, logs: &[HostLog], at: RunStep) -> Result<Option<Deed>,
 }
 
 // Only the shell's host asks, while it runs.
-fn ask(
-    alloc: Global,
-    world: &mut World,
-    host: HostId,
-    request: ApiReq,
-) -> Result<Made, NoMemory>
+fn ask(alloc: Global, world: &mut World, host: HostId, request: ApiReq) -> Result<Made, NoMemory>
     requires { IsWorld (whole_of world.old) }
     ensures { OnOk result (StaysRight (whole_of world.old) (whole_of world.new)) }
 {

@@ -34,10 +34,12 @@ fn bears_kind(alloc: Global, body: &[u8]) -> Result<bool, NoMemory> {
     let mut bytes = Vec::new(alloc);
     bytes.extend_from_slice(&BEFORE)?;
     bytes.extend_from_slice(body)?;
-    Ok(complete(alloc, &mut bytes)?
-        && is_written_again(alloc, &bytes)?
-        && bears_cuts(alloc, &bytes)?
-        && bears_changes(alloc, &mut bytes, BEFORE.len())?)
+    Ok(
+        complete(alloc, &mut bytes)?
+            && is_written_again(alloc, &bytes)?
+            && bears_cuts(alloc, &bytes)?
+            && bears_changes(alloc, &mut bytes, BEFORE.len())?,
+    )
 }
 
 /// So does each of so many kinds, whose number stands behind these bytes: whether they all do.

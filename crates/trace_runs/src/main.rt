@@ -57,14 +57,16 @@ fn is_named(alloc: Global, place: usize, byte: u8, at: Option<usize>) -> Result<
 
 // The first byte that fits none is named.
 fn names_the_first(alloc: Global) -> Result<bool, NoMemory> {
-    Ok(is_named(alloc, 0, 9, Some(0))?
-        && is_named(alloc, 0, 3, Some(1))?
-        && is_named(alloc, 2, 33, Some(2))?
-        && is_named(alloc, 19, 0, Some(19))?
-        && is_named(alloc, 20, 0x7f, Some(20))?
-        && is_named(alloc, 69, 12, Some(69))?
-        && is_named(alloc, 101, 9, Some(101))?
-        && is_named(alloc, 120, 121, Some(120))?)
+    Ok(
+        is_named(alloc, 0, 9, Some(0))?
+            && is_named(alloc, 0, 3, Some(1))?
+            && is_named(alloc, 2, 33, Some(2))?
+            && is_named(alloc, 19, 0, Some(19))?
+            && is_named(alloc, 20, 0x7f, Some(20))?
+            && is_named(alloc, 69, 12, Some(69))?
+            && is_named(alloc, 101, 9, Some(101))?
+            && is_named(alloc, 120, 121, Some(120))?,
+    )
 }
 
 // A life begins before the last checkpoint number.
@@ -100,18 +102,73 @@ fn tell(rt: &HostRuntime, trial: &str, passed: bool, failed: &mut bool) -> Resul
 fn main(rt: HostRuntime) -> Result<ExitCode, Fail> {
     let alloc = rt.alloc();
     let mut failed = false;
-    tell(&rt, "a life has its bytes, and they are read as it", is_told(alloc)?, &mut failed)?;
-    tell(&rt, "rows of a node's own are told in no trace", refuses_own_rows(alloc)?, &mut failed)?;
-    tell(&rt, "more bytes than a trace are none", ends_there(alloc)?, &mut failed)?;
-    tell(&rt, "the first byte that fits none is named", names_the_first(alloc)?, &mut failed)?;
-    tell(&rt, "a life begins before the last checkpoint number", begins_in_time(alloc)?, &mut failed)?;
-    tell(&rt, "each cut and change of its trace is borne", is_borne(alloc)?, &mut failed)?;
-    tell(&rt, "of each signal", bear_kinds(alloc, &[], 121)?, &mut failed)?;
-    tell(&rt, "of each work", bear_kinds(alloc, &[4], 11)?, &mut failed)?;
-    tell(&rt, "of each request", bear_kinds(alloc, &[4, 0], 24)?, &mut failed)?;
+    tell(
+        &rt,
+        "a life has its bytes, and they are read as it",
+        is_told(alloc)?,
+        &mut failed,
+    )?;
+    tell(
+        &rt,
+        "rows of a node's own are told in no trace",
+        refuses_own_rows(alloc)?,
+        &mut failed,
+    )?;
+    tell(
+        &rt,
+        "more bytes than a trace are none",
+        ends_there(alloc)?,
+        &mut failed,
+    )?;
+    tell(
+        &rt,
+        "the first byte that fits none is named",
+        names_the_first(alloc)?,
+        &mut failed,
+    )?;
+    tell(
+        &rt,
+        "a life begins before the last checkpoint number",
+        begins_in_time(alloc)?,
+        &mut failed,
+    )?;
+    tell(
+        &rt,
+        "each cut and change of its trace is borne",
+        is_borne(alloc)?,
+        &mut failed,
+    )?;
+    tell(
+        &rt,
+        "of each signal",
+        bear_kinds(alloc, &[], 121)?,
+        &mut failed,
+    )?;
+    tell(
+        &rt,
+        "of each work",
+        bear_kinds(alloc, &[4], 11)?,
+        &mut failed,
+    )?;
+    tell(
+        &rt,
+        "of each request",
+        bear_kinds(alloc, &[4, 0], 24)?,
+        &mut failed,
+    )?;
     let batch = [4, 0, 4, 0, 0, 0, 0, 0, 0, 0, 1];
-    tell(&rt, "of each line of a batch", bear_kinds(alloc, &batch, 7)?, &mut failed)?;
+    tell(
+        &rt,
+        "of each line of a batch",
+        bear_kinds(alloc, &batch, 7)?,
+        &mut failed,
+    )?;
     let round = [0, 0, 0, 0, 0, 0, 0, 0, 1];
-    tell(&rt, "of each mark", bear_kinds(alloc, &round, 13)?, &mut failed)?;
+    tell(
+        &rt,
+        "of each mark",
+        bear_kinds(alloc, &round, 13)?,
+        &mut failed,
+    )?;
     Ok(ExitCode::from(if failed { 1 } else { 0 }))
 }

@@ -3,10 +3,10 @@ ghost use Rattle.trace_read.specs.Reading.{GivesOrWants};
 ghost use Rattle.trace_bytes.specs.BackupSignals.{backup_of, backed_up_of};
 
 use crate::input::Input;
-use trace_bytes::kinds::signals;
 use crate::stop::Stop;
 use sig_core::{BackupSignal, Body, Held};
 use std::alloc::Global;
+use trace_bytes::kinds::signals;
 
 /// A signal of this kind, one from `BACKUP_REQ` to `BACKUP_SCAN_CONF`.
 ///

@@ -3,8 +3,8 @@ ghost use Rattle.trace_read.specs.Reading.{Gives};
 ghost use Rattle.trace_bytes.specs.Causes.{cause_at, cause_of, outcome_at, outcome_of, stop_at, stop_of, stop_of_1, stop_of_2};
 
 use crate::input::Input;
-use trace_bytes::kinds::{causes, outcomes, stops};
 use sig_core::{AbortCause, Outcome, StopCause};
+use trace_bytes::kinds::{causes, outcomes, stops};
 
 impl Input<'_> {
     /// The cause of an abort.

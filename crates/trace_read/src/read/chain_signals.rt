@@ -3,11 +3,11 @@ ghost use Rattle.trace_read.specs.Reading.{GivesOrWants};
 ghost use Rattle.trace_bytes.specs.ChainSignals.{preparing_of, committing_of};
 
 use crate::input::Input;
-use trace_bytes::kinds::signals;
 use crate::read::held::held_work;
 use crate::stop::Stop;
 use sig_core::{Body, Chain, ChainSignal, HeldAnswer};
 use std::alloc::Global;
+use trace_bytes::kinds::signals;
 
 /// A signal of this kind, one from `LQH_KEY_REQ` to `LQH_KEY_REF`.
 ///

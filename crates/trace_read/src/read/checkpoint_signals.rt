@@ -3,9 +3,9 @@ ghost use Rattle.trace_read.specs.Reading.{GivesOrWants};
 ghost use Rattle.trace_bytes.specs.CheckpointSignals.{checkpoint_of};
 
 use crate::input::Input;
-use trace_bytes::kinds::signals;
 use crate::stop::Stop;
 use sig_core::{Body, CheckpointSignal};
+use trace_bytes::kinds::signals;
 
 /// A signal of this kind, one from `LCP_REQ` to `LCP_REP`.
 ///

@@ -3,11 +3,11 @@ ghost use Rattle.trace_read.specs.Reading.{GivesOrWants};
 ghost use Rattle.trace_bytes.specs.ClientSignals.{opening_of, ending_of, failing_of, asking_of};
 
 use crate::input::Input;
-use trace_bytes::kinds::signals;
 use crate::read::lists::read_list;
 use crate::stop::Stop;
 use sig_core::{Body, ClientSignal, HeldAnswer, HeldOp, Key, Value};
 use std::alloc::Global;
+use trace_bytes::kinds::signals;
 
 /// A signal of this kind, one from `TC_BEGIN_REQ` to `TC_KEY_CONF`.
 ///

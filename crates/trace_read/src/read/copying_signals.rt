@@ -3,11 +3,11 @@ ghost use Rattle.trace_read.specs.Reading.{GivesOrWants};
 ghost use Rattle.trace_bytes.specs.CopyingSignals.{copying_of, own_rows_of};
 
 use crate::input::Input;
-use trace_bytes::kinds::signals;
 use crate::read::held::held_row;
 use crate::stop::Stop;
 use sig_core::{Body, CopyingSignal, Held};
 use std::alloc::Global;
+use trace_bytes::kinds::signals;
 
 /// A signal of this kind, one from `COPY_FRAG_REQ` to `COPY_FRAG_CONF`.
 ///

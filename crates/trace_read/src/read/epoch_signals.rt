@@ -3,11 +3,11 @@ ghost use Rattle.trace_read.specs.Reading.{GivesOrWants};
 ghost use Rattle.trace_bytes.specs.EpochSignals.{deciding_of, closing_of, saving_of, micro_of};
 
 use crate::input::Input;
-use trace_bytes::kinds::signals;
 use crate::read::lists::read_list;
 use crate::stop::Stop;
 use sig_core::{Body, EpochSignal, HeldAnswer, HeldOp};
 use std::alloc::Global;
+use trace_bytes::kinds::signals;
 
 /// A signal of this kind, one from `DI_VERIFY_REQ` to `GCP_REQ`.
 ///

@@ -3,11 +3,11 @@ ghost use Rattle.trace_read.specs.Reading.{GivesOrWants};
 ghost use Rattle.trace_bytes.specs.FileSignals.{file_of};
 
 use crate::input::Input;
-use trace_bytes::kinds::signals;
 use crate::read::lists::read_list;
 use crate::stop::Stop;
 use sig_core::{Body, FileSignal};
 use std::alloc::Global;
+use trace_bytes::kinds::signals;
 
 /// A signal of this kind, one from `FS_WRITE_REQ` to `FS_CONF`.
 ///

@@ -3,11 +3,11 @@ ghost use Rattle.trace_read.specs.Reading.{GivesOrWants};
 ghost use Rattle.trace_bytes.specs.HostSignals.{host_signal_of};
 
 use crate::input::Input;
-use trace_bytes::kinds::signals;
 use crate::read::works::read_work;
 use crate::stop::Stop;
 use sig_core::{Body, HostSignal};
 use std::alloc::Global;
+use trace_bytes::kinds::signals;
 
 /// A signal of this kind, one from `ROUND` to `CONTINUE`.
 ///

@@ -3,8 +3,8 @@ ghost use Rattle.trace_read.specs.Reading.{Gives};
 ghost use Rattle.trace_bytes.specs.Lines.{line_at, line_of, line_of_1, line_of_2};
 
 use crate::input::Input;
-use trace_bytes::kinds::lines;
 use sig_core::BatchLine;
+use trace_bytes::kinds::lines;
 
 impl Input<'_> {
     /// A line of a batch.

@@ -2,7 +2,6 @@
 ghost use Rattle.trace_bytes.specs.Lives.{control_at, divisor_at, header_at, life_at, log_at, opt_control_at, opt_system_at, place_at, shape_at, signal_at, slots_at, start_epoch_at, step_at, system_at, trace_at};
 ghost use Rattle.trace_read.specs.Reading.{Gives, GivesOrWants};
 
-use trace_bytes::Header;
 use crate::input::Input;
 use crate::read::bodies::read_body;
 use crate::read::lists::{Readable, read_list};
@@ -12,6 +11,7 @@ use sig_core::{
     SystemSlot, Value,
 };
 use std::alloc::Global;
+use trace_bytes::Header;
 
 /// The least number that no start epoch has: behind an epoch with the greatest checkpoint number comes none.
 const LAST_START: u64 = 0xffff_ffff_0000_0000;

@@ -3,10 +3,10 @@ ghost use Rattle.trace_read.specs.Reading.{GivesOrWants};
 ghost use Rattle.trace_bytes.specs.Marks.{mark_at, mark_of, mark_of_1, mark_of_2, mark_of_3};
 
 use crate::input::Input;
-use trace_bytes::kinds::marks;
 use crate::stop::Stop;
 use sig_core::{Held, Mark};
 use std::alloc::Global;
+use trace_bytes::kinds::marks;
 
 /// A mark.
 ///

@@ -3,10 +3,10 @@ ghost use Rattle.trace_read.specs.Reading.{GivesOrWants};
 ghost use Rattle.trace_bytes.specs.MembershipSignals.{promising_of, granting_of};
 
 use crate::input::Input;
-use trace_bytes::kinds::signals;
 use crate::stop::Stop;
 use sig_core::{Body, Held, MembershipSignal};
 use std::alloc::Global;
+use trace_bytes::kinds::signals;
 
 /// A signal of this kind, one from `HEARTBEAT` to `PREP_FAIL_REF`.
 ///

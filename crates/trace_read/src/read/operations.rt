@@ -3,8 +3,8 @@ ghost use Rattle.trace_read.specs.Reading.{Gives};
 ghost use Rattle.trace_bytes.specs.Operations.{answer_at, answer_of, op_at, op_of, rowwork_at, rowwork_of, uanswer_at, uanswer_of};
 
 use crate::input::Input;
-use trace_bytes::kinds::{answers, operations, row_works, unique_answers};
 use sig_core::{Answer, Op, RowWork, UAnswer};
+use trace_bytes::kinds::{answers, operations, row_works, unique_answers};
 
 impl Input<'_> {
     /// An operation.

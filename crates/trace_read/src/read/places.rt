@@ -3,8 +3,8 @@ ghost use Rattle.trace_read.specs.Reading.{Gives};
 ghost use Rattle.trace_bytes.specs.Places.{block_at, block_of, block_of_1, block_of_2, state_at, state_of};
 
 use crate::input::Input;
-use trace_bytes::kinds::{blocks, states};
 use sig_core::{BlockId, RecordState};
+use trace_bytes::kinds::{blocks, states};
 
 impl Input<'_> {
     /// What a replica has of a transaction.

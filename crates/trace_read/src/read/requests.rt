@@ -3,11 +3,11 @@ ghost use Rattle.trace_read.specs.Reading.{GivesOrWants};
 ghost use Rattle.trace_bytes.specs.Requests.{request_at, request_of, request_of_1, request_of_2, request_of_3, request_of_4};
 
 use crate::input::Input;
-use trace_bytes::kinds::requests;
 use crate::read::lists::read_list;
 use crate::stop::Stop;
 use sig_core::{ApiReq, BatchLine, HeldOp};
 use std::alloc::Global;
+use trace_bytes::kinds::requests;
 
 /// A request of the shell.
 ///

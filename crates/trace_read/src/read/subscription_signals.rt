@@ -3,11 +3,11 @@ ghost use Rattle.trace_read.specs.Reading.{GivesOrWants};
 ghost use Rattle.trace_bytes.specs.SubscriptionSignals.{subscription_of};
 
 use crate::input::Input;
-use trace_bytes::kinds::signals;
 use crate::read::lists::read_list;
 use crate::stop::Stop;
 use sig_core::{Body, Change, Held, SubscriptionSignal};
 use std::alloc::Global;
+use trace_bytes::kinds::signals;
 
 /// A signal of this kind, one from `SUMA_CHANGE` to `SUMA_READY`.
 ///

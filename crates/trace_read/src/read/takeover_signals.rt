@@ -3,9 +3,9 @@ ghost use Rattle.trace_read.specs.Reading.{GivesOrWants};
 ghost use Rattle.trace_bytes.specs.TakeoverSignals.{takeover_of};
 
 use crate::input::Input;
-use trace_bytes::kinds::signals;
 use crate::stop::Stop;
 use sig_core::{Body, TakeoverSignal};
+use trace_bytes::kinds::signals;
 
 /// A signal of this kind, one from `TAKEOVER_ORD` to `TAKEOVER_END`.
 ///

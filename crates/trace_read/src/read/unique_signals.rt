@@ -3,10 +3,10 @@ ghost use Rattle.trace_read.specs.Reading.{GivesOrWants};
 ghost use Rattle.trace_bytes.specs.UniqueSignals.{unique_of};
 
 use crate::input::Input;
-use trace_bytes::kinds::signals;
 use crate::stop::Stop;
 use sig_core::{Body, Held, HeldOp, UniqueSignal};
 use std::alloc::Global;
+use trace_bytes::kinds::signals;
 
 /// A signal of this kind, one from `TC_UNIQUE_REQ` to `TC_UNIQUE_CONF`.
 ///

@@ -3,11 +3,11 @@ ghost use Rattle.trace_read.specs.Reading.{GivesOrWants};
 ghost use Rattle.trace_bytes.specs.Works.{work_at, work_of, work_of_1, work_of_2};
 
 use crate::input::Input;
-use trace_bytes::kinds::works;
 use crate::read::requests::read_request;
 use crate::stop::Stop;
 use sig_core::Work;
 use std::alloc::Global;
+use trace_bytes::kinds::works;
 
 /// Work that a block goes on with.
 ///

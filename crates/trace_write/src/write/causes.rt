@@ -2,9 +2,9 @@
 ghost use Rattle.std.specs.Prelude.{◌≡◌, ◌∷◌, ◌++◌, OnOk};
 ghost use Rattle.trace_bytes.specs.Causes.{cause_bytes, stop_bytes, outcome_bytes};
 
-use trace_bytes::kinds::{causes, outcomes, stops};
 use crate::output::Output;
 use sig_core::{AbortCause, NoMemory, Outcome, StopCause};
+use trace_bytes::kinds::{causes, outcomes, stops};
 
 impl Output {
     /// Adds the cause of an abort.

@@ -2,9 +2,9 @@
 ghost use Rattle.std.specs.Prelude.{◌≡◌, ◌∷◌, ◌++◌, OnOk};
 ghost use Rattle.trace_bytes.specs.Lines.{line_bytes};
 
-use trace_bytes::kinds::lines;
 use crate::output::Output;
 use sig_core::{BatchLine, NoMemory};
+use trace_bytes::kinds::lines;
 
 impl Output {
     /// Adds a line of a batch.

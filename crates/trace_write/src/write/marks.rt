@@ -2,9 +2,9 @@
 ghost use Rattle.std.specs.Prelude.{◌≡◌, ◌∷◌, ◌++◌, OnOk};
 ghost use Rattle.trace_bytes.specs.Marks.{mark_bytes};
 
-use trace_bytes::kinds::marks;
 use crate::output::Output;
 use sig_core::{Mark, NoMemory};
+use trace_bytes::kinds::marks;
 
 impl Output {
     /// Adds a mark.

@@ -2,9 +2,9 @@
 ghost use Rattle.std.specs.Prelude.{◌≡◌, ◌∷◌, ◌++◌, OnOk};
 ghost use Rattle.trace_bytes.specs.MembershipSignals.{membership_signal_bytes};
 
-use trace_bytes::kinds::signals;
 use crate::output::Output;
 use sig_core::{MembershipSignal, NoMemory};
+use trace_bytes::kinds::signals;
 
 impl Output {
     /// Adds a signal of this family.

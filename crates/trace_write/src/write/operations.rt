@@ -2,9 +2,9 @@
 ghost use Rattle.std.specs.Prelude.{◌≡◌, ◌∷◌, ◌++◌, OnOk};
 ghost use Rattle.trace_bytes.specs.Operations.{op_bytes, answer_bytes, uanswer_bytes, rowwork_bytes};
 
-use trace_bytes::kinds::{answers, operations, row_works, unique_answers};
 use crate::output::Output;
 use sig_core::{Answer, HeldWork, NoMemory, Op, RowWork, UAnswer};
+use trace_bytes::kinds::{answers, operations, row_works, unique_answers};
 
 impl Output {
     /// Adds an operation.

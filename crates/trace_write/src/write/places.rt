@@ -2,9 +2,9 @@
 ghost use Rattle.std.specs.Prelude.{◌≡◌, ◌∷◌, ◌++◌, OnOk};
 ghost use Rattle.trace_bytes.specs.Places.{state_bytes, block_bytes};
 
-use trace_bytes::kinds::{blocks, states};
 use crate::output::Output;
 use sig_core::{BlockId, NoMemory, RecordState};
+use trace_bytes::kinds::{blocks, states};
 
 impl Output {
     /// Adds what a replica has of a transaction.

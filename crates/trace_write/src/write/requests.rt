@@ -2,9 +2,9 @@
 ghost use Rattle.std.specs.Prelude.{◌≡◌, ◌∷◌, ◌++◌, OnOk};
 ghost use Rattle.trace_bytes.specs.Requests.{request_bytes};
 
-use trace_bytes::kinds::requests;
 use crate::output::Output;
 use sig_core::{ApiReq, NoMemory};
+use trace_bytes::kinds::requests;
 
 impl Output {
     /// Adds a request of the shell.

@@ -2,9 +2,9 @@
 ghost use Rattle.std.specs.Prelude.{◌≡◌, ◌∷◌, ◌++◌, OnOk};
 ghost use Rattle.trace_bytes.specs.Works.{work_bytes};
 
-use trace_bytes::kinds::works;
 use crate::output::Output;
 use sig_core::{NoMemory, Work};
+use trace_bytes::kinds::works;
 
 impl Output {
     /// Adds work that a block goes on with.

@@ -15,4 +15,5 @@ returns-then-is_before-clause-place c =
     c.index-all-place.is (sym c.is_before.ensures ∙ c.if-is_before.true)
 
 pub returns-clause-place : goal.returns-clause-place
-returns-clause-place c = sym c.places.invariant ∙ at_end c.args.entry.now c.args.all.now c.places.place c.places-test.false
+returns-clause-place c =
+    sym c.places.invariant ∙ at_end c.args.entry.now c.args.all.now c.places.place c.places-test.false

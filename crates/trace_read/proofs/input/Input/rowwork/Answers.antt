@@ -5,5 +5,6 @@ use Rattle.trace_read.proofs.input.Input.rowwork.Goals as goal
 pub returns : goal.returns
 unfolding rowwork_at
 returns c =
-    kind_read 0 1 rowwork_of c.args.self.now c.byte.new.self c.in_ok-number.number c.rowwork_of.result c.rowwork_of.new.self
+    kind_read 0 1 rowwork_of c.args.self.now c.byte.new.self c.in_ok-number.number c.rowwork_of.result
+        c.rowwork_of.new.self
     c.in_ok-number.ensures.read c.rowwork_of.ensures
