@@ -1,7 +1,8 @@
 -- The logs of hosts, step by step, and what is looked for in them.
 use Rattle.std.proofs.Common.{◌≡◌, ℕ, suc, ◌+◌, ◌-◌, ◌<◌, ◌≤◌, Bool, true, false, List, [], ◌∷◌, ◌++◌, length, get_or, take, drop, drop-cons, reverse, refl, ap, sym, ◌∙◌, add-one, append_assoc, arith}
-use Rattle.std.specs.Prelude.{map, if◌then◌else◌}
+use Rattle.std.specs.Prelude.{filter, map, if◌then◌else◌}
 use Rattle.std.proofs.lemmas.List.{drop_all, reverse-append, take_all}
+use Rattle.std.proofs.lemmas.List.Elements.{filter-append}
 use Rattle.std.proofs.Math.Seq.{take-suc}
 use Rattle.sig_core.specs.declared.entry.Entry.{Entry}
 use Rattle.sig_core.specs.declared.log.LogStep.{LogStep}
@@ -118,3 +119,18 @@ at_end entry all place past =
     ∙ ap (λ w. all ++ insert entry w) (drop_all place all past)
     ∙ sym (ap (λ w. w ++ entry ∷ drop (length all) all) (take_all (length all) all own)
     ∙ ap (λ w. all ++ entry ∷ w) (drop_all (length all) all own))
+
+-- ---- what is kept
+
+pub kept_more : {A : Type 0} (test : A → Bool) (items : List A) (at : ℕ) (x : A) (kept more : List A)
+    → at < length items → x ≡ get_or items at x
+    → kept ≡ filter test (take at items)
+    → more ≡ kept ++ filter test (x ∷ [])
+    → more ≡ filter test (take (at + 1) items)
+kept_more test items at x kept more few there is goes =
+    let front : take (at + 1) items ≡ take at items ++ x ∷ [] =
+    rw add-one (take-suc items at x few ∙ ap (λ y. take at items ++ (y ∷ [])) (sym there)) in
+    goes
+    ∙ ap (λ w. w ++ filter test (x ∷ [])) is
+    ∙ sym (filter-append test (take at items) (x ∷ []))
+    ∙ ap (filter test) (sym front)

@@ -1,6 +1,6 @@
 //! The history of logs.
 ghost use Rattle.std.specs.List.{list_any};
-ghost use Rattle.std.specs.Prelude.{◌≡◌, ◌≤◌, ◌^◌, filter, length, IfOk};
+ghost use Rattle.std.specs.Prelude.{◌≡◌, ◌≤◌, ◌^◌, [], ◌∷◌, ◌++◌, filter, length, IfOk, OnOk};
 ghost use Rattle.world_core.specs.Entries.{entries};
 ghost use Rattle.world_core.specs.History.{history, is_done, is_kept};
 ghost use Rattle.world_core.specs.World.{logs_at};
@@ -41,11 +41,24 @@ fn kept(alloc: Global, logs: &[HostLog], entries: &[Entry]) -> Result<Seq<Entry>
 {
     let mut kept = Seq::new(alloc);
     'entries: for entry in entries {
-        if is_kept(logs, entry) {
-            kept.push(copied(alloc, entry)?)?;
-        }
+        keep(alloc, logs, &mut kept, entry)?;
     }
     Ok(kept)
+}
+
+// A copy of an entry is put behind others, where it took effect.
+fn keep(
+    alloc: Global,
+    logs: &[HostLog],
+    kept: &mut Seq<Entry>,
+    entry: &Entry,
+) -> Result<(), NoMemory>
+    ensures { OnOk result (kept.new ≡ kept.old ++ filter (is_kept (length logs.now) (logs_at logs.now)) (entry.now ∷ [])) }
+{
+    if !is_kept(logs, entry) {
+        return Ok(());
+    }
+    kept.push(copied(alloc, entry)?)
 }
 
 fn copied(alloc: Global, entry: &Entry) -> Result<Entry, NoMemory>
