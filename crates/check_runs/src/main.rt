@@ -33,13 +33,13 @@ fn main(rt: HostRuntime) -> Result<ExitCode, Fail> {
     let parts = parts_of(alloc, &trace)?;
     tell(
         &rt,
-        "a run's trace is taken, and has its two entries",
+        "a run's trace is taken, and has its entry",
         is_taken(alloc, &trace)?,
         &mut failed,
     )?;
     tell(
         &rt,
-        "each step doubled, moved, or left out from before another is refused",
+        "each step doubled or moved, or left out where another follows from it, is refused",
         bears_moves(alloc, &parts)?,
         &mut failed,
     )?;

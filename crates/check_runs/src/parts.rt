@@ -1,5 +1,5 @@
 //! A trace in parts: its logs, step by step, and what stands before and behind them.
-use sig_core::{HostLog, NoMemory, Seq};
+use sig_core::{HostId, HostLog, NoMemory, Seq};
 use std::alloc::Global;
 use trace_read::{TraceFault, read_trace};
 use trace_write::write_step;
@@ -14,6 +14,8 @@ pub struct LogParts {
     head: Vec<u8>,
     /// Those of each step.
     pub steps: Vec<Seq<u8>>,
+    /// The stamp of each step, and the host and the stamp of the step that sent what it took.
+    stamps: Vec<(u64, HostId, u64)>,
 }
 
 /// The bytes of a trace.
@@ -61,13 +63,38 @@ fn log_parts(alloc: Global, log: &HostLog) -> Result<LogParts, NoMemory> {
     head.extend_from_slice(&log.host.0.to_be_bytes())?;
     head.extend_from_slice(&log.made.to_be_bytes())?;
     let mut steps = Vec::new(alloc);
+    let mut stamps = Vec::new(alloc);
     for step in log.steps.as_slice() {
         steps.push(write_step(alloc, step)?)?;
+        let signal = step.taken.get();
+        stamps.push((step.stamp, signal.from, signal.stamp))?;
     }
-    Ok(LogParts { head, steps })
+    Ok(LogParts {
+        head,
+        steps,
+        stamps,
+    })
 }
 
 impl Parts {
+    /// Whether a step took what this step of this log sent.
+    pub fn leads_on(&self, log: usize, step: usize) -> bool {
+        let Some(parts) = self.logs.get(log) else {
+            return false;
+        };
+        let Some((stamp, _, _)) = parts.stamps.get(step) else {
+            return false;
+        };
+        for other in self.logs.as_slice() {
+            for (at, from, sent) in other.stamps.as_slice() {
+                if from.0 as usize == log && *sent == *stamp && *at > *stamp {
+                    return true;
+                }
+            }
+        }
+        false
+    }
+
     /// The trace, with the step at this place of this log changed so.
     ///
     /// # Errors

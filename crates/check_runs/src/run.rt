@@ -55,25 +55,16 @@ fn put(alloc: Global, key: &[u8], value: &[u8]) -> Result<ApiReq, Fail> {
 }
 
 // What the hosts did.
-fn life_of<W: Wait>(
-    rt: &W,
-    alloc: Global,
-    first: ApiReq,
-    second: ApiReq,
-) -> Result<Life, NoMemory> {
+fn life_of<W: Wait>(rt: &W, alloc: Global, request: ApiReq) -> Result<Life, NoMemory> {
     let mut world = World::new(alloc, SHAPE, FIRST_EPOCH, &[])?;
-    serve(rt, alloc, &mut world, first)?;
-    serve(rt, alloc, &mut world, ApiReq::Gcp)?;
-    serve(rt, alloc, &mut world, second)?;
-    serve(rt, alloc, &mut world, ApiReq::Rows { node: 1 })?;
+    serve(rt, alloc, &mut world, request)?;
     Ok(world.end_life(alloc))
 }
 
-/// The trace of a run with two puts and a global checkpoint between them.
+/// The trace of a run in which a row is put.
 pub fn trace_of_run<W: Wait>(rt: &W, alloc: Global) -> Result<Vec<u8>, Fail> {
-    let first = put(alloc, b"a", b"1")?;
-    let second = put(alloc, b"b", b"2")?;
-    let life = life_of(rt, alloc, first, second)?;
+    let request = put(alloc, b"a", b"1")?;
+    let life = life_of(rt, alloc, request)?;
     let trace = write_trace(alloc, SHAPE, &life)?;
     Ok(Vec::from_slice(alloc, trace.as_slice())?)
 }

@@ -4,13 +4,13 @@ use sig_core::{Entry, NoMemory, Seq};
 use std::alloc::Global;
 use trace_check::{CheckFault, check};
 
-/// A run's trace is taken, and has two entries.
+/// A run's trace is taken, and has one entry.
 ///
 /// # Errors
 /// `NoMemory`, as of all that follow.
 pub fn is_taken(alloc: Global, trace: &[u8]) -> Result<bool, NoMemory> {
     match check(alloc, trace) {
-        Ok(entries) => Ok(entries.len() == 2),
+        Ok(entries) => Ok(entries.len() == 1),
         Err(CheckFault::NoMemory) => Err(NoMemory),
         Err(_) => Ok(false),
     }
@@ -26,7 +26,8 @@ fn is_refused(found: &Result<Seq<Entry>, CheckFault>, place: usize) -> Result<bo
     }
 }
 
-/// Each step left out, doubled, or moved behind the next. Where the last of a log is left out, the rest may be a run.
+/// Each step left out, doubled, or moved behind the next. Without a step that sent nothing which another took, the
+/// rest may be a run.
 pub fn bears_moves(alloc: Global, parts: &Parts) -> Result<bool, NoMemory> {
     for log in 0..parts.logs.len() {
         for step in 0..parts.logs[log].steps.len() {
