@@ -95,9 +95,16 @@ command_peaceful (command.Rows at) e = refl
 command_peaceful (command.Digest at) e = refl
 command_peaceful _ e = refl
 
-pub asked_peaceful : (c : Command) → is_peaceful_command c ≡ true
-    → are_peaceful_requests (requests_of c ++ questions) ≡ true
-asked_peaceful c e = all_both is_peaceful_request (requests_of c) questions (command_peaceful c e) refl
+-- so are the first of them
+pub front_peaceful : (c : Command) (asked left_out : List ApiReq) → requests_of c ≡ asked ++ left_out
+    → is_peaceful_command c ≡ true → are_peaceful_requests asked ≡ true
+front_peaceful c asked left_out own e =
+    requests_front asked left_out (subst (λ rs. are_peaceful_requests rs ≡ true) own (command_peaceful c e))
+
+pub asked_peaceful : (c : Command) (asked left_out : List ApiReq) → requests_of c ≡ asked ++ left_out
+    → is_peaceful_command c ≡ true → are_peaceful_requests (asked ++ questions) ≡ true
+asked_peaceful c asked left_out own e =
+    all_both is_peaceful_request asked questions (front_peaceful c asked left_out own e) refl
 
 -- who has stopped by no later moment hasn't by an earlier one
 older_each : {A : Type 0} (P : A → Type 0) (newer older : List A) → Each P (newer ++ older) → Each P older

@@ -14,18 +14,19 @@ use Rattle.sig_core.specs.declared.no_memory.NoMemory.{NoMemory}
 use Rattle.sig_core.specs.declared.reply.ApiReply.{ApiReply}
 use Rattle.sig_core.specs.declared.request.ApiReq.{ApiReq}
 use Rattle.sig_core.specs.declared.request.ApiReq.TheVariants.{Tick}
+use Rattle.script_lang.specs.declared.command.Command.TheVariants as command
 use Rattle.shell_top.specs.Arranged.{arranged}
-use Rattle.shell_top.specs.Asked.{AreAsked, AsksInPart, AsksOn, IsAskedNext, are_peaceful, is_peaceful_command, is_served, questions, requests_of}
+use Rattle.shell_top.specs.Asked.{AreAsked, AreOwn, AsksInPart, AsksOn, AsksOwn, IsAskedNext, IsAskedUp, are_peaceful, is_peaceful_command, is_served, questions, requests_of}
 use Rattle.shell_top.specs.Subject.{subject_in}
 use Rattle.shell_top.specs.Asked.{rounds_behind}
 use Rattle.shell_top.specs.declared.ended.Ending.TheVariants as ending
 use Rattle.shell_top.specs.Printed.{AppendsPart}
-use Rattle.shell_top.specs.Served.{AreInPeace, AreLeft, AreLeftOff, AsksFirst, HasGoneOn, HasServed, IsServed, NoneStops, PrintsCommand, ServesCommand}
+use Rattle.shell_top.specs.Served.{are_peaceful_requests, AreInPeace, AreLeft, AreLeftOff, AsksFirst, HasGoneOn, HasServed, HasServedOwn, HasServedRounds, IsServed, NoneStops, PrintsCommand, ServesCommand}
 use Rattle.shell_top.specs.Text.{down_line, reply_lines}
 use Rattle.shell_top.specs.Told.{text_of}
-use Rattle.shell_top.proofs.PeaceLemmas.{command_peaceful, commands_back, commands_front, first_peaceful, head_peaceful}
+use Rattle.shell_top.proofs.PeaceLemmas.{commands_back, commands_front, first_peaceful, front_peaceful, head_peaceful}
 use Rattle.shell_top.proofs.PeaceLemmas.{none_before, one_peaceful, requests_back, requests_front}
-use Rattle.shell_top.proofs.ToldLemmas.{HasFirst, asks_for, has_first, none_heads, none_both, none_take, one_more, requests_newer}
+use Rattle.shell_top.proofs.ToldLemmas.{Begins, HasFirst, asks_for, begins, has_first, none_heads, none_both, none_take, one_more, own_all, requests_newer}
 use Rattle.world_views.specs.Driven.{HasAsked, HaveGrown, IsDriven, IsSound, IsWorld}
 use Rattle.world_core.specs.Labels.{AreLabelled}
 use Rattle.world_views.specs.Requests.{request_of, requests}
@@ -283,62 +284,81 @@ module _ (start : Start) where
       has.subject
 
   -- memory was wanting in a command: its text goes on
-  pub left_text : (c : Command) (w : Whole) (logs : List HostLog) → is_served c ≡ true
-      → AreLeftOff start (requests_of c ++ questions) w logs
+  pub left_text : (c : Command) (w : Whole) (logs : List HostLog) → is_served c ≡ true → (first : ApiReq)
+      (further : List ApiReq) (down : Bool) → AreOwn c first further down
+      → AreLeftOff start (first ∷ (further ++ questions)) w logs
       → AsksInPart start (Some c) (logs_at w.logs 0) (logs_at logs 0) → AreLeft start c w logs
-  left_text c w logs served left begun = go left.begun
+  left_text c w logs served first further down own left begun = go left.begun
     where
       has : HasFirst c
       has = has_first c served
 
-      are : requests_of c ++ questions ≡ has.first ∷ (has.rest ++ questions)
-      are = ap (λ rs. rs ++ questions) has.are
+      front : Begins c has first further
+      front = begins c has first further down own
 
       asked : (part : ℕ)
-          → requests (logs_at logs 0) ≡ requests (logs_at w.logs 0) ++ take part (has.first ∷ (has.rest ++ questions))
+          → requests (logs_at logs 0)
+          ≡ requests (logs_at w.logs 0) ++ take part (first ∷ (further ++ questions))
           → IsAskedNext (logs_at w.logs 0) (logs_at logs 0) → AreLeft start c w logs
       asked zero is next = absurd (none_asked (logs_at w.logs 0) (logs_at logs 0) next is)
       asked (suc part) is next =
           record {
+            asked = first ∷ further;
+            left_out = own.left_out;
+            own = own.all;
             left = left;
             begun = begun;
             more = lines_of c (logs_at w.logs 0) (logs_at logs 0);
-            text = text_behind has.first (take part (has.rest ++ questions)) (logs_at w.logs 0) (logs_at logs 0) next is
-                c has refl
-                (none_take part (has.rest ++ questions) (none_both has.rest questions has.none refl));
+            text = text_behind first (take part (further ++ questions)) (logs_at w.logs 0) (logs_at logs 0)
+                next is c has front.is
+                (none_take part (further ++ questions) (none_both further questions front.none refl));
           }
 
       go : (logs_at logs 0 ≡ logs_at w.logs 0) ⊎ IsAskedNext (logs_at w.logs 0) (logs_at logs 0)
           → AreLeft start c w logs
       go (inl same) =
           let text = ap (text_of start) same ∙ sym (append-nil (text_of start (logs_at w.logs 0))) in
-          record { left = left; begun = begun; more = []; text = text }
+          record {
+            asked = first ∷ further;
+            left_out = own.left_out;
+            own = own.all;
+            left = left;
+            begun = begun;
+            more = [];
+            text = text;
+          }
       go (inr next) =
-          asked left.part (left.requests ∙ ap (λ rs. requests (logs_at w.logs 0) ++ take left.part rs) are) next
+          asked left.part left.requests next
 
   -- all that was asked for behind a world: the command's first request, and others that begin none
   record Behind (c : Command) (has : HasFirst c) (w v : Whole) : Type 0 where
+    first : ApiReq
+    is : first ≡ has.first
     rest : List ApiReq
     none : none_heads rest ≡ true
-    served : HasServed start (has.first ∷ rest) w v
+    served : HasServed start (first ∷ rest) w v
 
   -- all that was asked for
-  all_served : (c : Command) (has : HasFirst c) (w u v : Whole) → HasServed start (requests_of c) w u
+  all_served : (c : Command) (has : HasFirst c) (w u v : Whole) → HasServedOwn start c w u
       → (open_now : Bool) → HasGoneOn start u v open_now
       → Behind c has w v
   all_served c has w u v own false same =
+      let front = begins c has own.first own.further (is_down u) own.own in
       record {
-        rest = has.rest;
-        none = has.none;
-        served = subst (HasServed start (has.first ∷ has.rest) w) (sym same)
-            (subst (λ rs. HasServed start rs w u) has.are own);
+        first = own.first;
+        is = front.is;
+        rest = own.further;
+        none = front.none;
+        served = subst (HasServed start (own.first ∷ own.further) w) (sym same) own.served;
       }
   all_served c has w u v own true asked =
+      let front = begins c has own.first own.further (is_down u) own.own in
       record {
-        rest = has.rest ++ questions;
-        none = none_both has.rest questions has.none refl;
-        served = subst (λ rs. HasServed start (rs ++ questions) w v) has.are
-            (both_served (requests_of c) questions w u v own asked);
+        first = own.first;
+        is = front.is;
+        rest = own.further ++ questions;
+        none = none_both own.further questions front.none refl;
+        served = both_served (own.first ∷ own.further) questions w u v own.served asked;
       }
 
   on_log : (u v : Whole) (given : List ApiReply) → IsRight start given u → (b : Bool) → is_left_open u ≡ b
@@ -351,12 +371,20 @@ module _ (start : Start) where
       go false same = ap (λ (x : Whole). logs_at x.logs 0) same
       go true asked = (asked.next, asked.requests)
 
-  own_next : (c : Command) (has : HasFirst c) (w u : Whole) → HasServed start (requests_of c) w u
-      → IsAskedNext (logs_at w.logs 0) (logs_at u.logs 0)
-  own_next c has w u own = subst (λ rs. AsksFirst rs (logs_at w.logs 0) (logs_at u.logs 0)) has.are own.next
+  -- the log tells the same of them
+  pub asks_own : (c : Command) (w u : Whole) (given : List ApiReply) → IsRight start given u
+      → HasServedOwn start c w u → AsksOwn start c (logs_at w.logs 0) (logs_at u.logs 0)
+  asks_own c w u given right own =
+      record {
+        first = own.first;
+        further = own.further;
+        own = subst (AreOwn c own.first own.further) (down_is start given u right) own.own;
+        are = own.served.requests;
+        up = own.up;
+      }
 
   pub serves : (c : Command) (w u v t : Whole) (text : List ℕ) → is_served c ≡ true → IsSound start w
-      → HasServed start (requests_of c) w u → HasGoneOn start u v (is_left_open u)
+      → HasServedOwn start c w u → HasGoneOn start u v (is_left_open u)
       → t ≡ record v { replies = [] }
       → text ≡ reply_lines (arranged (subject_in c) v.replies) ++ down_line (is_down w) (is_down t)
       → ServesCommand start c w t text
@@ -392,13 +420,16 @@ module _ (start : Start) where
           one : is_peaceful_command c ≡ true
           one = head_peaceful c [] (commands_back commands (c ∷ []) peaceful)
 
+          asks : are_peaceful_requests (own.first ∷ own.further) ≡ true
+          asks = front_peaceful c (own.first ∷ own.further) own.own.left_out own.own.all one
+
           go : (b : Bool) → HasGoneOn start u v b → AreInPeace start (logs_at v.logs)
           go false same =
               subst (λ (x : Whole). NoneStops (logs_at x.logs) → AreInPeace start (logs_at x.logs)) (sym same)
-              (own.peace sound was.quiet before (command_peaceful c one)) none
+              (own.served.peace sound was.quiet before asks) none
           go true asked =
-              asked.peace (served_sound (requests_of c) w u own sound) (own.quiet was.quiet)
-              (own.peace sound was.quiet before (command_peaceful c one)
+              asked.peace (served_sound (own.first ∷ own.further) w u own.served sound) (own.served.quiet was.quiet)
+              (own.served.peace sound was.quiet before asks
               (none_before (logs_at u.logs) (logs_at v.logs) asked.more none)) refl none
 
       after_it : (commands : List Command) → IsServed start commands w
@@ -414,9 +445,9 @@ module _ (start : Start) where
                   earlier = was.asked;
                   asks = record {
                     served = logs_at u.logs 0;
-                    next = own_next c has w u own;
-                    own = own.requests;
-                    on = on_log u v was.given (own.right was.given was.right) (is_left_open u) refl on;
+                    next = own.served.next;
+                    own = asks_own c w u was.given (own.served.right was.given was.right) own;
+                    on = on_log u v was.given (own.served.right was.given was.right) (is_left_open u) refl on;
                   };
                 });
             at_quiet = behind.served.at_quiet was.quiet was.at_quiet;
@@ -440,8 +471,8 @@ module _ (start : Start) where
           let lines_by : List ApiReply → Bool → Bool → List ℕ =
           λ rs before now. text_of start (logs_at w.logs 0)
           ++ (reply_lines (arranged (subject_in c) rs) ++ down_line before now) in
-          text_behind has.first behind.rest (logs_at w.logs 0) (logs_at v.logs 0) behind.served.next
-          behind.served.requests c has refl behind.none
+          text_behind behind.first behind.rest (logs_at w.logs 0) (logs_at v.logs 0) behind.served.next
+          behind.served.requests c has behind.is behind.none
           ∙ ap (λ rs. lines_by rs (finds_down start (logs_at w.logs 0)) (finds_down start (logs_at v.logs 0))) rest
           ∙ ap (λ b. lines_by v.replies b (finds_down start (logs_at v.logs 0)))
           (sym (down_is start was.given w was.right))
@@ -533,6 +564,71 @@ module _ (start : Start) (rounds n : ℕ) where
       (left_of_more start (rounds_behind rounds (suc n)) front.rest w logs
       (left_later start (rounds_behind rounds n) (Tick (n + 2) rounds ∷ []) w u logs before left))
 
+  -- the last of them was asked for where the cluster wasn't down
+  pub round_up : (w u t : Whole) → HasServed start (rounds_behind rounds n) w u → IsSound start u → is_down u ≡ false
+      → HasServed start (Tick (n + 2) rounds ∷ []) u t
+      → (n + 1 ≡ 0) ⊎ IsAskedUp start (logs_at w.logs 0) (logs_at t.logs 0)
+  round_up w u t before sound up next =
+      inr (record {
+        older = logs_at u.logs 0;
+        past = before.more 0;
+        next = next.next;
+        last = Tick (n + 2) rounds;
+        only = next.requests;
+        up = sym (down_is start sound.given u sound.right) ∙ up;
+      })
+
+  pub rounds_cut : (all : ℕ) (w u : Whole) → n ≤ all → (n ≡ all) ⊎ (is_down u ≡ true)
+      → HasServed start (rounds_behind rounds n) w u
+      → (n ≡ 0) ⊎ IsAskedUp start (logs_at w.logs 0) (logs_at u.logs 0)
+      → HasServedRounds start rounds all w u
+  rounds_cut all w u low cause served up =
+      record { count = n; low = low; cause = cause; served = served; up = up }
+
+-- a tick: its first round, and those behind it
+module _ (start : Start) (rounds : ℕ) where
+  -- all of them are its own, and so are those until the cluster was down
+  rounds_own : (count : ℕ) (down : Bool) → count ≤ rounds - 1 → (count ≡ rounds - 1) ⊎ (down ≡ true)
+      → AreOwn (command.Tick rounds) (Tick 1 rounds) (rounds_behind rounds count) down
+  rounds_own count down low (inl same) =
+      record {
+        left_out = [];
+        all = ap (λ rs. Tick 1 rounds ∷ rs)
+            (ap (rounds_behind rounds) (sym same) ∙ sym (append-nil (rounds_behind rounds count)));
+        cause = inl refl;
+      }
+  rounds_own count down low (inr is) =
+      let front = rounds_front rounds count (rounds - 1) low in
+      record { left_out = front.rest; all = ap (λ rs. Tick 1 rounds ∷ rs) front.is; cause = inr is }
+
+  -- behind a moment that is later than another it is behind that, too
+  rounds_up : (count : ℕ) (a b c : List HostStep) → IsPast a b → (count ≡ 0) ⊎ IsAskedUp start b c
+      → (rounds_behind rounds count ≡ []) ⊎ IsAskedUp start a c
+  rounds_up count a b c past (inl none) = inl (ap (rounds_behind rounds) none)
+  rounds_up count a b c past (inr up) =
+      inr (record {
+        older = up.older;
+        past = past_trans past up.past;
+        next = up.next;
+        last = up.last;
+        only = up.only;
+        up = up.up;
+      })
+
+  pub tick_ok : (result : Result (Unit {0}) NoMemory) (w u t : Whole) → HasServed start (Tick 1 rounds ∷ []) w u
+      → OnOk result (HasServedRounds start rounds (rounds - 1) u t)
+      → OnOk result (HasServedOwn start (command.Tick rounds) w t)
+  tick_ok (Ok done) w u t one more =
+      record {
+        first = Tick 1 rounds;
+        further = rounds_behind rounds more.count;
+        own = rounds_own more.count (is_down t) more.low more.cause;
+        served =
+            both_served start (Tick 1 rounds ∷ []) (rounds_behind rounds more.count) w u t one more.served;
+        up = rounds_up more.count (logs_at w.logs 0) (logs_at u.logs 0) (logs_at t.logs 0) (one.more 0) more.up;
+      }
+  tick_ok (Err fault) w u t one more = tt
+
 -- the same, by what the calls answered
 pub on_err : {A E P : Type 0} (result : Result A E) → P → OnErr result P
 on_err (Ok x) p = tt
@@ -540,10 +636,24 @@ on_err (Err e) p = p
 
 -- a command: its own requests, the questions about it, and the replies
 module _ (start : Start) (c : Command) (w : Whole) where
-  pub own_sound : (u : Whole) → IsSound start w → HasServed start (requests_of c) w u → IsSound start u
-  own_sound u sound own = served_sound start (requests_of c) w u own sound
+  -- one request is all that most commands have
+  pub once : (request : ApiReq) (result : Result (Unit {0}) NoMemory) (t : Whole)
+      → requests_of c ≡ request ∷ [] → OnOk result (HasServed start (request ∷ []) w t)
+      → OnOk result (HasServedOwn start c w t)
+  once request (Ok done) t are served =
+      record {
+        first = request;
+        further = [];
+        own = record { left_out = []; all = are; cause = inl refl };
+        served = served;
+        up = inl refl;
+      }
+  once request (Err fault) t are served = tt
 
-  pub gone_sound : (u v : Whole) → IsSound start w → HasServed start (requests_of c) w u
+  pub own_sound : (u : Whole) → IsSound start w → HasServedOwn start c w u → IsSound start u
+  own_sound u sound own = served_sound start (own.first ∷ own.further) w u own.served sound
+
+  pub gone_sound : (u v : Whole) → IsSound start w → HasServedOwn start c w u
       → HasGoneOn start u v (is_left_open u) → IsSound start v
   gone_sound u v sound own on = go (is_left_open u) on
     where
@@ -554,35 +664,42 @@ module _ (start : Start) (c : Command) (w : Whole) where
   pub left_own : (logs : List HostLog) → is_served c ≡ true → AreLeftOff start (requests_of c) w logs
       → AreLeft start c w logs
   left_own logs is left =
-      left_text start c w logs is (left_of_more start (requests_of c) questions w logs left)
+      let has = has_first c is in
+      left_text start c w logs is has.first has.rest false (own_all c has false)
+      (subst (λ rs. AreLeftOff start (rs ++ questions) w logs) has.are
+      (left_of_more start (requests_of c) questions w logs left))
       (inl (record { part = left.part; begun = left.requests }))
 
   pub left_about : (u : Whole) (logs : List HostLog) → is_served c ≡ true → IsSound start w
-      → HasServed start (requests_of c) w u → is_left_open u ≡ true → AreLeftOff start questions u logs
+      → HasServedOwn start c w u → is_left_open u ≡ true → AreLeftOff start questions u logs
       → AreLeft start c w logs
   left_about u logs is sound own opened left =
-      left_text start c w logs is (left_later start (requests_of c) questions w u logs own left)
+      left_text start c w logs is own.first own.further (is_down u) own.own
+      (left_later start (own.first ∷ own.further) questions w u logs own.served left)
       (inr (record {
         served = logs_at u.logs 0;
         past = left.more 0;
-        own = own.requests;
+        own = asks_own start c w u (own_sound u sound own).given (own_sound u sound own).right own;
         left_open = sym (open_is start (own_sound u sound own).given u (own_sound u sound own).right) ∙ opened;
         on = record { part = left.part; begun = left.requests };
       }))
 
   pub left_gone : (u v : Whole) (logs : List HostLog) → is_served c ≡ true → IsSound start w
-      → HasServed start (requests_of c) w u → HasGoneOn start u v (is_left_open u) → logs ≡ v.logs
+      → HasServedOwn start c w u → HasGoneOn start u v (is_left_open u) → logs ≡ v.logs
       → AreLeft start c w logs
   left_gone u v logs is sound own on same = go (is_left_open u) refl on
     where
       go : (b : Bool) → is_left_open u ≡ b → HasGoneOn start u v b → AreLeft start c w logs
       go false e gone =
           left_own logs is
-          (left_served start (requests_of c) w u logs own sound (same ∙ ap (λ (x : Whole). x.logs) gone))
+          (subst (λ rs. AreLeftOff start rs w logs) (sym own.own.all)
+          (left_of_more start (own.first ∷ own.further) own.own.left_out w logs
+          (left_served start (own.first ∷ own.further) w u logs own.served sound
+          (same ∙ ap (λ (x : Whole). x.logs) gone))))
       go true e asked =
           left_about u logs is sound own e (left_served start questions u v logs asked (own_sound u sound own) same)
 
-  pub told_world : (u v t : Whole) → IsSound start w → HasServed start (requests_of c) w u
+  pub told_world : (u v t : Whole) → IsSound start w → HasServedOwn start c w u
       → HasGoneOn start u v (is_left_open u) → t ≡ record v { replies = [] } → IsWorld t
   told_world u v t sound own on taken =
       let gone = gone_sound u v sound own on in
@@ -633,3 +750,5 @@ pub prints_nothing : (start : Start) (c : Command) (w t : Whole) (written : Opti
 prints_nothing start c w t written left = record { printed = λ commands was. (refl, left) }
 
 pub ruleset prints = (prints_all, prints_part, prints_nothing)
+
+pub ruleset asking_once = (once)

@@ -1,5 +1,5 @@
 -- The text of a log, command after command.
-use Rattle.std.proofs.Common.{◌≡◌, ℕ, zero, suc, ◌+◌, List, [], ◌∷◌, ◌++◌, length, take, drop, ◌-◌, Bool, true, false, refl, ap, sym, subst, ◌∙◌, append_assoc, arith}
+use Rattle.std.proofs.Common.{◌≡◌, inl, ℕ, zero, suc, ◌+◌, List, [], ◌∷◌, ◌++◌, length, take, drop, ◌-◌, Bool, true, false, refl, ap, sym, subst, ◌∙◌, append_assoc, arith}
 use Rattle.std.specs.Prelude.{if◌then◌else◌, ◌==◌, is_some, option_to_list, Option, None, Some}
 use Rattle.std.proofs.lemmas.Bool.{true≢false}
 use Rattle.std.proofs.lemmas.Bool.Decides.{nat_tests}
@@ -11,7 +11,7 @@ use Rattle.sig_core.specs.declared.reply.ApiReply.{ApiReply}
 use Rattle.sig_core.specs.declared.request.ApiReq.{ApiReq}
 use Rattle.sig_core.specs.declared.request.ApiReq.TheVariants as request
 use Rattle.shell_top.specs.Arranged.{arranged}
-use Rattle.shell_top.specs.Asked.{IsAskedNext, is_served, requests_of, rounds_behind}
+use Rattle.shell_top.specs.Asked.{AreOwn, IsAskedNext, is_served, requests_of, rounds_behind}
 use Rattle.shell_top.specs.Subject.{subject_in, subject_of}
 use Rattle.shell_top.specs.Text.{down_line, reply_lines}
 use Rattle.shell_top.specs.Told.{Telling, heads, heads_by, telling, telling_by, text_of, told}
@@ -227,3 +227,34 @@ has_first (command.Digest at) e = record {
   none = refl;
 }
 has_first _ e = absurd (true≢false (sym e))
+
+-- own requests that were asked for begin as the command does
+pub record Begins (c : Command) (has : HasFirst c) (first : ApiReq) (further : List ApiReq) : Type 0 where
+  pub is : first ≡ has.first
+  pub none : none_heads further ≡ true
+
+heads_same : (a b : ApiReq) (xs ys : List ApiReq) → a ∷ xs ≡ b ∷ ys → a ≡ b
+heads_same a b xs ys same = cc
+
+tails_same : (a b : ApiReq) (xs ys : List ApiReq) → a ∷ xs ≡ b ∷ ys → xs ≡ ys
+tails_same a b xs ys same = cc
+
+pub begins : (c : Command) (has : HasFirst c) (first : ApiReq) (further : List ApiReq) (down : Bool)
+    → AreOwn c first further down → Begins c has first further
+begins c has first further down own =
+    let both : first ∷ (further ++ own.left_out) ≡ has.first ∷ has.rest = sym own.all ∙ has.are in
+    let rest : has.rest ≡ further ++ own.left_out =
+    sym (tails_same first has.first (further ++ own.left_out) has.rest both) in
+    record {
+      is = heads_same first has.first (further ++ own.left_out) has.rest both;
+      none = none_front further own.left_out (subst (λ rs. none_heads rs ≡ true) rest has.none);
+    }
+
+-- all of a command's requests are its own
+pub own_all : (c : Command) (has : HasFirst c) (down : Bool) → AreOwn c has.first has.rest down
+own_all c has down =
+    record {
+      left_out = [];
+      all = has.are ∙ ap (λ rs. has.first ∷ rs) (sym (append-nil has.rest));
+      cause = inl refl;
+    }

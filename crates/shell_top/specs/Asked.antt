@@ -10,7 +10,7 @@ use Rattle.sig_core.specs.declared.request.ApiReq.{ApiReq}
 use Rattle.sig_core.specs.declared.request.ApiReq.TheVariants as request
 use Rattle.world_core.specs.Start.{Start}
 use Rattle.world_views.specs.Requests.{request_of, requests}
-use Rattle.world_views.specs.Shell.{leaves_open}
+use Rattle.world_views.specs.Shell.{finds_down, leaves_open}
 
 -- n rounds more behind the first one, of so many
 abbrev pub rounds_behind : ℕ → ℕ → List ApiReq
@@ -76,11 +76,35 @@ abbrev pub AsksOn : List HostStep → List HostStep → Bool → Type 0
 AsksOn served log false = log ≡ served
 AsksOn served log true = IsAskedNext served log × (requests log ≡ requests served ++ questions)
 
+-- These are a command's own requests: its first one, and further ones. Others are left out only where the cluster is
+-- down behind these.
+pub record AreOwn (command : Command) (first : ApiReq) (further : List ApiReq) (down : Bool) : Type 0 where
+  pub left_out : List ApiReq
+  pub all : requests_of command ≡ first ∷ (further ++ left_out)
+  pub cause : (left_out ≡ []) ⊎ (down ≡ true)
+
+-- the last request was asked for behind `before`, and the cluster wasn't down
+pub record IsAskedUp (start : Start) (before log : List HostStep) : Type 0 where
+  pub older : List HostStep
+  pub past : IsPast before older
+  pub next : IsAskedNext older log
+  pub last : ApiReq
+  pub only : requests log ≡ requests older ++ last ∷ []
+  pub up : finds_down start older ≡ false
+
+-- A command's own requests were asked for behind `before`, the further ones only while the cluster wasn't down.
+pub record AsksOwn (start : Start) (command : Command) (before log : List HostStep) : Type 0 where
+  pub first : ApiReq
+  pub further : List ApiReq
+  pub own : AreOwn command first further (finds_down start log)
+  pub are : requests log ≡ requests before ++ first ∷ further
+  pub up : (further ≡ []) ⊎ IsAskedUp start before log
+
 -- A command was asked for behind `before`, in host 0's log.
 pub record AsksCommand (start : Start) (command : Command) (before log : List HostStep) : Type 0 where
   pub served : List HostStep
   pub next : IsAskedNext before served
-  pub own : requests served ≡ requests before ++ requests_of command
+  pub own : AsksOwn start command before served
   pub on : AsksOn served log (leaves_open start served)
 
 -- the commands before were asked for, and then this one
@@ -105,7 +129,7 @@ pub record AsksFirstOf (asked : List ApiReq) (before log : List HostStep) : Type
 pub record AsksOnInPart (start : Start) (command : Command) (before log : List HostStep) : Type 0 where
   pub served : List HostStep
   pub past : IsPast served log
-  pub own : requests served ≡ requests before ++ requests_of command
+  pub own : AsksOwn start command before served
   pub left_open : leaves_open start served ≡ true
   pub on : AsksFirstOf questions served log
 

@@ -1,5 +1,5 @@
 -- What a world has done for the commands that it was asked for.
-use Rattle.std.specs.Prelude.{◌≡◌, ◌⊎◌, ℕ, Bool, true, false, List, [], ◌∷◌, ◌++◌, reverse, take, Option, Some}
+use Rattle.std.specs.Prelude.{◌≡◌, ◌⊎◌, ℕ, ◌≤◌, Bool, true, false, List, [], ◌∷◌, ◌++◌, reverse, take, Option, Some}
 use Rattle.std.specs.Prelude.{MatchOption}
 use Rattle.std.specs.List.{list_all, list_any}
 use Rattle.std.specs.Io.KnownBytes.{Appends}
@@ -13,7 +13,7 @@ use Rattle.sig_core.specs.declared.log.HostLog.{HostLog}
 use Rattle.world_core.specs.Steps.{HostStep}
 use Rattle.sig_core.specs.declared.reply.ApiReply.{ApiReply}
 use Rattle.sig_core.specs.declared.request.ApiReq.{ApiReq}
-use Rattle.shell_top.specs.Asked.{AreAsked, are_peaceful, AsksInPart, IsAskedNext, questions, requests_of}
+use Rattle.shell_top.specs.Asked.{AreAsked, AreOwn, are_peaceful, AsksInPart, IsAskedNext, IsAskedUp, questions, requests_of, rounds_behind}
 use Rattle.shell_top.specs.declared.ended.Ending.{Ending}
 use Rattle.shell_top.specs.declared.ended.Ending.TheVariants.{WriteFault, NoMemory}
 use Rattle.shell_top.specs.Printed.{AppendsPart}
@@ -27,7 +27,7 @@ use Rattle.world_views.specs.Machine.{machine}
 use Rattle.world_views.specs.Requests.{AreAskedAtQuiet, requests}
 use Rattle.world_views.specs.Right.{IsRight}
 use Rattle.world_views.specs.Unscheduled.{AreUnscheduled}
-use Rattle.world_views.specs.World.{IsIdle, Whole}
+use Rattle.world_views.specs.World.{IsIdle, Whole, is_down}
 
 -- these requests stop nobody and cut nobody off
 abbrev pub are_peaceful_requests : List ApiReq → Bool
@@ -59,6 +59,22 @@ pub record HasServed (start : Start) (asked : List ApiReq) (w t : Whole) : Type 
   pub peace : IsSound start w → IsIdle w → AreInPeace start (logs_at w.logs) → are_peaceful_requests asked ≡ true
       → NoneStops (logs_at t.logs)
       → AreInPeace start (logs_at t.logs)
+
+-- It was so asked for a command's own requests.
+pub record HasServedOwn (start : Start) (command : Command) (w t : Whole) : Type 0 where
+  pub first : ApiReq
+  pub further : List ApiReq
+  pub own : AreOwn command first further (is_down t)
+  pub served : HasServed start (first ∷ further) w t
+  pub up : (further ≡ []) ⊎ IsAskedUp start (logs_at w.logs 0) (logs_at t.logs 0)
+
+-- It was so asked for rounds behind the first one: for all of them, or until the cluster was down.
+pub record HasServedRounds (start : Start) (rounds all : ℕ) (w t : Whole) : Type 0 where
+  pub count : ℕ
+  pub low : count ≤ all
+  pub cause : (count ≡ all) ⊎ (is_down t ≡ true)
+  pub served : HasServed start (rounds_behind rounds count) w t
+  pub up : (count ≡ 0) ⊎ IsAskedUp start (logs_at w.logs 0) (logs_at t.logs 0)
 
 -- Memory was wanting while the world was asked for these requests: of the logs, a first part of them was asked for,
 -- each
@@ -98,7 +114,10 @@ pub record IsServed (start : Start) (commands : List Command) (w : Whole) : Type
 -- Memory was wanting while a command was served, after these commands: what the logs are then. The questions were asked
 -- only where it left something of its own unanswered. The text of the logs goes on from the text before.
 pub record AreLeft (start : Start) (command : Command) (w : Whole) (logs : List HostLog) : Type 0 where
-  pub left : AreLeftOff start (requests_of command ++ questions) w logs
+  pub asked : List ApiReq
+  pub left_out : List ApiReq
+  pub own : requests_of command ≡ asked ++ left_out
+  pub left : AreLeftOff start (asked ++ questions) w logs
   pub begun : AsksInPart start (Some command) (logs_at w.logs 0) (logs_at logs 0)
   pub more : List ℕ
   pub text : text_of start (logs_at logs 0) ≡ text_of start (logs_at w.logs 0) ++ more

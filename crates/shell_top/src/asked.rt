@@ -2,7 +2,7 @@
 ghost use Rattle.std.specs.Prelude.{◌≡◌, ◌-◌, ◌∷◌, [], true, OnOk, OnErr};
 ghost use Rattle.script_lang.specs.declared.command.Command.{Command};
 ghost use Rattle.shell_top.specs.Asked.{is_served, questions, requests_of, rounds_behind};
-ghost use Rattle.shell_top.specs.Served.{AreLeftOff, HasGoneOn, HasServed};
+ghost use Rattle.shell_top.specs.Served.{AreLeftOff, HasGoneOn, HasServed, HasServedOwn, HasServedRounds};
 ghost use Rattle.world_views.specs.Driven.{IsSound};
 ghost use Rattle.world_core.specs.Start.{Start};
 ghost use Rattle.world_views.specs.World.{is_left_open};
@@ -28,11 +28,11 @@ fn ask<R: Wait>(rt: &R, alloc: Global, world: &mut World, request: ApiReq) -> Re
     world.drive(rt, alloc)
 }
 
-/// Lets rounds pass, with quiet after each.
+/// Lets rounds pass, with quiet after each, until the cluster is down.
 fn tick<R: Wait>(rt: &R, alloc: Global, world: &mut World, rounds: u8) -> Result<(), NoMemory>
     ghost start: { Start }
     requires { IsSound start (whole_of world.old) }
-    ensures ok { OnOk result (HasServed start (requests_of (Command.Tick rounds)) (whole_of world.old) (whole_of world.new)) }
+    ensures ok { OnOk result (HasServedOwn start (Command.Tick rounds) (whole_of world.old) (whole_of world.new)) }
     ensures err { OnErr result (AreLeftOff start (requests_of (Command.Tick rounds)) (whole_of world.old) (whole_of world.new).logs) }
 {
     let first = ApiReq::Tick {
@@ -43,7 +43,7 @@ fn tick<R: Wait>(rt: &R, alloc: Global, world: &mut World, rounds: u8) -> Result
     further_rounds(rt, alloc, world, rounds)
 }
 
-/// Lets all rounds but the first pass.
+/// Lets all rounds but the first pass, up to one behind which the cluster is down.
 fn further_rounds<R: Wait>(
     rt: &R,
     alloc: Global,
@@ -52,10 +52,13 @@ fn further_rounds<R: Wait>(
 ) -> Result<(), NoMemory>
     ghost start: { Start }
     requires { IsSound start (whole_of world.old) }
-    ensures ok { OnOk result (HasServed start (rounds_behind rounds (rounds - 1)) (whole_of world.old) (whole_of world.new)) }
+    ensures ok { OnOk result (HasServedRounds start rounds (rounds - 1) (whole_of world.old) (whole_of world.new)) }
     ensures err { OnErr result (AreLeftOff start (rounds_behind rounds (rounds - 1)) (whole_of world.old) (whole_of world.new).logs) }
 {
     for behind in 0..rounds.saturating_sub(1) {
+        if world.is_down() {
+            return Ok(());
+        }
         let next = ApiReq::Tick {
             round: behind + 2,
             of: rounds,
@@ -69,6 +72,7 @@ fn further_rounds<R: Wait>(
 ///
 /// # Errors
 /// `NoMemory`, and then the world is of use for its logs alone.
+#[tactic(auto, using(crate::proofs::ServedLemmas::asking_once))]
 pub fn ask_own<R: Wait>(
     rt: &R,
     alloc: Global,
@@ -78,7 +82,7 @@ pub fn ask_own<R: Wait>(
     ghost start: { Start }
     requires opened { IsSound start (whole_of world.old) }
     requires served { is_served command.now ≡ true }
-    ensures ok { OnOk result (HasServed start (requests_of command.now) (whole_of world.old) (whole_of world.new)) }
+    ensures ok { OnOk result (HasServedOwn start command.now (whole_of world.old) (whole_of world.new)) }
     ensures err { OnErr result (AreLeftOff start (requests_of command.now) (whole_of world.old) (whole_of world.new).logs) }
 {
     match command {

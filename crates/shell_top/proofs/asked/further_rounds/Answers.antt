@@ -1,11 +1,12 @@
-use Rattle.std.proofs.Common.{◌≡◌, [], ◌∷◌, ◌-◌, ◌+◌, arith, subst}
+use Rattle.std.proofs.Common.{◌≡◌, inl, inr, [], ◌∷◌, ◌-◌, ◌+◌, arith, sym, ◌∙◌}
 use Rattle.std.proofs.lemmas.Bool.Decides.{nat_tests}
 use Rattle.sig_core.specs.declared.request.ApiReq.TheVariants.{Tick}
-use Rattle.shell_top.specs.Asked.{rounds_behind}
-use Rattle.shell_top.specs.Served.{HasServed}
 use Rattle.world_views.specs.WorldOf.{whole_of}
-use Rattle.shell_top.proofs.ServedLemmas.{on_err, round_left, round_served, served_sound}
+use Rattle.shell_top.proofs.ServedLemmas.{on_err, round_left, round_served, round_up, rounds_cut, served_sound}
 use Rattle.shell_top.proofs.asked.further_rounds.Goals as goal
+
+pub is_down-requires : goal.is_down-requires
+is_down-requires g c = record { start = g.start; sound = c.loop-behind.invariant.sound }
 
 pub returns-in_err-ask-clause-err : goal.returns-in_err-ask-clause-err
 returns-in_err-ask-clause-err g c =
@@ -24,12 +25,15 @@ loop-behind-preserved g c =
       sound = served_sound g.start (Tick (c.loop-behind.behind + 2) c.args.rounds ∷ []) (whole_of c.loop-behind.world)
           (whole_of c.ask.new.world) c.in_ok-ask.ensures.ok
           c.loop-behind.invariant.sound;
+      up = round_up g.start c.args.rounds c.loop-behind.behind (whole_of c.args.world.now)
+          (whole_of c.loop-behind.world) (whole_of c.ask.new.world) c.loop-behind.invariant.served
+          c.loop-behind.invariant.sound (sym c.is_down.ensures ∙ c.is_down-test.false) c.in_ok-ask.ensures.ok;
     }
 
 pub returns-clause-ok : goal.returns-clause-ok
 returns-clause-ok g c =
     let all : c.loop-behind.behind ≡ c.args.rounds - 1 =
     omega (arith, c.loop-behind-test.false, c.loop-behind.auto.behind-end, c.saturating_sub-behind-end.ensures) in
-    subst
-    (λ n. HasServed g.start (rounds_behind c.args.rounds n) (whole_of c.args.world.now) (whole_of c.loop-behind.world))
-    all c.loop-behind.invariant.served
+    rounds_cut g.start c.args.rounds c.loop-behind.behind (c.args.rounds - 1) (whole_of c.args.world.now)
+    (whole_of c.loop-behind.world) (omega (arith, all)) (inl all) c.loop-behind.invariant.served
+    c.loop-behind.invariant.up
