@@ -76,23 +76,24 @@ fn first_wrong(rows: &mut Store, lines: &[Line]) -> Result<Option<usize>, Fail> 
     Ok(None)
 }
 
+const FREED: [Line; 11] = [
+    (b'a', Call::Put(1), (Some(0), 0, Some(1))),
+    (b'b', Call::Put(2), (Some(0), 0, Some(2))),
+    (b'a', Call::Delete, (Some(0), 1, Some(1))),
+    (b'a', Call::Commit(6), (Some(1), 1, None)),
+    (b'c', Call::Room, (Some(1), 1, None)),
+    (b'a', Call::Complete, (Some(1), 0, None)),
+    (b'c', Call::Prepare, (Some(1), 1, None)),
+    (b'c', Call::Abort, (Some(1), 0, None)),
+    (b'd', Call::Put(7), (Some(0), 0, Some(7))),
+    (b'e', Call::Insert, (Some(0), 1, None)),
+    (b'e', Call::Commit(8), (Some(0), 1, Some(8))),
+];
+
 #[test]
 fn a_freed_place_is_taken_again(rt: HostRuntime) -> Result<(), Fail> {
     let mut rows = Store::new(rt.alloc())?;
-    let lines = [
-        (b'a', Call::Put(1), (Some(0), 0, Some(1))),
-        (b'b', Call::Put(2), (Some(0), 0, Some(2))),
-        (b'a', Call::Delete, (Some(0), 1, Some(1))),
-        (b'a', Call::Commit(6), (Some(1), 1, None)),
-        (b'c', Call::Room, (Some(1), 1, None)),
-        (b'a', Call::Complete, (Some(1), 0, None)),
-        (b'c', Call::Prepare, (Some(1), 1, None)),
-        (b'c', Call::Abort, (Some(1), 0, None)),
-        (b'd', Call::Put(7), (Some(0), 0, Some(7))),
-        (b'e', Call::Insert, (Some(0), 1, None)),
-        (b'e', Call::Commit(8), (Some(0), 1, Some(8))),
-    ];
-    assert_eq!(rt; first_wrong(&mut rows, &lines)?, None);
+    assert_eq!(rt; first_wrong(&mut rows, &FREED)?, None);
     Ok(())
 }
 
@@ -138,21 +139,22 @@ fn a_record_tells_the_epoch_of_its_first_commit(rt: HostRuntime) -> Result<(), F
     Ok(())
 }
 
+const EPOCHS: [Line; 10] = [
+    (b'a', Call::Room, (None, 0, None)),
+    (b'a', Call::Put(3), (Some(0), 0, Some(3))),
+    (b'a', Call::Prepare, (Some(0), 1, Some(3))),
+    (b'a', Call::Commit(5), (Some(0), 1, Some(5))),
+    (b'a', Call::Complete, (Some(0), 0, Some(5))),
+    (b'a', Call::Delete, (Some(0), 1, Some(5))),
+    (b'a', Call::Commit(6), (None, 1, None)),
+    (b'a', Call::Complete, (None, 0, None)),
+    (b'a', Call::Prepare, (None, 1, None)),
+    (b'a', Call::Commit(8), (Some(0), 1, Some(8))),
+];
+
 #[test]
 fn a_row_has_the_epoch_of_its_last_commit(rt: HostRuntime) -> Result<(), Fail> {
     let mut rows = Store::new(rt.alloc())?;
-    let lines = [
-        (b'a', Call::Room, (None, 0, None)),
-        (b'a', Call::Put(3), (Some(0), 0, Some(3))),
-        (b'a', Call::Prepare, (Some(0), 1, Some(3))),
-        (b'a', Call::Commit(5), (Some(0), 1, Some(5))),
-        (b'a', Call::Complete, (Some(0), 0, Some(5))),
-        (b'a', Call::Delete, (Some(0), 1, Some(5))),
-        (b'a', Call::Commit(6), (None, 1, None)),
-        (b'a', Call::Complete, (None, 0, None)),
-        (b'a', Call::Prepare, (None, 1, None)),
-        (b'a', Call::Commit(8), (Some(0), 1, Some(8))),
-    ];
-    assert_eq!(rt; first_wrong(&mut rows, &lines)?, None);
+    assert_eq!(rt; first_wrong(&mut rows, &EPOCHS)?, None);
     Ok(())
 }
