@@ -33,7 +33,8 @@ use Rattle.world_core.specs.Steps.{HostStep}
 use Rattle.run_theory.specs.Counts.{one_if}
 use Rattle.answer_laws.proofs.AbortCounts.{abort_low, answer_turn, cont_place, cont_turn, few_answers, few_rows}
 use Rattle.answer_laws.proofs.AbortCounts.{lqh_aborts, none_at}
-use Rattle.run_laws.proofs.hosts.AlongSteps.{Goes, addressed, along, at_home, at_tc, first_none, heard_rows, home_place, goes_cases}
+use Rattle.run_laws.proofs.hosts.AlongSteps.{Goes, addressed, along, at_home, at_tc, first_none, heard_rows, home_place}
+use Rattle.run_laws.proofs.hosts.AlongSteps.{goes_cases}
 use Rattle.run_laws.proofs.hosts.AlongSteps.{live_tx, no_transaction, other_turn, the_transaction, turn_at, tx_at}
 use Rattle.run_laws.proofs.hosts.Always.{few_touched}
 use Rattle.answer_laws.proofs.FirstChains.{good_chain}

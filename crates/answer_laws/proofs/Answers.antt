@@ -23,7 +23,8 @@ use Rattle.answer_laws.proofs.Lives.{live_low}
 use Rattle.answer_laws.proofs.Queued.{operations_queue}
 use Rattle.answer_laws.proofs.Serves.{each_served}
 use Rattle.answer_laws.proofs.Verified.{no_epoch}
-use Rattle.answer_laws.specs.Answered.{AreQuiet, EachIsAnswered, IsOpenAt, IsKeptByCoordinator, WaitsForLock, is_answered_by, is_operating}
+use Rattle.answer_laws.specs.Answered.{AreQuiet, EachIsAnswered, IsOpenAt, IsKeptByCoordinator, WaitsForLock}
+use Rattle.answer_laws.specs.Answered.{is_answered_by, is_operating}
 use Rattle.host_laws.specs.OpenedAfter.{opened_after}
 use Rattle.tc_block.specs.Phases.{is_aborting, is_committing, is_completing}
 

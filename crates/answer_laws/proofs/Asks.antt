@@ -1,5 +1,6 @@
 -- Where a coordinator's transaction has an operation unanswered, the API has sent one.
-use Rattle.std.proofs.Common.{◌≡◌, ◌≢◌, ◌⊎◌, ℕ, zero, suc, ◌+◌, ◌<◌, ◌≤◌, List, [], ◌∷◌, Bool, true, false, refl, ap, sym, ◌∙◌, arith, inl, inr}
+use Rattle.std.proofs.Common.{◌≡◌, ◌≢◌, ◌⊎◌, ℕ, zero, suc, ◌+◌, ◌<◌, ◌≤◌, List, [], ◌∷◌, Bool, true, false, refl, ap}
+use Rattle.std.proofs.Common.{sym, ◌∙◌, arith, inl, inr}
 use Rattle.std.specs.Prelude.{◌==◌, ◌&&◌, is_some, Some}
 use Rattle.std.proofs.lemmas.Bool.{cases_lt, false≢true}
 use Rattle.std.proofs.lemmas.Bool.Decides.{nat_tests}
@@ -20,7 +21,8 @@ use Rattle.api_block.specs.Opened.{has_tx, is_tx}
 use Rattle.api_block.specs.State.{ApiState}
 use Rattle.lqh_block.specs.Lqh.{lqh_table}
 use Rattle.node_core.specs.declared.host.Host as host
-use Rattle.node_core.proofs.HostCases.{BlockCase, api_takes, block_case, dih_takes, none_takes, of_effects, rows_take, tc_takes}
+use Rattle.node_core.proofs.HostCases.{BlockCase, api_takes, block_case, dih_takes, none_takes, of_effects, rows_take}
+use Rattle.node_core.proofs.HostCases.{tc_takes}
 use Rattle.node_core.specs.Blocks.{api_of, dih_of, has_api, lqh_of, tc_of}
 use Rattle.node_core.specs.Dih.{dih_table}
 use Rattle.node_core.specs.Requests.{is_request}
@@ -39,7 +41,8 @@ use Rattle.host_laws.proofs.api.Moves.{ApiMove, api_moves, begun_as, ends, goes,
 use Rattle.host_laws.proofs.hosts.DihSends.{dih_kinds}
 use Rattle.host_laws.proofs.hosts.ShellHost.{opened_next, shell_after, shell_sends}
 use Rattle.host_laws.proofs.hosts.BlocksAlong.{first_live, no_api}
-use Rattle.host_laws.proofs.hosts.LinkCounts.{all_three, few_sends, sent_signals, shell_signals, signals, steps, steps_from, taken_signals, to_host}
+use Rattle.host_laws.proofs.hosts.LinkCounts.{all_three, few_sends, sent_signals, shell_signals, signals, steps}
+use Rattle.host_laws.proofs.hosts.LinkCounts.{steps_from, taken_signals, to_host}
 use Rattle.answer_laws.proofs.Lives.{holds_at, once_started}
 use Rattle.host_laws.proofs.rows.Sends.{lqh_kinds}
 use Rattle.host_laws.proofs.hosts.SendKinds.{are_of, is_dih_kind, is_lqh_kind, is_tc_kind, none_of}

@@ -1,5 +1,6 @@
 -- Wishes for a transaction are replied to, one by one: so many begin as were wished for and not replied to.
-use Rattle.std.proofs.Common.{◌≡◌, ◌≢◌, ◌⊎◌, ℕ, zero, suc, ◌+◌, ◌≤◌, ◌<◌, List, [], ◌∷◌, ◌++◌, Bool, true, false, refl, ap, sym, ◌∙◌, subst, arith, inl, inr}
+use Rattle.std.proofs.Common.{◌≡◌, ◌≢◌, ◌⊎◌, ℕ, zero, suc, ◌+◌, ◌≤◌, ◌<◌, List, [], ◌∷◌, ◌++◌, Bool, true, false, refl}
+use Rattle.std.proofs.Common.{ap, sym, ◌∙◌, subst, arith, inl, inr}
 use Rattle.std.specs.Prelude.{◌==◌, ◌&&◌, ◌||◌, ◌/◌, not, Option}
 use Rattle.std.specs.List.{list_any}
 use Rattle.std.proofs.lemmas.Bool.{cases_lt, eqb-true, false≢true, true≢false}
@@ -38,9 +39,11 @@ use Rattle.world_core.specs.Steps.{Addressed, HostStep}
 use Rattle.run_laws.proofs.hosts.AlongSteps.{Goes, along, few_taken, goes_cases}
 use Rattle.host_laws.proofs.rows.Operations.{left_of, right_of}
 use Rattle.host_laws.proofs.api.Begins.{IsDue, IsGood, same_name-self}
-use Rattle.host_laws.proofs.hosts.ShellHost.{TellsHome, host_replies, host_wishes, opened_first, opened_next, shell_after, shell_count, shell_sends, told}
+use Rattle.host_laws.proofs.hosts.ShellHost.{TellsHome, host_replies, host_wishes, opened_first, opened_next}
+use Rattle.host_laws.proofs.hosts.ShellHost.{shell_after, shell_count, shell_sends, told}
 use Rattle.host_laws.proofs.hosts.BlocksAlong.{at_tc_host, no_api, sent_to_tc}
-use Rattle.host_laws.proofs.hosts.LinkCounts.{few_sends, sent_signals, shell_signals, signals, steps, steps_from, taken_signals, taken_steps}
+use Rattle.host_laws.proofs.hosts.LinkCounts.{few_sends, sent_signals, shell_signals, signals, steps, steps_from}
+use Rattle.host_laws.proofs.hosts.LinkCounts.{taken_signals, taken_steps}
 use Rattle.run_theory.proofs.Tally.{tally_in, tally_past}
 use Rattle.run_theory.specs.Counts.{one_if, tally}
 use Rattle.host_laws.proofs.api.Wishes.{is_api, is_reply, is_tc, is_wish, reply_of, sends_of, to_node, wish_of}

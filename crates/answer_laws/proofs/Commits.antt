@@ -43,7 +43,8 @@ use Rattle.world_core.specs.Start.{Start}
 use Rattle.world_core.specs.Steps.{HostStep}
 use Rattle.run_theory.proofs.Tally.{and_few}
 use Rattle.run_theory.specs.Counts.{one_if}
-use Rattle.run_laws.proofs.hosts.AlongSteps.{Goes, addressed, along, at_home, at_tc, heard_rows, home_place, live_tx, tx_at, goes_cases}
+use Rattle.run_laws.proofs.hosts.AlongSteps.{Goes, addressed, along, at_home, at_tc, heard_rows, home_place, live_tx}
+use Rattle.run_laws.proofs.hosts.AlongSteps.{tx_at, goes_cases}
 use Rattle.answer_laws.proofs.FirstChains.{chain_some, good_chain}
 use Rattle.host_laws.proofs.hosts.BlocksAlong.{IsHome, first_live, reaches, tc_layout}
 use Rattle.host_laws.proofs.coordinator.HostTurns.{rows_turn, tc_turn}

@@ -37,9 +37,11 @@ use Rattle.host_laws.proofs.hosts.SendKinds.{are_of, of_kind, of_map}
 use Rattle.run_theory.proofs.Tally.{tally_append, tally_between}
 use Rattle.run_theory.specs.Counts.{one_if, tally}
 use Rattle.host_laws.proofs.coordinator.Lives.{IsOwn, insert_new}
-use Rattle.host_laws.proofs.coordinator.Turns.{GivesUp, IsCommitted, TurnMove, abort_ends, aborted, aborts, all_completed}
+use Rattle.host_laws.proofs.coordinator.Turns.{GivesUp, IsCommitted, TurnMove, abort_ends, aborted, aborts}
+use Rattle.host_laws.proofs.coordinator.Turns.{all_completed}
 use Rattle.host_laws.proofs.coordinator.Turns.{answers, asked_to, asks, at_last, at_once, commits, committed, completed}
-use Rattle.host_laws.proofs.coordinator.Turns.{completes, decides, ends, gives_up, goes_on, is_wait_kind, keeps, late, refused}
+use Rattle.host_laws.proofs.coordinator.Turns.{completes, decides, ends, gives_up, goes_on, is_wait_kind, keeps, late}
+use Rattle.host_laws.proofs.coordinator.Turns.{refused}
 use Rattle.host_laws.proofs.coordinator.Turns.{turn_moves}
 use Rattle.tc_block.specs.Phases.{is_committing}
 use Rattle.tc_block.proofs.TurnRows.{begins, misses, rests, takes, tc_step, TcStep, turn_row, tx_in, passes, refuses}

@@ -32,13 +32,15 @@ use Rattle.world_core.specs.Hosts.{home, hosts}
 use Rattle.world_core.specs.Machine.{after, machine, step_after}
 use Rattle.world_core.specs.Start.{Start}
 use Rattle.world_core.specs.Steps.{HostStep}
-use Rattle.run_laws.proofs.hosts.AlongSteps.{Goes, along, at_tc, first_none, no_transaction, the_transaction, turn_at, tx_at, goes_cases}
+use Rattle.run_laws.proofs.hosts.AlongSteps.{Goes, along, at_tc, first_none, no_transaction, the_transaction, turn_at}
+use Rattle.run_laws.proofs.hosts.AlongSteps.{tx_at, goes_cases}
 use Rattle.run_laws.proofs.hosts.Always.{Touches, turn_touches}
 use Rattle.answer_laws.proofs.ApiEntries.{IsEntryRight, is_commit_req, of_opened, shell_entry}
 use Rattle.answer_laws.proofs.Begins.{wish_part}
 use Rattle.host_laws.proofs.hosts.ShellHost.{opened_first, opened_next, shell_after, shell_sends}
 use Rattle.host_laws.proofs.hosts.BlocksAlong.{sent_to_tc}
-use Rattle.host_laws.proofs.coordinator.HostTurns.{HostTurn, IsAside, IsBorn, IsTurned, aside, in_rows, starting, turning}
+use Rattle.host_laws.proofs.coordinator.HostTurns.{HostTurn, IsAside, IsBorn, IsTurned, aside, in_rows, starting}
+use Rattle.host_laws.proofs.coordinator.HostTurns.{turning}
 use Rattle.host_laws.proofs.hosts.LinkCounts.{sent_signals, shell_signals, signals, steps}
 use Rattle.run_laws.proofs.causes.Begun.{keeps}
 use Rattle.host_laws.proofs.rows.Sends.{lqh_kinds}

@@ -27,9 +27,11 @@ use Rattle.run_theory.specs.Counts.{one_if}
 use Rattle.host_laws.proofs.coordinator.Keys.{is_answer, is_key}
 use Rattle.host_laws.proofs.coordinator.Steps.{live_in}
 use Rattle.answer_laws.proofs.Wants.{IsHeld, all_right, held_few}
-use Rattle.answer_laws.specs.Answered.{AreQuiet, EachAskedWhereOperating, EachClosedWhereCommitting, EachIsNumbered, IsLiveAs}
+use Rattle.answer_laws.specs.Answered.{AreQuiet, EachAskedWhereOperating, EachClosedWhereCommitting, EachIsNumbered}
+use Rattle.answer_laws.specs.Answered.{IsLiveAs}
 use Rattle.host_laws.specs.OpenedAfter.{opened_after, opened_in}
-use Rattle.answer_laws.proofs.Heard.{AllHeard, all_heard, answers_sent, answers_taken, commits_sent, commits_taken, keys_sent, keys_taken}
+use Rattle.answer_laws.proofs.Heard.{AllHeard, all_heard, answers_sent, answers_taken, commits_sent, commits_taken}
+use Rattle.answer_laws.proofs.Heard.{keys_sent, keys_taken}
 
 module _ (start : Start) (tx : TxId) (some : 1 ≤ tx.tc) (low : tx.tc ≤ start.shape.nodes) where
   -- the host of its coordinator

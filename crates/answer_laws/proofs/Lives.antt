@@ -1,5 +1,6 @@
 -- Each transaction that the API holds as begun is one of its coordinator.
-use Rattle.std.proofs.Common.{◌≡◌, ◌≢◌, ◌⊎◌, ℕ, ◌<◌, ◌≤◌, List, [], ◌∷◌, Bool, true, false, refl, ap, ◌∙◌, subst, arith, inl, inr}
+use Rattle.std.proofs.Common.{◌≡◌, ◌≢◌, ◌⊎◌, ℕ, ◌<◌, ◌≤◌, List, [], ◌∷◌, Bool, true, false, refl, ap, ◌∙◌, subst, arith}
+use Rattle.std.proofs.Common.{inl, inr}
 use Rattle.std.specs.Prelude.{◌==◌, ◌&&◌, Some, if◌then◌else◌}
 use Rattle.std.proofs.lemmas.Bool.{cases_eq, cases_lt}
 use Rattle.std.proofs.lemmas.Bool.Decides.{nat_tests}
@@ -31,7 +32,8 @@ use Rattle.host_laws.proofs.api.Wishes.{is_api}
 use Rattle.answer_laws.specs.Answered.{AreQuiet, EachHasCoordinator, IsLiveAs, IsLiveAt}
 use Rattle.host_laws.specs.OpenedAfter.{opened_after, opened_in}
 use Rattle.tc_block.specs.Phases.{is_completing}
-use Rattle.run_laws.proofs.causes.Begun.{AreOrdered, HostKeeps, keeps, ordered_past, plain_end, plain_start, silent_end, silent_start}
+use Rattle.run_laws.proofs.causes.Begun.{AreOrdered, HostKeeps, keeps, ordered_past, plain_end, plain_start, silent_end}
+use Rattle.run_laws.proofs.causes.Begun.{silent_start}
 
 module _ (start : Start) (tx : TxId) where
   -- a log of the shell's host that has taken signals in order

@@ -1,5 +1,6 @@
 -- What a step of a coordinator makes of what a transaction that commits waits for.
-use Rattle.std.proofs.Common.{◌≡◌, ◌⊎◌, ℕ, ◌≤◌, ◌<◌, List, [], ◌∷◌, ◌++◌, Bool, true, false, refl, ap, sym, ◌∙◌, subst, arith, inl, inr}
+use Rattle.std.proofs.Common.{◌≡◌, ◌⊎◌, ℕ, ◌≤◌, ◌<◌, List, [], ◌∷◌, ◌++◌, Bool, true, false, refl, ap, sym, ◌∙◌, subst}
+use Rattle.std.proofs.Common.{arith, inl, inr}
 use Rattle.std.specs.Prelude.{Option, None, Some}
 use Rattle.std.proofs.lemmas.Bool.{false≢true}
 use Rattle.indexmap.specs.IndexMap.{insert_entry}
@@ -26,13 +27,15 @@ use Rattle.sig_core.proofs.Keys.{same_tx-self}
 use Rattle.sig_core.proofs.TxLemmas.{same_tx-is}
 use Rattle.tc_block.proofs.EachTurn.{rows_at}
 use Rattle.tc_block.proofs.LiveSplit.{AreOthers}
-use Rattle.tc_block.proofs.TurnRows.{TcStep, begins, is_turn, misses, passes, refuses, rests, takes, tc_step, turn_by, turn_row, tx_in, left_if}
+use Rattle.tc_block.proofs.TurnRows.{TcStep, begins, is_turn, misses, passes, refuses, rests, takes, tc_step, turn_by}
+use Rattle.tc_block.proofs.TurnRows.{turn_row, tx_in, left_if}
 use Rattle.host_laws.proofs.api.Begins.{each_at, each_changed, each_less, in_middle}
 use Rattle.run_theory.proofs.Tally.{tally_between, tally_in, tally_none}
 use Rattle.run_theory.specs.Counts.{one_if, tally}
 use Rattle.host_laws.proofs.coordinator.Commits.{is_chain}
 use Rattle.host_laws.proofs.coordinator.Lives.{IsOwn, insert_new, is_keyed}
-use Rattle.host_laws.proofs.coordinator.Owes.{IsKnown, Owes, Owing, TurnOwes, at_if, came_in, cont_in, owes_forms, waits}
+use Rattle.host_laws.proofs.coordinator.Owes.{IsKnown, Owes, Owing, TurnOwes, at_if, came_in, cont_in, owes_forms}
+use Rattle.host_laws.proofs.coordinator.Owes.{waits}
 
 in_split : {A : Type 0} (x y : A) (front back : List A) → IsIn x (front ++ y ∷ back) → IsIn x (front ++ back) ⊎ (x ≡ y)
 in_split x y [] back (inl e) = inr e

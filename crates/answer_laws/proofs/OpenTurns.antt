@@ -1,5 +1,6 @@
 -- A turn after which a transaction is open: it is asked for an operation, or that is answered, or all is as before.
-use Rattle.std.proofs.Common.{◌≡◌, ◌⊎◌, ℕ, ◌+◌, ◌-◌, List, length, Bool, true, false, refl, ap, sym, ◌∙◌, arith, inl, inr}
+use Rattle.std.proofs.Common.{◌≡◌, ◌⊎◌, ℕ, ◌+◌, ◌-◌, List, length, Bool, true, false, refl, ap, sym, ◌∙◌, arith, inl}
+use Rattle.std.proofs.Common.{inr}
 use Rattle.std.specs.Prelude.{◌==◌, ◌&&◌, is_some, None}
 use Rattle.std.proofs.lemmas.Bool.{false≢true}
 use Rattle.sig_core.specs.declared.member.TxId.{TxId}
@@ -24,7 +25,9 @@ use Rattle.host_laws.proofs.hosts.SendKinds.{is_keyless, of_kind}
 use Rattle.run_theory.specs.Counts.{one_if}
 use Rattle.host_laws.proofs.coordinator.Keys.{answers_in, key_of_tx, no_answers}
 use Rattle.tc_block.proofs.EachTurn.{IsMissed}
-use Rattle.host_laws.proofs.coordinator.Turns.{abort_ends, aborted, aborts, all_completed, answers, asks, commits, committed, completed, completes, decides, ends, entered_phase, gives_up, goes_on, is_wait_kind, keeps, late, over_not, TurnMove}
+use Rattle.host_laws.proofs.coordinator.Turns.{abort_ends, aborted, aborts, all_completed, answers, asks, commits}
+use Rattle.host_laws.proofs.coordinator.Turns.{committed, completed, completes, decides, ends, entered_phase, gives_up}
+use Rattle.host_laws.proofs.coordinator.Turns.{goes_on, is_wait_kind, keeps, late, over_not, TurnMove}
 use Rattle.tc_block.specs.Phases.{is_aborting}
 
 abbrev pub commit_body : TxId → Body → Bool

@@ -1,5 +1,6 @@
 -- An operation that a coordinator's transaction has unanswered is on its way, or waits at a node.
-use Rattle.std.proofs.Common.{◌≡◌, ◌≢◌, ◌⊎◌, ℕ, ◌+◌, ◌≤◌, ◌<◌, List, [], ◌∷◌, Bool, true, false, refl, ap, sym, ◌∙◌, subst, arith, inl, inr}
+use Rattle.std.proofs.Common.{◌≡◌, ◌≢◌, ◌⊎◌, ℕ, ◌+◌, ◌≤◌, ◌<◌, List, [], ◌∷◌, Bool, true, false, refl, ap, sym, ◌∙◌}
+use Rattle.std.proofs.Common.{subst, arith, inl, inr}
 use Rattle.std.specs.Prelude.{◌==◌, ◌&&◌, nat_lt, Some}
 use Rattle.std.proofs.lemmas.Bool.{cases_eq, eqb-true, false≢true, true≢false}
 use Rattle.std.proofs.lemmas.Bool.Decides.{nat_tests}
@@ -8,7 +9,8 @@ use Rattle.lqh_block.specs.declared.request.Request.{Request}
 use Rattle.sig_core.specs.Work.{work_key}
 use Rattle.node_core.specs.declared.host.Host as host
 use Rattle.node_core.specs.declared.host.Host.TheVariants.{Shell, Main, Tc, Ldm}
-use Rattle.node_core.proofs.HostCases.{BlockCase, IsApiStep, IsDihStep, IsIdleStep, IsRowsStep, IsTcStep, api_takes, block_case, dih_takes, none_takes, rows_take, runs, tc_step, tc_takes}
+use Rattle.node_core.proofs.HostCases.{BlockCase, IsApiStep, IsDihStep, IsIdleStep, IsRowsStep, IsTcStep, api_takes}
+use Rattle.node_core.proofs.HostCases.{block_case, dih_takes, none_takes, rows_take, runs, tc_step, tc_takes}
 use Rattle.node_core.specs.Blocks.{has_lqh, has_tc, lqh_of, tc_of}
 use Rattle.lqh_block.specs.State.{LqhState}
 use Rattle.run_theory.specs.Runs.{AreLogs, IsWithin}
@@ -40,7 +42,8 @@ use Rattle.answer_laws.proofs.Flows.{flow_few}
 use Rattle.host_laws.proofs.hosts.BlocksAlong.{first_live, no_waiting, reaches, tc_layout}
 use Rattle.host_laws.proofs.coordinator.HostTurns.{idle_unheard}
 use Rattle.host_laws.proofs.hosts.LinkCounts.{signals}
-use Rattle.host_laws.proofs.rows.Operations.{came_of, is_good, is_lqh, is_mine, is_node, is_op, left_of, lqh_ops, ops, right_of, true_and}
+use Rattle.host_laws.proofs.rows.Operations.{came_of, is_good, is_lqh, is_mine, is_node, is_op, left_of, lqh_ops, ops}
+use Rattle.host_laws.proofs.rows.Operations.{right_of, true_and}
 use Rattle.host_laws.proofs.coordinator.NodeOps.{AreRight, StepAsks, is_asking, tc_steps}
 use Rattle.run_theory.proofs.Tally.{Counted, and_few, counted, tally_in}
 use Rattle.run_theory.specs.Counts.{one_if, tally}

@@ -20,7 +20,9 @@ use Rattle.tc_block.specs.Phases.{is_committing, is_decided}
 use Rattle.run_laws.proofs.hosts.AlongSteps.{tx_at}
 use Rattle.run_laws.proofs.hosts.Always.{always}
 use Rattle.host_laws.proofs.coordinator.Operations.{is_right}
-use Rattle.host_laws.proofs.coordinator.Turns.{IsCommitted, TurnMove, abort_ends, aborted, aborts, all_completed, answers, asks, at_last, at_once, commits, committed, completed, completes, decides, ends, gives_up, goes_on, keeps, late}
+use Rattle.host_laws.proofs.coordinator.Turns.{IsCommitted, TurnMove, abort_ends, aborted, aborts, all_completed}
+use Rattle.host_laws.proofs.coordinator.Turns.{answers, asks, at_last, at_once, commits, committed, completed}
+use Rattle.host_laws.proofs.coordinator.Turns.{completes, decides, ends, gives_up, goes_on, keeps, late}
 use Rattle.tc_block.proofs.EachTurn.{may_ask}
 
 right_may : (o : Option Asked) (phase : Phase) → may_ask phase ≡ true → is_right o phase ≡ true

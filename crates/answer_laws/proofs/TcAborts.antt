@@ -36,8 +36,10 @@ use Rattle.host_laws.proofs.rows.Operations.{is_good, is_lqh, is_node, left_of, 
 use Rattle.run_theory.specs.Counts.{one_if}
 use Rattle.host_laws.proofs.hosts.PartCounts.{IsPart, all_counted, is_cont, part_is}
 use Rattle.tc_block.proofs.EachTurn.{IsAnswered, IsMissed}
-use Rattle.host_laws.proofs.coordinator.Turns.{abort_ends, aborted, aborts, all_completed, answers, asked_to, asks, commits}
-use Rattle.host_laws.proofs.coordinator.Turns.{committed, completed, completes, decides, ends, entered_phase, gives_up, GivesUp}
+use Rattle.host_laws.proofs.coordinator.Turns.{abort_ends, aborted, aborts, all_completed, answers, asked_to, asks}
+use Rattle.host_laws.proofs.coordinator.Turns.{commits}
+use Rattle.host_laws.proofs.coordinator.Turns.{committed, completed, completes, decides, ends, entered_phase, gives_up}
+use Rattle.host_laws.proofs.coordinator.Turns.{GivesUp}
 use Rattle.host_laws.proofs.coordinator.Turns.{goes_on, is_row_answer, keeps, late, over_not, refused, TurnMove}
 use Rattle.host_laws.proofs.api.Wishes.{is_tc, sends_of}
 use Rattle.tc_block.specs.Phases.{is_aborting}

@@ -11,7 +11,8 @@ use Rattle.sig_core.specs.declared.outs.Outgoing.{Outgoing}
 use Rattle.sig_core.specs.declared.place.Place.{Place}
 use Rattle.sig_core.specs.declared.signal.Body.{Body}
 use Rattle.sig_core.specs.declared.signal.Body.TheVariants.{Chain}
-use Rattle.sig_core.specs.declared.signal.chain.ChainSignal.TheVariants.{LqhKeyReq, LqhKeyConf, LqhKeyRef, Commit, Complete}
+use Rattle.sig_core.specs.declared.signal.chain.ChainSignal.TheVariants.{LqhKeyReq, LqhKeyConf, LqhKeyRef, Commit}
+use Rattle.sig_core.specs.declared.signal.chain.ChainSignal.TheVariants.{Complete}
 use Rattle.frag_map.specs.Layout.{Layout}
 use Rattle.sig_core.specs.Op.{key_of}
 use Rattle.sig_core.specs.Same.{same_key, same_tx}
@@ -35,7 +36,10 @@ use Rattle.host_laws.proofs.coordinator.PhaseSends.{part_of}
 use Rattle.host_laws.proofs.hosts.SendKinds.{are_of, none_of, of_append, of_flat, of_kind, of_map}
 use Rattle.run_theory.specs.Counts.{one_if}
 use Rattle.host_laws.proofs.coordinator.Operations.{asks_key}
-use Rattle.host_laws.proofs.coordinator.Turns.{abort_ends, aborted, aborts, all_completed, answers, asked_to, asks, commits, committed, completed, completes, decides, ends, entered_phase, gives_up, GivesUp, goes_on, is_wait_kind, keeps, late, over_not, refused, TurnMove}
+use Rattle.host_laws.proofs.coordinator.Turns.{abort_ends, aborted, aborts, all_completed, answers, asked_to, asks}
+use Rattle.host_laws.proofs.coordinator.Turns.{commits, committed, completed, completes, decides, ends, entered_phase}
+use Rattle.host_laws.proofs.coordinator.Turns.{gives_up, GivesUp, goes_on, is_wait_kind, keeps, late, over_not, refused}
+use Rattle.host_laws.proofs.coordinator.Turns.{TurnMove}
 use Rattle.tc_block.specs.Phases.{is_aborting}
 
 -- neither a request for an operation nor an answer to one

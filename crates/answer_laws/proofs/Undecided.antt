@@ -21,7 +21,8 @@ use Rattle.world_core.specs.Machine.{after, machine, step_after}
 use Rattle.world_core.specs.Start.{Start}
 use Rattle.world_core.specs.Steps.{HostStep}
 use Rattle.host_laws.proofs.hosts.Sums.{total_zero}
-use Rattle.run_laws.proofs.hosts.AlongSteps.{Goes, along, at_tc, no_transaction, other_turn, the_transaction, turn_at, tx_at, goes_cases}
+use Rattle.run_laws.proofs.hosts.AlongSteps.{Goes, along, at_tc, no_transaction, other_turn, the_transaction, turn_at}
+use Rattle.run_laws.proofs.hosts.AlongSteps.{tx_at, goes_cases}
 use Rattle.answer_laws.proofs.Flows.{flow_came, flow_sent}
 use Rattle.host_laws.proofs.coordinator.HostTurns.{HostTurn, IsAside, aside, in_rows, is_aside, starting, turning}
 use Rattle.answer_laws.proofs.LqhForth.{is_back, lqh_back}

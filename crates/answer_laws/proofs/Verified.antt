@@ -1,5 +1,6 @@
 -- At quiet no transaction waits for its epoch.
-use Rattle.std.proofs.Common.{◌≡◌, ◌≢◌, ℕ, ◌+◌, ◌≤◌, ◌<◌, List, [], length, Bool, true, false, refl, ap, sym, ◌∙◌, subst, arith}
+use Rattle.std.proofs.Common.{◌≡◌, ◌≢◌, ℕ, ◌+◌, ◌≤◌, ◌<◌, List, [], length, Bool, true, false, refl, ap, sym, ◌∙◌}
+use Rattle.std.proofs.Common.{subst, arith}
 use Rattle.std.specs.Prelude.{◌-◌, ◌&&◌, not, if◌then◌else◌, None, Some}
 use Rattle.std.proofs.lemmas.Bool.{eq-eqb, false≢true}
 use Rattle.node_core.specs.Blocks.{tc_of}
@@ -31,10 +32,12 @@ use Rattle.world_core.specs.Steps.{HostStep}
 use Rattle.sig_core.proofs.Keys.{same_tx-self}
 use Rattle.run_theory.proofs.Tally.{none_if}
 use Rattle.run_theory.specs.Counts.{one_if}
-use Rattle.run_laws.proofs.hosts.AlongSteps.{Goes, along, at_home, at_tc, few_taken, first_none, is_dih, live_tx, no_transaction, the_transaction, turn_at, tx_at, goes_cases}
+use Rattle.run_laws.proofs.hosts.AlongSteps.{Goes, along, at_home, at_tc, few_taken, first_none, is_dih, live_tx}
+use Rattle.run_laws.proofs.hosts.AlongSteps.{no_transaction, the_transaction, turn_at, tx_at, goes_cases}
 use Rattle.answer_laws.proofs.EpochCounts.{AreFew, is_epochless}
 use Rattle.answer_laws.proofs.EpochFlow.{at_place, is_conf, is_req}
-use Rattle.answer_laws.proofs.EpochGiven.{DihIs, all_own, dih_is, epochs_host, here, own_sent, own_taken, sent_counts, tc_no_rows}
+use Rattle.answer_laws.proofs.EpochGiven.{DihIs, all_own, dih_is, epochs_host, here, own_sent, own_taken, sent_counts}
+use Rattle.answer_laws.proofs.EpochGiven.{tc_no_rows}
 use Rattle.answer_laws.proofs.EpochLives.{TurnCounts, asking, ending, gone, is_counted, turn_counts, unchanged}
 use Rattle.host_laws.proofs.hosts.BlocksAlong.{IsHome, at_own_node}
 use Rattle.host_laws.proofs.coordinator.HostTurns.{HostTurn, aside, in_rows, is_aside, starting, turning}
@@ -44,7 +47,9 @@ use Rattle.host_laws.proofs.coordinator.Moves.{same_tx-is}
 use Rattle.host_laws.proofs.coordinator.Steps.{live_early}
 use Rattle.tc_block.proofs.EachTurn.{IsMissed}
 use Rattle.tc_block.proofs.TurnRows.{tx_in, is_turn}
-use Rattle.host_laws.proofs.coordinator.Turns.{TurnMove, abort_ends, aborted, aborts, all_completed, answers, asks, commits, committed, completed, completes, decides, ends, entered_phase, gives_up, goes_on, keeps, late, over_not}
+use Rattle.host_laws.proofs.coordinator.Turns.{TurnMove, abort_ends, aborted, aborts, all_completed, answers, asks}
+use Rattle.host_laws.proofs.coordinator.Turns.{commits, committed, completed, completes, decides, ends, entered_phase}
+use Rattle.host_laws.proofs.coordinator.Turns.{gives_up, goes_on, keeps, late, over_not}
 use Rattle.host_laws.proofs.api.Wishes.{is_tc, second_fails, sends_of}
 use Rattle.answer_laws.specs.Answered.{AreQuiet, NoEpochIsAwaited}
 use Rattle.tc_block.specs.Phases.{is_aborting}

@@ -1,5 +1,9 @@
 //! What is proved of quiet worlds.
-ghost use Rattle.answer_laws.specs.Answered.{EachAskedWhereOperating, EachAsksWhereOperating, EachClosedWhereCommitting, EachHasCoordinator, EachIsAnswered, EachIsNumbered, EachIsKeptByCoordinator, EachOperationIsQueued, EachOperationWaits, NoAbortIsAwaited, NoBeginIsLost, NoCommitIsAwaited, NoEpochIsAwaited};
+ghost use Rattle.answer_laws.specs.Answered.{EachAskedWhereOperating, EachAsksWhereOperating};
+ghost use Rattle.answer_laws.specs.Answered.{EachClosedWhereCommitting, EachHasCoordinator, EachIsAnswered};
+ghost use Rattle.answer_laws.specs.Answered.{EachIsNumbered, EachIsKeptByCoordinator, EachOperationIsQueued};
+ghost use Rattle.answer_laws.specs.Answered.{EachOperationWaits, NoAbortIsAwaited, NoBeginIsLost, NoCommitIsAwaited};
+ghost use Rattle.answer_laws.specs.Answered.{NoEpochIsAwaited};
 ghost use Rattle.answer_laws.specs.Sample.{SampleIsQuiet};
 
 /// When nothing is under way, whether a transaction begins is answered.

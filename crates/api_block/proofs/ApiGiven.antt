@@ -32,7 +32,8 @@ use Rattle.api_block.specs.Opened.{begins, begins_at, begun, behind, if_there, i
 use Rattle.api_block.specs.Opened.{place_of, where_at}
 use Rattle.api_block.specs.Operate.{answer_by, answer_row, begun_by, begun_row, lone_by, lone_row, operate_by}
 use Rattle.api_block.specs.Operate.{operate_if, operate_row}
-use Rattle.api_block.specs.Outcome.{abort_report_row, acknowledging, commit_report_row, ending, over, refuse_row, without}
+use Rattle.api_block.specs.Outcome.{abort_report_row, acknowledging, commit_report_row, ending, over, refuse_row}
+use Rattle.api_block.specs.Outcome.{without}
 use Rattle.api_block.specs.Outcome.{unknown}
 use Rattle.api_block.specs.State.{ApiState, about, changing, refused, replied, with_dump, with_opened, with_replies}
 use Rattle.api_block.specs.Wait.{behind_row, name_of, pending_by, pending_if, pending_row, waits_if, waits_row}

@@ -4,10 +4,13 @@ use Rattle.std.specs.Prelude.{None, Some}
 use Rattle.sig_core.specs.declared.mark.Mark.{Mark}
 use Rattle.sig_core.specs.declared.reply.ApiReply.{ApiReply}
 use Rattle.sig_core.specs.declared.request.ApiReq.{ApiReq}
-use Rattle.sig_core.specs.declared.request.ApiReq.TheVariants.{Begin, Operate, Commit, Abort, Tick, Rows, Digest, Waits, Pending}
+use Rattle.sig_core.specs.declared.request.ApiReq.TheVariants.{Begin, Operate, Commit, Abort, Tick, Rows, Digest, Waits}
+use Rattle.sig_core.specs.declared.request.ApiReq.TheVariants.{Pending}
 use Rattle.sig_core.specs.declared.signal.Body.{Body}
 use Rattle.sig_core.specs.declared.signal.Body.TheVariants.{Host, Client}
-use Rattle.sig_core.specs.declared.signal.client.ClientSignal.TheVariants.{TcBeginConf, TcBeginRef, TcKeyConf, TcCommitConf, TcRollbackRep, TcWaitConf, DumpConf}
+use Rattle.sig_core.specs.declared.signal.client.ClientSignal.TheVariants.{TcBeginConf, TcBeginRef, TcKeyConf}
+use Rattle.sig_core.specs.declared.signal.client.ClientSignal.TheVariants.{TcCommitConf, TcRollbackRep, TcWaitConf}
+use Rattle.sig_core.specs.declared.signal.client.ClientSignal.TheVariants.{DumpConf}
 use Rattle.sig_core.specs.declared.signal.host.HostSignal.TheVariants.{Continue}
 use Rattle.sig_core.specs.declared.signal.host.Work.TheVariants.{Request}
 use Rattle.sig_core.specs.Step.{stay}
@@ -17,7 +20,9 @@ use Rattle.api_block.specs.Given.{in_given, step_in_given}
 use Rattle.api_block.specs.State.{ApiState}
 use Rattle.api_block.proofs.EachApi.{api_each, opened_any}
 use Rattle.api_block.proofs.Quiet.{AsksNone, AsksNothing, each_asks_none}
-use Rattle.api_block.proofs.ApiGiven.{abort_given, abort_report_given, answer_given, begin_given, begun_given, behind_given, commit_given, commit_report_given, dump_given, dumped_given, lone_given, operate_given, pending_given, refuse_given, tick_given, waits_given}
+use Rattle.api_block.proofs.ApiGiven.{abort_given, abort_report_given, answer_given, begin_given, begun_given}
+use Rattle.api_block.proofs.ApiGiven.{behind_given, commit_given, commit_report_given, dump_given, dumped_given}
+use Rattle.api_block.proofs.ApiGiven.{lone_given, operate_given, pending_given, refuse_given, tick_given, waits_given}
 
 -- at a request
 pub given_request : (given : List ApiReply) (s : ApiState) (request : ApiReq)

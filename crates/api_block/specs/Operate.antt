@@ -14,7 +14,8 @@ use Rattle.api_block.specs.declared.opened.Doing.TheVariants.{Beginning, Ready, 
 use Rattle.api_block.specs.declared.opened.OpenTransaction.{OpenTransaction}
 use Rattle.api_block.specs.declared.operate.TheConstants.{OPERATIONS}
 use Rattle.api_block.specs.Members.{least_node}
-use Rattle.api_block.specs.Opened.{answered, begins_at, begun, begun_operating, operating, place_named, place_of, where_at}
+use Rattle.api_block.specs.Opened.{answered, begins_at, begun, begun_operating, operating, place_named, place_of}
+use Rattle.api_block.specs.Opened.{where_at}
 use Rattle.api_block.specs.Commands.{beginning}
 use Rattle.api_block.specs.State.{ApiState, about, changing, refused, replied}
 

@@ -1,5 +1,6 @@
 //! The API of a shell.
-ghost use Rattle.std.specs.Prelude.{◌≡◌, ◌<◌, length, IfOk, IfSome, false, OnOk, OnErr, None, Some, slice_get, [], ◌∷◌, ◌++◌, option_to_list};
+ghost use Rattle.std.specs.Prelude.{◌≡◌, ◌<◌, length, IfOk, IfSome, false, OnOk, OnErr, None, Some, slice_get, [], ◌∷◌};
+ghost use Rattle.std.specs.Prelude.{◌++◌, option_to_list};
 ghost use Rattle.sig_core.specs.Step.{HasRoom, IsTaken, IsUntouched};
 
 use crate::dump::Dump;

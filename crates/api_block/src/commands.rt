@@ -1,7 +1,8 @@
 //! The commands that open, end and look at transactions and rows.
 ghost use Rattle.std.specs.Prelude.{◌≡◌, ◌<◌, length, OnOk, OnErr};
 ghost use Rattle.sig_core.specs.Step.{HasRoom, IsTaken, IsUntouched};
-ghost use Rattle.api_block.specs.Commands.{abort_by, abort_row, begin_row, beginning, commit_by, commit_row, dump_row, node_for, tick_row};
+ghost use Rattle.api_block.specs.Commands.{abort_by, abort_row, begin_row, beginning, commit_by, commit_row, dump_row};
+ghost use Rattle.api_block.specs.Commands.{node_for, tick_row};
 
 use crate::api::Api;
 use crate::dump::Dump;

@@ -2,7 +2,8 @@
 ghost use Rattle.std.specs.Prelude.{◌≡◌, ◌+◌, ◌-◌, ◌≤◌, length, take};
 ghost use Rattle.std.specs.List.{list_any};
 ghost use Rattle.sig_core.specs.Step.{joined, sends_only};
-ghost use Rattle.api_block.specs.Members.{everyone, is_at, is_full, least_from, least_node, lesser, news_body, telling_all};
+ghost use Rattle.api_block.specs.Members.{everyone, is_at, is_full, least_from, least_node, lesser, news_body};
+ghost use Rattle.api_block.specs.Members.{telling_all};
 
 use sig_core::{Body, ClientSignal, HostSignal, Member, Outs, TxId, View, rows_of};
 

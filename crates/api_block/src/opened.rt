@@ -1,7 +1,8 @@
 //! Transactions that were asked for and whose end isn't reported.
 ghost use Rattle.std.specs.Prelude.{◌≡◌, ◌<◌, position, length, IfOk, IfSome};
 ghost use Rattle.api_block.specs.declared.opened.Doing.TheVariants.{Ready, Committing};
-ghost use Rattle.api_block.specs.Opened.{answered, begins, begins_at, begun, begun_operating, behind, committing, has_tx, is_beginning, is_named, is_tx, is_unanswered, operating, same_name};
+ghost use Rattle.api_block.specs.Opened.{answered, begins, begins_at, begun, begun_operating, behind, committing};
+ghost use Rattle.api_block.specs.Opened.{has_tx, is_beginning, is_named, is_tx, is_unanswered, operating, same_name};
 
 use sig_core::{HeldOp, NoMemory, TxId};
 

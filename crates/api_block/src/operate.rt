@@ -4,7 +4,8 @@ ghost use Rattle.sig_core.specs.Place.{coordinator_of};
 ghost use Rattle.sig_core.specs.Step.{HasRoom, IsTaken, IsUntouched, and_send};
 ghost use Rattle.sig_core.specs.declared.signal.Body.TheVariants.{Client};
 ghost use Rattle.sig_core.specs.declared.signal.client.ClientSignal.TheVariants.{TcKeyReq};
-ghost use Rattle.api_block.specs.Operate.{answer_by, answer_row, begun_by, begun_row, lone_row, operate_by, operate_row};
+ghost use Rattle.api_block.specs.Operate.{answer_by, answer_row, begun_by, begun_row, lone_row, operate_by};
+ghost use Rattle.api_block.specs.Operate.{operate_row};
 
 use crate::api::Api;
 use crate::members::least_node;

@@ -2,7 +2,8 @@
 ghost use Rattle.std.specs.Prelude.{◌≡◌, ◌<◌, [], OnOk, OnErr, length};
 ghost use Rattle.sig_core.specs.declared.outcome.Outcome.TheVariants.{Committed};
 ghost use Rattle.sig_core.specs.Step.{HasRoom, IsTaken, IsUntouched};
-ghost use Rattle.api_block.specs.Outcome.{abort_report_row, acknowledging, commit_report_row, ending, over, refuse_row, without};
+ghost use Rattle.api_block.specs.Outcome.{abort_report_row, acknowledging, commit_report_row, ending, over, refuse_row};
+ghost use Rattle.api_block.specs.Outcome.{without};
 
 use crate::api::Api;
 use crate::members::{News, tell_everyone};

@@ -11,7 +11,9 @@ use Rattle.sig_core.specs.declared.request.ApiReq.TheVariants as request
 use Rattle.sig_core.specs.declared.signal.Body.{Body}
 use Rattle.sig_core.specs.declared.signal.Body.TheVariants.{Host, Client}
 use Rattle.sig_core.specs.declared.signal.Signal.{Signal}
-use Rattle.sig_core.specs.declared.signal.client.ClientSignal.TheVariants.{TcBeginConf, TcBeginRef, TcKeyConf, TcCommitConf, TcRollbackRep, TcWaitConf, DumpConf}
+use Rattle.sig_core.specs.declared.signal.client.ClientSignal.TheVariants.{TcBeginConf, TcBeginRef, TcKeyConf}
+use Rattle.sig_core.specs.declared.signal.client.ClientSignal.TheVariants.{TcCommitConf, TcRollbackRep, TcWaitConf}
+use Rattle.sig_core.specs.declared.signal.client.ClientSignal.TheVariants.{DumpConf}
 use Rattle.sig_core.specs.declared.signal.host.HostSignal.TheVariants.{Continue}
 use Rattle.sig_core.specs.declared.signal.host.Work.TheVariants.{Request}
 use Rattle.sig_core.specs.declared.view.View.{View}
@@ -25,7 +27,8 @@ use Rattle.api_block.specs.Operate as api_operate
 use Rattle.api_block.specs.State.{ApiState, about, refused}
 use Rattle.api_block.specs.Wait.{pending_if, pending_row}
 use Rattle.api_views.specs.Client.{asked_row, client_row, client_table, command_row, is_known}
-use Rattle.api_views.specs.Commands.{begin_if, begin_row, lone_by, lone_row, lowest, lowest_from, rows_row, serves, show_row}
+use Rattle.api_views.specs.Commands.{begin_if, begin_row, lone_by, lone_row, lowest, lowest_from, rows_row, serves}
+use Rattle.api_views.specs.Commands.{show_row}
 use Rattle.api_views.specs.Laws.{IsCalmSignal, calm_state, is_calm_body, is_served, is_vouched}
 use Rattle.api_views.specs.Members.{noted}
 use Rattle.api_views.specs.Pending.{client_pending_row, obstacle, own_waits, waits_by}

@@ -3,7 +3,8 @@ use Rattle.std.proofs.Common.{◌≡◌, true, false, refl}
 use Rattle.sig_core.specs.declared.signal.Body.{Body}
 use Rattle.sig_core.specs.declared.signal.Body.TheVariants.{Client}
 use Rattle.sig_core.specs.declared.signal.Signal.{Signal}
-use Rattle.sig_core.specs.declared.signal.client.ClientSignal.TheVariants.{TcCommitConf, TcRollbackRep, TcKeyFailConf, TcKeyFailRef, NfCompleteRep}
+use Rattle.sig_core.specs.declared.signal.client.ClientSignal.TheVariants.{TcCommitConf, TcRollbackRep, TcKeyFailConf}
+use Rattle.sig_core.specs.declared.signal.client.ClientSignal.TheVariants.{TcKeyFailRef, NfCompleteRep}
 use Rattle.sig_core.specs.Step.{stay}
 use Rattle.api_views.specs.Client.{client_row, client_table, is_known}
 use Rattle.api_views.specs.Members.{noted}

@@ -1,5 +1,6 @@
 -- What the client is told of commands and transactions that get no answer any more, one an event.
-use Rattle.std.specs.Prelude.{ℕ, ◌||◌, if◌then◌else◌, Bool, true, false, is_some, List, [], ◌∷◌, ◌++◌, position, Option, None, Some}
+use Rattle.std.specs.Prelude.{ℕ, ◌||◌, if◌then◌else◌, Bool, true, false, is_some, List, [], ◌∷◌, ◌++◌, position, Option}
+use Rattle.std.specs.Prelude.{None, Some}
 use Rattle.sig_core.specs.declared.member.HostId.{HostId}
 use Rattle.sig_core.specs.declared.member.Member.{Member}
 use Rattle.sig_core.specs.declared.member.TxId.{TxId}

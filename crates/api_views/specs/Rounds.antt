@@ -1,5 +1,6 @@
 -- A round of time, for each live node.
-use Rattle.std.specs.Prelude.{◌≡◌, ◌≤◌, ℕ, ◌+◌, ◌==◌, ◌&&◌, ◌||◌, ◌++◌, Bool, true, false, nat_le, length, List, [], ◌∷◌}
+use Rattle.std.specs.Prelude.{◌≡◌, ◌≤◌, ℕ, ◌+◌, ◌==◌, ◌&&◌, ◌||◌, ◌++◌, Bool, true, false, nat_le, length, List, []}
+use Rattle.std.specs.Prelude.{◌∷◌}
 use Rattle.std.specs.List.{list_any}
 use Rattle.sig_core.specs.declared.outs.Outgoing.{Outgoing}
 use Rattle.sig_core.specs.declared.outs.TheConstants.{OUTS, SIGNAL_OUTS}

@@ -1,7 +1,8 @@
 //! The client's side under views.
 ghost use Rattle.std.specs.Prelude.{◌≡◌, ◌∷◌, ◌++◌, [], None, IfOk, OnOk, OnErr, option_to_list};
 ghost use Rattle.sig_core.specs.Step.{HasRoom, IsTaken, IsUntouched};
-ghost use Rattle.api_views.specs.Client.{asked_row, client_row, seen_row, command_row, gone_row, up_row, vouched, work_table};
+ghost use Rattle.api_views.specs.Client.{asked_row, client_row, seen_row, command_row, gone_row, up_row, vouched};
+ghost use Rattle.api_views.specs.Client.{work_table};
 ghost use Rattle.api_views.specs.Commands.{on_api};
 ghost use Rattle.api_views.specs.Members.{noted};
 ghost use Rattle.api_views.specs.Rounds.{HasAllRoom};

@@ -1,7 +1,8 @@
 //! The closing of epochs.
 ghost use Rattle.std.specs.Prelude.{◌≡◌, ◌<◌, ◌≤◌, ◌+◌, length, OnOk, OnErr};
 ghost use Rattle.sig_core.specs.Step.{HasRoom, IsTaken, IsUntouched, joined, sends_only};
-ghost use Rattle.api_views.specs.Closings.{anew, ask_of, asking, closed_reply, closed_row, closing_row, is_asked, view_row};
+ghost use Rattle.api_views.specs.Closings.{anew, ask_of, asking, closed_reply, closed_row, closing_row, is_asked};
+ghost use Rattle.api_views.specs.Closings.{view_row};
 
 use crate::client::Client;
 use crate::members::president;

@@ -2,7 +2,9 @@
 ghost use Rattle.std.specs.Prelude.{◌≡◌, ◌<◌, ◌≤◌, ◌+◌, length, None, OnOk, OnErr};
 ghost use Rattle.std.specs.List.{list_any};
 ghost use Rattle.sig_core.specs.Step.{HasRoom, IsTaken, IsUntouched, joined, sends_only, stay};
-ghost use Rattle.api_views.specs.Commands.{begin_at, begin_row, cut_body, cut_by, cut_row, kill_row, lone_row, lower, lower_by, lowest, lowest_from, node_for, rows_row, serves, serves_at, show_row, to_hosts, with_cut};
+ghost use Rattle.api_views.specs.Commands.{begin_at, begin_row, cut_body, cut_by, cut_row, kill_row, lone_row, lower};
+ghost use Rattle.api_views.specs.Commands.{lower_by, lowest, lowest_from, node_for, rows_row, serves, serves_at};
+ghost use Rattle.api_views.specs.Commands.{show_row, to_hosts, with_cut};
 ghost use Rattle.api_views.specs.State.{left, telling};
 ghost use Rattle.sig_core.specs.declared.reply.ApiReply.TheVariants as reply;
 

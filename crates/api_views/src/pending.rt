@@ -4,7 +4,8 @@ ghost use Rattle.std.specs.List.{list_any};
 ghost use Rattle.sig_core.specs.Firsts.{first};
 ghost use Rattle.sig_core.specs.Step.{HasRoom, IsTaken, IsUntouched, stay};
 ghost use Rattle.api_block.specs.Opened.{is_unanswered};
-ghost use Rattle.api_views.specs.Pending.{client_pending_row, has_node, is_at, lacking, lacks, obstacle, obstructed, own_waits, parted, parts, waits_by};
+ghost use Rattle.api_views.specs.Pending.{client_pending_row, has_node, is_at, lacking, lacks, obstacle, obstructed};
+ghost use Rattle.api_views.specs.Pending.{own_waits, parted, parts, waits_by};
 
 use crate::client::Client;
 use crate::cuts::CutPair;

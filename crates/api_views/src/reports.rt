@@ -2,7 +2,10 @@
 ghost use Rattle.std.specs.Prelude.{◌≡◌, ◌<◌, ◌+◌, ◌≤◌, position, length, slice_get, IfSome, OnOk, OnErr};
 ghost use Rattle.sig_core.specs.Step.{HasRoom, IsTaken, IsUntouched, joined, sends_only};
 ghost use Rattle.api_block.specs.Views.{dump_node};
-ghost use Rattle.api_views.specs.Reports.{begun_verdict, broken_by, complete_row, down_outcome, dump_breaks, ended_by, failed_by, first_ended, going_on, greater_of, has_more, is_due, more_if, place_due, report_row, stop_row, stop_told_if, told_if, unasked, unbegun_if, verdict, with_stop};
+ghost use Rattle.api_views.specs.Reports.{begun_verdict, broken_by, complete_row, down_outcome, dump_breaks, ended_by};
+ghost use Rattle.api_views.specs.Reports.{failed_by, first_ended, going_on, greater_of, has_more, is_due, more_if};
+ghost use Rattle.api_views.specs.Reports.{place_due, report_row, stop_row, stop_told_if, told_if, unasked, unbegun_if};
+ghost use Rattle.api_views.specs.Reports.{verdict, with_stop};
 
 use crate::client::Client;
 use crate::members::{first_start, greater_view, is_member};

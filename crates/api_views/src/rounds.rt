@@ -1,7 +1,8 @@
 //! A round of time, for each live node.
 ghost use Rattle.std.specs.Prelude.{◌≡◌, ◌+◌, ◌≤◌, ◌<◌, length, OnOk, OnErr};
 ghost use Rattle.sig_core.specs.Step.{IsTaken, IsUntouched, joined, sends_only};
-ghost use Rattle.api_views.specs.Rounds.{HasAllRoom, all_rounds, four_rounds, has_member, is_live, round_effects, rounds_of, tick_row, ticked};
+ghost use Rattle.api_views.specs.Rounds.{HasAllRoom, all_rounds, four_rounds, has_member, is_live, round_effects};
+ghost use Rattle.api_views.specs.Rounds.{rounds_of, tick_row, ticked};
 
 use crate::client::Client;
 use crate::commands::some_serves;

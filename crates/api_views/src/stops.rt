@@ -1,7 +1,8 @@
 //! Hosts that stopped, and what that says of their nodes.
 ghost use Rattle.std.specs.Prelude.{◌≡◌};
 ghost use Rattle.std.specs.List.{list_any};
-ghost use Rattle.api_views.specs.Stops.{ends_ldm, ends_tc, has_stopped, is_down, is_ldm, is_of, is_sibling, is_tc, is_told, ldm_stopped, runs, still_runs, stop_of, tc_stopped, tells};
+ghost use Rattle.api_views.specs.Stops.{ends_ldm, ends_tc, has_stopped, is_down, is_ldm, is_of, is_sibling, is_tc};
+ghost use Rattle.api_views.specs.Stops.{is_told, ldm_stopped, runs, still_runs, stop_of, tc_stopped, tells};
 
 use crate::client::Client;
 use crate::members::{first_start, is_same};

@@ -4,7 +4,9 @@ use Rattle.std.proofs.lemmas.List.Elements.{All-nil, All-cons}
 use Rattle.std.proofs.lemmas.List.Kept.{AllPairs-cons}
 use Rattle.std.specs.List.{All, AllPairs}
 use Rattle.arbiter_block.specs.Arbiter.{ArbiterState, fresh_arbiter}
-use Rattle.arbiter_block.specs.Laws.{AskedAgainIsAnsweredAlike, EachSetLiesInTheOneBefore, Grant, HaveOneSet, LastGrantIsKept, OneSetForEachNumber, SucceedOneAnother, ZeroIsNeverGranted, first_grant, keeping, last_of}
+use Rattle.arbiter_block.specs.Laws.{AskedAgainIsAnsweredAlike, EachSetLiesInTheOneBefore, Grant, HaveOneSet}
+use Rattle.arbiter_block.specs.Laws.{LastGrantIsKept, OneSetForEachNumber, SucceedOneAnother, ZeroIsNeverGranted}
+use Rattle.arbiter_block.specs.Laws.{first_grant, keeping, last_of}
 use Rattle.arbiter_block.proofs.GrantLemmas.{Chain, Given, again, chain}
 
 succeed : (before : Grant) (grants : List Grant) (end : ArbiterState)

@@ -7,7 +7,8 @@ use Rattle.std.specs.Cmp.Lexicographic.{pointwise}
 use Rattle.std.specs.List.{All, Contains, list_all}
 use Rattle.std.specs.Prelude.{Option}
 use Rattle.sig_core.specs.declared.member.Member.{Member}
-use Rattle.arbiter_block.specs.Sets.{is_among, is_joining, is_same_set, joins_or_is_among, lie_in, same_member, without_joining}
+use Rattle.arbiter_block.specs.Sets.{is_among, is_joining, is_same_set, joins_or_is_among, lie_in, same_member}
+use Rattle.arbiter_block.specs.Sets.{without_joining}
 
 -- equal members are one
 same_member-is : (a b : Member) → same_member a b ≡ true → a ≡ b

@@ -10,7 +10,8 @@ use Rattle.sig_core.specs.declared.signal.Signal.{Signal}
 use Rattle.sig_core.specs.declared.signal.membership.MembershipSignal.TheVariants.{ArbitConf, ArbitRef, ArbitReq}
 use Rattle.sig_core.specs.Step.{Step, stay, to_place}
 use Rattle.step_forms.specs.Does.{Does, IsAmong, IsWord}
-use Rattle.arbiter_block.specs.Arbiter.{ArbiterState, arbit_if, arbit_row, arbiter_row, arbiter_table, asker, is_granted}
+use Rattle.arbiter_block.specs.Arbiter.{ArbiterState, arbit_if, arbit_row, arbiter_row, arbiter_table, asker}
+use Rattle.arbiter_block.specs.Arbiter.{is_granted}
 use Rattle.arbiter_block.specs.Words.{ArbiterKeepsToItsWords, is_arbiter_mark, is_arbiter_word}
 
 -- R is of each step that the arbitrator may take at the signal: it leaves it alone, or grants or refuses a set

@@ -1,5 +1,6 @@
 //! What is true of all that the arbitrator grants, whatever signals come, in whatever order.
-ghost use Rattle.arbiter_block.specs.Laws.{AskedAgainIsAnsweredAlike, EachSetLiesInTheOneBefore, LastGrantIsKept, OneSetForEachNumber, ZeroIsNeverGranted};
+ghost use Rattle.arbiter_block.specs.Laws.{AskedAgainIsAnsweredAlike, EachSetLiesInTheOneBefore, LastGrantIsKept};
+ghost use Rattle.arbiter_block.specs.Laws.{OneSetForEachNumber, ZeroIsNeverGranted};
 ghost use Rattle.arbiter_block.specs.Words.{ArbiterKeepsToItsWords};
 
 /// No number is granted with two sets. The first view counts as granted.

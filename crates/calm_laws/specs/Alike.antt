@@ -8,7 +8,7 @@ use Rattle.frag_map.specs.Layout.{first_number, first_view}
 use Rattle.node_core.specs.declared.host.Host as plain
 use Rattle.node_core.specs.declared.host.Host.TheVariants as plain_host
 use Rattle.node_core.specs.Dih as plain_dih
-use Rattle.node_views.specs.declared.host.Host as host
+use Rattle.node_views.specs.declared.host_body.HostBody as host
 use Rattle.node_views.specs.declared.parts.Parts.{Parts}
 use Rattle.node_views.specs.declared.parts.Parts.TheVariants.{Shell, Main, Tc, Ldm}
 use Rattle.node_views.specs.declared.standing.Standing.{Standing}
@@ -59,6 +59,6 @@ ArePartsAlike start given (Ldm p) (plain_host.Ldm s) =
     (p.replica.lqh ≡ s) × ((s.layout.view ≡ first start) × (p.fence ≡ first_number))
 ArePartsAlike start given parts other = ⊥
 
-pub record AreAlike (start : Start) (given : List ApiReply) (s : host.Host) (other : plain.Host) : Type 0 where
+pub record AreAlike (start : Start) (given : List ApiReply) (s : host.HostBody) (other : plain.Host) : Type 0 where
   pub standing : IsAtEase start s.standing
   pub parts : ArePartsAlike start given s.parts other

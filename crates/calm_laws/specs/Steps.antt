@@ -9,7 +9,7 @@ use Rattle.node_core.specs.Blocks.{has_api}
 use Rattle.node_core.specs.declared.host.Host as plain
 use Rattle.node_core.specs.Row.{row}
 use Rattle.node_views.specs.WellFormed.{is_well_formed}
-use Rattle.node_views.specs.declared.host.Host as host
+use Rattle.node_views.specs.declared.host_body.HostBody as host
 use Rattle.run_theory.specs.Lists.{Each}
 use Rattle.sig_core.specs.declared.member.Member.{Member}
 use Rattle.sig_core.specs.declared.outs.Outgoing.{Outgoing}
@@ -95,7 +95,7 @@ abbrev pub IsForViews : Outgoing → Type 0
 IsForViews send = is_of_views send.to.block ≡ true
 
 -- Host h and its plain one do the same at a signal, but that the host tells memberships of a round of time besides.
-pub record StepAlike (start : Start) (h : ℕ) (given : List ApiReply) (s : host.Host) (other : plain.Host) (x : Signal)
+pub record StepAlike (start : Start) (h : ℕ) (given : List ApiReply) (s : host.HostBody) (other : plain.Host) (x : Signal)
     : Type 0
   where
     pub marks : (step_by h s x).effects.marks ≡ (row other x).effects.marks
@@ -106,7 +106,7 @@ pub record StepAlike (start : Start) (h : ℕ) (given : List ApiReply) (s : host
         (row other x).state
 
 -- A main part of a node does something for the membership alone, of which its plain one knows nothing.
-pub record StepAside (start : Start) (h : ℕ) (s : host.Host) (other : plain.Host) (x : Signal) : Type 0 where
+pub record StepAside (start : Start) (h : ℕ) (s : host.HostBody) (other : plain.Host) (x : Signal) : Type 0 where
   pub marks : (step_by h s x).effects.marks ≡ []
   pub sends : Each IsForViews (step_by h s x).effects.sends
   pub alike : AreAlike start [] (told h (step_by h s x)) other
@@ -114,19 +114,19 @@ pub record StepAside (start : Start) (h : ℕ) (s : host.Host) (other : plain.Ho
 -- the shell's host, a main part, and the other parts
 abbrev pub ShellsStepAlike : Type 0
 ShellsStepAlike =
-    (start : Start) (given : List ApiReply) (s : host.Host) (other : plain.Host) (x : Signal) → IsShape start.shape
+    (start : Start) (given : List ApiReply) (s : host.HostBody) (other : plain.Host) (x : Signal) → IsShape start.shape
     → has_api other ≡ true → AreAlike start given s other → ComesCalmly start 0 x
     → StepAlike start 0 given s other x
 
 abbrev pub MainPartsStepAside : Type 0
 MainPartsStepAside =
-    (start : Start) (h : ℕ) (s : host.Host) (other : plain.Host) (x : Signal)
+    (start : Start) (h : ℕ) (s : host.HostBody) (other : plain.Host) (x : Signal)
     → is_beating h ≡ true → AreAlike start [] s other → ComesCalmly start h x
     → StepAside start h s other x
 
 abbrev pub PartsStepAlike : Type 0
 PartsStepAlike =
-    (start : Start) (h : ℕ) (s : host.Host) (other : plain.Host) (x : Signal)
+    (start : Start) (h : ℕ) (s : host.HostBody) (other : plain.Host) (x : Signal)
     → is_beating (suc h) ≡ false → AreAlike start [] s other → ComesCalmly start (suc h) x
     → StepAlike start (suc h) [] s other x
 

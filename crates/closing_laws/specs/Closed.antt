@@ -47,7 +47,7 @@ pub record IsClosing (start : Start) (e : HostStep) (logs : ℕ → List HostSte
 
 abbrev pub ClosersHaveHeardAll : Type 0
 ClosersHaveHeardAll =
-    (start : Start) (all : ℕ → List HostStep) (e : HostStep) (es : List HostStep) → 1 ≤ start.epoch
+    (start : Start) (all : ℕ → List HostStep) (e : HostStep) (es : List HostStep) → start.start_epoch < start.epoch
     → IsMoment start all (e ∷ es) → (epoch : ℕ) → IsIn (Closed epoch) e.step.marks
     → IsClosing start e (logs_of start (e ∷ es)) epoch
 
@@ -60,5 +60,6 @@ pub record WasClosed (start : Start) (logs : ℕ → List HostStep) (epoch : ℕ
 -- a durable epoch was closed before, in every closed cut
 abbrev pub DurableWereClosed : Type 0
 DurableWereClosed =
-    (start : Start) (logs : ℕ → List HostStep) → 1 ≤ start.epoch → AreOfCluster start logs → (h epoch : ℕ)
+    (start : Start) (logs : ℕ → List HostStep) → start.start_epoch < start.epoch → AreOfCluster start logs
+    → (h epoch : ℕ)
     → h < hosts start → IsMarked (Durable epoch) (logs h) → WasClosed start logs epoch

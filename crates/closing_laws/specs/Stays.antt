@@ -16,7 +16,7 @@ use Rattle.outcome_laws.specs.Decided.{IsMarked}
 -- cut, is in that of this one.
 abbrev pub ClosedStayClosed : Type 0
 ClosedStayClosed =
-    (start : Start) (small large : ℕ → List HostStep) → 1 ≤ start.epoch → AreOfCluster start small
+    (start : Start) (small large : ℕ → List HostStep) → start.start_epoch < start.epoch → AreOfCluster start small
     → AreOfCluster start large → IsCut small large → (h epoch : ℕ) → h < hosts start
     → (IsMarked (Closed epoch) (small h)) ⊎ (IsMarked (Durable epoch) (small h)) → (entry : Entry)
     → IsIn entry (history (hosts start) large) → writes entry ≡ true → entry.epoch ≤ epoch

@@ -27,7 +27,8 @@ use Rattle.command_laws.specs.Begun.{BeginComesTo, TakesCommands}
 use Rattle.command_laws.specs.Between.{IsAskedAgain, IsServedIn}
 use Rattle.command_laws.specs.Dumped.{DumpComesTo}
 use Rattle.command_laws.specs.Once.{IsToldOnce}
-use Rattle.command_laws.specs.Served.{IsAnsweredAlone, IsAnsweredAs, IsCommittedAlone, IsRefusedAs, IsServedBetween, IsToldCommitted, IsToldHolder, StillWaits, replies_since}
+use Rattle.command_laws.specs.Served.{IsAnsweredAlone, IsAnsweredAs, IsCommittedAlone, IsRefusedAs, IsServedBetween}
+use Rattle.command_laws.specs.Served.{IsToldCommitted, IsToldHolder, StillWaits, replies_since}
 use Rattle.command_laws.specs.Ticked.{IsTicked}
 use Rattle.command_laws.specs.TurnedDown.{IsRefusedWhereDue, IsTurnedDown}
 

@@ -1,7 +1,8 @@
 -- What a command comes to, between two quiet moments.
 use Rattle.world_core.specs.Hosts.{home, rows_host}
 use Rattle.node_core.specs.Blocks.{api_of, lqh_of}
-use Rattle.std.specs.Prelude.{◌≡◌, ◌<◌, ◌≤◌, ◌⊎◌, ◌++◌, ℕ, Bool, true, false, is_some, List, [], ◌∷◌, drop, length, position, Option, None, Some}
+use Rattle.std.specs.Prelude.{◌≡◌, ◌<◌, ◌≤◌, ◌⊎◌, ◌++◌, ℕ, Bool, true, false, is_some, List, [], ◌∷◌, drop, length}
+use Rattle.std.specs.Prelude.{position, Option, None, Some}
 use Rattle.run_theory.specs.Cuts.{IsCut}
 use Rattle.run_theory.specs.Lists.{IsIn, IsPast}
 use Rattle.world_core.specs.Steps.{HostStep}

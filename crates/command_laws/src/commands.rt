@@ -5,7 +5,8 @@ ghost use Rattle.command_laws.specs.Living.{RepliesAreOfTheLiving};
 ghost use Rattle.command_laws.specs.Quietly.{NoAbortWaits};
 ghost use Rattle.command_laws.specs.Sample.{SampleIsServed};
 ghost use Rattle.command_laws.specs.Answers.{CommitsComeTo, OperationsComeTo, RequestsAreAnswered};
-ghost use Rattle.command_laws.specs.Served.{CommitsAreCommitted, EachIsHeldUp, HoldersAreTold, LoneAreCommitted, OperationsAreAnswered};
+ghost use Rattle.command_laws.specs.Served.{CommitsAreCommitted, EachIsHeldUp, HoldersAreTold, LoneAreCommitted};
+ghost use Rattle.command_laws.specs.Served.{OperationsAreAnswered};
 
 /// A commit of a transaction that takes commands ends in its being committed: the client is told so,
 /// and the step that tells it is marked.

@@ -18,7 +18,8 @@ use Rattle.row_locks.specs.Holders.{holds_enough}
 use Rattle.moment_laws.specs.Moments.{current}
 use Rattle.commit_laws.specs.Fates.{aborts, fate}
 use Rattle.commit_laws.specs.Going.{decided_ops, image_by, is_decided, is_written_by}
-use Rattle.commit_laws.specs.Traces.{AreCommitted, IsApplied, IsCommittedAtAll, IsReplicaOf, has_marker_at, is_committed_at, is_known, members_now, record_at, replica_at}
+use Rattle.commit_laws.specs.Traces.{AreCommitted, IsApplied, IsCommittedAtAll, IsReplicaOf, has_marker_at}
+use Rattle.commit_laws.specs.Traces.{is_committed_at, is_known, members_now, record_at, replica_at}
 
 module _ (start : Start) (logs : ℕ → List HostStep) where
   -- the transaction wrote the key

@@ -1,5 +1,6 @@
 //! What right logs have of transactions.
-ghost use Rattle.commit_laws.specs.Cuts.{AbortsTakeNone, CommitsTakeEffect, HistoriesAreLegal, RecordsAgree, RestingRowsFollow};
+ghost use Rattle.commit_laws.specs.Cuts.{AbortsTakeNone, CommitsTakeEffect, HistoriesAreLegal, RecordsAgree};
+ghost use Rattle.commit_laws.specs.Cuts.{RestingRowsFollow};
 
 /// Each answer in the history of right logs is the one that the rows give.
 #[tactic(auto, using(crate::proofs::led::CutLaws::histories_legal))]

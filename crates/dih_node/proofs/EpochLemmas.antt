@@ -1,5 +1,6 @@
 -- What each event leaves of a node's current epoch, and what is given along a list of them.
-use Rattle.std.proofs.Common.{◌≡◌, ◌⊎◌, ◌∙◌, ℕ, ◌+◌, ◌≤◌, ◌<◌, Bool, true, false, nat_le, nat_lt, List, [], ◌∷◌, ◌++◌, refl, ap, sym, subst, arith, inl, inr}
+use Rattle.std.proofs.Common.{◌≡◌, ◌⊎◌, ◌∙◌, ℕ, ◌+◌, ◌≤◌, ◌<◌, Bool, true, false, nat_le, nat_lt, List, [], ◌∷◌, ◌++◌}
+use Rattle.std.proofs.Common.{refl, ap, sym, subst, arith, inl, inr}
 use Rattle.std.proofs.lemmas.Bool.{leb-true}
 use Rattle.std.proofs.lemmas.List.Elements.{All-nil, All-cons}
 use Rattle.std.proofs.lemmas.List.Kept.{AllPairs-cons}
@@ -9,7 +10,9 @@ use Rattle.sig_core.specs.declared.member.TxId.{TxId}
 use Rattle.sig_core.specs.declared.signal.Body.{Body}
 use Rattle.sig_core.specs.declared.signal.Body.TheVariants.{Host, Membership, Epoch}
 use Rattle.sig_core.specs.declared.signal.epoch.EpochSignal.{EpochSignal}
-use Rattle.sig_core.specs.declared.signal.epoch.EpochSignal.TheVariants.{DiVerifyReq, DiVerifyEnd, GcpPrepare, GcpCommit, GcpClosed, CopyGciReq, GcpDone, GcpPrepareConf, GcpStateReq}
+use Rattle.sig_core.specs.declared.signal.epoch.EpochSignal.TheVariants.{DiVerifyReq, DiVerifyEnd, GcpPrepare}
+use Rattle.sig_core.specs.declared.signal.epoch.EpochSignal.TheVariants.{GcpCommit, GcpClosed, CopyGciReq, GcpDone}
+use Rattle.sig_core.specs.declared.signal.epoch.EpochSignal.TheVariants.{GcpPrepareConf, GcpStateReq}
 use Rattle.sig_core.specs.declared.signal.host.HostSignal.TheVariants.{Continue}
 use Rattle.sig_core.specs.declared.signal.host.Work.TheVariants.{Held}
 use Rattle.sig_core.specs.declared.signal.membership.MembershipSignal.TheVariants.{FenceReq}
@@ -19,10 +22,13 @@ use Rattle.sig_core.specs.Step.{Step, sending}
 use Rattle.dih_node.specs.declared.dih.Report.{Report}
 use Rattle.dih_node.specs.declared.dih.TheConstants.{TRANSACTIONS}
 use Rattle.dih_node.specs.Dih.{dih_table, epoch_table}
-use Rattle.dih_node.specs.Laws.{AllNameGreater, EpochsNeverFall, Event, Installs, NamesGreater, Takes, given_along, given_at, given_by, step_at}
-use Rattle.dih_node.specs.Orders.{close_row, commit_if, commit_row, committed, copy_row, done_row, fence_row, install_row, prepare_row, prepared_if, state_row}
+use Rattle.dih_node.specs.Laws.{AllNameGreater, EpochsNeverFall, Event, Installs, NamesGreater, Takes, given_along}
+use Rattle.dih_node.specs.Laws.{given_at, given_by, step_at}
+use Rattle.dih_node.specs.Orders.{close_row, commit_if, commit_row, committed, copy_row, done_row, fence_row}
+use Rattle.dih_node.specs.Orders.{install_row, prepare_row, prepared_if, state_row}
 use Rattle.dih_node.specs.State.{DihState, gives, is_unfinished}
-use Rattle.dih_node.specs.Verify.{end_row, ended, ended_by, given, held_by, is_of, report_by, report_if, reported, serve_by, serve_if, serve_row, take_if, verify_if, verify_row}
+use Rattle.dih_node.specs.Verify.{end_row, ended, ended_by, given, held_by, is_of, report_by, report_if, reported}
+use Rattle.dih_node.specs.Verify.{serve_by, serve_if, serve_row, take_if, verify_if, verify_row}
 
 -- what a step may do to the current epoch: it doesn't fall, and what is given is the one that was current
 record Kept (s : DihState) (step : Step DihState) : Type 0 where

@@ -1,7 +1,8 @@
 -- What holds of each form of step of a node's epochs holds of what they do at each signal, and what holds of each form
 -- of
 -- signal and mark holds of all that they send and mark.
-use Rattle.std.proofs.Common.{◌≡◌, ◌==◌, ◌+◌, ◌≤◌, ◌<◌, ◌∙◌, ℕ, Bool, true, false, nat_le, nat_lt, List, ◌∷◌, [], ◌++◌, length, refl, ap, sym}
+use Rattle.std.proofs.Common.{◌≡◌, ◌==◌, ◌+◌, ◌≤◌, ◌<◌, ◌∙◌, ℕ, Bool, true, false, nat_le, nat_lt, List, ◌∷◌, [], ◌++◌}
+use Rattle.std.proofs.Common.{length, refl, ap, sym}
 use Rattle.std.proofs.lemmas.Bool.{leb-true, leb-false}
 use Rattle.std.specs.Prelude.{Option, None, Some, position, remove, slice_get}
 use Rattle.run_theory.specs.Lists.{Each}
@@ -16,7 +17,11 @@ use Rattle.sig_core.specs.declared.signal.Body.{Body}
 use Rattle.sig_core.specs.declared.signal.Body.TheVariants.{Host, Membership, Epoch}
 use Rattle.sig_core.specs.declared.signal.Signal.{Signal}
 use Rattle.sig_core.specs.declared.signal.epoch.EpochSignal.{EpochSignal}
-use Rattle.sig_core.specs.declared.signal.epoch.EpochSignal.TheVariants.{DiVerifyReq, DiVerifyConf, DiVerifyEnd, GcpPrepare, GcpPrepareConf, GcpCommit, GcpNodeFinish, GcpClosed, GcpClosedConf, CopyGciReq, CopyGciConf, GcpDone, GcpStateReq, GcpStateConf}
+use Rattle.sig_core.specs.declared.signal.epoch.EpochSignal.TheVariants.{DiVerifyReq, DiVerifyConf, DiVerifyEnd}
+use Rattle.sig_core.specs.declared.signal.epoch.EpochSignal.TheVariants.{GcpPrepare, GcpPrepareConf, GcpCommit}
+use Rattle.sig_core.specs.declared.signal.epoch.EpochSignal.TheVariants.{GcpNodeFinish, GcpClosed, GcpClosedConf}
+use Rattle.sig_core.specs.declared.signal.epoch.EpochSignal.TheVariants.{CopyGciReq, CopyGciConf, GcpDone, GcpStateReq}
+use Rattle.sig_core.specs.declared.signal.epoch.EpochSignal.TheVariants.{GcpStateConf}
 use Rattle.sig_core.specs.declared.signal.host.HostSignal.TheVariants.{Continue}
 use Rattle.sig_core.specs.declared.signal.host.Work.TheVariants.{Held}
 use Rattle.sig_core.specs.declared.signal.membership.MembershipSignal.TheVariants.{FenceReq, FenceConf}
@@ -29,9 +34,11 @@ use Rattle.step_forms.specs.Does.{Does, IsAmong, IsWord}
 use Rattle.dih_node.specs.declared.dih.Report.{Report}
 use Rattle.dih_node.specs.declared.dih.TheConstants.{TRANSACTIONS}
 use Rattle.dih_node.specs.Dih.{dih_row, dih_table, epoch_table}
-use Rattle.dih_node.specs.Orders.{close_row, commit_if, commit_row, committed, copy_row, done_row, fence_row, greater, install_row, prepare_row, prepared_if, serving, state_row}
+use Rattle.dih_node.specs.Orders.{close_row, commit_if, commit_row, committed, copy_row, done_row, fence_row, greater}
+use Rattle.dih_node.specs.Orders.{install_row, prepare_row, prepared_if, serving, state_row}
 use Rattle.dih_node.specs.State.{DihState, can_serve, gives, go_on_if, is_unfinished}
-use Rattle.dih_node.specs.Verify.{end_row, ended, ended_by, given, held_by, is_of, report_by, report_if, reported, serve_by, serve_if, serve_one, serve_row, take_if, verify_if, verify_row}
+use Rattle.dih_node.specs.Verify.{end_row, ended, ended_by, given, held_by, is_of, report_by, report_if, reported}
+use Rattle.dih_node.specs.Verify.{serve_by, serve_if, serve_one, serve_row, take_if, verify_if, verify_row}
 use Rattle.dih_node.specs.Words.{DihKeepsToItsWords, is_dih_mark, is_dih_word}
 
 -- a transaction is decided: it has the current epoch, and is counted

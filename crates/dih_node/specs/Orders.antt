@@ -1,7 +1,8 @@
 -- The orders of the master of checkpoints, fences, and views.
 use Rattle.std.specs.Prelude.{ℕ, if◌then◌else◌, Bool, true, false, nat_le, nat_lt, Some}
 use Rattle.sig_core.specs.declared.signal.Body.TheVariants.{Epoch, Membership}
-use Rattle.sig_core.specs.declared.signal.epoch.EpochSignal.TheVariants.{GcpPrepareConf, GcpClosedConf, CopyGciConf, GcpStateConf}
+use Rattle.sig_core.specs.declared.signal.epoch.EpochSignal.TheVariants.{GcpPrepareConf, GcpClosedConf, CopyGciConf}
+use Rattle.sig_core.specs.declared.signal.epoch.EpochSignal.TheVariants.{GcpStateConf}
 use Rattle.sig_core.specs.declared.signal.membership.MembershipSignal.TheVariants.{FenceConf}
 use Rattle.sig_core.specs.Place.{checkpoints, membership}
 use Rattle.sig_core.specs.Step.{Step, joined, sends_only, sending, stay}

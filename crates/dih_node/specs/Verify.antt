@@ -1,5 +1,6 @@
 -- Transactions are given epochs.
-use Rattle.std.specs.Prelude.{ℕ, ◌+◌, ◌==◌, Bool, true, false, nat_lt, [], ◌∷◌, ◌++◌, length, position, remove, slice_get, Option, None, Some}
+use Rattle.std.specs.Prelude.{ℕ, ◌+◌, ◌==◌, Bool, true, false, nat_lt, [], ◌∷◌, ◌++◌, length, position, remove}
+use Rattle.std.specs.Prelude.{slice_get, Option, None, Some}
 use Rattle.sig_core.specs.declared.mark.Mark.TheVariants.{Decided}
 use Rattle.sig_core.specs.declared.member.TxId.{TxId}
 use Rattle.sig_core.specs.declared.signal.Body.TheVariants.{Epoch}

@@ -1,7 +1,8 @@
 //! The orders of the master of checkpoints.
 ghost use Rattle.std.specs.Prelude.{◌≡◌, ◌+◌, ◌≤◌, length};
 ghost use Rattle.sig_core.specs.Step.{HasRoom, IsTaken, stay};
-ghost use Rattle.dih_node.specs.Orders.{close_row, commit_row, copy_row, done_row, greater, noting, prepare_row, state_row};
+ghost use Rattle.dih_node.specs.Orders.{close_row, commit_row, copy_row, done_row, greater, noting, prepare_row};
+ghost use Rattle.dih_node.specs.Orders.{state_row};
 
 use crate::dih::{Dih, Report};
 use sig_core::{Body, EpochSignal, Outs, checkpoints};

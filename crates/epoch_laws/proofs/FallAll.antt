@@ -14,7 +14,7 @@ use Rattle.sig_core.specs.declared.view.View.{View}
 use Rattle.sig_core.specs.Step.{Step}
 use Rattle.dih_node.specs.Dih.{fresh_dih}
 use Rattle.dih_node.specs.State.{DihState}
-use Rattle.node_views.specs.declared.host.Host as node
+use Rattle.node_views.specs.declared.host_body.HostBody as node
 use Rattle.world_core.specs.Entries.{entries, entries_in, entry_of}
 use Rattle.world_core.specs.Hosts.{hosts, member_at}
 use Rattle.world_core.specs.SerialLaw.{AreEpochsOrdered}
@@ -120,7 +120,7 @@ given_exactly : (s : DihState) (mark : Mark) → IsGivenBy s mark → IsExactly 
 given_exactly s (Decided tx given) is = is.0
 given_exactly s _ is = tt
 
-told_view : (h : ℕ) (t : Step node.Host) → (told h t).standing.view ≡ t.state.standing.view
+told_view : (h : ℕ) (t : Step node.HostBody) → (told h t).standing.view ≡ t.state.standing.view
 told_view zero t = refl
 told_view (suc h) t = refl
 
@@ -209,7 +209,7 @@ module _ (start : Start) (all : ℕ → List HostStep) where
         runs : RunsTc start e.host (old e.host)
         runs =
             runs_tc start e.host _
-            (ap (λ h. (started start h).parts) at ∙ ap (λ (s : node.Host). s.parts) (tc_started start me there))
+            (ap (λ h. (started start h).parts) at ∙ ap (λ (s : node.HostBody). s.parts) (tc_started start me there))
             (old e.host)
 
         epochs_are : epochs_of start old me ≡ runs.part.dih
@@ -270,7 +270,8 @@ module _ (start : Start) (all : ℕ → List HostStep) where
               (others_decide_none e.host (after start e.host (old e.host)) e.step.taken
               (never_tc start e.host (old e.host) none)) down
 
-  decisions_down : (es : List HostStep) → 1 ≤ start.epoch → IsMoment start all es → AreDown (decisions start es)
+  decisions_down : (es : List HostStep) → start.start_epoch < start.epoch → IsMoment start all es
+      → AreDown (decisions start es)
   decisions_down [] some moment = tt
   decisions_down (e ∷ es) some moment =
       let less = moment_less start all e es moment in

@@ -9,7 +9,7 @@ use Rattle.sig_core.specs.declared.signal.Signal.{Signal}
 use Rattle.sig_core.specs.declared.view.View.{View}
 use Rattle.sig_core.specs.Step.{Step}
 use Rattle.node_views.specs.Blocks.{parts_entered, settled_at}
-use Rattle.node_views.specs.declared.host.Host as hosts
+use Rattle.node_views.specs.declared.host_body.HostBody as hosts
 use Rattle.node_views.specs.declared.parts.Parts.{Parts}
 use Rattle.node_views.specs.declared.parts.Parts.TheVariants as part
 use Rattle.node_views.specs.declared.tc_part.TcPart.{TcPart}
@@ -21,7 +21,7 @@ use Rattle.view_laws.proofs.eras.DecisionMarks.{DecidesNone, IsUndecided}
 
 module _ (x : Signal) where
   -- the step decides nothing, or the host stands in no lesser view than the signal's behind it
-  abbrev pub DecidesLow : Step hosts.Host → Type 0
+  abbrev pub DecidesLow : Step hosts.HostBody → Type 0
   DecidesLow t = DecidesNone t ⊎ (x.view.number ≤ t.state.standing.view.number)
 
   abbrev Low : Saying
@@ -48,7 +48,7 @@ module _ (x : Signal) where
   tc_entered_settles (part.Shell q) p is view settled = absurd cc
   tc_entered_settles (part.Ldm q) p is view settled = absurd cc
 
-  pub tc_low : (h : ℕ) (s : hosts.Host) (p : TcPart) → s.parts ≡ part.Tc p → DecidesLow (step_by h s x)
+  pub tc_low : (h : ℕ) (s : hosts.HostBody) (p : TcPart) → s.parts ≡ part.Tc p → DecidesLow (step_by h s x)
   tc_low h s p is =
       step_so Low x h s (record {
         own = record {

@@ -13,7 +13,7 @@ use Rattle.sig_core.specs.declared.view.View.{View}
 use Rattle.dih_node.specs.Dih.{dih_row}
 use Rattle.dih_node.specs.State.{DihState}
 use Rattle.node_views.specs.Blocks.{parts_entered}
-use Rattle.node_views.specs.declared.host.Host as hosts
+use Rattle.node_views.specs.declared.host_body.HostBody as hosts
 use Rattle.node_views.specs.declared.parts.Parts.{Parts}
 use Rattle.node_views.specs.declared.parts.Parts.TheVariants.{Shell, Main, Tc, Ldm}
 use Rattle.node_views.specs.declared.tc_part.TcPart.{TcPart}
@@ -40,7 +40,7 @@ unmarked marks none made all = each_map (IsAmong marks) IsUndecided made none al
 entered_none : (parts : Parts) (view : View) → DecidesNone (parts_entered parts view)
 entered_none parts view = subst (Each IsUndecided) (sym (entered_bare parts view)) tt
 
-pub others_decide_none : (h : ℕ) (s : hosts.Host) (x : Signal) → HasNoTc s.parts → DecidesNone (step_by h s x)
+pub others_decide_none : (h : ℕ) (s : hosts.HostBody) (x : Signal) → HasNoTc s.parts → DecidesNone (step_by h s x)
 others_decide_none h s x other = step_none h s x (by s.parts other)
   where
     by : (parts : Parts) → HasNoTc parts → has_coordinator parts ≡ false
@@ -79,7 +79,7 @@ module _ (x : Signal) (s : DihState) where
   tc_marked p same = record { row = tc_gives p same x.to.block; settles = λ view is. absurd cc }
 
 -- at a host with a coordinator
-pub tc_steps_give : (h : ℕ) (s : hosts.Host) (x : Signal) (p : TcPart) → s.parts ≡ Tc p
+pub tc_steps_give : (h : ℕ) (s : hosts.HostBody) (x : Signal) (p : TcPart) → s.parts ≡ Tc p
     → Each (IsGivenBy p.dih) (step_by h s x).effects.marks
 tc_steps_give h s x p is =
     step_marks (IsGivenBy p.dih) (record { stops = λ cause. tt; installs = λ view. tt; cuts = λ host. tt }) x h s

@@ -16,7 +16,7 @@ use Rattle.dih_node.specs.Orders as dih
 use Rattle.dih_node.specs.State.{DihState}
 use Rattle.node_views.specs.Blocks.{parts_entered}
 use Rattle.node_views.specs.Parts.{ldm_row}
-use Rattle.node_views.specs.declared.host.Host as hosts
+use Rattle.node_views.specs.declared.host_body.HostBody as hosts
 use Rattle.node_views.specs.declared.ldm_part.LdmPart.{LdmPart}
 use Rattle.node_views.specs.declared.parts.Parts.{Parts}
 use Rattle.node_views.specs.declared.parts.Parts.TheVariants.{Shell, Main, Tc, Ldm}
@@ -66,7 +66,7 @@ shell_words (Main q) p is body word = absurd cc
 shell_words (Tc q) p is body word = absurd cc
 shell_words (Ldm q) p is body word = absurd cc
 
-pub shell_sends_none : (h : ℕ) (s : hosts.Host) (x : Signal) (p : ShellPart) → s.parts ≡ Shell p
+pub shell_sends_none : (h : ℕ) (s : hosts.HostBody) (x : Signal) (p : ShellPart) → s.parts ≡ Shell p
     → AreNoOrders (step_by h s x).effects.sends
 shell_sends_none h s x p is =
     (step_words (λ body. is_order body ≡ false) (λ (mark : Mark). Unit {0}) h s x (shell_words s.parts p is)
@@ -81,7 +81,7 @@ ldm_rows p _ x = tt
 ldm_sent : (p : LdmPart) (x : Signal) → IsSent IsOfRows x (Ldm p)
 ldm_sent p x = record { row = ldm_rows p x.to.block x; settles = λ view is. tt }
 
-pub rows_send : (h : ℕ) (s : hosts.Host) (x : Signal) (p : LdmPart) → s.parts ≡ Ldm p
+pub rows_send : (h : ℕ) (s : hosts.HostBody) (x : Signal) (p : LdmPart) → s.parts ≡ Ldm p
     → Each IsOfRows (step_by h s x).effects.sends
 rows_send h s x p is =
     step_sends IsOfRows h s x (record {

@@ -10,7 +10,7 @@ use Rattle.sig_core.specs.declared.signal.Signal.{Signal}
 use Rattle.sig_core.specs.declared.view.Shape.{Shape}
 use Rattle.sig_core.specs.declared.view.View.{View}
 use Rattle.node_views.specs.Blocks.{parts_entered, parts_row}
-use Rattle.node_views.specs.declared.host.Host as node
+use Rattle.node_views.specs.declared.host_body.HostBody as node
 use Rattle.node_views.specs.declared.ldm_part.LdmPart.{LdmPart}
 use Rattle.node_views.specs.declared.main_part.MainPart.{MainPart}
 use Rattle.node_views.specs.declared.parts.Parts.{Parts}
@@ -66,13 +66,13 @@ module _ (shape : Shape) (x : Signal) (now : Parts) (seen : View) where
   moves_part parts view (entering above passes) =
       passes_part (parts_entered parts x.view).state x.view passes ∙ entered_part parts x.view
 
-step_part : (h : ℕ) (s : node.Host) (x : Signal) → part_in (step_by h s x).state.parts ≡ part_in s.parts
+step_part : (h : ℕ) (s : node.HostBody) (x : Signal) → part_in (step_by h s x).state.parts ≡ part_in s.parts
 step_part h s x =
     moves_part s.standing.shape x (step_by h s x).state.parts (step_by h s x).state.standing.view s.parts
     s.standing.view
     (step_moves x h s)
 
-next_part : (h : ℕ) (s : node.Host) (x : Signal) → part_in (told h (step_by h s x)).parts ≡ part_in s.parts
+next_part : (h : ℕ) (s : node.HostBody) (x : Signal) → part_in (told h (step_by h s x)).parts ≡ part_in s.parts
 next_part zero s x = giving_part (step_by zero s x).state.parts ∙ step_part zero s x
 next_part (suc h) s x = step_part (suc h) s x
 
@@ -114,7 +114,7 @@ module _ (start : Start) where
       → RunsRows (after start (ldm_of start me) log).parts
   runs_rows me there log =
       rows_of (after start (ldm_of start me) log).parts
-      (part_after (ldm_of start me) log ∙ ap (λ (s : node.Host). part_in s.parts) (ldm_started start me there))
+      (part_after (ldm_of start me) log ∙ ap (λ (s : node.HostBody). part_in s.parts) (ldm_started start me there))
 
   -- a main host
   pub record RunsMain (parts : Parts) : Type 0 where
@@ -131,7 +131,7 @@ module _ (start : Start) where
       → RunsMain (after start (main_of start me) log).parts
   runs_main me there log =
       main_part_of (after start (main_of start me) log).parts
-      (part_after (main_of start me) log ∙ ap (λ (s : node.Host). part_in s.parts) (main_started start me there))
+      (part_after (main_of start me) log ∙ ap (λ (s : node.HostBody). part_in s.parts) (main_started start me there))
 
   -- whose host a host is
   pub data Whose (h : ℕ) : Type 0 where

@@ -10,7 +10,7 @@ use Rattle.sig_core.specs.declared.member.Member.{Member}
 use Rattle.sig_core.specs.declared.view.View.{View}
 use Rattle.dih_node.specs.Dih.{fresh_dih}
 use Rattle.dih_node.specs.State.{DihState}
-use Rattle.node_views.specs.declared.host.Host as hosts
+use Rattle.node_views.specs.declared.host_body.HostBody as hosts
 use Rattle.node_views.specs.declared.parts.Parts.TheVariants as part
 use Rattle.world_core.specs.Start.{Start, made}
 use Rattle.world_core.specs.Steps.{HostStep}
@@ -46,7 +46,7 @@ up_to_none epoch _ none = tt
 pub runs_epochs : (start : Start) (logs : ℕ → List HostStep) (me : Member) → IsIn me (made start)
     → RunsTc start (tc_of start me) (logs (tc_of start me))
 runs_epochs start logs me there =
-    runs_tc start (tc_of start me) _ (ap (λ (s : hosts.Host). s.parts) (tc_started start me there))
+    runs_tc start (tc_of start me) _ (ap (λ (s : hosts.HostBody). s.parts) (tc_started start me there))
     (logs (tc_of start me))
 
 module _ (start : Start) (all : ℕ → List HostStep) (e : HostStep) (es : List HostStep)

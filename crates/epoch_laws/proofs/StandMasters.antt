@@ -22,7 +22,7 @@ use Rattle.gcp_master.specs.Master.{fresh_master, master_row}
 use Rattle.gcp_master.specs.Resume.{in_view}
 use Rattle.gcp_master.specs.State.{MasterState}
 use Rattle.node_views.specs.Blocks.{parts_entered, parts_row}
-use Rattle.node_views.specs.declared.host.Host as hosts
+use Rattle.node_views.specs.declared.host_body.HostBody as hosts
 use Rattle.node_views.specs.declared.main_part.MainPart.{MainPart}
 use Rattle.node_views.specs.declared.parts.Parts.{Parts}
 use Rattle.node_views.specs.declared.parts.Parts.TheVariants as part
@@ -121,7 +121,7 @@ module _ (start : Start) (member : Member) (there : IsIn member (made start)) wh
   runs_master : (log : List HostStep)
       → RunsMaster member (after start (main_of start member) log).parts (view_after start (main_of start member) log)
   runs_master [] =
-      subst (λ (s : hosts.Host). RunsMaster member s.parts s.standing.view) (sym (main_started start member there))
+      subst (λ (s : hosts.HostBody). RunsMaster member s.parts s.standing.view) (sym (main_started start member there))
       (record { main = _; is = refl; view_is = refl; member_is = refl })
   runs_master (e ∷ log) =
       let h = main_of start member in

@@ -27,7 +27,7 @@ use Rattle.gcp_master.specs.Master.{fresh_master, master_row}
 use Rattle.gcp_master.specs.State.{MasterState}
 use Rattle.gcp_master.specs.Voices as gcp
 use Rattle.node_views.specs.Blocks.{fence_at}
-use Rattle.node_views.specs.declared.host.Host as node
+use Rattle.node_views.specs.declared.host_body.HostBody as node
 use Rattle.node_views.specs.declared.parts.Parts.TheVariants as part
 use Rattle.node_views.specs.Fence.{is_fenced}
 use Rattle.node_views.specs.Row.{host_row, taken_if}
@@ -85,7 +85,7 @@ use Rattle.epoch_laws.proofs.StepTc.{IsPassed, IsStepOfTc, tc_steps}
 use Rattle.epoch_laws.proofs.StepTc as tc
 
 -- a signal that isn't well formed has its host send nothing
-malformed_quiet : (h : ℕ) (s : node.Host) (x : Signal) → is_well_formed s.standing.shape x ≡ false
+malformed_quiet : (h : ℕ) (s : node.HostBody) (x : Signal) → is_well_formed s.standing.shape x ≡ false
     → (step_by h s x).effects.sends ≡ []
 unfolding host_row
 malformed_quiet h s x bad = by (own_stop h x)
@@ -95,7 +95,7 @@ malformed_quiet h s x bad = by (own_stop h x)
     by None = ap (λ (sound : Bool). (taken_if s x sound).effects.sends) bad
 
 -- a signal that is passed to a block is of no greater view than the host's, nor of a lesser one, if a fence may stop it
-passed_low : (s : node.Host) (x : Signal) (stood : View) → IsPassed s x stood → x.view.number ≤ stood.number
+passed_low : (s : node.HostBody) (x : Signal) (stood : View) → IsPassed s x stood → x.view.number ≤ stood.number
 passed_low s x stood (inl (newer, is)) =
     let same : stood.number ≡ x.view.number = ap (λ (v : View). v.number) is in
     omega (arith, same)
@@ -104,7 +104,7 @@ passed_low s x stood (inr (older, is, clear)) =
     let low = ltb-false s.standing.view.number x.view.number older in
     omega (arith, same, low)
 
-passed_fresh : (s : node.Host) (x : Signal) (stood : View)
+passed_fresh : (s : node.HostBody) (x : Signal) (stood : View)
     → s.standing.view.number ≤ fence_at s.parts x.to.block s.standing.view.number → IsPassed s x stood
     → is_fenced x ≡ true → x.view.number ≡ stood.number
 passed_fresh s x stood fence (inl (newer, is)) fenced = sym (ap (λ (v : View). v.number) is)
@@ -211,7 +211,7 @@ module _ (start : Start) (all : ℕ → List HostStep) (e : HostStep) (es : List
     abbrev x : Signal
     x = e.step.taken
 
-    abbrev s : node.Host
+    abbrev s : node.HostBody
     s = after start e.host (old e.host)
 
     abbrev stood : View
@@ -225,7 +225,7 @@ module _ (start : Start) (all : ℕ → List HostStep) (e : HostStep) (es : List
       runs : RunsTc start e.host (old e.host)
       runs =
           runs_tc start e.host _
-          (ap (λ h. (started start h).parts) at ∙ ap (λ (s : node.Host). s.parts) (tc_started start me there))
+          (ap (λ h. (started start h).parts) at ∙ ap (λ (s : node.HostBody). s.parts) (tc_started start me there))
           (old e.host)
 
       step : IsStepOfTc s x runs.part stood (after start e.host (e ∷ old e.host)).parts sends

@@ -12,11 +12,10 @@ use Rattle.gcp_master.specs.declared.phase.Phase.TheVariants.{Unordered}
 use Rattle.gcp_master.specs.Master.{first_phase, fresh_master}
 use Rattle.gcp_master.specs.Resume.{is_first_by, is_president}
 use Rattle.gcp_master.specs.State.{MasterState}
-use Rattle.node_views.specs.declared.host.Host as hosts
+use Rattle.node_views.specs.declared.host_body.HostBody as hosts
 use Rattle.world_core.specs.Hosts as world
 use Rattle.world_core.specs.Start.{Start, made}
 use Rattle.world_core.specs.Steps.{HostStep}
-use Rattle.world_views.specs.Hosts.{epoch_before}
 use Rattle.view_laws.proofs.follow.Hosts.{main_started}
 use Rattle.view_laws.proofs.runs.Step.{started_view}
 use Rattle.epoch_laws.specs.Alike.{AreAlike, IsSound, Rests, Waits}
@@ -29,17 +28,14 @@ use Rattle.moment_laws.proofs.MomentHosts.{tc_started}
 use Rattle.moment_laws.proofs.MomentMembers.{current_made}
 use Rattle.moment_laws.proofs.MomentViews.{IsViewOf, current_is}
 
--- a life starts from an epoch before its first one
-before_less : (epoch : ℕ) → 1 ≤ epoch → epoch_before epoch < epoch
-before_less epoch some = omega (arith, some)
-
 -- the first of these members
 first_is : (member : Member) (members : List Member) → is_first_by member (slice_get members 0) ≡ true
     → IsFirst member members
 first_is member [] is = absurd cc
 first_is member (oldest ∷ members) is = same_member-is member oldest is
 
-module _ (start : Start) (all : ℕ → List HostStep) (some : 1 ≤ start.epoch) (moment : IsMoment start all []) where
+module _ (start : Start) (all : ℕ → List HostStep) (below : start.start_epoch < start.epoch)
+    (moment : IsMoment start all []) where
   abbrev logs : ℕ → List HostStep
   logs = logs_of start []
 
@@ -48,18 +44,18 @@ module _ (start : Start) (all : ℕ → List HostStep) (some : 1 ≤ start.epoch
 
   module _ (member : Member) (there : IsIn member (made start)) where
     epochs_begin : epochs_of start logs member
-        ≡ fresh_dih member.node first.number start.epoch (epoch_before start.epoch)
-    epochs_begin = ap (λ (s : hosts.Host). dih_in (fresh_dih 0 0 0 0) s.parts) (tc_started start member there)
+        ≡ fresh_dih member.node first.number start.epoch start.start_epoch
+    epochs_begin = ap (λ (s : hosts.HostBody). dih_in (fresh_dih 0 0 0 0) s.parts) (tc_started start member there)
 
     master_begins : master_of start logs member ≡ fresh_master member first start.epoch
     master_begins =
-        ap (λ (s : hosts.Host). master_in (fresh_master member first 0) s.parts) (main_started start member there)
+        ap (λ (s : hosts.HostBody). master_in (fresh_master member first 0) s.parts) (main_started start member there)
 
-    sound_begun : IsSound (fresh_dih member.node first.number start.epoch (epoch_before start.epoch))
+    sound_begun : IsSound (fresh_dih member.node first.number start.epoch start.start_epoch)
     sound_begun = record {
-      some = some;
-      preparing = λ below. absurd (omega (arith, below));
-      resting = λ low. (refl, before_less start.epoch some);
+      some = omega (arith, below);
+      preparing = λ less. absurd (omega (arith, less));
+      resting = λ low. (refl, below);
       order = tt;
     }
 
@@ -72,7 +68,7 @@ module _ (start : Start) (all : ℕ → List HostStep) (some : 1 ≤ start.epoch
     waits : Waits start.epoch (suc start.epoch) (epochs_of start logs member)
     waits =
         subst (Waits start.epoch (suc start.epoch)) (sym epochs_begin)
-        (record { gives = refl; prepared = λ below. absurd (omega (arith, below)) })
+        (record { gives = refl; prepared = λ less. absurd (omega (arith, less)) })
 
   full_made : (member : Member) → IsIn member (current start logs).full → IsIn member (made start)
   full_made = current_made start all [] moment

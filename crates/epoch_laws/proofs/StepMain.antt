@@ -13,11 +13,12 @@ use Rattle.gcp_master.specs.Master.{master_row}
 use Rattle.gcp_master.specs.Resume.{in_view}
 use Rattle.gcp_master.specs.State.{MasterState}
 use Rattle.node_views.specs.Blocks.{parts_entered}
-use Rattle.node_views.specs.declared.host.Host as hosts
+use Rattle.node_views.specs.declared.host_body.HostBody as hosts
 use Rattle.node_views.specs.declared.main_part.MainPart.{MainPart}
 use Rattle.node_views.specs.declared.parts.Parts.{Parts}
 use Rattle.node_views.specs.declared.parts.Parts.TheVariants.{Main}
-use Rattle.node_views.specs.Parts.{main_entered, main_row, main_settled, may_settle, settled_if}
+use Rattle.node_views.specs.Parts.{main_entered, main_row, main_settled}
+use Rattle.qmgr_block.proofs.Settles.{settles_may}
 use Rattle.node_views.specs.Replies.{giving}
 use Rattle.qmgr_block.specs.Qmgr.{qmgr_installed, qmgr_row}
 use Rattle.world_views.specs.Machine.{step_by, told}
@@ -35,17 +36,17 @@ pub record IsInstalled (s now : MasterState) (stood : View) : Type 0 where
   pub voices : now.voices ≡ []
 
 -- nothing comes to the master but that views are installed, the last of which is this one
-abbrev pub IsLeft : hosts.Host → View → MasterState → MasterState → Type 0
+abbrev pub IsLeft : hosts.HostBody → View → MasterState → MasterState → Type 0
 IsLeft host stood s now = ((now ≡ s) × (stood ≡ host.standing.view)) ⊎ IsInstalled s now stood
 
 -- only the membership may order, and that its own master
-pub record IsResting (host : hosts.Host) (stood : View) (s : MasterState) (now : MainPart) (sends : List Outgoing)
+pub record IsResting (host : hosts.HostBody) (stood : View) (s : MasterState) (now : MainPart) (sends : List Outgoing)
     : Type 0 where
   pub left : IsLeft host stood s now.master
   pub orders : Each (Orders now.qmgr.known) sends
 
 -- the master takes the signal; what orders are sent it sends
-pub record IsReached (host : hosts.Host) (x : Signal) (stood : View) (s : MasterState) (now : MainPart)
+pub record IsReached (host : hosts.HostBody) (x : Signal) (stood : View) (s : MasterState) (now : MainPart)
     (sends : List Outgoing) : Type 0 where
   pub passed : IsPassed host x stood
   pub to : x.to.block ≡ block.GcpMaster
@@ -54,7 +55,7 @@ pub record IsReached (host : hosts.Host) (x : Signal) (stood : View) (s : Master
   pub is : now.master ≡ (master_row before x).state
   pub orders : Each (λ sent. IsNoOrder sent ⊎ IsIn sent (master_row before x).effects.sends) sends
 
-pub record IsStepOfMain (host : hosts.Host) (x : Signal) (p : MainPart) (stood : View) (now : Parts)
+pub record IsStepOfMain (host : hosts.HostBody) (x : Signal) (p : MainPart) (stood : View) (now : Parts)
     (sends : List Outgoing) : Type 0 where
   pub part : MainPart
   pub is : now ≡ Main part
@@ -64,11 +65,11 @@ installs : (s t : MasterState) (view : View) → t.member ≡ s.member → IsIns
 unfolding in_view
 installs s t view same = record { member = same; view = refl; phase = refl; voices = refl }
 
-left_member : (host : hosts.Host) (stood : View) (s now : MasterState) → IsLeft host stood s now → now.member ≡ s.member
+left_member : (host : hosts.HostBody) (stood : View) (s now : MasterState) → IsLeft host stood s now → now.member ≡ s.member
 left_member host stood s now (inl (same, view)) = subst (λ (t : MasterState). now.member ≡ t.member) same refl
 left_member host stood s now (inr installed) = installed.member
 
-module _ (host : hosts.Host) (x : Signal) (p : MainPart) where
+module _ (host : hosts.HostBody) (x : Signal) (p : MainPart) where
   abbrev SaysMain : Saying
   SaysMain = IsStepOfMain host x p
 
@@ -117,13 +118,8 @@ module _ (host : hosts.Host) (x : Signal) (p : MainPart) where
   unfolding main_row
   settling q view is = by x.to.block is
     where
-      may : (b : Bool) → may_settle x.body ≡ b → settled_if q.qmgr x b ≡ Some view
-          → AreNoOrders (qmgr_row q.qmgr x).effects.sends
-      may true can is = settling_none q.qmgr x can
-      may false can is = absurd cc
-
       by : (b : BlockId) → main_settled q b x ≡ Some view → AreNoOrders (main_row q b x).effects.sends
-      by block.Qmgr is = may (may_settle x.body) refl is
+      by block.Qmgr is = settling_none q.qmgr x (settles_may q.qmgr x view is)
       by _ is = absurd cc
 
   settled_member : (q : MainPart) (view : View) → main_settled q x.to.block x ≡ Some view

@@ -15,7 +15,7 @@ use Rattle.sig_core.specs.declared.view.View.{View}
 use Rattle.dih_node.specs.Dih.{dih_row}
 use Rattle.dih_node.specs.State.{DihState}
 use Rattle.node_views.specs.Blocks.{parts_entered}
-use Rattle.node_views.specs.declared.host.Host as hosts
+use Rattle.node_views.specs.declared.host_body.HostBody as hosts
 use Rattle.node_views.specs.declared.parts.Parts.{Parts}
 use Rattle.node_views.specs.declared.parts.Parts.TheVariants.{Tc}
 use Rattle.node_views.specs.declared.tc_part.TcPart.{TcPart}
@@ -37,7 +37,7 @@ use Rattle.world_views.proofs.StepWalk.{IsTaken, IsWalked, Saying, next_comes}
 -- The blocks of a host take the signal, where it stands in this view behind it: the signal's own, which is greater, or
 -- the
 -- one before, where the signal isn't below their fence.
-abbrev pub IsPassed : hosts.Host → Signal → View → Type 0
+abbrev pub IsPassed : hosts.HostBody → Signal → View → Type 0
 IsPassed s x stood =
     ((nat_lt s.standing.view.number x.view.number ≡ true) × (stood ≡ x.view))
     ⊎ ((nat_lt s.standing.view.number x.view.number ≡ false) × (stood ≡ s.standing.view) × (is_barred s x ≡ false))
@@ -48,14 +48,14 @@ pub record IsLeft (s now : DihState) (sends : List Outgoing) : Type 0 where
   pub none : AreNoOrders sends
 
 -- they take the signal
-pub record IsReached (host : hosts.Host) (x : Signal) (stood : View) (s now : DihState) (sends : List Outgoing) : Type 0
+pub record IsReached (host : hosts.HostBody) (x : Signal) (stood : View) (s now : DihState) (sends : List Outgoing) : Type 0
   where
     pub passed : IsPassed host x stood
     pub to : x.to.block ≡ block.Dih
     pub moves : Moves s x.body now
     pub tells : Rises x.body → IsSound s → Each (λ sent. TellsOf s x.body now sent.body) sends
 
-pub record IsStepOfTc (host : hosts.Host) (x : Signal) (p : TcPart) (stood : View) (now : Parts) (sends : List Outgoing)
+pub record IsStepOfTc (host : hosts.HostBody) (x : Signal) (p : TcPart) (stood : View) (now : Parts) (sends : List Outgoing)
     : Type 0 where
   pub part : TcPart
   pub is : now ≡ Tc part
@@ -111,7 +111,7 @@ none_tells s now asked sent none = by sent.body none
     by (Epoch (GcpStateConf current prepared next closed saved durable)) none = absurd cc
     by body none = tt
 
-module _ (host : hosts.Host) (x : Signal) (p : TcPart) where
+module _ (host : hosts.HostBody) (x : Signal) (p : TcPart) where
   abbrev SaysTc : Saying
   SaysTc = IsStepOfTc host x p
 

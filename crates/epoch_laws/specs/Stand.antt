@@ -1,5 +1,5 @@
 -- All that stands of epochs at each moment of a run in the order of views.
-use Rattle.std.specs.Prelude.{◌≡◌, ◌≤◌, ℕ, List}
+use Rattle.std.specs.Prelude.{◌<◌, ◌≡◌, ◌≤◌, ℕ, List}
 use Rattle.run_theory.specs.Lists.{Each, IsIn}
 use Rattle.run_theory.specs.Links.{sent}
 use Rattle.sig_core.specs.declared.member.Member.{Member}
@@ -30,5 +30,6 @@ pub record AllStand (start : Start) (logs : ℕ → List HostStep) : Type 0 wher
 -- so it is at each moment, in a life whose first epoch isn't 0
 abbrev pub EpochsStand : Type 0
 EpochsStand =
-    (start : Start) (all : ℕ → List HostStep) (es : List HostStep) → 1 ≤ start.epoch → IsMoment start all es
+    (start : Start) (all : ℕ → List HostStep) (es : List HostStep) → start.start_epoch < start.epoch
+    → IsMoment start all es
     → AllStand start (logs_of start es)

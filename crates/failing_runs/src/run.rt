@@ -36,7 +36,7 @@ const HASTE: u64 = 16;
 pub fn run_one<W: Wait>(rt: &W, alloc: Global, seed: u64, fails: u64) -> Result<(), RunFault> {
     let mut dice = Dice::new(seed);
     let shape = shape_of(dice.roll(12));
-    let mut world = World::new(alloc, shape, EPOCH, &[])?;
+    let mut world = World::new(alloc, shape, EPOCH, 0, &[])?;
     live(rt, alloc, &mut dice, &mut world, &shape, fails)?;
     let rests = dice.roll(3) > 0;
     let rows = end(rt, alloc, &mut world, &shape, rests)?;

@@ -1,5 +1,6 @@
 -- The replicas of a key in the first view of a cluster: the nodes of the key's group, each once.
-use Rattle.std.proofs.Common.{◌≡◌, ◌≤◌, ◌<◌, ◌⊎◌, inl, inr, ℕ, zero, suc, ◌+◌, ◌-◌, ◌*◌, ◌/◌, ◌%◌, Bool, true, false, List, [], ◌∷◌, ◌++◌, length, get_or, refl, ap, sym, subst, ◌∙◌, arith}
+use Rattle.std.proofs.Common.{◌≡◌, ◌≤◌, ◌<◌, ◌⊎◌, inl, inr, ℕ, zero, suc, ◌+◌, ◌-◌, ◌*◌, ◌/◌, ◌%◌, Bool, true, false}
+use Rattle.std.proofs.Common.{List, [], ◌∷◌, ◌++◌, length, get_or, refl, ap, sym, subst, ◌∙◌, arith}
 use Rattle.std.specs.Prelude.{◌&&◌, ◌||◌, None, filter, is_some, not}
 use Rattle.std.specs.List.{All, list_any}
 use Rattle.std.proofs.lemmas.Bool.{cases_lt, eq-eqb, eqb-true}
@@ -16,7 +17,8 @@ use Rattle.frag_map.specs.Fragment.{frag_of, group_of_fragment, group_of_key}
 use Rattle.frag_map.specs.Groups.{is_manned, is_viable, lost_from, lost_group}
 use Rattle.frag_map.specs.Laws.{HasReplica, first_chain}
 use Rattle.frag_map.specs.Layout.{Layout, chain_of, first_layout, first_view, holds, members}
-use Rattle.frag_map.specs.Replicas.{first_start, in_turn, is_later_of_group, is_member, is_of_group, node_in_turn, replicas_of}
+use Rattle.frag_map.specs.Replicas.{first_start, in_turn, is_later_of_group, is_member, is_of_group, node_in_turn}
+use Rattle.frag_map.specs.Replicas.{replicas_of}
 use Rattle.frag_map.specs.Shape.{IsShape, group_of, groups}
 use Rattle.frag_map.proofs.AroundLemmas.{Reaches, around_all, around_apart}
 use Rattle.frag_map.proofs.ListLemmas.{take-few}

@@ -1,5 +1,6 @@
 -- The front of a list to which others are added.
-use Rattle.std.proofs.Common.{◌≡◌, ◌≤◌, ℕ, zero, suc, List, [], ◌∷◌, ◌++◌, take, length, refl, ap, sym, ◌∙◌, append_assoc, Bool, true, false, drop, get_or, ◌<◌, ◌+◌, arith}
+use Rattle.std.proofs.Common.{◌≡◌, ◌≤◌, ℕ, zero, suc, List, [], ◌∷◌, ◌++◌, take, length, refl, ap, sym, ◌∙◌}
+use Rattle.std.proofs.Common.{append_assoc, Bool, true, false, drop, get_or, ◌<◌, ◌+◌, arith}
 use Rattle.std.specs.Prelude.{filter}
 use Rattle.std.proofs.lemmas.List.{append-nil, drop_all, drop_more, length-take, take_all, take-append-le}
 

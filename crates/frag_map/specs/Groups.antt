@@ -1,5 +1,6 @@
 -- Groups of nodes in a view.
-use Rattle.std.specs.Prelude.{ℕ, zero, suc, ◌+◌, nat_le, Bool, true, false, if◌then◌else◌, Option, None, Some, is_some, not, filter, length}
+use Rattle.std.specs.Prelude.{ℕ, zero, suc, ◌+◌, nat_le, Bool, true, false, if◌then◌else◌, Option, None, Some, is_some}
+use Rattle.std.specs.Prelude.{not, filter, length}
 use Rattle.std.specs.List.{list_any}
 use Rattle.sig_core.specs.declared.view.Shape.{Shape}
 use Rattle.sig_core.specs.declared.view.View.{View}

@@ -1,7 +1,8 @@
 //! The replicas of a fragment in a view, the primary first.
 ghost use Rattle.std.specs.Prelude.{◌≡◌, ◌<◌, ◌≤◌, [], ◌∷◌, ◌++◌, filter, length, take};
 ghost use Rattle.std.specs.List.{list_any};
-ghost use Rattle.frag_map.specs.Replicas.{first_start, in_turn, is_later_of_group, is_member, is_of_group, node_in_turn, replicas_of};
+ghost use Rattle.frag_map.specs.Replicas.{first_start, in_turn, is_later_of_group, is_member, is_of_group};
+ghost use Rattle.frag_map.specs.Replicas.{node_in_turn, replicas_of};
 ghost use Rattle.frag_map.specs.Fragment.{group_of_fragment};
 ghost use Rattle.frag_map.specs.Shape.{IsShape};
 

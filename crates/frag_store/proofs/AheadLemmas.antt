@@ -8,7 +8,8 @@ use Rattle.sig_core.specs.Rows.{is_at, place_of}
 use Rattle.tuple_pages.specs.Free.{first_free}
 use Rattle.tuple_pages.specs.Places.{PagesState}
 use Rattle.frag_store.specs.Places.{IsAhead, IsIndexed, ahead_of, places_state}
-use Rattle.frag_store.proofs.PlaceLemmas.{elsewhere_spare, eq-self, found_elsewhere, found_nowhere, found_there, one_place}
+use Rattle.frag_store.proofs.PlaceLemmas.{elsewhere_spare, eq-self, found_elsewhere, found_nowhere, found_there}
+use Rattle.frag_store.proofs.PlaceLemmas.{one_place}
 
 other_of : (b c : Bool) → (b || c) ≡ true → b ≡ false → c ≡ true
 other_of true c e off = cc

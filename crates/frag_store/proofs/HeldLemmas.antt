@@ -5,13 +5,15 @@ use Rattle.std.specs.Prelude.{Option, None, Some, is_some, position}
 use Rattle.std.proofs.lemmas.Bool.{cases_eq, eqb-true, false≢true}
 use Rattle.std.proofs.lemmas.List.{get_or-set_same, get_or-set_other}
 use Rattle.sig_core.specs.declared.rows.Slot.{Slot}
-use Rattle.sig_core.specs.Rows.{freed_by, freed_if, has_row, is_at, no_row, place_of, placed, row_in, set_row, set_row_by}
+use Rattle.sig_core.specs.Rows.{freed_by, freed_if, has_row, is_at, no_row, place_of, placed, row_in, set_row}
+use Rattle.sig_core.specs.Rows.{set_row_by}
 use Rattle.sig_core.specs.Rows.{with_place, with_place_by, with_row}
 use Rattle.sig_core.specs.Same.{same_key}
 use Rattle.sig_core.proofs.Firsts.{place_by, position-cons}
 use Rattle.tuple_pages.specs.Free.{first_free}
 use Rattle.frag_store.specs.HeldPlaces.{AreHeld, HeldState, held_at, records_on}
-use Rattle.frag_store.proofs.PlaceLemmas.{at-same, at-within, free-there, get-placed, nowhere, one_place, placed_place, there}
+use Rattle.frag_store.proofs.PlaceLemmas.{at-same, at-within, free-there, get-placed, nowhere, one_place, placed_place}
+use Rattle.frag_store.proofs.PlaceLemmas.{there}
 use Rattle.row_records.proofs.KeyLemmas.{same}
 
 -- a test that lists pass at the same places is passed first at the same place

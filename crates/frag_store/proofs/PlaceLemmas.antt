@@ -10,7 +10,8 @@ use Rattle.std.proofs.lemmas.Bool.Decides.{nat_tests}
 use Rattle.std.proofs.lemmas.List.{get_or-set_same, get_or-set_other}
 use Rattle.linear_hash.specs.Places as linear_hash
 use Rattle.sig_core.specs.declared.rows.Slot.{Slot}
-use Rattle.sig_core.specs.Rows.{freed_by, freed_if, has_row, is_at, no_row, place_of, placed, row_in, set_row, set_row_by, with_place, with_place_by, with_row}
+use Rattle.sig_core.specs.Rows.{freed_by, freed_if, has_row, is_at, no_row, place_of, placed, row_in, set_row}
+use Rattle.sig_core.specs.Rows.{set_row_by, with_place, with_place_by, with_row}
 use Rattle.sig_core.specs.Same.{same_key}
 use Rattle.sig_core.proofs.Firsts.{place_by, position-cons}
 use Rattle.sig_core.proofs.Keys.{same_key-self}

@@ -1,5 +1,6 @@
 //! Places, and how many records are on the key of each.
-ghost use Rattle.std.specs.Prelude.{◌≡◌, ◌≤◌, ◌+◌, ◌<◌, ◌^◌, IfOk, IfSome, IsOk, List, MatchOption, None, OnOk, Some, [], cond, drop, length, nat_eq, position, slice_index_or, slice_set, true, ℕ};
+ghost use Rattle.std.specs.Prelude.{◌≡◌, ◌≤◌, ◌+◌, ◌<◌, ◌^◌, IfOk, IfSome, IsOk, List, MatchOption, None, OnOk, Some};
+ghost use Rattle.std.specs.Prelude.{[], cond, drop, length, nat_eq, position, slice_index_or, slice_set, true, ℕ};
 ghost use Rattle.sig_core.specs.Rows.{freed_by, has_row, next_by, place_of, set_row, taken, with_place};
 ghost use Rattle.sig_core.specs.Same.{same_key};
 ghost use Rattle.frag_store.specs.HeldPlaces.{HasPlace, records_on};
@@ -73,7 +74,7 @@ impl HeldPlaces {
         self.places.place_of(key)
     }
 
-    /// Notes a key that comes with its number, so that it is found without a digest until another one is
+    /// Notes a key that comes with its number, so that it is found without a digest until three others are
     /// asked for.
     pub fn note(&mut self, key: &HashedKey)
         ensures same { self.new ≡ self.old }

@@ -1,26 +1,27 @@
-//! Where each key is, with the last one that was asked for.
+//! Where each key is, with the last ones that were asked for.
 ghost use Rattle.std.specs.Prelude.{◌≡◌, IfOk, List, None, OnOk, Some, false, ℕ};
 ghost use Rattle.std.specs.FinMap as map;
 ghost use Rattle.linear_hash.specs.Places.{no_places};
 ghost use Rattle.sig_core.specs.Same.{same_key};
 
 use crate::lead::Lead;
+use crate::leads::Leads;
 use linear_hash::Index;
 use sig_core::{HashedKey, Key, NoMemory};
 use std::alloc::Global;
 use std::marker::Model;
 
-/// An index of keys, and where it led the one that was last asked for: most often that is asked for
+/// An index of keys, and where it led those that were last asked for: most often they are asked for
 /// next, and then no digest is taken. Contracts see what an index is.
 #[derive(Drop)]
 pub struct KeyIndex {
     index: Index,
-    last: Option<Lead>,
+    leads: Leads,
 }
 
 impl Model for KeyIndex {
     ghost use Rattle.linear_hash.specs.Places.{Places, places_code};
-    ghost use Rattle.frag_store.specs.Leads.{IsLed};
+    ghost use Rattle.frag_store.specs.Leads.{AreLed};
 
     ghost Value = { Places };
 
@@ -28,7 +29,7 @@ impl Model for KeyIndex {
 
     ghost view = { λ k. k.index };
 
-    ghost invariant = { λ k. IsLed k.index.at k.last };
+    ghost invariant = { λ k. AreLed k.index.at k.leads };
 }
 
 impl KeyIndex {
@@ -40,60 +41,49 @@ impl KeyIndex {
         ensures { IfOk result (λ index. index ≡ no_places) }
     {
         let index = Index::new(alloc)?;
-        Ok(KeyIndex { index, last: None })
+        let leads = Leads::new();
+        Ok(KeyIndex { index, leads })
     }
 
     /// Where the key is led.
     pub fn find(&self, key: &Key) -> Option<u64>
         ensures { result ≡ map.get self.now.at key.now }
     {
-        self.look_up(key).at
+        match self.leads.find(key) {
+            Some(lead) => lead.at,
+            None => self.index.find(&HashedKey::new(key)),
+        }
     }
 
-    // The key with its number, which is known where it was the last that was asked for.
+    // The key with its number, which is known where it was asked for lately.
     fn hashed(&self, key: &Key) -> HashedKey
         ensures { result.key ≡ key.now }
     {
-        match self.last {
-            Some(lead) if lead.key.key == *key => lead.key,
-            _ => HashedKey::new(key),
+        match self.leads.find(key) {
+            Some(lead) => lead.key,
+            None => HashedKey::new(key),
         }
     }
 
-    // Where the key is led, which is known where it was the last that was asked for.
-    fn look_up(&self, key: &Key) -> Lead
-        ensures key { result.key.key ≡ key.now }
-        ensures place { map.get self.now.at key.now ≡ result.at }
-    {
-        match self.last {
-            Some(lead) if lead.key.key == *key => lead,
-            _ => {
-                let hashed = HashedKey::new(key);
-                let at = self.index.find(&hashed);
-                Lead { key: hashed, at }
-            }
-        }
-    }
-
-    /// Notes a key that comes with its number as the last that was asked for.
-    #[tactic(auto, using(crate::proofs::LeadLemmas::leads))]
-    pub fn note(&mut self, key: &HashedKey)
+    /// Where a key is led that comes with its number, which is then the last that was asked for.
+    pub fn note(&mut self, key: &HashedKey) -> Option<u64>
+        ensures place { result ≡ map.get self.old.at key.now.key }
         ensures same { self.new ≡ self.old }
     {
         let at = self.index.find(key);
-        self.last = Some(Lead { key: *key, at });
+        self.leads.push(Lead { key: *key, at });
+        at
     }
 
-    /// Where the key is led, which is then the last that was asked for.
-    #[tactic(auto, using(crate::proofs::LeadLemmas::leads))]
+    /// Where the key is led, which is then among the last that were asked for.
     pub fn recall(&mut self, key: &Key) -> Option<u64>
         ensures place { result ≡ map.get self.old.at key.now }
         ensures same { self.new ≡ self.old }
     {
-        let lead = self.look_up(key);
-        let at = lead.at;
-        self.last = Some(lead);
-        at
+        match self.leads.find(key) {
+            Some(lead) => lead.at,
+            None => self.note(&HashedKey::new(key)),
+        }
     }
 
     /// Leads a key there that is led nowhere.
@@ -107,9 +97,8 @@ impl KeyIndex {
         ensures others { (q : List ℕ) → same_key key.now q ≡ false → map.get self.new.at q ≡ map.get self.old.at q }
     {
         let key = self.hashed(key);
-        self.last = None;
         self.index.insert(&key, at)?;
-        self.last = Some(Lead { key, at: Some(at) });
+        self.leads.push(Lead { key, at: Some(at) });
         Ok(())
     }
 
@@ -120,7 +109,7 @@ impl KeyIndex {
         ensures others { (q : List ℕ) → same_key key.now q ≡ false → map.get self.new.at q ≡ map.get self.old.at q }
     {
         let key = self.hashed(key);
-        self.last = None;
+        self.leads.forget(&key);
         self.index.remove(&key);
     }
 }

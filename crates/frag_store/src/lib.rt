@@ -4,6 +4,7 @@
 mod held_places;
 mod key_index;
 mod lead;
+mod leads;
 mod places;
 mod store;
 

@@ -1,6 +1,8 @@
 //! Places in pages, and an index of their keys.
-ghost use Rattle.std.specs.Prelude.{◌≡◌, ◌+◌, ◌<◌, ◌^◌, ◌||◌, IfOk, IfSome, IsOk, List, MatchOption, None, OnOk, Some, [], drop, false, nat_eq, position, slice_index_or, slice_set, true, ℕ};
-ghost use Rattle.sig_core.specs.Rows.{freed_by, has_row, is_at, next_by, no_row, place_of, placed, set_row, taken, with_place};
+ghost use Rattle.std.specs.Prelude.{◌≡◌, ◌+◌, ◌<◌, ◌^◌, ◌||◌, IfOk, IfSome, IsOk, List, MatchOption, None, OnOk, Some};
+ghost use Rattle.std.specs.Prelude.{[], drop, false, nat_eq, position, slice_index_or, slice_set, true, ℕ};
+ghost use Rattle.sig_core.specs.Rows.{freed_by, has_row, is_at, next_by, no_row, place_of, placed, set_row, taken};
+ghost use Rattle.sig_core.specs.Rows.{with_place};
 ghost use Rattle.tuple_pages.specs.Free.{first_free};
 ghost use Rattle.frag_store.specs.Places.{IsAhead, IsReady};
 
@@ -95,12 +97,12 @@ impl Places {
         }
     }
 
-    /// Notes a key that comes with its number, so that it is found without a digest until another one is
+    /// Notes a key that comes with its number, so that it is found without a digest until three others are
     /// asked for.
     pub fn note(&mut self, key: &HashedKey)
         ensures same { self.new ≡ self.old }
     {
-        self.index.note(key);
+        let _at = self.index.note(key);
     }
 
     /// Makes the memory for the key's place.

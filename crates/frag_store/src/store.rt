@@ -14,8 +14,8 @@ use std::alloc::Global;
 use std::marker::Model;
 
 /// Rows in pages, which no growth moves. A look-up of a key goes through one bucket of an index, unless the
-/// key is the one that was last made room for, and a look-up of a record takes a time that doesn't depend
-/// on the number of records. A place is taken or freed in a time that is logarithmic in the number of free
+/// key is one of the three that were last made room for, and a look-up of a record takes a time that doesn't
+/// depend on the number of records. A place is taken or freed in a time that is logarithmic in the number of free
 /// ones, dropping a record moves those that are younger, and the next place that has a row is found by
 /// passing over those that have none.
 #[derive(Drop)]

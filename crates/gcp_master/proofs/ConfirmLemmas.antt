@@ -1,18 +1,22 @@
 -- Confirmations that don't count.
-use Rattle.std.proofs.Common.{◌≡◌, ℕ, ◌==◌, ◌&&◌, ◌||◌, Bool, true, false, not, nat_lt, List, [], ◌∷◌, ◌++◌, length, refl, ap, ◌∙◌}
+use Rattle.std.proofs.Common.{◌≡◌, ℕ, ◌==◌, ◌&&◌, ◌||◌, Bool, true, false, not, nat_lt, List, [], ◌∷◌, ◌++◌, length}
+use Rattle.std.proofs.Common.{refl, ap, ◌∙◌}
 use Rattle.std.proofs.lemmas.Bool.{and_from, eq-eqb, false≢true}
 use Rattle.std.specs.List.{list_any}
 use Rattle.sig_core.specs.declared.member.Member.{Member}
 use Rattle.sig_core.specs.declared.signal.Body.{Body}
 use Rattle.sig_core.specs.declared.signal.Body.TheVariants.{Epoch}
-use Rattle.sig_core.specs.declared.signal.epoch.EpochSignal.TheVariants.{GcpPrepareConf, GcpNodeFinish, GcpClosedConf, GcpSaveConf, CopyGciConf, GcpStateConf}
+use Rattle.sig_core.specs.declared.signal.epoch.EpochSignal.TheVariants.{GcpPrepareConf, GcpNodeFinish, GcpClosedConf}
+use Rattle.sig_core.specs.declared.signal.epoch.EpochSignal.TheVariants.{GcpSaveConf, CopyGciConf, GcpStateConf}
 use Rattle.sig_core.specs.Step.{stay}
 use Rattle.gcp_master.specs.declared.known.Told.{Told}
 use Rattle.gcp_master.specs.declared.phase.Phase.{Phase}
-use Rattle.gcp_master.specs.declared.phase.Phase.TheVariants.{Gathering, Preparing, Committing, Closing, Saving, Copying}
+use Rattle.gcp_master.specs.declared.phase.Phase.TheVariants.{Gathering, Preparing, Committing, Closing, Saving}
+use Rattle.gcp_master.specs.declared.phase.Phase.TheVariants.{Copying}
 use Rattle.gcp_master.specs.declared.voices.TheConstants.{VOICES}
 use Rattle.gcp_master.specs.declared.voices.Voice.{Voice}
-use Rattle.gcp_master.specs.Closing.{copy_by, copy_if, copy_row, finish_by, finish_if, finish_row, note_by, note_if, note_row, prepare_by, prepare_if, prepare_row, save_by, save_if, save_row}
+use Rattle.gcp_master.specs.Closing.{copy_by, copy_if, copy_row, finish_by, finish_if, finish_row, note_by, note_if}
+use Rattle.gcp_master.specs.Closing.{note_row, prepare_by, prepare_if, prepare_row, save_by, save_if, save_row}
 use Rattle.gcp_master.specs.Laws.{OutsidersConfirmNothing, is_confirmation}
 use Rattle.gcp_master.specs.Master.{master_table}
 use Rattle.gcp_master.specs.Resume.{learned_if, state_by, state_if, state_row}

@@ -5,7 +5,9 @@ use Rattle.std.specs.Prelude.{Option, None, Some, is_some, if◌then◌else◌}
 use Rattle.sig_core.specs.declared.signal.Body.{Body}
 use Rattle.sig_core.specs.declared.signal.Body.TheVariants.{Host, Takeover, Epoch}
 use Rattle.sig_core.specs.declared.signal.epoch.EpochSignal.{EpochSignal}
-use Rattle.sig_core.specs.declared.signal.epoch.EpochSignal.TheVariants.{GcpReq, MicroReq, GcpPrepareConf, GcpNodeFinish, GcpClosedConf, GcpSaveConf, CopyGciConf, GcpOrd, GcpStateConf}
+use Rattle.sig_core.specs.declared.signal.epoch.EpochSignal.TheVariants.{GcpReq, MicroReq, GcpPrepareConf}
+use Rattle.sig_core.specs.declared.signal.epoch.EpochSignal.TheVariants.{GcpNodeFinish, GcpClosedConf, GcpSaveConf}
+use Rattle.sig_core.specs.declared.signal.epoch.EpochSignal.TheVariants.{CopyGciConf, GcpOrd, GcpStateConf}
 use Rattle.sig_core.specs.declared.signal.host.HostSignal.TheVariants.{Continue}
 use Rattle.sig_core.specs.declared.signal.host.Work.TheVariants.{Members}
 use Rattle.sig_core.specs.declared.signal.takeover.TakeoverSignal.TheVariants.{TakeoverEnd}
@@ -15,17 +17,22 @@ use Rattle.gcp_master.specs.declared.orders.Ended.{Ended}
 use Rattle.gcp_master.specs.declared.orders.Ended.TheVariants.{Micro, Global}
 use Rattle.gcp_master.specs.declared.phase.Asked.{Asked}
 use Rattle.gcp_master.specs.declared.phase.Phase.{Phase}
-use Rattle.gcp_master.specs.declared.phase.Phase.TheVariants.{Unordered, Gathering, Resting, Preparing, Committing, Closing, Saving, Copying}
+use Rattle.gcp_master.specs.declared.phase.Phase.TheVariants.{Unordered, Gathering, Resting, Preparing, Committing}
+use Rattle.gcp_master.specs.declared.phase.Phase.TheVariants.{Closing, Saving, Copying}
 use Rattle.gcp_master.specs.declared.phase.Run.{Run}
 use Rattle.gcp_master.specs.declared.voices.Voice.{Voice}
 use Rattle.gcp_master.specs.Begin.{begin_global, begin_if, begin_micro, begins, begins_if, begun}
-use Rattle.gcp_master.specs.Closing.{close_if_all, closed_if, copied_if, copy_by, copy_if, copy_row, ended, finish_by, finish_if, finish_row, note_by, note_if, note_row, noted_by, noted_if, prepare_by, prepare_if, prepare_row, prepared_if, save_by, save_if, save_row, saved_if, takeover_by, takeover_row}
+use Rattle.gcp_master.specs.Closing.{close_if_all, closed_if, copied_if, copy_by, copy_if, copy_row, ended, finish_by}
+use Rattle.gcp_master.specs.Closing.{finish_if, finish_row, note_by, note_if, note_row, noted_by, noted_if, prepare_by}
+use Rattle.gcp_master.specs.Closing.{prepare_if, prepare_row, prepared_if, save_by, save_if, save_row, saved_if}
+use Rattle.gcp_master.specs.Closing.{takeover_by, takeover_row}
 use Rattle.gcp_master.specs.Known.{resumed}
 use Rattle.gcp_master.specs.Laws.{KeepsGlobal, KeepsMicro, RequestsAreKept}
 use Rattle.gcp_master.specs.Master.{epoch_table, master_table}
 use Rattle.gcp_master.specs.Numbers.{is_first, next_global, next_micro}
 use Rattle.gcp_master.specs.Requests.{asked_by, asked_row, global_asked, micro_asked}
-use Rattle.gcp_master.specs.Resume.{knowing, learned_if, order_by, order_row, resume_at, state_by, state_if, state_row, told_all_if}
+use Rattle.gcp_master.specs.Resume.{knowing, learned_if, order_by, order_row, resume_at, state_by, state_if, state_row}
+use Rattle.gcp_master.specs.Resume.{told_all_if}
 use Rattle.gcp_master.specs.Sends.{entering, go_on_if, go_on_row, listing, told_if}
 use Rattle.gcp_master.specs.State.{MasterState, all_in, at_phase, counted, counts}
 use Rattle.gcp_master.specs.Voices.{is_among}

@@ -1,21 +1,26 @@
 -- Confirmations that come once more at once.
-use Rattle.std.proofs.Common.{◌≡◌, ℕ, ◌==◌, ◌&&◌, ◌||◌, ◌⊎◌, Bool, true, false, not, nat_lt, refl, ap, sym, ◌∙◌, inl, inr}
+use Rattle.std.proofs.Common.{◌≡◌, ℕ, ◌==◌, ◌&&◌, ◌||◌, ◌⊎◌, Bool, true, false, not, nat_lt, refl, ap, sym, ◌∙◌, inl}
+use Rattle.std.proofs.Common.{inr}
 use Rattle.std.proofs.lemmas.Bool.{false≢true}
 use Rattle.std.specs.Prelude.{Option, None, Some, if◌then◌else◌}
 use Rattle.sig_core.specs.declared.signal.Body.{Body}
 use Rattle.sig_core.specs.declared.signal.Body.TheVariants.{Epoch}
-use Rattle.sig_core.specs.declared.signal.epoch.EpochSignal.TheVariants.{GcpPrepareConf, GcpNodeFinish, GcpClosedConf, GcpSaveConf, CopyGciConf, GcpStateConf}
+use Rattle.sig_core.specs.declared.signal.epoch.EpochSignal.TheVariants.{GcpPrepareConf, GcpNodeFinish, GcpClosedConf}
+use Rattle.sig_core.specs.declared.signal.epoch.EpochSignal.TheVariants.{GcpSaveConf, CopyGciConf, GcpStateConf}
 use Rattle.sig_core.specs.Step.{Step, stay}
 use Rattle.gcp_master.specs.declared.known.Known.{Known}
 use Rattle.gcp_master.specs.declared.known.Told.{Told}
 use Rattle.gcp_master.specs.declared.orders.Ended.{Ended}
 use Rattle.gcp_master.specs.declared.orders.Ended.TheVariants.{Micro, Global}
 use Rattle.gcp_master.specs.declared.phase.Phase.{Phase}
-use Rattle.gcp_master.specs.declared.phase.Phase.TheVariants.{Unordered, Gathering, Resting, Preparing, Committing, Closing, Saving, Copying}
+use Rattle.gcp_master.specs.declared.phase.Phase.TheVariants.{Unordered, Gathering, Resting, Preparing, Committing}
+use Rattle.gcp_master.specs.declared.phase.Phase.TheVariants.{Closing, Saving, Copying}
 use Rattle.gcp_master.specs.declared.phase.Run.{Run}
 use Rattle.gcp_master.specs.declared.voices.Voice.{Voice}
 use Rattle.gcp_master.specs.Begin.{begin_global, begin_if, begin_micro, begins, begins_if, begun}
-use Rattle.gcp_master.specs.Closing.{close_if_all, closed_if, copied_if, copy_by, copy_if, copy_row, ended, finish_by, finish_if, finish_row, note_by, note_if, note_row, noted_by, noted_if, prepare_by, prepare_if, prepare_row, prepared_if, save_by, save_if, save_row, saved_if}
+use Rattle.gcp_master.specs.Closing.{close_if_all, closed_if, copied_if, copy_by, copy_if, copy_row, ended, finish_by}
+use Rattle.gcp_master.specs.Closing.{finish_if, finish_row, note_by, note_if, note_row, noted_by, noted_if, prepare_by}
+use Rattle.gcp_master.specs.Closing.{prepare_if, prepare_row, prepared_if, save_by, save_if, save_row, saved_if}
 use Rattle.gcp_master.specs.Known.{last_run, resumed}
 use Rattle.gcp_master.specs.Laws.{TwiceConfirmedCountsOnce, is_confirmation}
 use Rattle.gcp_master.specs.Master.{master_table}
@@ -24,7 +29,8 @@ use Rattle.gcp_master.specs.Resume.{knowing, learned_if, resume_at, state_by, st
 use Rattle.gcp_master.specs.Sends.{entering, listing, told_if}
 use Rattle.gcp_master.specs.State.{MasterState, all_in, at_phase, counted, counts}
 use Rattle.gcp_master.specs.Voices.{is_among}
-use Rattle.gcp_master.proofs.ConfirmLemmas.{copy_ignored, counted_once, finish_ignored, note_ignored, prepare_ignored, save_ignored, state_ignored}
+use Rattle.gcp_master.proofs.ConfirmLemmas.{copy_ignored, counted_once, finish_ignored, note_ignored, prepare_ignored}
+use Rattle.gcp_master.proofs.ConfirmLemmas.{save_ignored, state_ignored}
 
 -- a list leaves the phase
 pub listed_phase : (s : MasterState) (at : ℕ) → (listing s at).state.phase ≡ s.phase

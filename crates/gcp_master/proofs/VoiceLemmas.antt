@@ -1,5 +1,6 @@
 -- A confirmation more in the array.
-use Rattle.std.proofs.Common.{◌≡◌, ◌<◌, ◌+◌, ◌-◌, zero, suc, length, ℕ, List, [], ◌∷◌, take, drop, refl, ap, sym, ◌∙◌, arith, slice_set}
+use Rattle.std.proofs.Common.{◌≡◌, ◌<◌, ◌+◌, ◌-◌, zero, suc, length, ℕ, List, [], ◌∷◌, take, drop, refl, ap, sym, ◌∙◌}
+use Rattle.std.proofs.Common.{arith, slice_set}
 use Rattle.std.specs.Prelude.{replicate}
 use Rattle.std.proofs.lemmas.List.{length-set}
 use Rattle.sig_core.specs.Filled.{IsFilled, length-held}

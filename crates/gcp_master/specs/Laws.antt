@@ -3,7 +3,8 @@ use Rattle.std.specs.Prelude.{◌≡◌, ◌⊎◌, Bool, true, false, Some}
 use Rattle.sig_core.specs.declared.signal.Body.{Body}
 use Rattle.sig_core.specs.declared.signal.Body.TheVariants.{Epoch}
 use Rattle.sig_core.specs.declared.signal.Signal.{Signal}
-use Rattle.sig_core.specs.declared.signal.epoch.EpochSignal.TheVariants.{GcpPrepareConf, GcpNodeFinish, GcpClosedConf, GcpSaveConf, CopyGciConf, GcpStateConf}
+use Rattle.sig_core.specs.declared.signal.epoch.EpochSignal.TheVariants.{GcpPrepareConf, GcpNodeFinish, GcpClosedConf}
+use Rattle.sig_core.specs.declared.signal.epoch.EpochSignal.TheVariants.{GcpSaveConf, CopyGciConf, GcpStateConf}
 use Rattle.sig_core.specs.Step.{stay}
 use Rattle.gcp_master.specs.declared.phase.Phase.{Phase}
 use Rattle.gcp_master.specs.declared.phase.Phase.TheVariants.{Preparing}

@@ -4,7 +4,8 @@ use Rattle.std.specs.List.{list_any}
 use Rattle.sig_core.specs.declared.member.Member.{Member}
 use Rattle.sig_core.specs.declared.signal.Body.{Body}
 use Rattle.sig_core.specs.declared.signal.Body.TheVariants.{Epoch}
-use Rattle.sig_core.specs.declared.signal.epoch.EpochSignal.TheVariants.{GcpPrepare, GcpCommit, GcpClosed, GcpSaveReq, CopyGciReq, GcpDone, GcpStateReq}
+use Rattle.sig_core.specs.declared.signal.epoch.EpochSignal.TheVariants.{GcpPrepare, GcpCommit, GcpClosed, GcpSaveReq}
+use Rattle.sig_core.specs.declared.signal.epoch.EpochSignal.TheVariants.{CopyGciReq, GcpDone, GcpStateReq}
 use Rattle.gcp_master.specs.declared.orders.Order.{Order}
 use Rattle.gcp_master.specs.declared.orders.Order.TheVariants as order
 

@@ -1,5 +1,6 @@
 -- What a master sends.
-use Rattle.std.specs.Prelude.{ℕ, ◌+◌, ◌==◌, ◌&&◌, Bool, true, false, nat_lt, List, [], ◌∷◌, ◌++◌, length, map, Option, None, Some}
+use Rattle.std.specs.Prelude.{ℕ, ◌+◌, ◌==◌, ◌&&◌, Bool, true, false, nat_lt, List, [], ◌∷◌, ◌++◌, length, map, Option}
+use Rattle.std.specs.Prelude.{None, Some}
 use Rattle.sig_core.specs.declared.mark.Mark.{Mark}
 use Rattle.sig_core.specs.declared.member.Member.{Member}
 use Rattle.sig_core.specs.declared.outs.Outgoing.{Outgoing}
@@ -18,7 +19,8 @@ use Rattle.gcp_master.specs.declared.orders.Ended.TheVariants.{Micro, Global}
 use Rattle.gcp_master.specs.declared.orders.Order.{Order}
 use Rattle.gcp_master.specs.declared.orders.Order.TheVariants as order
 use Rattle.gcp_master.specs.declared.phase.Phase.{Phase}
-use Rattle.gcp_master.specs.declared.phase.Phase.TheVariants.{Unordered, Gathering, Resting, Preparing, Committing, Closing, Saving, Copying}
+use Rattle.gcp_master.specs.declared.phase.Phase.TheVariants.{Unordered, Gathering, Resting, Preparing, Committing}
+use Rattle.gcp_master.specs.declared.phase.Phase.TheVariants.{Closing, Saving, Copying}
 use Rattle.gcp_master.specs.declared.sends.TheConstants.{SENDS}
 use Rattle.gcp_master.specs.Orders.{mask_of, order_body}
 use Rattle.gcp_master.specs.State.{MasterState, at_phase}

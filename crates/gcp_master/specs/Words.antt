@@ -6,7 +6,9 @@ use Rattle.sig_core.specs.declared.outcome.StopCause.TheVariants.{Clock}
 use Rattle.sig_core.specs.declared.signal.Body.{Body}
 use Rattle.sig_core.specs.declared.signal.Body.TheVariants.{Host, Epoch}
 use Rattle.sig_core.specs.declared.signal.Signal.{Signal}
-use Rattle.sig_core.specs.declared.signal.epoch.EpochSignal.TheVariants.{GcpStateReq, GcpPrepare, GcpCommit, GcpClosed, GcpSaveReq, CopyGciReq, GcpDone, GcpRep, MicroRep}
+use Rattle.sig_core.specs.declared.signal.epoch.EpochSignal.TheVariants.{GcpStateReq, GcpPrepare, GcpCommit, GcpClosed}
+use Rattle.sig_core.specs.declared.signal.epoch.EpochSignal.TheVariants.{GcpSaveReq, CopyGciReq, GcpDone, GcpRep}
+use Rattle.sig_core.specs.declared.signal.epoch.EpochSignal.TheVariants.{MicroRep}
 use Rattle.sig_core.specs.declared.signal.host.HostSignal.TheVariants.{Continue}
 use Rattle.sig_core.specs.declared.signal.host.Work.TheVariants.{Members}
 use Rattle.step_forms.specs.Does.{Speaks}

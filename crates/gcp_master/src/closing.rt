@@ -1,7 +1,8 @@
 //! The phases of a closing, by the confirmations of the members.
 ghost use Rattle.std.specs.Prelude.{◌≡◌, ◌+◌, ◌≤◌, length, true};
 ghost use Rattle.sig_core.specs.Step.{HasRoom, IsTaken};
-ghost use Rattle.gcp_master.specs.Closing.{close_if_all, copied_if, copy_row, ended, finish_row, note_row, noted_by, prepare_row, save_row, takeover_row};
+ghost use Rattle.gcp_master.specs.Closing.{close_if_all, copied_if, copy_row, ended, finish_row, note_row, noted_by};
+ghost use Rattle.gcp_master.specs.Closing.{prepare_row, save_row, takeover_row};
 ghost use Rattle.gcp_master.specs.Numbers.{is_first};
 
 use crate::master::GcpMaster;

@@ -2,7 +2,8 @@
 ghost use Rattle.std.specs.Prelude.{◌≡◌, ◌+◌, ◌<◌, ◌≤◌, ◌^◌, [], ◌∷◌, length, map, nat_lt};
 ghost use Rattle.sig_core.specs.Portion.{all_offered, so_far};
 ghost use Rattle.sig_core.specs.Step.{HasRoom, IsTaken, joined};
-ghost use Rattle.gcp_master.specs.Sends.{entering, front_sends, go_on_row, list_effects, listing, master_sends, orders_at, phase_sends, to_both, to_copying, to_each};
+ghost use Rattle.gcp_master.specs.Sends.{entering, front_sends, go_on_row, list_effects, listing, master_sends};
+ghost use Rattle.gcp_master.specs.Sends.{orders_at, phase_sends, to_both, to_copying, to_each};
 
 use crate::master::GcpMaster;
 use crate::orders::{Ended, Order, mask_of};

@@ -1,7 +1,10 @@
 -- What the picks leave of a disk is an image of it.
-use Rattle.std.proofs.Common.{◌≡◌, ◌∙◌, ◌⊎◌, ℕ, zero, suc, ◌+◌, ◌-◌, ◌≤◌, ◌<◌, Bool, false, nat_le, nat_lt, ◌&&◌, List, [], ◌∷◌, ◌++◌, length, take, drop, replicate, get_or, refl, ap, sym, subst, arith, inl, inr, length-append}
+use Rattle.std.proofs.Common.{◌≡◌, ◌∙◌, ◌⊎◌, ℕ, zero, suc, ◌+◌, ◌-◌, ◌≤◌, ◌<◌, Bool, false, nat_le, nat_lt, ◌&&◌, List}
+use Rattle.std.proofs.Common.{[], ◌∷◌, ◌++◌, length, take, drop, replicate, get_or, refl, ap, sym, subst, arith, inl}
+use Rattle.std.proofs.Common.{inr, length-append}
 use Rattle.std.proofs.lemmas.Bool.{and_cases, leb-false, ltb-false, or_parts}
-use Rattle.std.proofs.lemmas.List.{get_or-append_right, get_or-drop, get_or-take, get_or_append_left, length-drop, length-replicate, length-take, length-take-le}
+use Rattle.std.proofs.lemmas.List.{get_or-append_right, get_or-drop, get_or-take, get_or_append_left, length-drop}
+use Rattle.std.proofs.lemmas.List.{length-replicate, length-take, length-take-le}
 use Rattle.std.proofs.lemmas.List.Elements.{All-append, All-drop, All-head, All-replicate, All-tail, All-take}
 use Rattle.std.specs.List.{All, list_any}
 use Rattle.host_io.specs.declared.dirty.DirtyRange.{DirtyRange}

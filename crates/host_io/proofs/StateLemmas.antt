@@ -1,12 +1,15 @@
 -- What the record of a disk leaves of a file: its bytes are bytes, and the synced end and the dirty ranges lie within.
-use Rattle.std.proofs.Common.{◌≡◌, ℕ, ◌+◌, ◌-◌, ◌≤◌, ◌<◌, Bool, true, false, ◌==◌, List, [], ◌∷◌, ◌++◌, length, take, drop, replicate, get_or, if◌then◌else◌, refl, ap, subst, arith, length-append}
+use Rattle.std.proofs.Common.{◌≡◌, ℕ, ◌+◌, ◌-◌, ◌≤◌, ◌<◌, Bool, true, false, ◌==◌, List, [], ◌∷◌, ◌++◌, length, take}
+use Rattle.std.proofs.Common.{drop, replicate, get_or, if◌then◌else◌, refl, ap, subst, arith, length-append}
 use Rattle.std.proofs.lemmas.Bool.{eq-eqb}
 use Rattle.std.proofs.lemmas.List.{ext_get_or, length-drop, length-replicate, length-take-le}
-use Rattle.std.proofs.lemmas.List.Elements.{All-append, All-drop, All-nil, All-push, All-replicate, All-take, All-weaker}
+use Rattle.std.proofs.lemmas.List.Elements.{All-append, All-drop, All-nil, All-push, All-replicate, All-take}
+use Rattle.std.proofs.lemmas.List.Elements.{All-weaker}
 use Rattle.std.specs.List.{All}
 use Rattle.host_io.specs.declared.limits.TheConstants.{FILES}
 use Rattle.host_io.specs.Call.{Call, Wrote, Tore, Synced, Lost}
-use Rattle.host_io.specs.DiskState.{FileState, LiesWithin, dirtied, filled_up, fresh_file, laid, put_over, settled, state_of, written}
+use Rattle.host_io.specs.DiskState.{FileState, LiesWithin, dirtied, filled_up, fresh_file, laid, put_over, settled}
+use Rattle.host_io.specs.DiskState.{state_of, written}
 use Rattle.host_io.specs.Image.{AreBytes, IsImage, IsRecord}
 use Rattle.host_io.specs.Laws.{ReadsAsAnImage, SyncedIsKept}
 

@@ -1,5 +1,6 @@
 -- What the calls on a disk that tells its record come to.
-use Rattle.std.specs.Prelude.{◌≡◌, ℕ, ◌-◌, ◌⊎◌, Bool, true, false, min, Option, Some, List, ◌∷◌, ◌++◌, take, drop, length}
+use Rattle.std.specs.Prelude.{◌≡◌, ℕ, ◌-◌, ◌⊎◌, Bool, true, false, min, Option, Some, List, ◌∷◌, ◌++◌, take, drop}
+use Rattle.std.specs.Prelude.{length}
 use Rattle.host_io.specs.Call.{Call, Wrote, Tore, Synced, Lost}
 use Rattle.host_io.specs.Image.{MayFollow}
 

@@ -1,5 +1,6 @@
 -- What a disk holds, as the record of its calls tells, newest first.
-use Rattle.std.specs.Prelude.{ℕ, ◌+◌, ◌-◌, ◌≤◌, ◌==◌, Bool, min, map, nat_le, nat_lt, ◌&&◌, List, [], ◌∷◌, ◌++◌, take, drop, length, replicate, get_or, if◌then◌else◌}
+use Rattle.std.specs.Prelude.{ℕ, ◌+◌, ◌-◌, ◌≤◌, ◌==◌, Bool, min, map, nat_le, nat_lt, ◌&&◌, List, [], ◌∷◌, ◌++◌, take}
+use Rattle.std.specs.Prelude.{drop, length, replicate, get_or, if◌then◌else◌}
 use Rattle.std.specs.List.{list_any, range_with_len}
 use Rattle.host_io.specs.declared.dirty.DirtyRange.{DirtyRange}
 use Rattle.host_io.specs.declared.limits.TheConstants.{FILES}

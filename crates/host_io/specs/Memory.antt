@@ -1,5 +1,6 @@
 -- What a disk in memory is seen as.
-use Rattle.std.specs.Prelude.{◌≡◌, ◌⊎◌, ℕ, ◌<◌, ◌+◌, ◌-◌, ◌^◌, ◌==◌, Bool, true, false, ◌||◌, min, nat_le, Option, Some, None, List, [], ◌∷◌, take, drop, length}
+use Rattle.std.specs.Prelude.{◌≡◌, ◌⊎◌, ℕ, ◌<◌, ◌+◌, ◌-◌, ◌^◌, ◌==◌, Bool, true, false, ◌||◌, min, nat_le, Option, Some}
+use Rattle.std.specs.Prelude.{None, List, [], ◌∷◌, take, drop, length}
 use Rattle.std.specs.List.{list_any}
 use Rattle.host_io.specs.declared.journal.Entry.{Entry}
 use Rattle.host_io.specs.declared.journal.Entry.TheVariants.{Write, Tear, Sync, Cut}

@@ -1,11 +1,13 @@
 //! A disk in memory, whose failures and crashes are chosen beforehand.
-ghost use Rattle.std.specs.Prelude.{◌≡◌, ◌≤◌, ◌<◌, ◌+◌, ◌⊎◌, ◌&&◌, ◌||◌, ℕ, false, not, List, [], Option, None, Some, is_ok, is_err, IfOk, OnErr, OnOk, length};
+ghost use Rattle.std.specs.Prelude.{◌≡◌, ◌≤◌, ◌<◌, ◌+◌, ◌⊎◌, ◌&&◌, ◌||◌, ℕ, false, not, List, [], Option, None, Some};
+ghost use Rattle.std.specs.Prelude.{is_ok, is_err, IfOk, OnErr, OnOk, length};
 ghost use Rattle.host_io.specs.Call.{Call, Wrote, Synced};
 ghost use Rattle.host_io.specs.Disk.{IsCut, IsRead, IsSynced, IsWritten, ends_cut};
 ghost use Rattle.host_io.specs.DiskState.{state_of, states};
 ghost use Rattle.host_io.specs.Fault.{Rose};
 ghost use Rattle.host_io.specs.Image.{IsPlace, MayFollow, has_place};
-ghost use Rattle.host_io.specs.Memory.{IsTorn, called, cut, cut_by, failed, faulted, is_planned, lost_call, recorded, torn, torn_call};
+ghost use Rattle.host_io.specs.Memory.{IsTorn, called, cut, cut_by, failed, faulted, is_planned, lost_call, recorded};
+ghost use Rattle.host_io.specs.Memory.{torn, torn_call};
 
 use crate::journal::Journal;
 use crate::limits::FILES;

@@ -1,5 +1,6 @@
 //! Where bytes are written.
-ghost use Rattle.std.specs.Prelude.{◌≡◌, ◌≤◌, ◌<◌, ◌+◌, ◌-◌, ◌^◌, ◌==◌, min, false, OnOk, ℕ, List, Option, Some, [], IfOk, OnErr, length};
+ghost use Rattle.std.specs.Prelude.{◌≡◌, ◌≤◌, ◌<◌, ◌+◌, ◌-◌, ◌^◌, ◌==◌, min, false, OnOk, ℕ, List, Option, Some, []};
+ghost use Rattle.std.specs.Prelude.{IfOk, OnErr, length};
 ghost use Rattle.std.specs.List.{list_any};
 ghost use Rattle.std.specs.Io.KnownBytes.{WriteAppends};
 ghost use Rattle.host_io.specs.Fault.{Rose};

@@ -1,5 +1,6 @@
 //! Where bytes are read.
-ghost use Rattle.std.specs.Prelude.{◌≡◌, ◌≤◌, ◌+◌, ◌-◌, ◌^◌, ◌==◌, min, is_err, ℕ, List, Option, Some, IfOk, OnErr, [], ◌++◌, ◌<◌, take, drop, length};
+ghost use Rattle.std.specs.Prelude.{◌≡◌, ◌≤◌, ◌+◌, ◌-◌, ◌^◌, ◌==◌, min, is_err, ℕ, List, Option, Some, IfOk, OnErr, []};
+ghost use Rattle.std.specs.Prelude.{◌++◌, ◌<◌, take, drop, length};
 ghost use Rattle.std.specs.List.{list_any};
 ghost use Rattle.std.specs.Io.KnownBytes.{ReadConsumes};
 ghost use Rattle.host_io.specs.Fault.{Rose};

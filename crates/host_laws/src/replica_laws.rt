@@ -1,5 +1,6 @@
 //! A replica is its keys.
-ghost use Rattle.host_laws.specs.ReplicaLaws.{KeysBeginAtRest, KeysHaveRows, LogsFollowEvents, LogsKeepWell, NodesBeginAtRest, SignalsAreEvents, SignalsKeepWell};
+ghost use Rattle.host_laws.specs.ReplicaLaws.{KeysBeginAtRest, KeysHaveRows, LogsFollowEvents, LogsKeepWell};
+ghost use Rattle.host_laws.specs.ReplicaLaws.{NodesBeginAtRest, SignalsAreEvents, SignalsKeepWell};
 
 /// Whatever signals a host takes, its rows have their places and its locks are orderly, and each
 /// signal does to each key what its event there says, which reads nothing of the other keys but

@@ -1,5 +1,6 @@
 -- The events of one key at a backup.
-use Rattle.std.proofs.Common.{◌≡◌, ◌⊎◌, ℕ, Bool, true, false, not, ◌&&◌, ◌||◌, List, [], ◌∷◌, refl, sym, ap, ◌∙◌, subst, inl, inr}
+use Rattle.std.proofs.Common.{◌≡◌, ◌⊎◌, ℕ, Bool, true, false, not, ◌&&◌, ◌||◌, List, [], ◌∷◌, refl, sym, ap, ◌∙◌, subst}
+use Rattle.std.proofs.Common.{inl, inr}
 use Rattle.std.specs.Prelude.{if◌then◌else◌, Option, None, Some}
 use Rattle.std.specs.List.{list_any}
 use Rattle.std.proofs.lemmas.Bool.{and_left, and_right, or_from, or_right}
@@ -14,13 +15,18 @@ use Rattle.row_locks.specs.declared.mode.Mode.TheVariants.{Exclusive}
 use Rattle.row_locks.specs.Holders.{holds_enough}
 use Rattle.sig_core.proofs.TxLemmas.{same_tx-is, same_tx-swap}
 use Rattle.key_laws.specs.Backup.{Backup, HasImage, IsLedUnlessSpoilt, IsSound, committed_at, is_spoilt, kept_of}
-use Rattle.key_laws.specs.BackupLaws.{AbortsMove, CommitsMove, CompletionsMove, DecisionsMove, GrantsMove, ImagesMove, Moves, UnkeptDecisionsMove}
+use Rattle.key_laws.specs.BackupLaws.{AbortsMove, CommitsMove, CompletionsMove, DecisionsMove, GrantsMove, ImagesMove}
+use Rattle.key_laws.specs.BackupLaws.{Moves, UnkeptDecisionsMove}
 use Rattle.key_laws.specs.Primary.{HoldOn, ended_too}
-use Rattle.key_laws.specs.Records.{AreOnce, as_committed, committed, committed_row, edited, found, if_committed, kept_row, put_back, unless_committed}
+use Rattle.key_laws.specs.Records.{AreOnce, as_committed, committed, committed_row, edited, found, if_committed}
+use Rattle.key_laws.specs.Records.{kept_row, put_back, unless_committed}
 use Rattle.key_laws.proofs.Holding.{holds_so, only_holder}
 use Rattle.sig_core.proofs.Keys.{same_tx-self}
 use Rattle.key_laws.proofs.PrimaryValue.{all_committed}
-use Rattle.key_laws.proofs.RecordLemmas.{KeepsTx, OnlyOf, committed_keeps, each-edited, each-stored, each_apart, each_both, each_found, if_keeps, if_same, kept_row-aborted, kept_row-committed, kept_row-completed, kept_row-one, kept_row-others, kept_row-stored, none_first, once-edited, once-stored, unless_keeps, unless_same}
+use Rattle.key_laws.proofs.RecordLemmas.{KeepsTx, OnlyOf, committed_keeps, each-edited, each-stored, each_apart}
+use Rattle.key_laws.proofs.RecordLemmas.{each_both, each_found, if_keeps, if_same, kept_row-aborted, kept_row-committed}
+use Rattle.key_laws.proofs.RecordLemmas.{kept_row-completed, kept_row-one, kept_row-others, kept_row-stored, none_first}
+use Rattle.key_laws.proofs.RecordLemmas.{once-edited, once-stored, unless_keeps, unless_same}
 
 -- every record is of this transaction
 abbrev AllOf : TxId → List PendingRecord → Type 0

@@ -22,11 +22,13 @@ use Rattle.key_laws.specs.BackupLaws.{Moves}
 use Rattle.sig_core.specs.Firsts.{drop_first, first}
 use Rattle.key_laws.specs.LockLaws.{is_attended}
 use Rattle.key_laws.specs.PrimaryEvents.{NoneOf}
-use Rattle.key_laws.specs.Replica.{Cell, Replica, aborts, ageing, ages, asked_by, asks, commits, completes, expires, expiring, is_by, is_let_in, key_after, rests, served_by, serves, worked}
+use Rattle.key_laws.specs.Replica.{Cell, Replica, aborts, ageing, ages, asked_by, asks, commits, completes, expires}
+use Rattle.key_laws.specs.Replica.{expiring, is_by, is_let_in, key_after, rests, served_by, serves, worked}
 use Rattle.key_laws.proofs.BackupMoves.{aborts_move, commits_move, completions_move, grants_move, images_move}
 use Rattle.sig_core.proofs.Firsts.{first_passes}
 use Rattle.key_laws.proofs.LockHolding.{expiries_hold_on, grants_hold, releases_hold_on, requests_hold_on}
-use Rattle.key_laws.proofs.LockWaiting.{attended_hold, expiries_attend, queued_wait, releases_attend, requests_attend, rounds_attend}
+use Rattle.key_laws.proofs.LockWaiting.{attended_hold, expiries_attend, queued_wait, releases_attend, requests_attend}
+use Rattle.key_laws.proofs.LockWaiting.{rounds_attend}
 use Rattle.key_laws.proofs.Waiting.{alone-drop_first, alone-end, each-drop_first, each-first_item, none-dropped}
 
 -- the key with this cell and lock

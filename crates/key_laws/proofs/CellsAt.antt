@@ -9,19 +9,27 @@ use Rattle.sig_core.specs.declared.member.TxId.{TxId}
 use Rattle.sig_core.specs.declared.rows.PendingRecord.{PendingRecord}
 use Rattle.sig_core.specs.declared.rows.Slot.{Slot}
 use Rattle.sig_core.specs.Rows as rows
-use Rattle.sig_core.specs.Rows.{RowsState, abort_record, commit_by, commit_if, commit_record, complete_record, drop_if, dropping, freed, get_at, is_as, is_full, is_idle, is_of, is_on, record_at, record_of, row_of, seen, set_row, with_place}
+use Rattle.sig_core.specs.Rows.{RowsState, abort_record, commit_by, commit_if, commit_record, complete_record, drop_if}
+use Rattle.sig_core.specs.Rows.{dropping, freed, get_at, is_as, is_full, is_idle, is_of, is_on, record_at, record_of}
+use Rattle.sig_core.specs.Rows.{row_of, seen, set_row, with_place}
 use Rattle.sig_core.specs.Same.{same_key, same_tx}
 use Rattle.row_records.proofs.KeyLemmas.{same}
 use Rattle.sig_core.specs.Firsts.{first}
 use Rattle.row_records.specs.Places.{AreApart, has_place}
 use Rattle.key_laws.specs.Placed.{IsPlaced}
-use Rattle.key_laws.specs.Records.{as_committed, committed_row, edited, found, if_committed, put_back, unless_committed, without_epoch}
+use Rattle.key_laws.specs.Records.{as_committed, committed_row, edited, found, if_committed, put_back, unless_committed}
+use Rattle.key_laws.specs.Records.{without_epoch}
 use Rattle.key_laws.specs.Replica.{Cell, aborting, cell_at, committing, completing, storing}
 use Rattle.sig_core.proofs.Firsts.{drop_by, first-drop, first-get, first-set, get_by, set_by}
 use Rattle.sig_core.proofs.Keys.{same_key-swap}
-use Rattle.key_laws.proofs.EpochLemmas.{AreAlike, committed_row-without, edited-epochless, epochless, found-epochless, stored-epochless, without}
-use Rattle.row_records.proofs.PlaceLemmas.{apart-freed, apart-set_row, apart-with_place, has-freed, has-own_place, has-set_row, has-with_place, row-freed, row-set_row, row-with_place, row_at, row_of-at}
-use Rattle.key_laws.proofs.RecordsAt.{KeepsKey, each-edited_in, each-first, each-recorded, edited_in, edited_in-drop, edited_in-keep, edited_in-none, edited_in-set, first-found, on, on-edited, on-edited_other, on-storing, on-storing_other, record_of-first}
+use Rattle.key_laws.proofs.EpochLemmas.{AreAlike, committed_row-without, edited-epochless, epochless, found-epochless}
+use Rattle.key_laws.proofs.EpochLemmas.{stored-epochless, without}
+use Rattle.row_records.proofs.PlaceLemmas.{apart-freed, apart-set_row, apart-with_place, has-freed, has-own_place}
+use Rattle.row_records.proofs.PlaceLemmas.{has-set_row, has-with_place, row-freed, row-set_row, row-with_place, row_at}
+use Rattle.row_records.proofs.PlaceLemmas.{row_of-at}
+use Rattle.key_laws.proofs.RecordsAt.{KeepsKey, each-edited_in, each-first, each-recorded, edited_in, edited_in-drop}
+use Rattle.key_laws.proofs.RecordsAt.{edited_in-keep, edited_in-none, edited_in-set, first-found, on, on-edited}
+use Rattle.key_laws.proofs.RecordsAt.{on-edited_other, on-storing, on-storing_other, record_of-first}
 
 -- a cell, from the row and the records
 cell_is : (c d : Cell) → c.row ≡ d.row → c.pending ≡ d.pending → c ≡ d

@@ -1,5 +1,6 @@
 -- Who holds a lock after a call on it.
-use Rattle.std.proofs.Common.{◌≡◌, ◌⊎◌, ℕ, ◌+◌, Bool, true, false, not, ◌&&◌, ◌||◌, List, [], ◌∷◌, ◌++◌, refl, sym, ap, ◌∙◌, subst, inl, inr}
+use Rattle.std.proofs.Common.{◌≡◌, ◌⊎◌, ℕ, ◌+◌, Bool, true, false, not, ◌&&◌, ◌||◌, List, [], ◌∷◌, ◌++◌, refl, sym, ap}
+use Rattle.std.proofs.Common.{◌∙◌, subst, inl, inr}
 use Rattle.std.specs.List.{list_any}
 use Rattle.std.proofs.lemmas.List.Folds.{list_any-append}
 use Rattle.std.proofs.lemmas.Bool.{and_from, and_parts, not-true, or_cases, or_left, or_right}
@@ -14,9 +15,11 @@ use Rattle.row_locks.specs.Holders.{agrees_with, hold, holder_of, holds, holds_e
 use Rattle.row_locks.specs.Modes.{is_enough}
 use Rattle.row_locks.specs.Orderly.{IsOrderly, are_waiting_once, none_has_enough}
 use Rattle.row_locks.specs.Queues.{is_open, waits, without}
-use Rattle.row_locks.specs.Rows.{RowLock, asked, asked_anew, asked_by, is_quiet, may_hold, released, served, served_if, unwaited}
+use Rattle.row_locks.specs.Rows.{RowLock, asked, asked_anew, asked_by, is_quiet, may_hold, released, served, served_if}
+use Rattle.row_locks.specs.Rows.{unwaited}
 use Rattle.row_locks.proofs.NeedLemmas.{enough_shared, need-hold, need-others, need-without}
-use Rattle.row_locks.proofs.OrderlyLemmas.{asked_orderly, gone-without, released_orderly, unwaited_orderly, waiting-without}
+use Rattle.row_locks.proofs.OrderlyLemmas.{asked_orderly, gone-without, released_orderly, unwaited_orderly}
+use Rattle.row_locks.proofs.OrderlyLemmas.{waiting-without}
 use Rattle.sig_core.proofs.TxLemmas.{same_tx-is}
 use Rattle.key_laws.specs.LockLaws.{ExpiriesHoldOn, GrantsHold, ReleasesHoldOn, RequestsHoldOn}
 use Rattle.key_laws.specs.Primary.{HoldOn}

@@ -1,5 +1,6 @@
 -- Who waits for a lock after a call on it.
-use Rattle.std.proofs.Common.{◌≡◌, ◌⊎◌, ℕ, ◌+◌, Bool, true, false, not, ◌&&◌, ◌||◌, List, [], ◌∷◌, refl, sym, ap, ◌∙◌, subst, inl, inr}
+use Rattle.std.proofs.Common.{◌≡◌, ◌⊎◌, ℕ, ◌+◌, Bool, true, false, not, ◌&&◌, ◌||◌, List, [], ◌∷◌, refl, sym, ap, ◌∙◌}
+use Rattle.std.proofs.Common.{subst, inl, inr}
 use Rattle.std.proofs.lemmas.Bool.{and_from, and_parts, not-true, or_cases, or_left, or_right}
 use Rattle.sig_core.specs.declared.member.TxId.{TxId}
 use Rattle.sig_core.specs.Same.{same_tx}
@@ -15,9 +16,11 @@ use Rattle.row_locks.specs.Rows.{asked, asked_anew, asked_by, is_quiet, may_hold
 use Rattle.row_locks.proofs.NeedLemmas.{need-hold, need-others, need-without}
 use Rattle.row_locks.proofs.OrderlyLemmas.{gone-without, waiting-without}
 use Rattle.sig_core.proofs.TxLemmas.{same_tx-is}
-use Rattle.key_laws.specs.LockLaws.{AttendedHold, ExpiriesAttend, QueuedWait, ReleasesAttend, RequestsAttend, RoundsAttend, is_attended, waits_enough}
+use Rattle.key_laws.specs.LockLaws.{AttendedHold, ExpiriesAttend, QueuedWait, ReleasesAttend, RequestsAttend}
+use Rattle.key_laws.specs.LockLaws.{RoundsAttend, is_attended, waits_enough}
 use Rattle.sig_core.proofs.Keys.{same_tx-self}
-use Rattle.key_laws.proofs.LockHolding.{any_last, any_left, any_longer, apart_claim, asked_keeps, enough_others, enough_own, enough_self, hold_keeps}
+use Rattle.key_laws.proofs.LockHolding.{any_last, any_left, any_longer, apart_claim, asked_keeps, enough_others}
+use Rattle.key_laws.proofs.LockHolding.{enough_own, enough_self, hold_keeps}
 
 stronger_enough : (a b : Mode) → is_enough (stronger a b) b ≡ true
 stronger_enough Exclusive b = refl

@@ -1,5 +1,6 @@
 -- The events of one key keep it in good order at its primary.
-use Rattle.std.proofs.Common.{◌≡◌, ◌⊎◌, ℕ, Bool, true, false, ◌||◌, List, [], ◌∷◌, ◌++◌, refl, sym, ap, ◌∙◌, subst, inl, inr}
+use Rattle.std.proofs.Common.{◌≡◌, ◌⊎◌, ℕ, Bool, true, false, ◌||◌, List, [], ◌∷◌, ◌++◌, refl, sym, ap, ◌∙◌, subst, inl}
+use Rattle.std.proofs.Common.{inr}
 use Rattle.std.specs.Prelude.{if◌then◌else◌, Option, None, Some}
 use Rattle.std.proofs.lemmas.Bool.{or_parts, false_from_ne_true}
 use Rattle.run_theory.specs.Lists.{Each}
@@ -19,12 +20,17 @@ use Rattle.row_locks.specs.Holders.{holds, holds_enough}
 use Rattle.sig_core.proofs.TxLemmas.{same_tx-is, same_tx-swap}
 use Rattle.lqh_block.specs.Work.{op_mode}
 use Rattle.key_laws.specs.OneKey.{AreRight, row_after, row_after_all, row_by}
-use Rattle.key_laws.specs.Primary.{HasPrepared, HoldOn, IsGood, IsOwned, Primary, answered, ended_too, ended_with, seen_at, stored_by}
-use Rattle.key_laws.specs.PrimaryLaws.{AbortsKeepGood, CommitsKeepGood, CompletionsKeepGood, GrantsKeepGood, OperationsKeepGood}
-use Rattle.key_laws.specs.Records.{AreOnce, as_committed, committed, committed_row, edited, found, if_committed, seen_by, unless_committed}
+use Rattle.key_laws.specs.Primary.{HasPrepared, HoldOn, IsGood, IsOwned, Primary, answered, ended_too, ended_with}
+use Rattle.key_laws.specs.Primary.{seen_at, stored_by}
+use Rattle.key_laws.specs.PrimaryLaws.{AbortsKeepGood, CommitsKeepGood, CompletionsKeepGood, GrantsKeepGood}
+use Rattle.key_laws.specs.PrimaryLaws.{OperationsKeepGood}
+use Rattle.key_laws.specs.Records.{AreOnce, as_committed, committed, committed_row, edited, found, if_committed}
+use Rattle.key_laws.specs.Records.{seen_by, unless_committed}
 use Rattle.sig_core.proofs.Keys.{same_tx-self}
 use Rattle.key_laws.proofs.Holding.{holds_so, only_holder}
-use Rattle.key_laws.proofs.RecordLemmas.{KeepsTx, committed_keeps, each-edited, each-stored, each_apart, each_both, each_found, found-edited, found-stored, if_keeps, once-edited, once-stored, unless_keeps}
+use Rattle.key_laws.proofs.RecordLemmas.{KeepsTx, committed_keeps, each-edited, each-stored, each_apart, each_both}
+use Rattle.key_laws.proofs.RecordLemmas.{each_found, found-edited, found-stored, if_keeps, once-edited, once-stored}
+use Rattle.key_laws.proofs.RecordLemmas.{unless_keeps}
 
 right_end : (row : Option (List ℕ)) (xs : List (Op × Answer)) (op : Op × Answer) → AreRight row xs
     → op.1 ≡ answer_to op.0 (row_after_all row xs) → AreRight row (xs ++ op ∷ [])

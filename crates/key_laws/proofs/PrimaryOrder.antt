@@ -24,12 +24,16 @@ use Rattle.lqh_block.specs.Work.{work_mode}
 use Rattle.sig_core.specs.Firsts.{drop_first, first}
 use Rattle.key_laws.specs.LockLaws.{is_attended}
 use Rattle.key_laws.specs.Primary.{IsGood, IsLedTo, Primary, answered, seen_at}
-use Rattle.key_laws.specs.PrimaryEvents.{AtPrimary, FairEventsKeepOrder, IsFair, IsInOrder, IsOfOperation, IsOperation, NoneOf, TimelyEventsKeepValue, made_by, made_if, made_served, noted_unless, primary_after, primary_of}
+use Rattle.key_laws.specs.PrimaryEvents.{AtPrimary, FairEventsKeepOrder, IsFair, IsInOrder, IsOfOperation, IsOperation}
+use Rattle.key_laws.specs.PrimaryEvents.{NoneOf, TimelyEventsKeepValue, made_by, made_if, made_served, noted_unless}
+use Rattle.key_laws.specs.PrimaryEvents.{primary_after, primary_of}
 use Rattle.key_laws.specs.Records.{found, seen_by}
-use Rattle.key_laws.specs.Replica.{Cell, Replica, aborts, ageing, ages, asked_by, asks, commits, completes, expires, expiring, is_by, is_let_in, operated, rests, served_by, serves, worked}
+use Rattle.key_laws.specs.Replica.{Cell, Replica, aborts, ageing, ages, asked_by, asks, commits, completes, expires}
+use Rattle.key_laws.specs.Replica.{expiring, is_by, is_let_in, operated, rests, served_by, serves, worked}
 use Rattle.sig_core.proofs.Firsts.{first_passes}
 use Rattle.key_laws.proofs.LockHolding.{expiries_hold_on, grants_hold, releases_hold_on, requests_hold_on}
-use Rattle.key_laws.proofs.LockWaiting.{attended_hold, expiries_attend, queued_wait, releases_attend, requests_attend, rounds_attend}
+use Rattle.key_laws.proofs.LockWaiting.{attended_hold, expiries_attend, queued_wait, releases_attend, requests_attend}
+use Rattle.key_laws.proofs.LockWaiting.{rounds_attend}
 use Rattle.key_laws.proofs.PrimaryGood.{aborts_keep, commits_keep, completions_keep, grants_keep, operations_keep}
 use Rattle.key_laws.proofs.PrimaryValue.{aborts_value, commits_value, completions_value}
 use Rattle.key_laws.proofs.RecordLemmas.{kept_row-stored}

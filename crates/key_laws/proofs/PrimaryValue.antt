@@ -15,11 +15,15 @@ use Rattle.row_locks.specs.declared.mode.Mode.TheVariants.{Exclusive}
 use Rattle.row_locks.specs.Holders.{holds}
 use Rattle.key_laws.specs.OneKey.{AreRight, row_after_all}
 use Rattle.key_laws.specs.Primary.{IsGood, IsLedTo, IsOwned, Primary, seen_at, stored_by}
-use Rattle.key_laws.specs.PrimaryLaws.{AbortsKeepValue, CommitsKeepValue, CompletionsKeepValue, DecisionsAreRight, IsDecidedRightly, OperationsKeepValue}
-use Rattle.key_laws.specs.Records.{AreOnce, as_committed, committed, committed_row, edited, found, is_kept, kept_row, seen_by}
+use Rattle.key_laws.specs.PrimaryLaws.{AbortsKeepValue, CommitsKeepValue, CompletionsKeepValue, DecisionsAreRight}
+use Rattle.key_laws.specs.PrimaryLaws.{IsDecidedRightly, OperationsKeepValue}
+use Rattle.key_laws.specs.Records.{AreOnce, as_committed, committed, committed_row, edited, found, is_kept, kept_row}
+use Rattle.key_laws.specs.Records.{seen_by}
 use Rattle.sig_core.proofs.Keys.{same_tx-self}
 use Rattle.key_laws.proofs.Holding.{holds_so, only_holder}
-use Rattle.key_laws.proofs.RecordLemmas.{OnlyOf, each-edited, each_found, kept_row-aborted, kept_row-committed, kept_row-completed, kept_row-one, kept_row-others, kept_row-stored, kept_row-unkept}
+use Rattle.key_laws.proofs.RecordLemmas.{OnlyOf, each-edited, each_found, kept_row-aborted, kept_row-committed}
+use Rattle.key_laws.proofs.RecordLemmas.{kept_row-completed, kept_row-one, kept_row-others, kept_row-stored}
+use Rattle.key_laws.proofs.RecordLemmas.{kept_row-unkept}
 
 stored_value : (kept : TxId → Bool) (value row : Option (List ℕ)) (tx : TxId) (op : Op) (pending : List PendingRecord)
     (answer : Answer) → kept tx ≡ false

@@ -1,5 +1,6 @@
 -- Records on one key, after one was stored, committed or dropped.
-use Rattle.std.proofs.Common.{◌≡◌, ◌⊎◌, ℕ, Bool, true, false, not, ◌&&◌, List, [], ◌∷◌, refl, sym, ap, ◌∙◌, subst, inl, inr}
+use Rattle.std.proofs.Common.{◌≡◌, ◌⊎◌, ℕ, Bool, true, false, not, ◌&&◌, List, [], ◌∷◌, refl, sym, ap, ◌∙◌, subst, inl}
+use Rattle.std.proofs.Common.{inr}
 use Rattle.std.specs.Prelude.{if◌then◌else◌, Option, None, Some}
 use Rattle.run_theory.specs.Lists.{Each}
 use Rattle.run_theory.proofs.Pasts.{each_map}
@@ -8,7 +9,8 @@ use Rattle.sig_core.specs.declared.rows.PendingRecord.{PendingRecord}
 use Rattle.sig_core.specs.Same.{same_tx}
 use Rattle.sig_core.proofs.TxLemmas.{same_tx-is, same_tx-swap}
 use Rattle.sig_core.proofs.Keys.{same_tx-self}
-use Rattle.key_laws.specs.Records.{AreOnce, as_committed, committed, edited, found, if_committed, is_kept, kept_row, put_back, stored, unless_committed}
+use Rattle.key_laws.specs.Records.{AreOnce, as_committed, committed, edited, found, if_committed, is_kept, kept_row}
+use Rattle.key_laws.specs.Records.{put_back, stored, unless_committed}
 
 -- an edit leaves the record to its transaction
 abbrev pub KeepsTx : (PendingRecord → Option PendingRecord) → Type 0

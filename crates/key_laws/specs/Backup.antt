@@ -10,7 +10,8 @@ use Rattle.row_locks.specs.declared.mode.Mode.TheVariants.{Exclusive}
 use Rattle.row_locks.specs.Holders.{holds_enough}
 use Rattle.row_locks.specs.Orderly.{are_agreed}
 use Rattle.key_laws.specs.Primary.{IsLedTo}
-use Rattle.key_laws.specs.Records.{AreOnce, as_committed, committed_row, edited, found, if_committed, stored, unless_committed}
+use Rattle.key_laws.specs.Records.{AreOnce, as_committed, committed_row, edited, found, if_committed, stored}
+use Rattle.key_laws.specs.Records.{unless_committed}
 
 -- the key at a backup
 pub record Backup : Type 0 where

@@ -6,7 +6,8 @@ use Rattle.sig_core.specs.Same.{same_tx}
 use Rattle.row_locks.specs.declared.claim.Holder.{Holder}
 use Rattle.row_locks.specs.declared.mode.Mode.TheVariants.{Exclusive}
 use Rattle.row_locks.specs.Holders.{holds_enough}
-use Rattle.key_laws.specs.Backup.{Backup, HasImage, IsLedUnlessSpoilt, IsSound, aborted_at, committed_at, completed_at, let_in, prepared_at}
+use Rattle.key_laws.specs.Backup.{Backup, HasImage, IsLedUnlessSpoilt, IsSound, aborted_at, committed_at, completed_at}
+use Rattle.key_laws.specs.Backup.{let_in, prepared_at}
 use Rattle.key_laws.specs.Primary.{HasPrepared, HoldOn, ended_too}
 use Rattle.key_laws.specs.PrimaryLaws.{nobody_gone}
 use Rattle.key_laws.specs.Records.{found}

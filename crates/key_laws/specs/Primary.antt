@@ -15,7 +15,8 @@ use Rattle.row_locks.specs.declared.mode.Mode.TheVariants.{Exclusive}
 use Rattle.row_locks.specs.Holders.{holds, holds_enough}
 use Rattle.row_locks.specs.Orderly.{are_agreed}
 use Rattle.key_laws.specs.OneKey.{AreRight, row_after_all}
-use Rattle.key_laws.specs.Records.{AreOnce, as_committed, committed_row, edited, found, if_committed, kept_row, seen_by, stored, unless_committed}
+use Rattle.key_laws.specs.Records.{AreOnce, as_committed, committed_row, edited, found, if_committed, kept_row, seen_by}
+use Rattle.key_laws.specs.Records.{stored, unless_committed}
 
 -- the key at its primary; `ended` are the transactions whose commit or abort it has taken
 pub record Primary : Type 0 where

@@ -7,7 +7,8 @@ use Rattle.row_locks.specs.declared.claim.Holder.{Holder}
 use Rattle.row_locks.specs.Holders.{holds_enough}
 use Rattle.lqh_block.specs.Work.{op_mode}
 use Rattle.key_laws.specs.OneKey.{AreRight, row_after_all}
-use Rattle.key_laws.specs.Primary.{HasPrepared, HoldOn, IsGood, IsLedTo, KeepsToo, Primary, aborted, committed, completed, granted, performed}
+use Rattle.key_laws.specs.Primary.{HasPrepared, HoldOn, IsGood, IsLedTo, KeepsToo, Primary, aborted, committed}
+use Rattle.key_laws.specs.Primary.{completed, granted, performed}
 
 abbrev pub nobody_gone : TxId → Bool
 nobody_gone v = false

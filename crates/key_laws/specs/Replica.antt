@@ -1,5 +1,6 @@
 -- One key of a replica: what the state of the rows is there, and what each signal does to it.
-use Rattle.std.specs.Prelude.{◌==◌, ◌||◌, not, if◌then◌else◌, ℕ, Bool, true, false, List, [], ◌∷◌, ◌++◌, filter, map, Option, None, Some}
+use Rattle.std.specs.Prelude.{◌==◌, ◌||◌, not, if◌then◌else◌, ℕ, Bool, true, false, List, [], ◌∷◌, ◌++◌, filter, map}
+use Rattle.std.specs.Prelude.{Option, None, Some}
 use Rattle.sig_core.specs.declared.member.TxId.{TxId}
 use Rattle.sig_core.specs.declared.op.Answer.{Answer}
 use Rattle.sig_core.specs.declared.op.Answer.TheVariants.{Done}
@@ -29,7 +30,8 @@ use Rattle.lqh_block.specs.Storage.{StorageState, is_log_full, need_of}
 use Rattle.sig_core.specs.Work.{work_image, work_key}
 use Rattle.lqh_block.specs.Work.{work_mode}
 use Rattle.sig_core.specs.Firsts.{drop_first, first}
-use Rattle.key_laws.specs.Records.{as_committed, committed_row, edited, found, if_committed, seen_by, stored, unless_committed, without_epoch}
+use Rattle.key_laws.specs.Records.{as_committed, committed_row, edited, found, if_committed, seen_by, stored}
+use Rattle.key_laws.specs.Records.{unless_committed, without_epoch}
 
 -- the row of a key, and the records on it, the oldest first. Of epochs nothing is said here
 pub record Cell : Type 0 where

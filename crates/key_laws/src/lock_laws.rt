@@ -1,5 +1,6 @@
 //! What calls on the lock of a row leave to those that hold it and those that wait.
-ghost use Rattle.key_laws.specs.LockLaws.{AttendedHold, ExpiriesAttend, ExpiriesHoldOn, GrantsHold, QueuedWait, ReleasesAttend, ReleasesHoldOn, RequestsAttend, RequestsHoldOn, RoundsAttend};
+ghost use Rattle.key_laws.specs.LockLaws.{AttendedHold, ExpiriesAttend, ExpiriesHoldOn, GrantsHold, QueuedWait};
+ghost use Rattle.key_laws.specs.LockLaws.{ReleasesAttend, ReleasesHoldOn, RequestsAttend, RequestsHoldOn, RoundsAttend};
 
 /// No call on an orderly lock takes it from a holder, or makes an exclusive holder a shared one, but
 /// for the release by the holder itself; and whose request is granted holds the lock as it asked.

@@ -1,6 +1,9 @@
 //! What the events of one key do to it at a replica.
-ghost use Rattle.key_laws.specs.BackupLaws.{AbortsMove, CommitsMove, CompletionsMove, DecisionsMove, GrantsMove, ImagesMove, UnkeptDecisionsMove};
-ghost use Rattle.key_laws.specs.PrimaryLaws.{AbortsKeepGood, AbortsKeepValue, CommitsKeepGood, CommitsKeepValue, CompletionsKeepGood, CompletionsKeepValue, DecisionsAreRight, GrantsKeepGood, OperationsKeepGood, OperationsKeepValue};
+ghost use Rattle.key_laws.specs.BackupLaws.{AbortsMove, CommitsMove, CompletionsMove, DecisionsMove, GrantsMove};
+ghost use Rattle.key_laws.specs.BackupLaws.{ImagesMove, UnkeptDecisionsMove};
+ghost use Rattle.key_laws.specs.PrimaryLaws.{AbortsKeepGood, AbortsKeepValue, CommitsKeepGood, CommitsKeepValue};
+ghost use Rattle.key_laws.specs.PrimaryLaws.{CompletionsKeepGood, CompletionsKeepValue, DecisionsAreRight};
+ghost use Rattle.key_laws.specs.PrimaryLaws.{GrantsKeepGood, OperationsKeepGood, OperationsKeepValue};
 
 /// At the primary of a key, of each transaction that hasn't ended there the answers stay right from
 /// the committed row on, whatever is granted, performed, committed, aborted and completed.

@@ -7,7 +7,8 @@ use Rattle.sig_core.specs.Table.{Rows}
 use Rattle.sig_core.specs.declared.fault.ReadFault.{ReadFault}
 use Rattle.sig_core.specs.declared.stored_row.StoredRow.{StoredRow}
 use Rattle.lcp_store.specs.declared.row.Version.{Version}
-use Rattle.lcp_store.specs.Reading.{Reads, damage, or_damage, put_in, read_on, row_in, rows_behind, rows_from, rows_in, version_in}
+use Rattle.lcp_store.specs.Reading.{Reads, damage, or_damage, put_in, read_on, row_in, rows_behind, rows_from, rows_in}
+use Rattle.lcp_store.specs.Reading.{version_in}
 
 -- these rows, and with them those that are left, are what all the bytes are
 abbrev pub IsOnTheWay : ℕ → ℕ → List ℕ → Version → Rows → List ℕ → Type 0

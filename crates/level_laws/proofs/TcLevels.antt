@@ -9,15 +9,19 @@ use Rattle.std.specs.Prelude.{is_some, nat_le, position, slice_get}
 use Rattle.sig_core.specs.declared.member.TxId.{TxId}
 use Rattle.sig_core.specs.declared.signal.Body.{Body}
 use Rattle.sig_core.specs.declared.signal.Body.TheVariants.{Host, Client, Chain, Epoch}
-use Rattle.sig_core.specs.declared.signal.chain.ChainSignal.TheVariants.{LqhKeyConf, LqhKeyRef, Committed, Completed, Aborted}
-use Rattle.sig_core.specs.declared.signal.client.ClientSignal.TheVariants.{TcBeginReq, TcBeginConf, TcKeyReq, TcCommitReq, TcRollbackReq, TcWaitReq, LqhWaitConf}
+use Rattle.sig_core.specs.declared.signal.chain.ChainSignal.TheVariants.{LqhKeyConf, LqhKeyRef, Committed, Completed}
+use Rattle.sig_core.specs.declared.signal.chain.ChainSignal.TheVariants.{Aborted}
+use Rattle.sig_core.specs.declared.signal.client.ClientSignal.TheVariants.{TcBeginReq, TcBeginConf, TcKeyReq}
+use Rattle.sig_core.specs.declared.signal.client.ClientSignal.TheVariants.{TcCommitReq, TcRollbackReq, TcWaitReq}
+use Rattle.sig_core.specs.declared.signal.client.ClientSignal.TheVariants.{LqhWaitConf}
 use Rattle.sig_core.specs.declared.signal.epoch.EpochSignal.TheVariants.{DiVerifyConf}
 use Rattle.sig_core.specs.declared.signal.host.HostSignal.TheVariants.{Continue}
 use Rattle.sig_core.specs.declared.signal.host.Work.TheVariants as work
 use Rattle.sig_core.specs.Place.{client}
 use Rattle.sig_core.specs.Same.{same_tx}
 use Rattle.sig_core.specs.Step.{Step, sending}
-use Rattle.tc_block.specs.Live.{place_in, step_of, step_place, step_value, stepped, turn_of, turn_place, turn_value, turned, turned_if, without}
+use Rattle.tc_block.specs.Live.{place_in, step_of, step_place, step_value, stepped, turn_of, turn_place, turn_value}
+use Rattle.tc_block.specs.Live.{turned, turned_if, without}
 use Rattle.tc_block.specs.Operate.{fresh}
 use Rattle.tc_block.specs.State.{TcState, with_live}
 use Rattle.tc_block.specs.Tc.{begin_if, begin_row, begun, is_full, next_tx, pass_if, pass_row, tc_table}
@@ -29,7 +33,9 @@ use Rattle.level_laws.specs.Levels.{body_at, effects_at, live_at, step_at, tc_at
 use Rattle.level_laws.proofs.LevelLists.{insert_level, set_level, values_level}
 use Rattle.level_laws.proofs.MappedLists.{remove-map}
 use Rattle.level_laws.proofs.TcSends.{go_on_level}
-use Rattle.level_laws.proofs.TcTurns.{aborted_level, answer_level, commit_level, committed_level, completed_level, operate_level, refuse_level, rollback_level, taken_at, turn_at, verify_level, wait_level}
+use Rattle.level_laws.proofs.TcTurns.{aborted_level, answer_level, commit_level, committed_level, completed_level}
+use Rattle.level_laws.proofs.TcTurns.{operate_level, refuse_level, rollback_level, taken_at, turn_at, verify_level}
+use Rattle.level_laws.proofs.TcTurns.{wait_level}
 
 module _ (epoch : ℕ) (s : TcState) where
   -- a transaction is found where it was, and is the one that it was

@@ -10,10 +10,14 @@ use Rattle.sig_core.specs.declared.outcome.AbortCause.TheVariants.{Request}
 use Rattle.sig_core.specs.declared.outs.Outgoing.{Outgoing}
 use Rattle.sig_core.specs.Op.{key_of}
 use Rattle.sig_core.specs.Step.{Step, sends_only}
-use Rattle.tc_block.specs.Abort.{abort_end, abort_if, aborted_by, aborted_for, aborted_if, aborted_row, aborts_awaited, is_verifying, refuse_by, refuse_row, rollback_by, rollback_row}
-use Rattle.tc_block.specs.Commit.{commit_by, commit_if, commit_row, committed_by, committed_if, committed_row, verify_if, verify_row}
-use Rattle.tc_block.specs.Complete.{all_committed, all_committed_if, completed_by, completed_if, completed_row, written_count}
-use Rattle.tc_block.specs.Operate.{answer_by, answer_row, asked_on, can_operate, is_ready, late_answer, operate_if, operate_row, wait_by, wait_row}
+use Rattle.tc_block.specs.Abort.{abort_end, abort_if, aborted_by, aborted_for, aborted_if, aborted_row, aborts_awaited}
+use Rattle.tc_block.specs.Abort.{is_verifying, refuse_by, refuse_row, rollback_by, rollback_row}
+use Rattle.tc_block.specs.Commit.{commit_by, commit_if, commit_row, committed_by, committed_if, committed_row}
+use Rattle.tc_block.specs.Commit.{verify_if, verify_row}
+use Rattle.tc_block.specs.Complete.{all_committed, all_committed_if, completed_by, completed_if, completed_row}
+use Rattle.tc_block.specs.Complete.{written_count}
+use Rattle.tc_block.specs.Operate.{answer_by, answer_row, asked_on, can_operate, is_ready, late_answer, operate_if}
+use Rattle.tc_block.specs.Operate.{operate_row, wait_by, wait_row}
 use Rattle.tc_block.specs.Sends.{entering}
 use Rattle.tc_block.specs.Touched.{fits}
 use Rattle.tc_block.specs.Turn.{Turn, asking, ending, going}

@@ -1,11 +1,13 @@
 -- What is found in a bucket: by its entries, and by the pairs of those that belong there.
-use Rattle.std.proofs.Common.{◌≡◌, ◌≢◌, ℕ, Bool, true, false, not, cond, List, [], ◌∷◌, ◌++◌, refl, ap, sym, ◌∙◌, Ordering}
+use Rattle.std.proofs.Common.{◌≡◌, ◌≢◌, ℕ, Bool, true, false, not, cond, List, [], ◌∷◌, ◌++◌, refl, ap, sym, ◌∙◌}
+use Rattle.std.proofs.Common.{Ordering}
 use Rattle.std.specs.Prelude.{Option, Some, None, is_some, ◌==◌, ◌&&◌, nat_eq}
 use Rattle.std.specs.Ordering.{nat_cmp, eq_by_cmp}
 use Rattle.std.specs.Cmp.{eq_by_cmp_equiv}
 use Rattle.std.specs.Cmp.Lexicographic.{slice_cmp, nat_list_cmp_total, texts_ties}
 use Rattle.std.specs.FinMap as map
 use Rattle.std.proofs.lemmas.Bool.{eqb-true, eq-eqb, true≢false, false≢true}
+use Rattle.sig_core.specs.Digest.{hash_of}
 use Rattle.sig_core.specs.Same.{same_key}
 use Rattle.linear_hash.specs.declared.entry.Entry.{Entry}
 use Rattle.linear_hash.specs.declared.growth.Growth.{Growth}
@@ -31,6 +33,15 @@ same_key-is (x ∷ a) (y ∷ b) e = by (nat_eq x y) refl e (same_key-is a b)
     by : (c : Bool) → nat_eq x y ≡ c → (c && same_key a b) ≡ true → (same_key a b ≡ true → a ≡ b) → x ∷ a ≡ y ∷ b
     by true p q rest = λ i. eqb-true x y p i ∷ rest q i
     by false p q rest = absurd (false≢true q)
+
+-- keys with two numbers are two
+pub numbered_apart : (one other : ℕ) (a b : List ℕ) → one ≡ hash_of a → other ≡ hash_of b → one ≢ other
+    → same_key a b ≡ false
+numbered_apart one other a b one_is other_is differ = by (same_key a b) refl
+  where
+    by : (same : Bool) → same_key a b ≡ same → same ≡ false
+    by true same = absurd (differ (one_is ∙ ap hash_of (same_key-is a b same) ∙ sym other_is))
+    by false same = refl
 
 -- the first of the two places, if there is one
 abbrev pub first_of_two : Option ℕ → Option ℕ → Option ℕ

@@ -5,9 +5,12 @@ ghost use Rattle.linear_hash.specs.Growth.{IsGrowth};
 
 use crate::entry::Entry;
 use crate::growth::Growth;
-use sig_core::{Key, NoMemory};
+use sig_core::{HashedKey, NoMemory};
 use std::alloc::Global;
 use std::marker::Model;
+
+/// How many entries there is room for where a bucket is split off: twice as many as one has on average.
+const ROOM: usize = 8;
 
 /// The entries of a bucket, in the order in which they came. Contracts see their list.
 #[derive(Drop)]
@@ -35,8 +38,8 @@ impl Bucket {
     }
 
     /// The place of the key, if it is here.
-    pub fn place(&self, key: &Key) -> Option<u64>
-        ensures { result ≡ place_in key.now self.now }
+    pub fn place(&self, key: &HashedKey) -> Option<u64>
+        ensures { result ≡ place_in key.now.key self.now }
     {
         place_in(key, &self.entries)
     }
@@ -54,10 +57,19 @@ impl Bucket {
     }
 
     /// Takes the key out. Takes no memory.
-    pub fn leave(&mut self, key: &Key)
-        ensures { self.new ≡ without key.now self.old }
+    pub fn leave(&mut self, key: &HashedKey)
+        ensures { self.new ≡ without key.now.key self.old }
     {
         leave(key, &mut self.entries);
+    }
+
+    /// Keeps the entries that are in this bucket when the buckets have grown so far, in the memory that
+    /// they have. Takes no memory.
+    pub fn keep(&mut self, growth: Growth, bucket: usize)
+        requires { IsGrowth growth }
+        ensures { self.new ≡ part_of growth bucket self.old }
+    {
+        keep(&mut self.entries, growth, bucket);
     }
 
     /// A copy of the entries that are in this bucket when the buckets have grown so far.
@@ -74,11 +86,11 @@ impl Bucket {
 }
 
 // The place of the key, of the first entry that has it.
-fn place_in(key: &Key, entries: &[Entry]) -> Option<u64>
-    ensures { result ≡ place_in key.now entries.now }
+fn place_in(key: &HashedKey, entries: &[Entry]) -> Option<u64>
+    ensures { result ≡ place_in key.now.key entries.now }
 {
     for entry in entries {
-        if entry.key == *key {
+        if entry.is_of(key) {
             return Some(entry.at);
         }
     }
@@ -86,10 +98,18 @@ fn place_in(key: &Key, entries: &[Entry]) -> Option<u64>
 }
 
 // Takes the key out.
-fn leave(key: &Key, entries: &mut Vec<Entry>)
-    ensures { entries.new.items ≡ without key.now entries.old.items }
+fn leave(key: &HashedKey, entries: &mut Vec<Entry>)
+    ensures { entries.new.items ≡ without key.now.key entries.old.items }
 {
-    entries.retain(|entry| entry.key != *key);
+    entries.retain(|entry| !entry.is_of(key));
+}
+
+// Keeps the entries that are in this bucket when the buckets have grown so far.
+fn keep(entries: &mut Vec<Entry>, growth: Growth, bucket: usize)
+    requires { IsGrowth growth }
+    ensures { entries.new.items ≡ part_of growth bucket entries.old.items }
+{
+    entries.retain(|entry| entry.is_in(growth, bucket));
 }
 
 // A copy of the entries that are in this bucket when the buckets have grown so far.
@@ -102,10 +122,11 @@ fn part_of(
     requires { IsGrowth growth }
     ensures { IfOk result (λ part. part.items ≡ part_of growth bucket entries.now) }
 {
-    let part = entries
-        .iter()
-        .filter(|entry| entry.is_in(growth, bucket))
-        .copied()
-        .collect(alloc)?;
+    let mut part = Vec::with_capacity(alloc, ROOM)?;
+    for entry in entries {
+        if entry.is_in(growth, bucket) {
+            part.push(*entry)?;
+        }
+    }
     Ok(part)
 }

@@ -1,5 +1,6 @@
 //! All buckets.
-ghost use Rattle.std.specs.Prelude.{◌≡◌, ◌<◌, ◌+◌, ◌++◌, [], ◌∷◌, OnOk, OnErr, IfOk, None, length, slice_index_or, slice_set};
+ghost use Rattle.std.specs.Prelude.{◌≡◌, ◌<◌, ◌+◌, ◌++◌, [], ◌∷◌, OnOk, OnErr, IfOk, None, length, slice_index_or};
+ghost use Rattle.std.specs.Prelude.{slice_set};
 ghost use Rattle.std.specs.FinMap as map;
 ghost use Rattle.linear_hash.specs.Entries.{part_of, place_in, without};
 ghost use Rattle.linear_hash.specs.Growth.{IsGrowth};
@@ -8,7 +9,7 @@ ghost use Rattle.linear_hash.specs.Places.{no_places, removed};
 use crate::bucket::Bucket;
 use crate::entry::Entry;
 use crate::growth::{Growth, grown, home};
-use sig_core::{HashedKey, Key, NoMemory};
+use sig_core::{HashedKey, NoMemory};
 use std::alloc::Global;
 use std::marker::Model;
 
@@ -65,7 +66,7 @@ impl Buckets {
         ensures { result ≡ map.get self.now.at key.now.key }
     {
         let home = home(self.growth, key);
-        place_at(&self.buckets, home, &key.key)
+        place_at(&self.buckets, home, key)
     }
 
     /// Puts in a key that isn't there, and its place. No bucket is added.
@@ -92,8 +93,8 @@ impl Buckets {
         ensures rest { self.new ≡ removed self.old key.now.key }
     {
         let home = home(self.growth, key);
-        let place = place_at(&self.buckets, home, &key.key);
-        leave_at(&mut self.buckets, home, &key.key);
+        let place = place_at(&self.buckets, home, key);
+        leave_at(&mut self.buckets, home, key);
         place
     }
 
@@ -116,9 +117,9 @@ impl Buckets {
 }
 
 // The place of the key in this bucket.
-fn place_at(buckets: &[Bucket], bucket: usize, key: &Key) -> Option<u64>
+fn place_at(buckets: &[Bucket], bucket: usize, key: &HashedKey) -> Option<u64>
     requires { bucket < length buckets.now }
-    ensures { result ≡ place_in key.now (slice_index_or buckets.now bucket []) }
+    ensures { result ≡ place_in key.now.key (slice_index_or buckets.now bucket []) }
 {
     buckets[bucket].place(key)
 }
@@ -133,11 +134,20 @@ fn add_at(buckets: &mut [Bucket], bucket: usize, entry: Entry) -> Result<(), NoM
 }
 
 // Takes the key out of this bucket.
-fn leave_at(buckets: &mut [Bucket], bucket: usize, key: &Key)
+fn leave_at(buckets: &mut [Bucket], bucket: usize, key: &HashedKey)
     requires { bucket < length buckets.old }
-    ensures { buckets.new ≡ slice_set buckets.old bucket (without key.now (slice_index_or buckets.old bucket [])) }
+    ensures { buckets.new ≡ slice_set buckets.old bucket (without key.now.key (slice_index_or buckets.old bucket [])) }
 {
     buckets[bucket].leave(key);
+}
+
+// Keeps the entries of this bucket that are in it when the buckets have grown so far.
+fn keep_at(buckets: &mut [Bucket], bucket: usize, next: Growth)
+    requires next { IsGrowth next }
+    requires inside { bucket < length buckets.old }
+    ensures { buckets.new ≡ slice_set buckets.old bucket (part_of next bucket (slice_index_or buckets.old bucket [])) }
+{
+    buckets[bucket].keep(next, bucket);
 }
 
 // Splits this bucket into itself and a new last one, each with the entries that are in it when the
@@ -153,9 +163,8 @@ fn split_at(
     ensures ok { OnOk result (buckets.new.items ≡ slice_set buckets.old.items bucket (part_of next bucket (slice_index_or buckets.old.items bucket [])) ++ part_of next (length buckets.old.items) (slice_index_or buckets.old.items bucket []) ∷ []) }
     ensures err { OnErr result (buckets.new.items ≡ buckets.old.items) }
 {
-    let stays = buckets[bucket].part(alloc, next, bucket)?;
     let moves = buckets[bucket].part(alloc, next, buckets.len())?;
     buckets.push(moves)?;
-    buckets[bucket] = stays;
+    keep_at(buckets, bucket, next);
     Ok(())
 }

@@ -1,6 +1,7 @@
 //! An entry of a bucket.
 ghost use Rattle.std.specs.Prelude.{◌≡◌, ◌==◌};
 ghost use Rattle.sig_core.specs.Digest.{hash_of};
+ghost use Rattle.sig_core.specs.Same.{same_key};
 ghost use Rattle.linear_hash.specs.Growth.{IsGrowth, home};
 
 use crate::growth::{Growth, home_of};
@@ -26,6 +27,13 @@ impl Entry {
             at,
             hash: key.hash,
         }
+    }
+
+    /// Whether it is of this key. Most others differ in their numbers already.
+    pub fn is_of(&self, key: &HashedKey) -> bool
+        ensures { result ≡ same_key self.now.key key.now.key }
+    {
+        self.hash == key.hash && self.key == key.key
     }
 
     /// Whether its key is in this bucket.

@@ -7,7 +7,9 @@ use Rattle.sig_core.specs.Firsts.{drop_first, first}
 use Rattle.sig_core.specs.Rows.{is_of}
 use Rattle.sig_core.proofs.Firsts.{set_first}
 use Rattle.local_ckpt.specs.Orderly.{HasOne, prepared_in}
-use Rattle.local_ckpt.proofs.Firsts.{drop-drop_other, drop-none, drop-put_other, drop-put_own, drop-set_other, drop-set_own, first-drop_other, first-put_other, first-put_own, first-set_other, first-set_own, put_first}
+use Rattle.local_ckpt.proofs.Firsts.{drop-drop_other, drop-none, drop-put_other, drop-put_own, drop-set_other}
+use Rattle.local_ckpt.proofs.Firsts.{drop-set_own, first-drop_other, first-put_other, first-put_own, first-set_other}
+use Rattle.local_ckpt.proofs.Firsts.{first-set_own, put_first}
 use Rattle.local_ckpt.proofs.RecordLemmas.{by_record, is_same, two_records}
 
 -- the record is this afterwards, or gone, the others are as they were, and there is one of each at most

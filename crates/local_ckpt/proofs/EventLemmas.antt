@@ -7,7 +7,8 @@ use Rattle.sig_core.specs.declared.rows.PendingRecord.{PendingRecord}
 use Rattle.sig_core.specs.declared.rows.Slot.{Slot}
 use Rattle.sig_core.specs.Firsts.{drop_first, first}
 use Rattle.sig_core.specs.Rows as rows
-use Rattle.sig_core.specs.Rows.{RowsState, abort_record, commit_record, complete_record, freed, is_as, is_at, is_idle, is_of, no_row, placed, set_row, storing, with_place, with_row}
+use Rattle.sig_core.specs.Rows.{RowsState, abort_record, commit_record, complete_record, freed, is_as, is_at, is_idle}
+use Rattle.sig_core.specs.Rows.{is_of, no_row, placed, set_row, storing, with_place, with_row}
 use Rattle.sig_core.specs.Same.{same_key}
 use Rattle.sig_core.proofs.Firsts.{first_passes, set_first}
 use Rattle.local_ckpt.specs.Laws.{IsImage, IsReadable}
@@ -16,8 +17,11 @@ use Rattle.row_records.specs.Places.{AreApart, has_place}
 use Rattle.local_ckpt.proofs.EditLemmas.{Edits, drops_one, edit_images, puts, sets}
 use Rattle.local_ckpt.proofs.Firsts.{put_first}
 use Rattle.row_records.proofs.KeyLemmas.{same}
-use Rattle.row_records.proofs.PlaceLemmas.{apart-freed, apart-set_row, apart-with_place, by_freed, by_place, has-freed, has-own_place, has-set_row, has-with_place, other-set_row, own-set_row, row-freed, row-with_place, row_at, set_row-first}
-use Rattle.local_ckpt.proofs.RecordLemmas.{by_record, commits_image, drops_it, drops_nothing, drops_other, idle_none, is_same, key_of_first, own_record, recorded-put, rows_with}
+use Rattle.row_records.proofs.PlaceLemmas.{apart-freed, apart-set_row, apart-with_place, by_freed, by_place, has-freed}
+use Rattle.row_records.proofs.PlaceLemmas.{has-own_place, has-set_row, has-with_place, other-set_row, own-set_row}
+use Rattle.row_records.proofs.PlaceLemmas.{row-freed, row-with_place, row_at, set_row-first}
+use Rattle.local_ckpt.proofs.RecordLemmas.{by_record, commits_image, drops_it, drops_nothing, drops_other, idle_none}
+use Rattle.local_ckpt.proofs.RecordLemmas.{is_same, key_of_first, own_record, recorded-put, rows_with}
 
 -- after an event on a record the rows are orderly, and what was prepared still is, but for that record
 pub record Prepared (s after : RowsState) (tx : TxId) (key : List ℕ) (now : Option (Option (List ℕ))) : Type 0 where

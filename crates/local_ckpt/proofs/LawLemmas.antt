@@ -1,5 +1,6 @@
 -- Local checkpoints from their first moment to their last, and behind it.
-use Rattle.std.proofs.Common.{◌≡◌, ◌≤◌, ◌<◌, ◌^◌, ◌+◌, inl, inr, ℕ, Bool, true, false, List, [], ◌∷◌, ◌++◌, length, drop, refl, sym, ap, ◌∙◌, subst, arith}
+use Rattle.std.proofs.Common.{◌≡◌, ◌≤◌, ◌<◌, ◌^◌, ◌+◌, inl, inr, ℕ, Bool, true, false, List, [], ◌∷◌, ◌++◌, length}
+use Rattle.std.proofs.Common.{drop, refl, sym, ap, ◌∙◌, subst, arith}
 use Rattle.std.specs.Prelude.{if◌then◌else◌, Option, None, Some, Ok, position}
 use Rattle.std.specs.Cmp.Lexicographic.{nat_list_cmp_total, slice_cmp}
 use Rattle.std.specs.Ordering.{nat_cmp}
@@ -11,7 +12,8 @@ use Rattle.sig_core.specs.declared.redo.Redo.{Redo}
 use Rattle.sig_core.specs.declared.redo.Redo.TheVariants as redo
 use Rattle.sig_core.specs.declared.rows.PendingRecord.{PendingRecord}
 use Rattle.sig_core.specs.Firsts.{first}
-use Rattle.sig_core.specs.Rows.{RowsState, commit_record, has_row, is_of, next_by, next_place, storing, abort_record, put_row, with_place}
+use Rattle.sig_core.specs.Rows.{RowsState, commit_record, has_row, is_of, next_by, next_place, storing, abort_record}
+use Rattle.sig_core.specs.Rows.{put_row, with_place}
 use Rattle.sig_core.specs.Table.{Rows}
 use Rattle.sig_core.specs.declared.stored_row.StoredRow.{StoredRow}
 use Rattle.lcp_store.specs.declared.row.Version.TheVariants.{Second}
@@ -19,18 +21,22 @@ use Rattle.lcp_store.specs.Laws.{AreRowsOf, CheckpointsAreRead, all_in}
 use Rattle.lcp_store.specs.Reading.{rows_in}
 use Rattle.sig_core.specs.declared.piece.Piece.{Piece}
 use Rattle.redo_log.specs.Replaying.{applied, replayed}
-use Rattle.local_ckpt.specs.Events.{Abort, Commit, Complete, Event, Moment, Prepare, Step, after, changed, given_by, left, left_by, log_if, logged, next, noting_if, stepped_by}
-use Rattle.local_ckpt.specs.Laws.{AreLaidFrom, Begins, CheckpointsRestore, HasPrepares, IsEvent, OrderlyRowsStaySo, PiecesLieInOrder, at_first, pieces_bytes}
+use Rattle.local_ckpt.specs.Events.{Abort, Commit, Complete, Event, Moment, Prepare, Step, after, changed, given_by}
+use Rattle.local_ckpt.specs.Events.{left, left_by, log_if, logged, next, noting_if, stepped_by}
+use Rattle.local_ckpt.specs.Laws.{AreLaidFrom, Begins, CheckpointsRestore, HasPrepares, IsEvent, OrderlyRowsStaySo}
+use Rattle.local_ckpt.specs.Laws.{PiecesLieInOrder, at_first, pieces_bytes}
 use Rattle.local_ckpt.specs.Orderly.{IsOrderly, image_in, prepared_in}
 use Rattle.sig_core.specs.Walk.{WalkState, next_piece}
 use Rattle.local_ckpt.proofs.CoverLemmas.{Fits, IsCovered, later_rows}
 use Rattle.local_ckpt.proofs.EventLemmas.{Prepared, aborts, commits, completes, stores}
 use Rattle.local_ckpt.proofs.FirstRows.{no_rows_left}
-use Rattle.row_records.proofs.PlaceLemmas.{apart-set_row, apart-with_place, has-set_row, has-with_place, row_at, row_of-at}
+use Rattle.row_records.proofs.PlaceLemmas.{apart-set_row, apart-with_place, has-set_row, has-with_place, row_at}
+use Rattle.row_records.proofs.PlaceLemmas.{row_of-at}
 use Rattle.local_ckpt.proofs.RecordLemmas.{commits_nothing}
 use Rattle.local_ckpt.proofs.RedoLemmas.{get-replayed, over, redone}
 use Rattle.local_ckpt.proofs.StepLemmas.{pieces_more, steps}
-use Rattle.local_ckpt.proofs.WayLemmas.{IsUnderWay, checkpoint_bytes, commit_way, gives_up, has_aborted, has_after, has_committed, has_still, is_done, prepares}
+use Rattle.local_ckpt.proofs.WayLemmas.{IsUnderWay, checkpoint_bytes, commit_way, gives_up, has_aborted, has_after}
+use Rattle.local_ckpt.proofs.WayLemmas.{has_committed, has_still, is_done, prepares}
 
 -- rows stay orderly
 orderly_commit : (s : RowsState) (tx : TxId) (key : List ℕ) (epoch : ℕ) → IsOrderly s

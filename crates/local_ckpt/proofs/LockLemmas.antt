@@ -1,5 +1,6 @@
 -- Rows that are locked, and the log since a moment.
-use Rattle.std.proofs.Common.{◌≡◌, ◌≤◌, ◌&&◌, ℕ, Bool, true, false, cond, List, [], ◌∷◌, refl, sym, ap, ◌∙◌, subst, arith}
+use Rattle.std.proofs.Common.{◌≡◌, ◌≤◌, ◌&&◌, ℕ, Bool, true, false, cond, List, [], ◌∷◌, refl, sym, ap, ◌∙◌, subst}
+use Rattle.std.proofs.Common.{arith}
 use Rattle.std.specs.Prelude.{nat_le, if◌then◌else◌, Option, None, Some}
 use Rattle.std.specs.Cmp.Lexicographic.{nat_list_cmp_total}
 use Rattle.std.specs.FinMap as map
@@ -15,12 +16,14 @@ use Rattle.sig_core.specs.Table.{Rows}
 use Rattle.redo_log.specs.Replaying.{replayed}
 use Rattle.sig_core.proofs.Keys.{same_key-swap, same_tx-self}
 use Rattle.sig_core.proofs.TxLemmas.{same_tx-swap}
-use Rattle.local_ckpt.specs.Events.{Abort, Commit, Complete, Event, Moment, Prepare, Step, after, changed, log_if, logged, next}
+use Rattle.local_ckpt.specs.Events.{Abort, Commit, Complete, Event, Moment, Prepare, Step, after, changed, log_if}
+use Rattle.local_ckpt.specs.Events.{logged, next}
 use Rattle.local_ckpt.specs.Locking.{AreKept, IsAlone, KeepLocks, KeepsLock, WalksMayBegin}
 use Rattle.local_ckpt.specs.Laws.{IsImage, last_image}
 use Rattle.local_ckpt.specs.Orderly.{IsOrderly, image_in, prepared_in}
 use Rattle.local_ckpt.proofs.CoverLemmas.{Fits, over_fits}
-use Rattle.local_ckpt.proofs.EventLemmas.{LeavesRows, Prepared, Rewrites, aborts, commits, commits_row, completes, stores, stores_rows}
+use Rattle.local_ckpt.proofs.EventLemmas.{LeavesRows, Prepared, Rewrites, aborts, commits, commits_row, completes}
+use Rattle.local_ckpt.proofs.EventLemmas.{stores, stores_rows}
 use Rattle.row_records.proofs.KeyLemmas.{same}
 use Rattle.row_records.proofs.PlaceLemmas.{row_at, row_of-at}
 use Rattle.local_ckpt.proofs.RecordLemmas.{by_record, commits_nothing, is_same}

@@ -8,9 +8,11 @@ use Rattle.sig_core.specs.declared.rows.PendingRecord.{PendingRecord}
 use Rattle.sig_core.specs.declared.rows.Slot.{Slot}
 use Rattle.sig_core.specs.Firsts.{drop_first, first}
 use Rattle.sig_core.specs.Rows as rows
-use Rattle.sig_core.specs.Rows.{RowsState, commit_by, commit_if, commit_record, drop_if, freed, get_at, is_as, is_idle, is_of, is_on, record_at, record_of, recorded_by, set_row}
+use Rattle.sig_core.specs.Rows.{RowsState, commit_by, commit_if, commit_record, drop_if, freed, get_at, is_as, is_idle}
+use Rattle.sig_core.specs.Rows.{is_of, is_on, record_at, record_of, recorded_by, set_row}
 use Rattle.sig_core.specs.Same.{same_key, same_tx}
-use Rattle.sig_core.proofs.Firsts.{drop_by, first-drop, first-get, first-set, first_passes, get_by, place_by, position-cons, set_by, set_first}
+use Rattle.sig_core.proofs.Firsts.{drop_by, first-drop, first-get, first-set, first_passes, get_by, place_by}
+use Rattle.sig_core.proofs.Firsts.{position-cons, set_by, set_first}
 use Rattle.sig_core.proofs.Keys.{same_key-self, same_tx-self}
 use Rattle.sig_core.proofs.TxLemmas.{same_tx-is}
 use Rattle.local_ckpt.specs.Orderly.{prepared_in}

@@ -1,5 +1,6 @@
 -- What a journal keeps free covers the ends of prepared records, whatever becomes of them.
-use Rattle.std.proofs.Common.{◌≡◌, ℕ, zero, suc, ◌+◌, ◌≤◌, Bool, true, false, ◌&&◌, List, [], ◌∷◌, ◌++◌, length, slice_set, slice_get, get_or, remove, refl, ap, sym, ◌∙◌, arith, subst}
+use Rattle.std.proofs.Common.{◌≡◌, ℕ, zero, suc, ◌+◌, ◌≤◌, Bool, true, false, ◌&&◌, List, [], ◌∷◌, ◌++◌, length}
+use Rattle.std.proofs.Common.{slice_set, slice_get, get_or, remove, refl, ap, sym, ◌∙◌, arith, subst}
 use Rattle.std.specs.Prelude.{Option, None, Some}
 use Rattle.std.specs.Cmp.Lexicographic.{bytes_decides}
 use Rattle.std.proofs.lemmas.List.Quantifiers.{position-Some}
@@ -9,7 +10,9 @@ use Rattle.sig_core.specs.declared.redo.Redo.TheVariants as redo
 use Rattle.sig_core.specs.declared.rows.PendingRecord.{PendingRecord}
 use Rattle.sig_core.specs.Journal.{JournalState, appending, unreserving}
 use Rattle.sig_core.specs.Redo.{size_of}
-use Rattle.sig_core.specs.Rows.{RowsState, abort_record, commit_by, commit_if, commit_record, committed, complete_record, drop_by, drop_if, get_at, is_as, is_of, prepared, record_at, record_of, record_state, recorded_by, state_by, storing}
+use Rattle.sig_core.specs.Rows.{RowsState, abort_record, commit_by, commit_if, commit_record, committed}
+use Rattle.sig_core.specs.Rows.{complete_record, drop_by, drop_if, get_at, is_as, is_of, prepared, record_at, record_of}
+use Rattle.sig_core.specs.Rows.{record_state, recorded_by, state_by, storing}
 use Rattle.sig_core.specs.Same.{same_key, same_tx}
 use Rattle.lqh_block.specs.Due.{IsCovered, due, due_if, due_of}
 use Rattle.lqh_block.specs.Storage.{prepared_journal}

@@ -2,7 +2,8 @@
 ghost use Rattle.std.specs.Prelude.{◌≡◌, ◌<◌, IfOk, OnOk, OnErr, length, nat_lt, remove, slice_get};
 ghost use Rattle.sig_core.specs.declared.signal.host.Work.TheVariants as work;
 ghost use Rattle.sig_core.specs.Step.{HasRoom, IsTaken, IsUntouched, and_send, joined, sends_only};
-ghost use Rattle.lqh_block.specs.Operate.{first_granted, granted_on, granted_row, is_granted, more_granted, request_row};
+ghost use Rattle.lqh_block.specs.Operate.{first_granted, granted_on, granted_row, is_granted, more_granted};
+ghost use Rattle.lqh_block.specs.Operate.{request_row};
 ghost use Rattle.lqh_block.specs.State.{go_on, go_on_if, with_waiting};
 
 use crate::lqh::Lqh;

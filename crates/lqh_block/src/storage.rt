@@ -6,7 +6,8 @@ ghost use Rattle.sig_core.specs.Rows.{complete_record, record_state};
 ghost use Rattle.lqh_block.specs.Due.{IsCovered};
 ghost use Rattle.lqh_block.specs.Ready.{IsReady};
 ghost use Rattle.sig_core.specs.Step.{HasRoom, IsTaken, and_send};
-ghost use Rattle.lqh_block.specs.Storage.{aborted_in, committed_in, confirmed, end_size, kept_once, need_of, perform, prepare_size, refusal, sent_on, storage, store_row};
+ghost use Rattle.lqh_block.specs.Storage.{aborted_in, committed_in, confirmed, end_size, kept_once, need_of, perform};
+ghost use Rattle.lqh_block.specs.Storage.{prepare_size, refusal, sent_on, storage, store_row};
 ghost use Rattle.sig_core.specs.Work.{work_image, work_key};
 
 use crate::ready::Ready;

@@ -1,5 +1,6 @@
 -- What a report tells where nothing comes between.
-use Rattle.std.proofs.Common.{◌≡◌, ◌⊎◌, inl, inr, ◌∙◌, ◌++◌, ℕ, zero, suc, Bool, true, false, cond, List, [], ◌∷◌, map, refl, ap, sym}
+use Rattle.std.proofs.Common.{◌≡◌, ◌⊎◌, inl, inr, ◌∙◌, ◌++◌, ℕ, zero, suc, Bool, true, false, cond, List, [], ◌∷◌, map}
+use Rattle.std.proofs.Common.{refl, ap, sym}
 use Rattle.std.proofs.lemmas.List.{reverse-append}
 use Rattle.std.proofs.lemmas.List.Elements.{filter-append}
 use Rattle.std.specs.Prelude.{Option, None, Some, filter, reverse, slice_get, take}
@@ -10,9 +11,11 @@ use Rattle.sig_core.specs.Step.{Step}
 use Rattle.lqh_block.specs.declared.request.Marker.{Marker}
 use Rattle.lqh_views.specs.declared.report.Report.{Report}
 use Rattle.lqh_views.specs.Replica.{replica_by, replica_row}
-use Rattle.lqh_views.specs.Report.{ending, found_at, found_if, go_on_by, is_orphaned_marker, is_orphaned_record, last_before, marker_by, record_by, reporting, telling, told_marker, told_record}
+use Rattle.lqh_views.specs.Report.{ending, found_at, found_if, go_on_by, is_orphaned_marker, is_orphaned_record}
+use Rattle.lqh_views.specs.Report.{last_before, marker_by, record_by, reporting, telling, told_marker, told_record}
 use Rattle.lqh_views.specs.State.{ReplicaState, with_report}
-use Rattle.lqh_views.specs.WholeReports.{IsOwn, ReportsTellEachOnce, from_the_last, left_to_tell, the_end, told_alone, whole}
+use Rattle.lqh_views.specs.WholeReports.{IsOwn, ReportsTellEachOnce, from_the_last, left_to_tell, the_end, told_alone}
+use Rattle.lqh_views.specs.WholeReports.{whole}
 
 -- the first entries, and the one behind them
 take_next : {X : Type 0} (xs : List X) (n : ℕ) (x : X) → slice_get xs n ≡ Some x → take (suc n) xs ≡ take n xs ++ x ∷ []

@@ -28,9 +28,11 @@ use Rattle.lqh_block.proofs.EachLqh.{RequestSends, RowsSend, lqh_sends_each}
 use Rattle.lqh_views.specs.declared.report.Report.{Report}
 use Rattle.lqh_views.specs.Address.{about, addressed, owned_by, owned_if}
 use Rattle.lqh_views.specs.Epochs.{epoch_table}
-use Rattle.lqh_views.specs.Laws.{CalmSteps, InstallationsEndWaits, IsCalm, IsCoordinated, ReportsAreTrue, TellsTruly, beside, is_of_rows_by}
+use Rattle.lqh_views.specs.Laws.{CalmSteps, InstallationsEndWaits, IsCalm, IsCoordinated, ReportsAreTrue, TellsTruly}
+use Rattle.lqh_views.specs.Laws.{beside, is_of_rows_by}
 use Rattle.lqh_views.specs.Replica.{in_rows, installed, is_stale, passed, replica_by, serve_if}
-use Rattle.lqh_views.specs.Report.{go_on_by, is_orphaned_marker, is_orphaned_record, last_before, marker_by, record_by, reporting, told_record_if}
+use Rattle.lqh_views.specs.Report.{go_on_by, is_orphaned_marker, is_orphaned_record, last_before, marker_by, record_by}
+use Rattle.lqh_views.specs.Report.{reporting, told_record_if}
 use Rattle.lqh_views.specs.State.{ReplicaState, with_lqh}
 use Rattle.lqh_views.proofs.AddressLemmas.{same-body}
 use Rattle.lqh_views.proofs.LastLemmas.{IsThere, last-there}

@@ -9,7 +9,9 @@ use Rattle.sig_core.specs.declared.rows.PendingRecord.{PendingRecord}
 use Rattle.sig_core.specs.declared.signal.Body.{Body}
 use Rattle.sig_core.specs.declared.signal.Body.TheVariants.{Client}
 use Rattle.sig_core.specs.declared.signal.client.ClientSignal.TheVariants.{TcCommitAck}
-use Rattle.sig_core.specs.Rows.{RowsState, abort_record, commit_by, commit_if, commit_record, complete_record, committed, drop_by, drop_if, get_at, is_as, is_of, prepared, record_at, record_of, recorded_by, storing}
+use Rattle.sig_core.specs.Rows.{RowsState, abort_record, commit_by, commit_if, commit_record, complete_record}
+use Rattle.sig_core.specs.Rows.{committed, drop_by, drop_if, get_at, is_as, is_of, prepared, record_at, record_of}
+use Rattle.sig_core.specs.Rows.{recorded_by, storing}
 use Rattle.sig_core.specs.Same.{same_key, same_tx}
 use Rattle.sig_core.specs.Step.{Step, stay}
 use Rattle.sig_core.specs.Work.{work_key}
@@ -27,7 +29,8 @@ use Rattle.lqh_block.specs.Storage.{StorageState}
 use Rattle.lqh_block.specs.Wait.{acknowledged, is_other}
 use Rattle.row_records.proofs.KeyLemmas.{same as same_key-is}
 use Rattle.lqh_block.proofs.LqhForms.{Applies, GivesUp, LqhForms, lqh_forms, perform_forms}
-use Rattle.lqh_views.proofs.Below.{NoneFrom, no_place, none_behind, none_changed, none_kept, none_removed, none_unchanged}
+use Rattle.lqh_views.proofs.Below.{NoneFrom, no_place, none_behind, none_changed, none_kept, none_removed}
+use Rattle.lqh_views.proofs.Below.{none_unchanged}
 
 -- where some entry passes, none does from a place on, if none did before
 abbrev pub Stays : {X : Type 0} → (X → Bool) → List X → List X → Type 0

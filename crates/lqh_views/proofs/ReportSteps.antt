@@ -1,5 +1,6 @@
 -- Steps while a report is under way: of the report, and of all else.
-use Rattle.std.proofs.Common.{◌≡◌, ◌⊎◌, inl, inr, ◌∙◌, ◌==◌, ℕ, Bool, true, false, List, [], ◌∷◌, map, refl, ap, sym, subst}
+use Rattle.std.proofs.Common.{◌≡◌, ◌⊎◌, inl, inr, ◌∙◌, ◌==◌, ℕ, Bool, true, false, List, [], ◌∷◌, map, refl, ap, sym}
+use Rattle.std.proofs.Common.{subst}
 use Rattle.std.proofs.lemmas.Bool.{true≢false}
 use Rattle.std.specs.Prelude.{◌&&◌, Option, None, Some}
 use Rattle.run_theory.specs.Lists.{Each, IsIn}
@@ -34,9 +35,11 @@ use Rattle.lqh_views.specs.declared.report.Report.{Report}
 use Rattle.lqh_views.specs.Address.{addressed}
 use Rattle.lqh_views.specs.Epochs.{epoch_table}
 use Rattle.lqh_views.specs.Replica.{is_stale, passed, replica_by, serve_if}
-use Rattle.lqh_views.specs.Report.{go_on_by, is_orphaned, is_orphaned_marker, is_orphaned_record, last_before, marker_by, record_by, reporting, told, told_marker, told_record, told_record_if}
+use Rattle.lqh_views.specs.Report.{go_on_by, is_orphaned, is_orphaned_marker, is_orphaned_record, last_before}
+use Rattle.lqh_views.specs.Report.{marker_by, record_by, reporting, told, told_marker, told_record, told_record_if}
 use Rattle.lqh_views.specs.State.{ReplicaState}
-use Rattle.lqh_views.specs.WholeReports.{IsMarkerTold, IsRecordTold, asks, before_end, ends, has_marker, has_record, the_end}
+use Rattle.lqh_views.specs.WholeReports.{IsMarkerTold, IsRecordTold, asks, before_end, ends, has_marker, has_record}
+use Rattle.lqh_views.specs.WholeReports.{the_end}
 use Rattle.lqh_views.proofs.AddressLemmas.{same-body}
 use Rattle.lqh_views.proofs.Below.{Leaves, NoneFrom, last_leaves, none_any}
 use Rattle.lqh_views.proofs.ListsKept.{AreKept, both, lists_kept, same_lists}

@@ -16,10 +16,13 @@ use Rattle.lqh_views.specs.declared.report.Report.{Report}
 use Rattle.lqh_views.specs.Replica.{replica_by, replica_row}
 use Rattle.lqh_views.specs.Report.{is_orphaned, reporting, told}
 use Rattle.lqh_views.specs.State.{ReplicaState}
-use Rattle.lqh_views.specs.WholeReports.{Event, IsMarkerTold, IsRecordTold, ReportsLeaveNothingOut, Stands, asks_at, before_end, before_if, ends, has_marker, has_record, sent_since, since, step_at, the_end, whole}
+use Rattle.lqh_views.specs.WholeReports.{Event, IsMarkerTold, IsRecordTold, ReportsLeaveNothingOut, Stands, asks_at}
+use Rattle.lqh_views.specs.WholeReports.{before_end, before_if, ends, has_marker, has_record, sent_since, since}
+use Rattle.lqh_views.specs.WholeReports.{step_at, the_end, whole}
 use Rattle.lqh_views.specs.WholeReports.Event.{Takes, Installs}
 use Rattle.lqh_views.proofs.Below.{none_past}
-use Rattle.lqh_views.proofs.ReportSteps.{GoesOn, IsLeft, IsNoEnd, MarkerLeft, NoEnd, RecordLeft, Rests, not_in, step_kind, tells_marker, tells_record}
+use Rattle.lqh_views.proofs.ReportSteps.{GoesOn, IsLeft, IsNoEnd, MarkerLeft, NoEnd, RecordLeft, Rests, not_in}
+use Rattle.lqh_views.proofs.ReportSteps.{step_kind, tells_marker, tells_record}
 
 none_some : {X : Type 0} (o : Option X) (x : X) → o ≡ None → o ≡ Some x → ⊥
 none_some None x none some = cc

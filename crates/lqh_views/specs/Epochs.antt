@@ -2,7 +2,8 @@
 use Rattle.std.specs.Prelude.{ℕ, if◌then◌else◌, nat_lt}
 use Rattle.sig_core.specs.declared.signal.Body.TheVariants.{Epoch, Membership}
 use Rattle.sig_core.specs.declared.signal.epoch.EpochSignal.{EpochSignal}
-use Rattle.sig_core.specs.declared.signal.epoch.EpochSignal.TheVariants.{GcpClosed, GcpClosedConf, GcpSaveReq, GcpSaveConf, GcpStateReq, GcpStateConf}
+use Rattle.sig_core.specs.declared.signal.epoch.EpochSignal.TheVariants.{GcpClosed, GcpClosedConf, GcpSaveReq}
+use Rattle.sig_core.specs.declared.signal.epoch.EpochSignal.TheVariants.{GcpSaveConf, GcpStateReq, GcpStateConf}
 use Rattle.sig_core.specs.declared.signal.membership.MembershipSignal.TheVariants.{FenceConf}
 use Rattle.sig_core.specs.Place.{checkpoints, membership}
 use Rattle.sig_core.specs.Step.{Step, sending, stay}

@@ -1,6 +1,7 @@
 -- The report to a takeover: every record and every marker of a transaction whose coordinator isn't a full member. Both
 -- lists are gone through from their last entry to their first, the records before the markers, one entry an event.
-use Rattle.std.specs.Prelude.{ℕ, zero, suc, ◌==◌, Bool, true, false, not, List, [], ◌∷◌, length, slice_get, Option, None, Some}
+use Rattle.std.specs.Prelude.{ℕ, zero, suc, ◌==◌, Bool, true, false, not, List, [], ◌∷◌, length, slice_get, Option}
+use Rattle.std.specs.Prelude.{None, Some}
 use Rattle.sig_core.specs.declared.member.Member.{Member}
 use Rattle.sig_core.specs.declared.member.TxId.{TxId}
 use Rattle.sig_core.specs.declared.outs.Outgoing.{Outgoing}

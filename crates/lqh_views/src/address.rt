@@ -1,7 +1,8 @@
 //! Who is told of the end of a transaction's part in a row.
 ghost use Rattle.std.specs.Prelude.{◌≡◌, ◌+◌, ◌++◌, ◌≤◌, [], length};
 ghost use Rattle.sig_core.specs.Step.{nothing};
-ghost use Rattle.lqh_views.specs.Address.{about, addressed, addressed_behind, ended, goes_straight, next_of, to_takeover};
+ghost use Rattle.lqh_views.specs.Address.{about, addressed, addressed_behind, ended, goes_straight, next_of};
+ghost use Rattle.lqh_views.specs.Address.{to_takeover};
 
 use lqh_block::is_coordinated;
 use sig_core::{Body, ChainSignal, Member, Outgoing, Outs, TxId, View, takeover};

@@ -1,7 +1,8 @@
 //! Reports to takeovers.
 ghost use Rattle.std.specs.Prelude.{◌≡◌};
 ghost use Rattle.sig_core.specs.Step.{HasRoom, IsTaken};
-ghost use Rattle.lqh_views.specs.Report.{ending, go_on_row, is_orphaned_marker, is_orphaned_record, last_before, next_marker, report_row, reporting, telling, told_marker, told_record};
+ghost use Rattle.lqh_views.specs.Report.{ending, go_on_row, is_orphaned_marker, is_orphaned_record, last_before};
+ghost use Rattle.lqh_views.specs.Report.{next_marker, report_row, reporting, telling, told_marker, told_record};
 
 use crate::replica::Replica;
 use lqh_block::{Marker, is_coordinated};

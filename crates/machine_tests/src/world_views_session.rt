@@ -131,7 +131,7 @@ pub fn printed<W: Wait>(
 ) -> Result<Vec<u8>, NoMemory>
     requires { IsShape shape }
 {
-    let mut world = World::new(alloc, shape, MICROS, &[])?;
+    let mut world = World::new(alloc, shape, MICROS, 0, &[])?;
     let mut text = Vec::new(alloc);
     for line in lines {
         serve(rt, alloc, &mut world, line.as_bytes(), shape.nodes)?;

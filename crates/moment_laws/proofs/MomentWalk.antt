@@ -6,7 +6,7 @@ use Rattle.sig_core.specs.declared.signal.Signal.{Signal}
 use Rattle.sig_core.specs.declared.view.Shape.{Shape}
 use Rattle.sig_core.specs.declared.view.View.{View}
 use Rattle.node_views.specs.Blocks.{parts_entered, parts_row, settled_at}
-use Rattle.node_views.specs.declared.host.Host as hosts
+use Rattle.node_views.specs.declared.host_body.HostBody as hosts
 use Rattle.node_views.specs.declared.parts.Parts.{Parts}
 use Rattle.world_core.specs.Start.{Start}
 use Rattle.world_core.specs.Steps.{HostStep}
@@ -53,7 +53,7 @@ module _ (shape : Shape) (x : Signal) (now : Parts) (seen : View) where
       by (does.enters above same stands sent) =
           entering above (passes (parts_entered parts x.view).state x.view same stands)
 
-pub step_moves : (x : Signal) (h : ℕ) (s : hosts.Host)
+pub step_moves : (x : Signal) (h : ℕ) (s : hosts.HostBody)
     → Moves s.standing.shape s.parts s.standing.view x (step_by h s x).state.parts (step_by h s x).state.standing.view
 step_moves x h s =
     let t = step_by h s x in

@@ -10,7 +10,7 @@ use Rattle.sig_core.specs.declared.signal.Signal.{Signal}
 use Rattle.sig_core.specs.declared.view.View.{View}
 use Rattle.sig_core.specs.Step.{Step}
 use Rattle.node_views.specs.Blocks.{fence_at, parts_entered, parts_row}
-use Rattle.node_views.specs.declared.host.Host as hosts
+use Rattle.node_views.specs.declared.host_body.HostBody as hosts
 use Rattle.node_views.specs.declared.parts.Parts.{Parts}
 use Rattle.node_views.specs.Fence.{is_fenced}
 use Rattle.node_views.specs.Row.{entered, host_row, is_barred, taken_if}
@@ -24,7 +24,7 @@ use Rattle.moment_laws.specs.Parts.{Enters, IsPassed, PartsDo, enters, leaves, s
 use Rattle.world_views.proofs.StepWalk.{IsTaken, Saying, step_comes}
 
 -- what isn't barred is of no view below the fence, if it is of a kind that fences stop
-pub not_barred : (s : hosts.Host) (x : Signal) → is_barred s x ≡ false → is_fenced x ≡ true
+pub not_barred : (s : hosts.HostBody) (x : Signal) → is_barred s x ≡ false → is_fenced x ≡ true
     → fence_at s.parts x.to.block s.standing.view.number ≤ x.view.number
 not_barred s x clear is = by (is_fenced x) clear is
   where
@@ -35,11 +35,11 @@ not_barred s x clear is = by (is_fenced x) clear is
     by true clear is = ltb-false x.view.number fence clear
     by false clear is = absurd (true≢false (sym is))
 
-module _ (s : hosts.Host) (x : Signal) where
+module _ (s : hosts.HostBody) (x : Signal) where
   abbrev Does : Saying
   Does seen now sends = PartsDo s.standing.shape s.parts s.standing.view x now seen sends
 
-  abbrev DoesBy : Step hosts.Host → Type 0
+  abbrev DoesBy : Step hosts.HostBody → Type 0
   DoesBy t = Does t.state.standing.view t.state.parts t.effects.sends
 
   module _ (between : Parts) (stood : View) (front : List Outgoing)

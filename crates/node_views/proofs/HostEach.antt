@@ -13,7 +13,7 @@ use Rattle.sig_core.specs.declared.signal.Signal.{Signal}
 use Rattle.sig_core.specs.declared.view.View.{View}
 use Rattle.step_forms.specs.Does.{Does}
 use Rattle.node_views.specs.Blocks.{parts_entered, parts_row, settled_at}
-use Rattle.node_views.specs.declared.host.Host as hosts
+use Rattle.node_views.specs.declared.host_body.HostBody as hosts
 use Rattle.node_views.specs.declared.parts.Parts.{Parts}
 use Rattle.node_views.specs.declared.standing.Standing.{Standing}
 use Rattle.node_views.specs.Row.{cut_marks, entered, host_row, is_barred, is_excluded}
@@ -34,7 +34,7 @@ module _ (P : Outgoing → Type 0) (M : Mark → Type 0) where
         → Does P M (parts_entered (parts_row parts x).state view)
 
   -- of what those of the host do, at the signal or where its view is installed before
-  pub record HostEach (s : hosts.Host) (x : Signal) : Type 0 where
+  pub record HostEach (s : hosts.HostBody) (x : Signal) : Type 0 where
     pub goes : is_well_formed s.standing.shape x ≡ true → nat_lt s.standing.view.number x.view.number ≡ false
         → is_barred s x ≡ false → TakesEach x s.parts
     pub enters : is_well_formed s.standing.shape x ≡ true → nat_lt s.standing.view.number x.view.number ≡ true
@@ -50,7 +50,7 @@ module _ (P : Outgoing → Type 0) (M : Mark → Type 0) where
     pub stays : (parts : Parts) → Q parts → Q (parts_row parts x).state
     pub stays_entered : (parts : Parts) (view : View) → Q parts → Q (parts_entered parts view).state
 
-  pub each_kept : (Q : Parts → Type 0) (x : Signal) → KeepsEach Q x → (s : hosts.Host) → Q s.parts → HostEach s x
+  pub each_kept : (Q : Parts → Type 0) (x : Signal) → KeepsEach Q x → (s : hosts.HostBody) → Q s.parts → HostEach s x
   each_kept Q x keeps s so = record {
     goes = λ sound old barred. taken s.parts so;
     enters = λ sound newer among. keeps.enters s.parts x.view so;
@@ -97,7 +97,7 @@ module _ (P : Outgoing → Type 0) (M : Mark → Type 0) where
             );
       }
 
-      pub row_each : (s : hosts.Host) → HostEach s x → Does P M (host_row s x)
+      pub row_each : (s : hosts.HostBody) → HostEach s x → Does P M (host_row s x)
       row_each s each =
           row_comes DoesEach x own_each s (record {
             own = own_each;

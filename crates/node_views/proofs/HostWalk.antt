@@ -17,7 +17,7 @@ use Rattle.sig_core.specs.declared.view.View.{View}
 use Rattle.sig_core.specs.Step.{Step}
 use Rattle.api_views.specs.Members.{same_member}
 use Rattle.node_views.specs.Blocks.{parts_entered, parts_row, settled_at}
-use Rattle.node_views.specs.declared.host.Host as hosts
+use Rattle.node_views.specs.declared.host_body.HostBody as hosts
 use Rattle.node_views.specs.declared.parts.Parts.{Parts}
 use Rattle.node_views.specs.declared.standing.Standing.{Standing}
 use Rattle.node_views.specs.Row.{blocks_row, closed_if, counted_row, cut_if, cut_marks, entered, entering_if, headed_if}
@@ -55,7 +55,7 @@ pub record StaysSo (Says : Saying) : Type 0 where
       → list_any is_stop marks ≡ true → Says standing parts sends marks → Says standing parts [] marks
 
 -- all that may become of the host, however many signals it still takes; the view of the signal may be installed before
-pub record HostSo (Says : Saying) (s : hosts.Host) (x : Signal) : Type 0 where
+pub record HostSo (Says : Saying) (s : hosts.HostBody) (x : Signal) : Type 0 where
   pub own : StaysSo Says
   pub stays : Says s.standing s.parts [] []
   pub goes : is_well_formed s.standing.shape x ≡ true → nat_lt s.standing.view.number x.view.number ≡ false
@@ -71,11 +71,11 @@ pub record HostSo (Says : Saying) (s : hosts.Host) (x : Signal) : Type 0 where
 
 module _ (Says : Saying) (x : Signal) (own : StaysSo Says) where
   -- a step of the host is so, behind what was sent and marked before
-  abbrev Comes : List Outgoing → List Mark → Step hosts.Host → Type 0
+  abbrev Comes : List Outgoing → List Mark → Step hosts.HostBody → Type 0
   Comes sends marks t = Says t.state.standing t.state.parts (sends ++ t.effects.sends) (marks ++ t.effects.marks)
 
   -- where the signal is passed to the blocks, or is the host's own
-  module _ (s : hosts.Host) (sends : List Outgoing) (marks : List Mark) (so : Says s.standing s.parts sends marks)
+  module _ (s : hosts.HostBody) (sends : List Outgoing) (marks : List Mark) (so : Says s.standing s.parts sends marks)
     where
       -- that nothing is sent changes nothing
       sends_none : (standing : Standing) (more : List Mark) → Says standing s.parts sends more
@@ -131,9 +131,9 @@ module _ (Says : Saying) (x : Signal) (own : StaysSo Says) where
           by false is = table_comes (taken is) x.body
 
   -- where its view may be installed, for a host that still takes so many signals
-  module _ (s : hosts.Host) (walked : HostSo Says s x) (sound : is_well_formed s.standing.shape x ≡ true) where
+  module _ (s : hosts.HostBody) (walked : HostSo Says s x) (sound : is_well_formed s.standing.shape x ≡ true) where
     module _ (left : Option ℕ) where
-      abbrev counted : hosts.Host
+      abbrev counted : hosts.HostBody
       counted = standing_at s (killed_after s.standing left)
 
       stays : Says counted.standing s.parts [] []
@@ -162,13 +162,13 @@ module _ (Says : Saying) (x : Signal) (own : StaysSo Says) where
     counted_comes (Some (suc (suc left))) is = headed_comes (Some (suc left))
 
   -- whatever signal it is; a host that stops sends nothing
-  pub row_comes : (s : hosts.Host) → HostSo Says s x
+  pub row_comes : (s : hosts.HostBody) → HostSo Says s x
       → Says (host_row s x).state.standing (host_row s x).state.parts (host_row s x).effects.sends
       (host_row s x).effects.marks
   unfolding host_row
   row_comes s walked = by (is_well_formed s.standing.shape x) refl
     where
-      step : Step hosts.Host
+      step : Step hosts.HostBody
       step = counted_row s x s.standing.left
 
       hushed : Comes [] [] step → (b : Bool) → list_any is_stop step.effects.marks ≡ b

@@ -6,22 +6,24 @@ use Rattle.sig_core.specs.declared.signal.Body.{Body}
 use Rattle.sig_core.specs.declared.signal.Body.TheVariants.{Host}
 use Rattle.sig_core.specs.declared.signal.Signal.{Signal}
 use Rattle.sig_core.specs.declared.signal.host.HostSignal.TheVariants.{Kill, Cut, Closed}
-use Rattle.node_views.specs.Laws.{CalmHostsLeaveItToBlocks, IsCalm, MalformedSignalsChangeNothing, StoppingHostsAreSilent, is_own}
-use Rattle.node_views.specs.Row.{blocks_row, counted_row, headed_if, headed_row, host_row, host_table, hushed, is_stop, passed_if, passed_row, taken_if, unless_stopped}
+use Rattle.node_views.specs.Laws.{CalmHostsLeaveItToBlocks, IsCalm, MalformedSignalsChangeNothing}
+use Rattle.node_views.specs.Laws.{StoppingHostsAreSilent, is_own}
+use Rattle.node_views.specs.Row.{blocks_row, counted_row, headed_if, headed_row, host_row, host_table, hushed, is_stop}
+use Rattle.node_views.specs.Row.{passed_if, passed_row, taken_if, unless_stopped}
 use Rattle.node_views.specs.WellFormed.{is_well_formed}
-use Rattle.node_views.specs.declared.host.Host as hosts
+use Rattle.node_views.specs.declared.host_body.HostBody as hosts
 
-theirs : (s : hosts.Host) (x : Signal) (body : Body) → is_own body ≡ false → host_table s x body ≡ blocks_row s x
+theirs : (s : hosts.HostBody) (x : Signal) (body : Body) → is_own body ≡ false → host_table s x body ≡ blocks_row s x
 theirs s x (Host (Kill after)) is = grind arith
 theirs s x (Host (Cut node first)) is = grind arith
 theirs s x (Host (Closed cause)) is = grind arith
 theirs s x body is = refl
 
-passes : (s : hosts.Host) (x : Signal) → IsCalm s x → passed_row s x ≡ blocks_row s x
+passes : (s : hosts.HostBody) (x : Signal) → IsCalm s x → passed_row s x ≡ blocks_row s x
 unfolding passed_row
 passes s x calm = ap (passed_if s x) calm.passes ∙ theirs s x x.body calm.theirs
 
-goes_on : (s : hosts.Host) (x : Signal) → IsCalm s x → headed_row s x ≡ blocks_row s x
+goes_on : (s : hosts.HostBody) (x : Signal) → IsCalm s x → headed_row s x ≡ blocks_row s x
 unfolding headed_row
 goes_on s x calm = ap (headed_if s x) calm.same ∙ passes s x calm
 
@@ -34,7 +36,7 @@ silent : (sends : List Outgoing) (stops : Bool) → stops ≡ true → unless_st
 silent sends true is = refl
 silent sends false is = grind arith
 
-silent_if : (s : hosts.Host) (x : Signal) (fine : Bool) → list_any is_stop (taken_if s x fine).effects.marks ≡ true
+silent_if : (s : hosts.HostBody) (x : Signal) (fine : Bool) → list_any is_stop (taken_if s x fine).effects.marks ≡ true
     → (taken_if s x fine).effects.sends ≡ []
 silent_if s x true stops = silent _ _ stops
 silent_if s x false is = grind arith

@@ -36,7 +36,7 @@ use Rattle.tc_views.specs.Views as coordinator
 use Rattle.tc_views.proofs.Walk.{coordinator_words}
 use Rattle.tc_views.specs.Words.{is_coordinator_mark, is_coordinator_word}
 use Rattle.node_views.specs.Blocks.{parts_entered, parts_row}
-use Rattle.node_views.specs.declared.host.Host as hosts
+use Rattle.node_views.specs.declared.host_body.HostBody as hosts
 use Rattle.node_views.specs.declared.parts.Parts.{Parts}
 use Rattle.node_views.specs.declared.parts.Parts.TheVariants.{Shell, Main, Tc, Ldm}
 use Rattle.node_views.specs.Row.{host_row}
@@ -188,7 +188,7 @@ module _ (parts : Parts) where
       by (Ldm p) = (λ body. refl, λ mark. refl)
 
 -- a host keeps to the words of its part, beside the marks that it makes itself
-module _ (s : hosts.Host) (x : Signal) where
+module _ (s : hosts.HostBody) (x : Signal) where
   abbrev Hosts : {S : Type 0} → Step S → Type 0
   Hosts step = Speaks (parts_words s.parts) (host_marks s.parts) step
 

@@ -5,7 +5,8 @@ use Rattle.sig_core.specs.declared.place.BlockId.TheVariants as block
 use Rattle.sig_core.specs.declared.signal.Signal.{Signal}
 use Rattle.sig_core.specs.declared.view.View.{View}
 use Rattle.sig_core.specs.Step.{Effects, HasRoom, Step}
-use Rattle.node_views.specs.Parts.{ldm_entered, ldm_row, main_entered, main_row, main_settled, shell_entered, shell_row, tc_entered, tc_row}
+use Rattle.node_views.specs.Parts.{ldm_entered, ldm_row, main_entered, main_row, main_settled, shell_entered, shell_row}
+use Rattle.node_views.specs.Parts.{tc_entered, tc_row}
 use Rattle.node_views.specs.declared.ldm_part.LdmPart.{LdmPart}
 use Rattle.node_views.specs.declared.main_part.MainPart.{MainPart}
 use Rattle.node_views.specs.declared.parts.Parts.{Parts}

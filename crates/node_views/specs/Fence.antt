@@ -1,11 +1,13 @@
 -- Which signals a fence stops.
 use Rattle.std.specs.Prelude.{ℕ, ◌==◌, Bool, true, false, not}
 use Rattle.sig_core.specs.declared.signal.Body.{Body}
-use Rattle.sig_core.specs.declared.signal.Body.TheVariants.{Chain, Takeover, Epoch, Checkpoint, Joining, Copying, Backup}
+use Rattle.sig_core.specs.declared.signal.Body.TheVariants.{Chain, Takeover, Epoch, Checkpoint, Joining, Copying}
+use Rattle.sig_core.specs.declared.signal.Body.TheVariants.{Backup}
 use Rattle.sig_core.specs.declared.signal.Signal.{Signal}
 use Rattle.sig_core.specs.declared.signal.checkpoint.CheckpointSignal.TheVariants.{LcpReq, LcpRep}
 use Rattle.sig_core.specs.declared.signal.epoch.EpochSignal.{EpochSignal}
-use Rattle.sig_core.specs.declared.signal.epoch.EpochSignal.TheVariants.{DiVerifyReq, DiVerifyConf, DiVerifyEnd, GcpReq, GcpRep, MicroReq, MicroRep}
+use Rattle.sig_core.specs.declared.signal.epoch.EpochSignal.TheVariants.{DiVerifyReq, DiVerifyConf, DiVerifyEnd, GcpReq}
+use Rattle.sig_core.specs.declared.signal.epoch.EpochSignal.TheVariants.{GcpRep, MicroReq, MicroRep}
 use Rattle.sig_core.specs.declared.signal.joining.JoiningSignal.{JoiningSignal}
 use Rattle.sig_core.specs.declared.signal.joining.JoiningSignal.TheVariants.{StartReq, StartRep, StartEnd, StartGone}
 

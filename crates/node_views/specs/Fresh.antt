@@ -13,7 +13,7 @@ use Rattle.lqh_views.specs.Replica.{fresh_replica}
 use Rattle.qmgr_block.specs.State.{fresh_qmgr}
 use Rattle.takeover_block.specs.State.{resting}
 use Rattle.tc_views.specs.Coordinator.{fresh_coordinator}
-use Rattle.node_views.specs.declared.host.Host as hosts
+use Rattle.node_views.specs.declared.host_body.HostBody as hosts
 use Rattle.node_views.specs.declared.parts.Parts.TheVariants.{Shell, Main, Tc, Ldm}
 use Rattle.node_views.specs.declared.standing.Standing.{Standing}
 
@@ -30,7 +30,7 @@ standing_in member layout =
     }
 
 -- the shell's host
-abbrev pub fresh_shell : Layout → hosts.Host
+abbrev pub fresh_shell : Layout → hosts.HostBody
 fresh_shell layout =
     record {
       standing = standing_in nobody layout;
@@ -41,7 +41,7 @@ fresh_shell layout =
     }
 
 -- the parts of a member: its main part, with its current epoch
-abbrev pub fresh_main : Member → Layout → ℕ → hosts.Host
+abbrev pub fresh_main : Member → Layout → ℕ → hosts.HostBody
 fresh_main member layout epoch =
     record {
       standing = standing_in member layout;
@@ -49,7 +49,7 @@ fresh_main member layout epoch =
     }
 
 -- its coordinating part, in a life that starts from an epoch
-abbrev pub fresh_tc : Member → Layout → ℕ → ℕ → hosts.Host
+abbrev pub fresh_tc : Member → Layout → ℕ → ℕ → hosts.HostBody
 fresh_tc member layout epoch start =
     record {
       standing = standing_in member layout;
@@ -61,7 +61,7 @@ fresh_tc member layout epoch start =
     }
 
 -- the part that has its rows
-abbrev pub fresh_ldm : Member → Layout → RowsState → ℕ → hosts.Host
+abbrev pub fresh_ldm : Member → Layout → RowsState → ℕ → hosts.HostBody
 fresh_ldm member layout rows start =
     record {
       standing = standing_in member layout;

@@ -9,7 +9,7 @@ use Rattle.sig_core.specs.declared.signal.host.HostSignal.TheVariants.{Kill, Cut
 use Rattle.sig_core.specs.Step.{stay}
 use Rattle.node_views.specs.Row.{blocks_row, host_row, hushed, is_barred, is_cut, is_stop}
 use Rattle.node_views.specs.WellFormed.{is_well_formed}
-use Rattle.node_views.specs.declared.host.Host as hosts
+use Rattle.node_views.specs.declared.host_body.HostBody as hosts
 
 -- signals that hosts handle themselves
 abbrev pub is_own : Body → Bool
@@ -19,7 +19,7 @@ is_own (Host (Closed cause)) = true
 is_own body = false
 
 -- nothing stands between the signal and the blocks of the host
-pub record IsCalm (s : hosts.Host) (x : Signal) : Type 0 where
+pub record IsCalm (s : hosts.HostBody) (x : Signal) : Type 0 where
   pub fine : is_well_formed s.standing.shape x ≡ true
   pub lives : s.standing.left ≡ None
   pub same : nat_lt s.standing.view.number x.view.number ≡ false
@@ -28,21 +28,21 @@ pub record IsCalm (s : hosts.Host) (x : Signal) : Type 0 where
 
 -- then the step is the blocks'
 abbrev pub CalmHostsLeaveItToBlocks : Type 0
-CalmHostsLeaveItToBlocks = (s : hosts.Host) (x : Signal) → IsCalm s x → host_row s x ≡ hushed (blocks_row s x)
+CalmHostsLeaveItToBlocks = (s : hosts.HostBody) (x : Signal) → IsCalm s x → host_row s x ≡ hushed (blocks_row s x)
 
 -- a step that stops its host sends nothing
 abbrev pub StoppingHostsAreSilent : Type 0
 StoppingHostsAreSilent =
-    (s : hosts.Host) (x : Signal) → list_any is_stop (host_row s x).effects.marks ≡ true
+    (s : hosts.HostBody) (x : Signal) → list_any is_stop (host_row s x).effects.marks ≡ true
     → (host_row s x).effects.sends ≡ []
 
 -- a signal that isn't well formed changes nothing
 abbrev pub MalformedSignalsChangeNothing : Type 0
 MalformedSignalsChangeNothing =
-    (s : hosts.Host) (x : Signal) → is_well_formed s.standing.shape x ≡ false → host_row s x ≡ stay s
+    (s : hosts.HostBody) (x : Signal) → is_well_formed s.standing.shape x ≡ false → host_row s x ≡ stay s
 
 -- a host that was cut off stays so
 abbrev pub CutHostsStayCut : Type 0
 CutHostsStayCut =
-    (s : hosts.Host) (x : Signal) (host : HostId) → is_cut s.standing host ≡ true
+    (s : hosts.HostBody) (x : Signal) (host : HostId) → is_cut s.standing host ≡ true
     → is_cut (host_row s x).state.standing host ≡ true

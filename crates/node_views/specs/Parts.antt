@@ -1,13 +1,11 @@
 -- What the blocks of a part do at a signal, and where a view is installed.
-use Rattle.std.specs.Prelude.{ℕ, if◌then◌else◌, nat_lt, Bool, true, false, List, [], ◌∷◌, Option, None, Some}
-use Rattle.sig_core.specs.declared.mark.Mark.{Mark}
-use Rattle.sig_core.specs.declared.mark.Mark.TheVariants.{Installed}
+use Rattle.std.specs.Prelude.{ℕ, if◌then◌else◌, nat_lt, Option, None}
 use Rattle.sig_core.specs.declared.place.BlockId.{BlockId}
 use Rattle.sig_core.specs.declared.place.BlockId.TheVariants as block
 use Rattle.sig_core.specs.declared.signal.Body.{Body}
 use Rattle.sig_core.specs.declared.signal.Body.TheVariants.{Membership}
 use Rattle.sig_core.specs.declared.signal.Signal.{Signal}
-use Rattle.sig_core.specs.declared.signal.membership.MembershipSignal.TheVariants.{ArbitConf, FenceReq, PrepFailConf}
+use Rattle.sig_core.specs.declared.signal.membership.MembershipSignal.TheVariants.{FenceReq}
 use Rattle.sig_core.specs.declared.view.View.{View}
 use Rattle.sig_core.specs.Step.{Step, joined, stay}
 use Rattle.api_views.specs.Client.{client_row}
@@ -23,6 +21,7 @@ use Rattle.gcp_master.specs.State.{MasterState}
 use Rattle.lqh_views.specs.Replica as replica
 use Rattle.lqh_views.specs.State.{ReplicaState}
 use Rattle.qmgr_block.specs.Qmgr.{qmgr_installed, qmgr_row}
+use Rattle.qmgr_block.specs.Settle.{qmgr_settles}
 use Rattle.qmgr_block.specs.State.{QmgrState}
 use Rattle.takeover_block.specs.State as takeover
 use Rattle.takeover_block.specs.State.{TakeoverState}
@@ -72,26 +71,9 @@ main_row p block.Qmgr x = in_qmgr p (qmgr_row p.qmgr x)
 main_row p block.GcpMaster x = in_master p (master_row p.master x)
 main_row p _ x = stay p
 
--- the view that a step of the membership settles on: its one mark tells of it
-abbrev pub settled : List Mark → Option View
-settled (Installed view ∷ []) = Some view
-settled marks = None
-
--- it may settle on one where a member has promised, and where the arbitrator has granted
-abbrev pub may_settle : Body → Bool
-may_settle (Membership (PrepFailConf number)) = true
-may_settle (Membership (ArbitConf number)) = true
-may_settle _ = false
-
-abbrev pub settled_if : QmgrState → Signal → Bool → Option View
-settled_if s x true = settled (qmgr_row s x).effects.marks
-settled_if s x false = None
-
-abbrev pub qmgr_settled : QmgrState → Signal → Option View
-qmgr_settled s x = settled_if s x (may_settle x.body)
-
+-- the view that the membership settles on at a signal
 abbrev pub main_settled : MainPart → BlockId → Signal → Option View
-main_settled p block.Qmgr x = qmgr_settled p.qmgr x
+main_settled p block.Qmgr x = qmgr_settles p.qmgr x
 main_settled p _ x = None
 
 unfoldable pub tc_row : TcPart → BlockId → Signal → Step TcPart

@@ -1,27 +1,39 @@
 -- Which signals are well formed in a cluster of a shape.
-use Rattle.std.specs.Prelude.{ℕ, ◌-◌, ◌^◌, ◌&&◌, ◌||◌, ◌==◌, Bool, true, nat_lt, nat_le, List, length, Option, None, Some}
+use Rattle.std.specs.Prelude.{ℕ, ◌-◌, ◌^◌, ◌&&◌, ◌||◌, ◌==◌, Bool, true, nat_lt, nat_le, List, length, Option, None}
+use Rattle.std.specs.Prelude.{Some}
 use Rattle.std.specs.List.{list_all}
 use Rattle.sig_core.specs.declared.member.HostId.{HostId}
 use Rattle.sig_core.specs.declared.member.Member.{Member}
 use Rattle.sig_core.specs.declared.member.TxId.{TxId}
 use Rattle.sig_core.specs.declared.signal.Body.{Body}
-use Rattle.sig_core.specs.declared.signal.Body.TheVariants.{Host, Client, Chain, Membership, Takeover, Epoch, Checkpoint, File, Joining, Copying, Subscription, Backup, Unique}
+use Rattle.sig_core.specs.declared.signal.Body.TheVariants.{Host, Client, Chain, Membership, Takeover, Epoch}
+use Rattle.sig_core.specs.declared.signal.Body.TheVariants.{Checkpoint, File, Joining, Copying, Subscription, Backup}
+use Rattle.sig_core.specs.declared.signal.Body.TheVariants.{Unique}
 use Rattle.sig_core.specs.declared.signal.Signal.{Signal}
 use Rattle.sig_core.specs.declared.signal.chain.ChainSignal.{ChainSignal}
-use Rattle.sig_core.specs.declared.signal.chain.ChainSignal.TheVariants.{LqhKeyReq, LqhKeyConf, LqhKeyRef, Commit, Committed, Complete, Completed, Abort, Aborted}
+use Rattle.sig_core.specs.declared.signal.chain.ChainSignal.TheVariants.{LqhKeyReq, LqhKeyConf, LqhKeyRef, Commit}
+use Rattle.sig_core.specs.declared.signal.chain.ChainSignal.TheVariants.{Committed, Complete, Completed, Abort, Aborted}
 use Rattle.sig_core.specs.declared.signal.client.ClientSignal.{ClientSignal}
-use Rattle.sig_core.specs.declared.signal.client.ClientSignal.TheVariants.{TcBeginConf, TcKeyReq, TcKeyConf, TcCommitReq, TcCommitConf, TcCommitAck, TcRollbackReq, TcRollbackRep, TcKeyFailConf, TcKeyFailRef, TcWaitReq, TcWaitConf, LqhWaitReq, LqhWaitConf}
+use Rattle.sig_core.specs.declared.signal.client.ClientSignal.TheVariants.{TcBeginConf, TcKeyReq, TcKeyConf}
+use Rattle.sig_core.specs.declared.signal.client.ClientSignal.TheVariants.{TcCommitReq, TcCommitConf, TcCommitAck}
+use Rattle.sig_core.specs.declared.signal.client.ClientSignal.TheVariants.{TcRollbackReq, TcRollbackRep, TcKeyFailConf}
+use Rattle.sig_core.specs.declared.signal.client.ClientSignal.TheVariants.{TcKeyFailRef, TcWaitReq, TcWaitConf}
+use Rattle.sig_core.specs.declared.signal.client.ClientSignal.TheVariants.{LqhWaitReq, LqhWaitConf}
 use Rattle.sig_core.specs.declared.signal.copying.CopyingSignal.{CopyingSignal}
 use Rattle.sig_core.specs.declared.signal.copying.CopyingSignal.TheVariants.{CopyFragReq, LqhScanReq}
 use Rattle.sig_core.specs.declared.signal.epoch.EpochSignal.{EpochSignal}
-use Rattle.sig_core.specs.declared.signal.epoch.EpochSignal.TheVariants.{DiVerifyReq, DiVerifyConf, DiVerifyEnd, CopyGciReq}
+use Rattle.sig_core.specs.declared.signal.epoch.EpochSignal.TheVariants.{DiVerifyReq, DiVerifyConf, DiVerifyEnd}
+use Rattle.sig_core.specs.declared.signal.epoch.EpochSignal.TheVariants.{CopyGciReq}
 use Rattle.sig_core.specs.declared.signal.host.HostSignal.{HostSignal}
 use Rattle.sig_core.specs.declared.signal.host.HostSignal.TheVariants.{Cut, Continue}
 use Rattle.sig_core.specs.declared.signal.host.Work.TheVariants.{Transaction}
 use Rattle.sig_core.specs.declared.signal.joining.JoiningSignal.{JoiningSignal}
-use Rattle.sig_core.specs.declared.signal.joining.JoiningSignal.TheVariants.{StartReq, StartRep, StartEnd, StartGone, CopyOrd, DrainWait, PromoteReq}
+use Rattle.sig_core.specs.declared.signal.joining.JoiningSignal.TheVariants.{StartReq, StartRep, StartEnd, StartGone}
+use Rattle.sig_core.specs.declared.signal.joining.JoiningSignal.TheVariants.{CopyOrd, DrainWait, PromoteReq}
 use Rattle.sig_core.specs.declared.signal.membership.MembershipSignal.{MembershipSignal}
-use Rattle.sig_core.specs.declared.signal.membership.MembershipSignal.TheVariants.{FailRep, PrepFailReq, PrepFailConf, PrepFailRef, FenceReq, ArbitReq, ArbitConf, ArbitRef}
+use Rattle.sig_core.specs.declared.signal.membership.MembershipSignal.TheVariants.{FailRep, PrepFailReq, PrepFailConf}
+use Rattle.sig_core.specs.declared.signal.membership.MembershipSignal.TheVariants.{PrepFailRef, FenceReq, ArbitReq}
+use Rattle.sig_core.specs.declared.signal.membership.MembershipSignal.TheVariants.{ArbitConf, ArbitRef}
 use Rattle.sig_core.specs.declared.signal.subscription.SubscriptionSignal.{SubscriptionSignal}
 use Rattle.sig_core.specs.declared.signal.subscription.SubscriptionSignal.TheVariants.{SubData}
 use Rattle.sig_core.specs.declared.signal.takeover.TakeoverSignal.{TakeoverSignal}

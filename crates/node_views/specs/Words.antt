@@ -17,7 +17,7 @@ use Rattle.qmgr_block.specs.Words.{is_qmgr_mark, is_qmgr_word}
 use Rattle.takeover_block.specs.Words.{is_takeover_mark, is_takeover_word}
 use Rattle.tc_views.specs.Words.{is_coordinator_mark, is_coordinator_word}
 use Rattle.node_views.specs.Blocks.{parts_entered, parts_row}
-use Rattle.node_views.specs.declared.host.Host as hosts
+use Rattle.node_views.specs.declared.host_body.HostBody as hosts
 use Rattle.node_views.specs.declared.parts.Parts.{Parts}
 use Rattle.node_views.specs.declared.parts.Parts.TheVariants.{Shell, Main, Tc, Ldm}
 use Rattle.node_views.specs.Row.{host_row}
@@ -76,4 +76,4 @@ pub record HostsKeepToTheirWords : Type 0 where
   pub at_signals : (parts : Parts) (x : Signal) → Speaks (parts_words parts) (parts_marks parts) (parts_row parts x)
   pub at_installations : (parts : Parts) (view : View)
       → Speaks (parts_words parts) (parts_marks parts) (parts_entered parts view)
-  pub of_hosts : (s : hosts.Host) (x : Signal) → Speaks (parts_words s.parts) (host_marks s.parts) (host_row s x)
+  pub of_hosts : (s : hosts.HostBody) (x : Signal) → Speaks (parts_words s.parts) (host_marks s.parts) (host_row s x)

@@ -1,5 +1,6 @@
 //! What is true of the steps of a host, whatever comes.
-ghost use Rattle.node_views.specs.Laws.{CalmHostsLeaveItToBlocks, CutHostsStayCut, MalformedSignalsChangeNothing, StoppingHostsAreSilent};
+ghost use Rattle.node_views.specs.Laws.{CalmHostsLeaveItToBlocks, CutHostsStayCut, MalformedSignalsChangeNothing};
+ghost use Rattle.node_views.specs.Laws.{StoppingHostsAreSilent};
 ghost use Rattle.node_views.specs.Words.{HostsKeepToTheirWords};
 
 /// Where a host isn't to be killed, a signal from no greater view, which no fence stops and which isn't

@@ -3,7 +3,7 @@
 #![tactic(auto)]
 
 mod fence;
-mod host;
+mod host_body;
 mod laws;
 mod ldm_part;
 mod main_part;
@@ -13,7 +13,7 @@ mod standing;
 mod tc_part;
 mod well_formed;
 
-pub use host::Host;
+pub use host_body::HostBody;
 pub use laws::{
     calm_hosts_leave_it_to_blocks, hosts_keep_to_their_words, malformed_signals_change_nothing,
     stopping_hosts_are_silent,

@@ -3,15 +3,14 @@ ghost use Rattle.std.specs.Prelude.{◌≡◌, ◌≤◌, ◌+◌, IfOk, IfSome,
 ghost use Rattle.sig_core.specs.Step.{HasRoom, IsTaken};
 ghost use Rattle.gcp_master.specs.Master.{fresh_master};
 ghost use Rattle.qmgr_block.specs.Qmgr.{qmgr_row};
+ghost use Rattle.qmgr_block.specs.Settle.{qmgr_settles};
 ghost use Rattle.qmgr_block.specs.State.{fresh_qmgr};
-ghost use Rattle.node_views.specs.Parts.{in_qmgr, main_entered, main_row, main_settled, may_settle, qmgr_settled, settled};
+ghost use Rattle.node_views.specs.Parts.{in_qmgr, main_entered, main_row, main_settled};
 
 use frag_map::Layout;
 use gcp_master::GcpMaster;
 use qmgr_block::Qmgr;
-use sig_core::{
-    Actor, BlockId, Body, Held, Mark, Member, MembershipSignal, NoMemory, Outs, Signal, View,
-};
+use sig_core::{Actor, BlockId, Held, Member, NoMemory, Outs, Signal, View};
 use std::alloc::Global;
 
 /// The membership of a node, and the master of checkpoints.
@@ -67,7 +66,7 @@ impl MainPart {
         }
     }
 
-    // The membership handles a signal.
+    // The membership handles a signal, by a step that sends one at most where it settles on a view.
     #[tactic(auto, using(crate::proofs::SettleLemmas::settles))]
     fn decide(
         &mut self,
@@ -77,16 +76,10 @@ impl MainPart {
     ) -> Result<Option<Held<View>>, NoMemory>
         requires { HasRoom out.old }
         ensures taken { OnOk result (IsTaken (in_qmgr self.old (qmgr_row self.old.qmgr signal.now)) self.new out.old out.new) }
-        ensures settled { IfOk result (λ view. view ≡ qmgr_settled self.old.qmgr signal.now) }
+        ensures settled { IfOk result (λ view. view ≡ qmgr_settles self.old.qmgr signal.now) }
         ensures few { IfOk result (λ view. IfSome view (λ v. length out.new.sends ≤ length out.old.sends + 1)) }
     {
-        let before = out.marks().len();
-        self.qmgr.handle(alloc, signal, out)?;
-        if may_settle(&signal.body) {
-            settled(&out.marks()[before..])
-        } else {
-            Ok(None)
-        }
+        self.qmgr.decide(alloc, signal, out)
     }
 
     /// A view is installed in each block.
@@ -98,28 +91,5 @@ impl MainPart {
     {
         self.qmgr.install(view, out);
         self.master.install(view, out);
-    }
-}
-
-// The membership may settle on a view where a member has promised, and where the arbitrator has granted.
-fn may_settle(body: &Body) -> bool
-    ensures { result ≡ may_settle body.now }
-{
-    match body {
-        Body::Membership(
-            MembershipSignal::PrepFailConf { number: _ }
-            | MembershipSignal::ArbitConf { number: _ },
-        ) => true,
-        _ => false,
-    }
-}
-
-// The view that a step's marks tell of, where they tell of nothing else.
-fn settled(marks: &[Mark]) -> Result<Option<Held<View>>, NoMemory>
-    ensures { IfOk result (λ view. view ≡ settled marks.now) }
-{
-    match marks {
-        [Mark::Installed { view }] => Ok(Some(view.share()?)),
-        _ => Ok(None),
     }
 }

@@ -1,7 +1,11 @@
 //! Which signals are well formed in a cluster of a shape.
 ghost use Rattle.std.specs.List.{list_all};
 ghost use Rattle.std.specs.Prelude.{◌≡◌};
-ghost use Rattle.node_views.specs.WellFormed.{are_nodes, is_chain, is_client_sound, is_copying_sound, is_epoch_sound, is_chain_sound, is_host_sound, is_joining_sound, is_mask, is_member, is_membership_sound, is_node, is_number, is_sender, is_subscription_sound, is_takeover_sound, is_unique_sound, is_tx, is_ahead, is_view, is_body_sound, is_well_formed};
+ghost use Rattle.node_views.specs.WellFormed.{are_nodes, is_chain, is_client_sound, is_copying_sound, is_epoch_sound};
+ghost use Rattle.node_views.specs.WellFormed.{is_chain_sound, is_host_sound, is_joining_sound, is_mask, is_member};
+ghost use Rattle.node_views.specs.WellFormed.{is_membership_sound, is_node, is_number, is_sender};
+ghost use Rattle.node_views.specs.WellFormed.{is_subscription_sound, is_takeover_sound, is_unique_sound, is_tx};
+ghost use Rattle.node_views.specs.WellFormed.{is_ahead, is_view, is_body_sound, is_well_formed};
 
 use sig_core::{
     Body, Chain, ChainSignal, ClientSignal, CopyingSignal, EpochSignal, HostSignal, JoiningSignal,

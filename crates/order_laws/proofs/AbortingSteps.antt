@@ -1,6 +1,7 @@
 -- Of who is given up and hasn't let go of a key at a place of its chain: what leads to an abort there, what of its
 -- operation has come further, and that each step but a turn of its own at its coordinator leaves one of the two.
-use Rattle.std.proofs.Common.{◌≡◌, ◌≢◌, ◌⊎◌, ◌≤◌, ◌<◌, ◌+◌, ◌*◌, ℕ, zero, suc, Bool, true, false, List, [], ◌∷◌, drop, length, refl, sym}
+use Rattle.std.proofs.Common.{◌≡◌, ◌≢◌, ◌⊎◌, ◌≤◌, ◌<◌, ◌+◌, ◌*◌, ℕ, zero, suc, Bool, true, false, List, [], ◌∷◌, drop}
+use Rattle.std.proofs.Common.{length, refl, sym}
 use Rattle.std.proofs.Common.{ap, ◌∙◌, subst, arith, inl, inr}
 use Rattle.std.proofs.lemmas.Bool.{and_parts, eqb-true, false≢true, true≢false}
 use Rattle.std.proofs.lemmas.Bool.Decides.{nat_tests}
@@ -67,7 +68,8 @@ use Rattle.run_laws.proofs.routes.Chain.{hosts_are_apart}
 use Rattle.run_laws.proofs.circle.RowsEvents.{event_rows}
 use Rattle.run_laws.proofs.hosts.TcSaid.{tc_silent}
 use Rattle.run_laws.proofs.hosts.TxTurns.{is_for as is_for_tx}
-use Rattle.run_laws.proofs.transit.Weighing.{each_taken, in_sends, in_transit, joins_weigh, none_passes, takes_weigh, weigh}
+use Rattle.run_laws.proofs.transit.Weighing.{each_taken, in_sends, in_transit, joins_weigh, none_passes, takes_weigh}
+use Rattle.run_laws.proofs.transit.Weighing.{weigh}
 use Rattle.order_laws.specs.Awaited.{due, due_in, list_length}
 use Rattle.order_laws.specs.Gone.{gone_by}
 use Rattle.order_laws.specs.Standing.{is_away}

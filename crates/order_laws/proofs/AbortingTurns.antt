@@ -1,5 +1,6 @@
 -- Turn by turn: an abort of each key that a transaction has touched is sent to each replica, or still to be sent.
-use Rattle.std.proofs.Common.{◌≡◌, ◌⊎◌, ◌≤◌, ◌<◌, ◌+◌, ◌-◌, ℕ, zero, suc, Bool, true, false, List, [], ◌∷◌, ◌++◌, drop, length, take}
+use Rattle.std.proofs.Common.{◌≡◌, ◌⊎◌, ◌≤◌, ◌<◌, ◌+◌, ◌-◌, ℕ, zero, suc, Bool, true, false, List, [], ◌∷◌, ◌++◌, drop}
+use Rattle.std.proofs.Common.{length, take}
 use Rattle.std.proofs.Common.{refl, sym, ap, ◌∙◌, subst, arith, inl, inr}
 use Rattle.std.proofs.lemmas.Bool.{and_parts, eqb-true, false≢true, or_cases, or_left, or_right, true≢false}
 use Rattle.std.proofs.lemmas.List.Folds.{list_any-append}
@@ -51,7 +52,8 @@ use Rattle.run_laws.proofs.transit.Weighing.{in_sends}
 use Rattle.order_laws.specs.Awaited.{awaited_in, due, list_length}
 use Rattle.order_laws.specs.Unanswered.{is_on_key, is_part_on}
 use Rattle.order_laws.proofs.AwaitedTurns.{last_is}
-use Rattle.order_laws.proofs.UnansweredTurns.{end_none, enters_none, front_plain, is_plain, parts_out, plain_chains, plain_out}
+use Rattle.order_laws.proofs.UnansweredTurns.{end_none, enters_none, front_plain, is_plain, parts_out, plain_chains}
+use Rattle.order_laws.proofs.UnansweredTurns.{plain_out}
 use Rattle.order_laws.proofs.UnansweredTurns.{AreUnbacked, is_backing}
 use Rattle.host_laws.proofs.coordinator.PhaseSends.{aborts_of_kind, rest_of_kind}
 use Rattle.host_laws.proofs.hosts.SendKinds.{of_map}

@@ -21,7 +21,8 @@ use Rattle.lqh_block.specs.State.{LqhState}
 use Rattle.lqh_block.specs.Storage as storage
 use Rattle.lqh_block.specs.Storage.{StorageState}
 use Rattle.lqh_block.specs.Work.{is_for}
-use Rattle.host_laws.proofs.rows.RequestCounts.{CountStep, asked_by, count_step, ends, is_work, performs, refuses, rests}
+use Rattle.host_laws.proofs.rows.RequestCounts.{CountStep, asked_by, count_step, ends, is_work, performs, refuses}
+use Rattle.host_laws.proofs.rows.RequestCounts.{rests}
 use Rattle.order_laws.specs.Unanswered.{is_part_on}
 
 -- a request for a place behind this one, or an answer

@@ -41,7 +41,8 @@ use Rattle.tc_block.proofs.EachTurn.{CommittedForms, IsAnswered, IsRowAnswer, Tu
 use Rattle.tc_block.proofs.EachTurn.{ready_is, rows_at}
 use Rattle.tc_block.proofs.TurnRows.{turn_for}
 use Rattle.host_laws.proofs.coordinator.PhaseSends.{HasChains, aborts_of_kind, entering_of_kind, rest_of_kind}
-use Rattle.host_laws.proofs.rows.RequestCounts.{CountStep, asked_by, count_step, ends, is_work, performs, refuses, rests}
+use Rattle.host_laws.proofs.rows.RequestCounts.{CountStep, asked_by, count_step, ends, is_work, performs, refuses}
+use Rattle.host_laws.proofs.rows.RequestCounts.{rests}
 use Rattle.host_laws.proofs.hosts.SendKinds.{are_of, each_of, of_map}
 use Rattle.host_laws.proofs.coordinator.Operations.{is_right}
 use Rattle.run_laws.proofs.tokens.Waiting.{WaitersAsk}

@@ -1,5 +1,6 @@
 -- Behind the first place of a chain all that hold or wait for a lock do so to write; so nobody who holds it waits.
-use Rattle.std.proofs.Common.{◌≡◌, ◌≢◌, ◌⊎◌, ◌<◌, ◌+◌, ℕ, Bool, true, false, List, [], ◌∷◌, ◌++◌, length, refl, sym, ap, ◌∙◌}
+use Rattle.std.proofs.Common.{◌≡◌, ◌≢◌, ◌⊎◌, ◌<◌, ◌+◌, ℕ, Bool, true, false, List, [], ◌∷◌, ◌++◌, length, refl, sym, ap}
+use Rattle.std.proofs.Common.{◌∙◌}
 use Rattle.std.proofs.Common.{subst, arith, inl, inr}
 use Rattle.std.proofs.lemmas.Bool.{and_parts, false≢true, or_cases, or_left, or_right}
 use Rattle.std.specs.Prelude.{◌&&◌, ◌||◌, not, Option, None, Some}
@@ -22,7 +23,8 @@ use Rattle.row_locks.specs.Modes.{is_enough, stronger}
 use Rattle.sig_core.proofs.TxLemmas.{same_tx-is}
 use Rattle.row_locks.specs.Orderly.{none_has_enough}
 use Rattle.row_locks.specs.Queues.{aged_all, raised, raised_if, wait_of, waits, without}
-use Rattle.row_locks.specs.Rows.{RowLock, asked, asked_anew, asked_by, grown_old, is_quiet, may_hold, released, served, served_if}
+use Rattle.row_locks.specs.Rows.{RowLock, asked, asked_anew, asked_by, grown_old, is_quiet, may_hold, released, served}
+use Rattle.row_locks.specs.Rows.{served_if}
 use Rattle.row_locks.specs.Rows.{unwaited}
 use Rattle.lqh_block.specs.declared.request.Request.{Request}
 use Rattle.lqh_block.specs.Work.{work_mode}
@@ -31,7 +33,8 @@ use Rattle.world_core.specs.Start.{Start}
 use Rattle.world_core.specs.Steps.{HostStep}
 use Rattle.key_laws.specs.BackupEvents.{IsOfImage}
 use Rattle.key_laws.specs.Replica as replica
-use Rattle.key_laws.specs.Replica.{Event, Replica, aborts, ages, asks, commits, completes, expires, is_let_in, key_after}
+use Rattle.key_laws.specs.Replica.{Event, Replica, aborts, ages, asks, commits, completes, expires, is_let_in}
+use Rattle.key_laws.specs.Replica.{key_after}
 use Rattle.key_laws.specs.Replica.{rests, served_by, serves}
 use Rattle.host_laws.proofs.rows.Replicas.{logs_follow}
 use Rattle.host_laws.specs.ReplicaLaws.{event_in, key_in}

@@ -8,7 +8,8 @@ use Rattle.sig_core.specs.declared.outcome.Outcome.TheVariants as outcome
 use Rattle.sig_core.specs.declared.signal.Body.{Body}
 use Rattle.sig_core.specs.declared.signal.Body.TheVariants.{Chain, Client, Epoch, Takeover}
 use Rattle.sig_core.specs.declared.signal.chain.ChainSignal.TheVariants.{Commit}
-use Rattle.sig_core.specs.declared.signal.client.ClientSignal.TheVariants.{TcBeginConf, TcCommitConf, TcCommitReq, TcKeyFailConf}
+use Rattle.sig_core.specs.declared.signal.client.ClientSignal.TheVariants.{TcBeginConf, TcCommitConf, TcCommitReq}
+use Rattle.sig_core.specs.declared.signal.client.ClientSignal.TheVariants.{TcKeyFailConf}
 use Rattle.sig_core.specs.declared.signal.epoch.EpochSignal.TheVariants.{DiVerifyConf, DiVerifyReq}
 use Rattle.sig_core.specs.declared.signal.takeover.RecordState.{RecordState}
 use Rattle.sig_core.specs.declared.signal.takeover.RecordState.TheVariants as state

@@ -1,7 +1,8 @@
 //! Decisions, and who knows and tells of them.
 ghost use Rattle.outcome_laws.specs.Down.{NoDownIsTold};
 ghost use Rattle.outcome_laws.specs.Know.{MomentsKnow};
-ghost use Rattle.outcome_laws.specs.Outcomes.{DecisionsKeepStrictOrder, HistoriesKeepStrictOrder, TransactionsAreDecidedOnce};
+ghost use Rattle.outcome_laws.specs.Outcomes.{DecisionsKeepStrictOrder, HistoriesKeepStrictOrder};
+ghost use Rattle.outcome_laws.specs.Outcomes.{TransactionsAreDecidedOnce};
 
 /// At each moment, in the order of views, whoever knows or tells that a transaction is committed knows
 /// and tells the epoch in which it was decided; and each decision is of a transaction that its client

@@ -1,5 +1,6 @@
 //! What clients are told of the end of their transactions.
-ghost use Rattle.outcome_laws.specs.Outcomes.{CommitsWereDecided, NoneThatWasDownWasDecided, TransactionsAreReportedOnce};
+ghost use Rattle.outcome_laws.specs.Outcomes.{CommitsWereDecided, NoneThatWasDownWasDecided};
+ghost use Rattle.outcome_laws.specs.Outcomes.{TransactionsAreReportedOnce};
 
 /// The end of a transaction is reported once at most.
 #[tactic(auto, using(crate::proofs::once::ReportedOnce::reported_once))]

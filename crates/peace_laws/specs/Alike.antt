@@ -8,12 +8,13 @@ use Rattle.frag_map.specs.Layout.{first_number}
 use Rattle.gcp_master.specs.declared.orders.Ended.{Ended}
 use Rattle.gcp_master.specs.declared.orders.Ended.TheVariants.{Global}
 use Rattle.gcp_master.specs.declared.phase.Phase.{Phase}
-use Rattle.gcp_master.specs.declared.phase.Phase.TheVariants.{Gathering, Preparing, Committing, Closing, Saving, Copying}
+use Rattle.gcp_master.specs.declared.phase.Phase.TheVariants.{Gathering, Preparing, Committing, Closing, Saving}
+use Rattle.gcp_master.specs.declared.phase.Phase.TheVariants.{Copying}
 use Rattle.gcp_master.specs.State.{MasterState}
 use Rattle.node_core.specs.declared.host.Host as plain
 use Rattle.node_core.specs.declared.host.Host.TheVariants as plain_host
 use Rattle.node_core.specs.Dih as plain_dih
-use Rattle.node_views.specs.declared.host.Host as host
+use Rattle.node_views.specs.declared.host_body.HostBody as host
 use Rattle.node_views.specs.declared.parts.Parts.{Parts}
 use Rattle.node_views.specs.declared.parts.Parts.TheVariants.{Shell, Main, Tc, Ldm}
 use Rattle.sig_core.specs.declared.reply.ApiReply.{ApiReply}
@@ -61,7 +62,7 @@ ArePartsNear start given (Ldm p) (plain_host.Ldm s) =
     (p.replica.lqh ≡ s) × ((s.layout.view ≡ first start) × (p.fence ≡ first_number))
 ArePartsNear start given parts other = ⊥
 
-pub record AreNear (start : Start) (given : List ApiReply) (s : host.Host) (other : plain.Host) : Type 0 where
+pub record AreNear (start : Start) (given : List ApiReply) (s : host.HostBody) (other : plain.Host) : Type 0 where
   pub standing : IsAtEase start s.standing
   pub parts : ArePartsNear start given s.parts other
 

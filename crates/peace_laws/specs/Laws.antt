@@ -1,5 +1,5 @@
 -- Peaceful logs: a cluster that closes epochs, and may fail but doesn't, serves as the plain machine does, and closes.
-use Rattle.std.specs.Prelude.{◌≡◌, ◌≤◌, ℕ, Bool, true, false, List, [], ◌∷◌, ◌++◌}
+use Rattle.std.specs.Prelude.{◌<◌, ◌≡◌, ◌≤◌, ℕ, Bool, true, false, List, [], ◌∷◌, ◌++◌}
 use Rattle.std.specs.List.{list_any}
 use Rattle.frag_map.specs.Shape.{IsShape}
 use Rattle.node_core.specs.Replies.{replies_of}
@@ -53,7 +53,7 @@ AreServedBy start (request ∷ earlier) logs =
 pub record IsPeacefulLife (start : Start) (asked : List ApiReq) (logs : ℕ → List HostStep) : Type 0 where
   pub shape : IsShape start.shape
   pub rows : start.rows ≡ []
-  pub some : 1 ≤ start.epoch
+  pub some : start.start_epoch < start.epoch
   pub served : AreServedBy start asked logs
 
 -- They are peaceful. Their plain parts are logs of the plain machine, whose shell was replied the same, but for views,

@@ -4,7 +4,7 @@ use Rattle.frag_map.specs.Shape.{IsShape}
 use Rattle.node_core.specs.declared.host.Host as plain
 use Rattle.node_core.specs.Row.{row}
 use Rattle.node_views.specs.WellFormed.{is_well_formed}
-use Rattle.node_views.specs.declared.host.Host as host
+use Rattle.node_views.specs.declared.host_body.HostBody as host
 use Rattle.run_theory.specs.Lists.{Each}
 use Rattle.sig_core.specs.declared.outs.Outgoing.{Outgoing}
 use Rattle.sig_core.specs.declared.place.BlockId.TheVariants.{GcpMaster}
@@ -45,7 +45,7 @@ abbrev pub IsForMaster : Outgoing → Type 0
 IsForMaster sent = (sent.to.block ≡ GcpMaster) × (1 ≤ sent.to.node)
 
 -- Host h does something of a closing. Its plain one stays as it is, but for the epoch that it gives.
-pub record StepsNear (start : Start) (h : ℕ) (given : List ApiReply) (s : host.Host) (other : plain.Host) (x : Signal)
+pub record StepsNear (start : Start) (h : ℕ) (given : List ApiReply) (s : host.HostBody) (other : plain.Host) (x : Signal)
     : Type 0
   where
     pub inner : plain.Host
@@ -58,13 +58,13 @@ pub record StepsNear (start : Start) (h : ℕ) (given : List ApiReply) (s : host
 -- so it is of each host that goes on
 abbrev pub ClosingsStepNear : Type 0
 ClosingsStepNear =
-    (start : Start) (h : ℕ) (given : List ApiReply) (s : host.Host) (other : plain.Host) (x : Signal)
+    (start : Start) (h : ℕ) (given : List ApiReply) (s : host.HostBody) (other : plain.Host) (x : Signal)
     → AreNear start given s other → ComesForClosing start h x
     → stops_by (step_by h s x).effects.marks ≡ false → StepsNear start h given s other x
 
 -- The client's side of a cluster of some nodes is asked for a closing, where none is under way: it asks a master for
 -- it, and the plain one takes the same request, and sends nothing.
-pub record RequestsNear (start : Start) (given : List ApiReply) (s : host.Host) (other : plain.Host) (x : Signal)
+pub record RequestsNear (start : Start) (given : List ApiReply) (s : host.HostBody) (other : plain.Host) (x : Signal)
     : Type 0
   where
     pub near : AreNear start given (told 0 (step_by 0 s x)) (row other x).state
@@ -77,7 +77,7 @@ pub record RequestsNear (start : Start) (given : List ApiReply) (s : host.Host) 
 
 abbrev pub ClosingsAreAskedNear : Type 0
 ClosingsAreAskedNear =
-    (start : Start) (given : List ApiReply) (s : host.Host) (other : plain.Host) (x : Signal)
+    (start : Start) (given : List ApiReply) (s : host.HostBody) (other : plain.Host) (x : Signal)
     → IsShape start.shape → AreNear start given s other → RestsOfClosings s.parts → asks_closing 0 x ≡ true
     → is_well_formed start.shape x ≡ true → x.view ≡ first start
     → RequestsNear start given s other x

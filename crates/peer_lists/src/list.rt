@@ -1,6 +1,7 @@
 //! Lists of peers.
 ghost use Rattle.std.specs.Prelude.{◌≡◌, ◌<◌, length, map, IfSome, OnOk, OnErr};
-ghost use Rattle.peer_lists.specs.Peers.{AreSameLinks, delivered, held_for, own_of, place_of, placed, sent_to, taken_from};
+ghost use Rattle.peer_lists.specs.Peers.{AreSameLinks, delivered, held_for, own_of, place_of, placed, sent_to};
+ghost use Rattle.peer_lists.specs.Peers.{taken_from};
 
 use crate::backlog::Backlog;
 use crate::peer::Peer;

@@ -1,10 +1,9 @@
 -- What is done to one item of a list after another: what is left leads to the same as all did.
-use Rattle.std.proofs.Common.{◌≡◌, ◌≤◌, ◌<◌, ◌+◌, ℕ, Bool, true, false, List, [], ◌∷◌, ◌++◌, take, drop, length, map, get_or, refl, ap, sym, ◌∙◌, append_assoc, arith}
-use Rattle.std.proofs.lemmas.List.{append-nil, drop_all, drop_more}
+use Rattle.std.proofs.Common.{◌≡◌, ◌≤◌, ◌<◌, ◌+◌, ℕ, List, drop, length, get_or, ap, sym, ◌∙◌}
+use Rattle.std.proofs.lemmas.List.{drop_all, drop_more}
 use Rattle.sig_core.specs.declared.member.Member.{Member}
 use Rattle.qmgr_block.specs.declared.known.Known.{Known}
 use Rattle.qmgr_block.specs.declared.starts.Starts.{Starts}
-use Rattle.qmgr_block.specs.Sets.{with_member}
 use Rattle.qmgr_block.specs.Starts.{all_noted, noted}
 use Rattle.qmgr_block.specs.Suspects.{with_suspect, with_suspects}
 

@@ -1,20 +1,20 @@
 -- What each row keeps of what is known.
-use Rattle.std.proofs.Common.{◌≡◌, ◌≤◌, ◌<◌, ◌+◌, ◌&&◌, ◌||◌, ◌==◌, ℕ, zero, suc, Bool, true, false, not, nat_lt, List, [], ◌∷◌, length, get_or, slice_set, refl, ap, sym, ◌∙◌, arith, inl, inr, ◌⊎◌}
+use Rattle.std.proofs.Common.{◌≡◌, ◌≤◌, ◌<◌, ◌+◌, ◌&&◌, ℕ, zero, suc, Bool, true, false, not, nat_lt, List, [], ◌∷◌}
+use Rattle.std.proofs.Common.{get_or, slice_set, refl, ◌∙◌, arith}
 use Rattle.std.proofs.lemmas.Bool.{and_parts, ltb-true, ltb-false, lt-ltb, false≢true}
-use Rattle.std.specs.Prelude.{if◌then◌else◌, Option, None, Some, position, slice_get, slice_index_or}
+use Rattle.std.specs.Prelude.{if◌then◌else◌, Option, None, Some}
 use Rattle.frag_map.specs.Groups.{lost_group}
-use Rattle.frag_map.specs.Layout.{in_view}
 use Rattle.sig_core.specs.declared.member.Member.{Member}
-use Rattle.sig_core.specs.declared.outcome.StopCause.{StopCause}
 use Rattle.sig_core.specs.declared.view.View.{View}
 use Rattle.qmgr_block.specs.declared.known.Known.{Known}
-use Rattle.qmgr_block.specs.declared.known.Proposal.{Proposal}
 use Rattle.qmgr_block.specs.declared.starts.Starts.{Starts}
 use Rattle.qmgr_block.specs.declared.starts.TheConstants.{NODES}
-use Rattle.qmgr_block.specs.Propose.{greatest_number, has_number, next_number, propose, proposed_by, proposed_if, proposed_view, remaining_view}
+use Rattle.qmgr_block.specs.Propose.{greatest_number, has_number, next_number, propose, proposed_by, proposed_if}
+use Rattle.qmgr_block.specs.Propose.{proposed_view, remaining_view}
 use Rattle.qmgr_block.specs.Sets.{members_of}
 use Rattle.qmgr_block.specs.Starts.{all_noted, covers, noted}
-use Rattle.qmgr_block.specs.Suspects.{closed_of, has_more, is_new, president, presides, told, told_after, told_by, told_if, with_closed, with_suspect, with_suspects}
+use Rattle.qmgr_block.specs.Suspects.{closed_of, is_new, president, presides, told, told_by, told_if, with_closed}
+use Rattle.qmgr_block.specs.Suspects.{with_suspect, with_suspects}
 
 -- what was among the starts still is
 abbrev pub Holds : Starts → Starts → Type 0

@@ -1,8 +1,7 @@
 -- The laws, along a list of events.
-use Rattle.std.proofs.Common.{◌≡◌, ◌≤◌, List, [], ◌∷◌, arith}
-use Rattle.frag_map.specs.Layout.{Layout}
-use Rattle.sig_core.specs.declared.member.Member.{Member}
-use Rattle.qmgr_block.specs.Laws.{Event, LastPromiseIsNotBelowTheView, NumbersNeverFall, ProposalsAreNew, StartsAreNotForgotten, after, after_all, installs, takes}
+use Rattle.std.proofs.Common.{List, [], ◌∷◌, arith}
+use Rattle.qmgr_block.specs.Laws.{Event, LastPromiseIsNotBelowTheView, NumbersNeverFall, ProposalsAreNew}
+use Rattle.qmgr_block.specs.Laws.{StartsAreNotForgotten, after, after_all, installs, takes}
 use Rattle.qmgr_block.specs.State.{QmgrState, fresh_qmgr}
 use Rattle.qmgr_block.proofs.KeptLemmas.{Kept, kept_on, kept_self}
 use Rattle.qmgr_block.proofs.NewLemmas.{table_new}

@@ -21,4 +21,5 @@ pub mod Outcomes
 mod RowLemmas
 mod SendLemmas
 mod SetLemmas
+pub mod Settles
 pub mod Walk

@@ -1,11 +1,13 @@
 -- Each request for a promise names a number that wasn't proposed or promised before.
-use Rattle.std.proofs.Common.{◌≡◌, ◌≤◌, ◌<◌, ◌+◌, ◌&&◌, ◌||◌, ◌==◌, ℕ, zero, suc, Bool, true, false, nat_lt, List, [], ◌∷◌, ◌++◌, map, take, drop, refl, arith}
+use Rattle.std.proofs.Common.{◌≡◌, ◌≤◌, ◌<◌, ◌&&◌, ◌||◌, ◌==◌, ℕ, zero, suc, Bool, true, false, nat_lt, List, [], ◌∷◌}
+use Rattle.std.proofs.Common.{◌++◌, map, take, drop, refl, arith}
 use Rattle.std.proofs.lemmas.Bool.{ltb-true, ltb-false}
 use Rattle.std.specs.Prelude.{if◌then◌else◌, Option, None, Some, position, slice_get}
 use Rattle.frag_map.specs.Groups.{lost_group}
 use Rattle.sig_core.specs.declared.member.Member.{Member}
 use Rattle.sig_core.specs.declared.outcome.StopCause.{StopCause}
-use Rattle.sig_core.specs.declared.outcome.StopCause.TheVariants.{Clock, Disk, Excluded, Killed, Memory, NoGroup, Sibling}
+use Rattle.sig_core.specs.declared.outcome.StopCause.TheVariants.{Clock, Disk, Excluded, Killed, Memory, NoGroup}
+use Rattle.sig_core.specs.declared.outcome.StopCause.TheVariants.{Sibling}
 use Rattle.sig_core.specs.declared.outs.Outgoing.{Outgoing}
 use Rattle.sig_core.specs.declared.place.Place.{Place}
 use Rattle.sig_core.specs.declared.signal.Body.{Body}
@@ -16,26 +18,34 @@ use Rattle.sig_core.specs.declared.signal.host.Work.TheVariants.{Installation, M
 use Rattle.sig_core.specs.declared.signal.joining.JoiningSignal.{JoiningSignal}
 use Rattle.sig_core.specs.declared.signal.joining.JoiningSignal.TheVariants.{PromoteReq, StartGone, StartReq}
 use Rattle.sig_core.specs.declared.signal.membership.MembershipSignal.{MembershipSignal}
-use Rattle.sig_core.specs.declared.signal.membership.MembershipSignal.TheVariants.{ArbitConf, ArbitRef, FailRep, FenceConf, Heartbeat, PrepFailConf, PrepFailRef, PrepFailReq, StopSet}
+use Rattle.sig_core.specs.declared.signal.membership.MembershipSignal.TheVariants.{ArbitConf, ArbitRef, FailRep}
+use Rattle.sig_core.specs.declared.signal.membership.MembershipSignal.TheVariants.{FenceConf, Heartbeat, PrepFailConf}
+use Rattle.sig_core.specs.declared.signal.membership.MembershipSignal.TheVariants.{PrepFailRef, PrepFailReq, StopSet}
 use Rattle.sig_core.specs.declared.view.View.{View}
 use Rattle.sig_core.specs.Portion.{rest_if}
-use Rattle.sig_core.specs.Step.{Step, stay}
 use Rattle.qmgr_block.specs.declared.known.Known.{Known}
 use Rattle.qmgr_block.specs.declared.known.Proposal.{Proposal}
 use Rattle.qmgr_block.specs.declared.promise.Promise.{Promise}
-use Rattle.qmgr_block.specs.Decide.{awaits, confirm_by, confirm_if, confirm_row, confirmed_all, confirmed_one, granted_by, granted_if, granted_row, heard, is_asked, needs_no_grant, refused_by, refused_if, refused_row, stop_row, stopping, unpromised_by, unpromised_if, unpromised_row, with_unlike}
-use Rattle.qmgr_block.specs.Install.{commit_of, copy_of, is_some_suspect, order_if, order_row, orders, own_orders, work_by, work_if, work_row}
+use Rattle.qmgr_block.specs.Decide.{awaits, confirm_by, confirm_if, confirm_row, confirmed_all, confirmed_one}
+use Rattle.qmgr_block.specs.Decide.{granted_by, granted_if, granted_row, heard, is_asked, needs_no_grant, refused_by}
+use Rattle.qmgr_block.specs.Decide.{refused_if, refused_row, stop_row, stopping, unpromised_by, unpromised_if}
+use Rattle.qmgr_block.specs.Decide.{unpromised_row, with_unlike}
+use Rattle.qmgr_block.specs.Install.{commit_of, copy_of, is_some_suspect, order_if, order_row, orders, own_orders}
+use Rattle.qmgr_block.specs.Install.{work_by, work_if, work_row}
 use Rattle.qmgr_block.specs.Join.{has_node, is_settled, join, promote_row, start_by, start_row}
-use Rattle.qmgr_block.specs.Laws.{AreNew, IsNewIn}
-use Rattle.qmgr_block.specs.Promise.{confirmed_at, confirmed_if, confirmed_place, fence_row, is_fenced, is_ldm, less, may_promise, promise_by, promise_row, promising, waits_for, with_absent}
-use Rattle.qmgr_block.specs.Propose.{greatest_number, has_number, next_number, propose, proposed_by, proposed_if, proposed_view, remaining_view, request_of, stop_of, stop_sends}
+use Rattle.qmgr_block.specs.Laws.{AreNew}
+use Rattle.qmgr_block.specs.Promise.{confirmed_at, confirmed_if, confirmed_place, fence_row, is_fenced, is_ldm, less}
+use Rattle.qmgr_block.specs.Promise.{may_promise, promise_by, promise_row, promising, waits_for, with_absent}
+use Rattle.qmgr_block.specs.Propose.{greatest_number, has_number, next_number, propose, proposed_by, proposed_if}
+use Rattle.qmgr_block.specs.Propose.{proposed_view, remaining_view, request_of, stop_of, stop_sends}
 use Rattle.qmgr_block.specs.Qmgr.{host_table, joining_table, membership_table, qmgr_table}
 use Rattle.qmgr_block.specs.Ring.{heartbeat_row, round_by, round_row, sides, with_missing, with_round}
 use Rattle.qmgr_block.specs.Sets.{is_among, is_in, joined_view, members_of, promoted_view, without}
 use Rattle.qmgr_block.specs.Starts.{covers}
 use Rattle.qmgr_block.specs.State.{QmgrState}
-use Rattle.qmgr_block.specs.Suspects.{close_row, has_more, is_kept_suspect, president, presides, report_row, told, told_by, told_if, with_closing, with_suspects}
-use Rattle.qmgr_block.proofs.KeptLemmas.{Kept, kept_on, kept_self, suspects_kept}
+use Rattle.qmgr_block.specs.Suspects.{close_row, has_more, is_kept_suspect, president, presides, report_row, told}
+use Rattle.qmgr_block.specs.Suspects.{told_by, told_if, with_closing, with_suspects}
+use Rattle.qmgr_block.proofs.KeptLemmas.{Kept, kept_self, suspects_kept}
 use Rattle.qmgr_block.proofs.RowLemmas.{absent_kept, allowed_kept, closed_by, closing_kept, missed_kept, unlike_kept}
 
 -- lists

@@ -10,8 +10,11 @@ use Rattle.sig_core.specs.declared.signal.Body.TheVariants.{Host, Joining, Membe
 use Rattle.sig_core.specs.declared.signal.Signal.{Signal}
 use Rattle.sig_core.specs.declared.signal.host.HostSignal.TheVariants.{Closed, Continue, Round}
 use Rattle.sig_core.specs.declared.signal.host.Work.TheVariants.{Installation, Members}
-use Rattle.sig_core.specs.declared.signal.joining.JoiningSignal.TheVariants.{PromoteReq, StartEnd, StartGone, StartRep, StartReq}
-use Rattle.sig_core.specs.declared.signal.membership.MembershipSignal.TheVariants.{ArbitConf, ArbitRef, FailRep, FenceConf, Heartbeat, PrepFailConf, PrepFailRef, PrepFailReq, StopSet}
+use Rattle.sig_core.specs.declared.signal.joining.JoiningSignal.TheVariants.{PromoteReq, StartEnd, StartGone, StartRep}
+use Rattle.sig_core.specs.declared.signal.joining.JoiningSignal.TheVariants.{StartReq}
+use Rattle.sig_core.specs.declared.signal.membership.MembershipSignal.TheVariants.{ArbitConf, ArbitRef, FailRep}
+use Rattle.sig_core.specs.declared.signal.membership.MembershipSignal.TheVariants.{FenceConf, Heartbeat, PrepFailConf}
+use Rattle.sig_core.specs.declared.signal.membership.MembershipSignal.TheVariants.{PrepFailRef, PrepFailReq, StopSet}
 use Rattle.sig_core.specs.declared.view.View.{View}
 use Rattle.sig_core.specs.Place.{client, membership}
 use Rattle.sig_core.specs.Step.{Step, sending, stay}
@@ -19,17 +22,26 @@ use Rattle.qmgr_block.specs.declared.install.TheConstants.{ORDERS}
 use Rattle.qmgr_block.specs.declared.known.Known.{Known}
 use Rattle.qmgr_block.specs.declared.known.Proposal.{Proposal}
 use Rattle.qmgr_block.specs.declared.promise.Promise.{Promise}
-use Rattle.qmgr_block.specs.Decide.{awaits, confirm_by, confirm_if, confirm_row, confirmed_all, confirmed_one, granted_by, granted_if, granted_row, heard, is_asked, needs_no_grant, refused_by, refused_cause, refused_if, refused_row, stop_by, stop_row, stopping, unpromised_by, unpromised_if, unpromised_row, with_unlike}
-use Rattle.qmgr_block.specs.Install.{is_of_view, is_oldest, is_some_suspect, order_effects, order_if, order_row, work_by, work_row}
+use Rattle.qmgr_block.specs.Decide.{awaits, confirm_by, confirm_if, confirm_row, confirmed_all, confirmed_one}
+use Rattle.qmgr_block.specs.Decide.{granted_by, granted_if, granted_row, heard, is_asked, needs_no_grant, refused_by}
+use Rattle.qmgr_block.specs.Decide.{refused_cause, refused_if, refused_row, stop_by, stop_row, stopping, unpromised_by}
+use Rattle.qmgr_block.specs.Decide.{unpromised_if, unpromised_row, with_unlike}
+use Rattle.qmgr_block.specs.Install.{is_of_view, is_oldest, is_some_suspect, order_effects, order_if, order_row}
+use Rattle.qmgr_block.specs.Install.{work_by, work_row}
 use Rattle.qmgr_block.specs.Join.{has_node, is_settled, promote_row, start_by, start_row}
-use Rattle.qmgr_block.specs.Promise.{confirmed_at, confirmed_if, confirmed_place, fence_row, fences, is_fenced, is_ldm, less, may_promise, promise_by, promise_row, promising, refusal_of, waiting_promise, waits_for, with_absent}
-use Rattle.qmgr_block.specs.Propose.{has_number, next_number, propose, proposed_by, proposed_if, proposed_view, remaining_view}
+use Rattle.qmgr_block.specs.Promise.{confirmed_at, confirmed_if, confirmed_place, fence_row, fences, is_fenced, is_ldm}
+use Rattle.qmgr_block.specs.Promise.{less, may_promise, promise_by, promise_row, promising, refusal_of, waiting_promise}
+use Rattle.qmgr_block.specs.Promise.{waits_for, with_absent}
+use Rattle.qmgr_block.specs.Propose.{has_number, next_number, propose, proposed_by, proposed_if, proposed_view}
+use Rattle.qmgr_block.specs.Propose.{remaining_view}
 use Rattle.qmgr_block.specs.Qmgr.{qmgr_row, qmgr_table}
-use Rattle.qmgr_block.specs.Ring.{heartbeat_by, heartbeat_row, heartbeat_to, round_by, round_row, sides, with_missing, with_round}
+use Rattle.qmgr_block.specs.Ring.{heartbeat_by, heartbeat_row, heartbeat_to, round_by, round_row, sides, with_missing}
+use Rattle.qmgr_block.specs.Ring.{with_round}
 use Rattle.qmgr_block.specs.Sets.{is_among, is_in, joined_view, members_of, promoted_view, same_member}
 use Rattle.qmgr_block.specs.Starts.{covers}
 use Rattle.qmgr_block.specs.State.{QmgrState, beside, proposing, sent_before}
-use Rattle.qmgr_block.specs.Suspects.{close_row, has_more, is_kept_suspect, president, presides, report_row, told, told_by, told_if, with_closing, with_suspects}
+use Rattle.qmgr_block.specs.Suspects.{close_row, has_more, is_kept_suspect, president, presides, report_row, told}
+use Rattle.qmgr_block.specs.Suspects.{told_by, told_if, with_closing, with_suspects}
 
 -- what comes of suspects that are known: nothing, a proposal without them, or that the president is told
 pub record ToldForms (k : Known) (R : Step Known → Type 0) : Type 0 where

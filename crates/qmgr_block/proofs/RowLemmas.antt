@@ -1,10 +1,12 @@
 -- What each row of the table keeps of what is known.
-use Rattle.std.proofs.Common.{◌≡◌, ◌≤◌, ◌<◌, ◌&&◌, ◌||◌, ◌==◌, ℕ, Bool, true, false, not, nat_lt, List, [], ◌∷◌, refl, ap, sym, ◌∙◌, arith}
+use Rattle.std.proofs.Common.{◌≡◌, ◌≤◌, ◌<◌, ◌&&◌, ◌||◌, ◌==◌, ℕ, Bool, true, false, nat_lt, List, [], ◌∷◌, refl, ap}
+use Rattle.std.proofs.Common.{◌∙◌, arith}
 use Rattle.std.proofs.lemmas.Bool.{and_parts, ltb-true, ltb-false}
-use Rattle.std.specs.Prelude.{if◌then◌else◌, Option, None, Some, is_some, position, slice_get}
+use Rattle.std.specs.Prelude.{if◌then◌else◌, Option, None, Some, position, slice_get}
 use Rattle.sig_core.specs.declared.member.Member.{Member}
 use Rattle.sig_core.specs.declared.outcome.StopCause.{StopCause}
-use Rattle.sig_core.specs.declared.outcome.StopCause.TheVariants.{Clock, Disk, Excluded, Killed, Memory, NoGroup, Sibling}
+use Rattle.sig_core.specs.declared.outcome.StopCause.TheVariants.{Clock, Disk, Excluded, Killed, Memory, NoGroup}
+use Rattle.sig_core.specs.declared.outcome.StopCause.TheVariants.{Sibling}
 use Rattle.sig_core.specs.declared.signal.Body.{Body}
 use Rattle.sig_core.specs.declared.signal.Body.TheVariants.{Host, Joining, Membership}
 use Rattle.sig_core.specs.declared.signal.host.HostSignal.{HostSignal}
@@ -13,24 +15,35 @@ use Rattle.sig_core.specs.declared.signal.host.Work.TheVariants.{Installation, M
 use Rattle.sig_core.specs.declared.signal.joining.JoiningSignal.{JoiningSignal}
 use Rattle.sig_core.specs.declared.signal.joining.JoiningSignal.TheVariants.{PromoteReq, StartGone, StartReq}
 use Rattle.sig_core.specs.declared.signal.membership.MembershipSignal.{MembershipSignal}
-use Rattle.sig_core.specs.declared.signal.membership.MembershipSignal.TheVariants.{ArbitConf, ArbitRef, FailRep, FenceConf, Heartbeat, PrepFailConf, PrepFailRef, PrepFailReq, StopSet}
+use Rattle.sig_core.specs.declared.signal.membership.MembershipSignal.TheVariants.{ArbitConf, ArbitRef, FailRep}
+use Rattle.sig_core.specs.declared.signal.membership.MembershipSignal.TheVariants.{FenceConf, Heartbeat, PrepFailConf}
+use Rattle.sig_core.specs.declared.signal.membership.MembershipSignal.TheVariants.{PrepFailRef, PrepFailReq, StopSet}
 use Rattle.sig_core.specs.declared.view.View.{View}
 use Rattle.sig_core.specs.Step.{Step, stay}
 use Rattle.qmgr_block.specs.declared.known.Known.{Known}
 use Rattle.qmgr_block.specs.declared.known.Proposal.{Proposal}
 use Rattle.qmgr_block.specs.declared.promise.Promise.{Promise}
-use Rattle.qmgr_block.specs.Decide.{awaits, confirm_by, confirm_if, confirm_row, confirmed_all, confirmed_one, granted_by, granted_if, granted_row, heard, is_asked, needs_no_grant, refused_by, refused_cause, refused_if, refused_row, stop_by, stop_row, unpromised_by, unpromised_if, unpromised_row, with_unlike}
-use Rattle.qmgr_block.specs.Install.{adopted, installed_row, installing, is_of_view, is_oldest, is_some_suspect, order_if, order_row, work_by, work_row}
+use Rattle.qmgr_block.specs.Decide.{awaits, confirm_by, confirm_if, confirm_row, confirmed_all, confirmed_one}
+use Rattle.qmgr_block.specs.Decide.{granted_by, granted_if, granted_row, heard, is_asked, needs_no_grant, refused_by}
+use Rattle.qmgr_block.specs.Decide.{refused_if, refused_row, stop_row, unpromised_by, unpromised_if, unpromised_row}
+use Rattle.qmgr_block.specs.Decide.{with_unlike}
+use Rattle.qmgr_block.specs.Install.{installed_row, installing, order_if, order_row, work_by, work_row}
 use Rattle.qmgr_block.specs.Join.{has_node, is_settled, join, promote_row, start_by, start_row}
-use Rattle.qmgr_block.specs.Promise.{confirmed_at, confirmed_if, confirmed_place, fence_row, is_fenced, is_ldm, less, may_promise, promise_by, promise_row, promising, waits_for, with_absent, with_missing_from}
+use Rattle.qmgr_block.specs.Promise.{confirmed_at, confirmed_if, confirmed_place, fence_row, is_fenced, is_ldm, less}
+use Rattle.qmgr_block.specs.Promise.{may_promise, promise_by, promise_row, promising, waits_for, with_absent}
+use Rattle.qmgr_block.specs.Promise.{with_missing_from}
 use Rattle.qmgr_block.specs.Propose.{has_number, next_number}
 use Rattle.qmgr_block.specs.Qmgr.{host_table, joining_table, membership_table, qmgr_table}
 use Rattle.qmgr_block.specs.Ring.{heartbeat_by, heartbeat_row, round_by, round_row, sides, with_missing, with_round}
-use Rattle.qmgr_block.specs.Sets.{is_among, is_in, is_part, is_special, joined_view, members_of, promoted_view, same_member, without}
+use Rattle.qmgr_block.specs.Sets.{is_among, is_in, is_special, joined_view, members_of, promoted_view, same_member}
+use Rattle.qmgr_block.specs.Sets.{without}
 use Rattle.qmgr_block.specs.Starts.{all_noted, covers, noted}
 use Rattle.qmgr_block.specs.State.{QmgrState}
-use Rattle.qmgr_block.specs.Suspects.{close_row, has_more, is_kept_suspect, presides, report_row, told_after, told_if, with_closed, with_closing, with_suspect, with_suspects}
-use Rattle.qmgr_block.proofs.KeptLemmas.{Kept, all_noted_holds, closed_kept, kept_on, kept_self, next_is_high, noted_holds, proposed_if_kept, suspect_kept, suspects_kept, suspects_promised, told_if_kept, told_kept, told_on}
+use Rattle.qmgr_block.specs.Suspects.{close_row, has_more, is_kept_suspect, presides, report_row, told_if, with_closed}
+use Rattle.qmgr_block.specs.Suspects.{with_closing, with_suspect, with_suspects}
+use Rattle.qmgr_block.proofs.KeptLemmas.{Kept, all_noted_holds, closed_kept, kept_on, kept_self, next_is_high}
+use Rattle.qmgr_block.proofs.KeptLemmas.{noted_holds, proposed_if_kept, suspect_kept, suspects_kept, suspects_promised}
+use Rattle.qmgr_block.proofs.KeptLemmas.{told_kept, told_on}
 
 -- heartbeats
 round_if : (k : Known) (n : ℕ) (less : Bool) → Kept k (if less then record k { missed = n } else k)

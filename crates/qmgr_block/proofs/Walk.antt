@@ -9,7 +9,8 @@ use Rattle.sig_core.specs.declared.mark.Mark.{Mark}
 use Rattle.sig_core.specs.declared.mark.Mark.TheVariants.{Down, Installed, Promised, Stopped}
 use Rattle.sig_core.specs.declared.member.Member.{Member}
 use Rattle.sig_core.specs.declared.outcome.StopCause.{StopCause}
-use Rattle.sig_core.specs.declared.outcome.StopCause.TheVariants.{Clock, Disk, Excluded, Killed, Memory, NoGroup, Sibling}
+use Rattle.sig_core.specs.declared.outcome.StopCause.TheVariants.{Clock, Disk, Excluded, Killed, Memory, NoGroup}
+use Rattle.sig_core.specs.declared.outcome.StopCause.TheVariants.{Sibling}
 use Rattle.sig_core.specs.declared.outs.Outgoing.{Outgoing}
 use Rattle.sig_core.specs.declared.signal.Body.TheVariants.{Client, Epoch, Host, Joining, Membership, Takeover}
 use Rattle.sig_core.specs.declared.signal.Signal.{Signal}
@@ -18,7 +19,8 @@ use Rattle.sig_core.specs.declared.signal.epoch.EpochSignal.TheVariants.{GcpOrd}
 use Rattle.sig_core.specs.declared.signal.host.HostSignal.TheVariants.{Continue, Round}
 use Rattle.sig_core.specs.declared.signal.host.Work.TheVariants.{Members}
 use Rattle.sig_core.specs.declared.signal.joining.JoiningSignal.TheVariants.{StartEnd, StartRep, StartReq}
-use Rattle.sig_core.specs.declared.signal.membership.MembershipSignal.TheVariants.{FailRep, FenceConf, PrepFailConf, PrepFailReq, StopSet}
+use Rattle.sig_core.specs.declared.signal.membership.MembershipSignal.TheVariants.{FailRep, FenceConf, PrepFailConf}
+use Rattle.sig_core.specs.declared.signal.membership.MembershipSignal.TheVariants.{PrepFailReq, StopSet}
 use Rattle.sig_core.specs.declared.signal.takeover.TakeoverSignal.TheVariants.{TakeoverOrd}
 use Rattle.sig_core.specs.declared.view.View.{View}
 use Rattle.sig_core.specs.Place.{checkpoints, client, membership, takeover}
@@ -30,8 +32,10 @@ use Rattle.qmgr_block.specs.declared.known.Known.{Known}
 use Rattle.qmgr_block.specs.declared.known.Proposal.{Proposal}
 use Rattle.qmgr_block.specs.declared.promise.Promise.{Promise}
 use Rattle.qmgr_block.specs.Decide.{refused_cause, stop_by, stopping, with_unlike}
-use Rattle.qmgr_block.specs.Install.{commit_of, copy_of, installed_row, installing, is_of_view, is_oldest, is_some_suspect, left_by, orders, orders_left, own_orders, work_if, work_left}
-use Rattle.qmgr_block.specs.Promise.{confirmed_if, fences, is_fenced, is_ldm, less, may_promise, promising, refusal_of, waiting_promise, waits_for, with_absent}
+use Rattle.qmgr_block.specs.Install.{commit_of, copy_of, installed_row, installing, is_of_view, is_oldest}
+use Rattle.qmgr_block.specs.Install.{is_some_suspect, left_by, orders, orders_left, own_orders, work_if, work_left}
+use Rattle.qmgr_block.specs.Promise.{confirmed_if, fences, is_fenced, is_ldm, less, may_promise, promising, refusal_of}
+use Rattle.qmgr_block.specs.Promise.{waiting_promise, waits_for, with_absent}
 use Rattle.qmgr_block.specs.Propose.{proposal_sends, question, remaining_view, request_of, stop_of, stop_sends}
 use Rattle.qmgr_block.specs.Qmgr.{qmgr_installed, qmgr_row}
 use Rattle.qmgr_block.specs.Ring.{heartbeat_to, sides, with_missing, with_round}

@@ -1,5 +1,6 @@
 -- Installing a view.
-use Rattle.std.specs.Prelude.{ℕ, ◌==◌, ◌&&◌, ◌||◌, Bool, true, false, if◌then◌else◌, nat_le, nat_lt, List, [], ◌∷◌, ◌++◌, map, Option, None, Some}
+use Rattle.std.specs.Prelude.{ℕ, ◌==◌, ◌&&◌, ◌||◌, Bool, true, false, if◌then◌else◌, nat_lt, List, [], ◌∷◌, ◌++◌, map}
+use Rattle.std.specs.Prelude.{Option, None, Some}
 use Rattle.frag_map.specs.Layout.{in_view}
 use Rattle.sig_core.specs.declared.member.Member.{Member}
 use Rattle.sig_core.specs.declared.outs.Outgoing.{Outgoing}
@@ -14,7 +15,7 @@ use Rattle.sig_core.specs.declared.signal.takeover.TakeoverSignal.TheVariants.{T
 use Rattle.sig_core.specs.declared.view.View.{View}
 use Rattle.sig_core.specs.Place.{checkpoints, client, copying, membership, takeover}
 use Rattle.sig_core.specs.Portion.{portion_effects}
-use Rattle.sig_core.specs.Step.{Effects, Step, nothing, sends_only, stay, to_place}
+use Rattle.sig_core.specs.Step.{Effects, Step, sends_only, stay, to_place}
 use Rattle.qmgr_block.specs.declared.known.Known.{Known}
 use Rattle.qmgr_block.specs.declared.known.Proposal.{Proposal}
 use Rattle.qmgr_block.specs.declared.install.TheConstants.{ORDERS}

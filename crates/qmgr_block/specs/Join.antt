@@ -1,5 +1,5 @@
 -- Joins and promotions.
-use Rattle.std.specs.Prelude.{◌==◌, ◌&&◌, Bool, true, false, if◌then◌else◌, List, None, Some}
+use Rattle.std.specs.Prelude.{◌==◌, ◌&&◌, Bool, true, false, List, None, Some}
 use Rattle.std.specs.List.{list_any}
 use Rattle.sig_core.specs.declared.member.Member.{Member}
 use Rattle.sig_core.specs.declared.signal.Body.TheVariants.{Joining}

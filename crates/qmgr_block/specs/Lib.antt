@@ -7,6 +7,7 @@ pub mod Propose
 pub mod Qmgr
 pub mod Ring
 pub mod Sets
+pub mod Settle
 pub mod Starts
 pub mod State
 pub mod Suspects

@@ -10,7 +10,9 @@ use Rattle.sig_core.specs.declared.signal.host.Work.TheVariants.{Installation, M
 use Rattle.sig_core.specs.declared.signal.joining.JoiningSignal.{JoiningSignal}
 use Rattle.sig_core.specs.declared.signal.joining.JoiningSignal.TheVariants.{PromoteReq, StartGone, StartReq}
 use Rattle.sig_core.specs.declared.signal.membership.MembershipSignal.{MembershipSignal}
-use Rattle.sig_core.specs.declared.signal.membership.MembershipSignal.TheVariants.{ArbitConf, ArbitRef, FailRep, FenceConf, Heartbeat, PrepFailConf, PrepFailRef, PrepFailReq, StopSet}
+use Rattle.sig_core.specs.declared.signal.membership.MembershipSignal.TheVariants.{ArbitConf, ArbitRef, FailRep}
+use Rattle.sig_core.specs.declared.signal.membership.MembershipSignal.TheVariants.{FenceConf, Heartbeat, PrepFailConf}
+use Rattle.sig_core.specs.declared.signal.membership.MembershipSignal.TheVariants.{PrepFailRef, PrepFailReq, StopSet}
 use Rattle.sig_core.specs.declared.view.View.{View}
 use Rattle.sig_core.specs.Step.{Step, stay}
 use Rattle.qmgr_block.specs.declared.known.Known.{Known}

@@ -1,5 +1,5 @@
 -- Starts of nodes, of which the latest is remembered for each node.
-use Rattle.std.specs.Prelude.{ℕ, ◌+◌, ◌&&◌, Bool, if◌then◌else◌, nat_lt, not, List, [], ◌∷◌, slice_index_or, slice_set}
+use Rattle.std.specs.Prelude.{◌+◌, ◌&&◌, Bool, if◌then◌else◌, nat_lt, not, List, [], ◌∷◌, slice_index_or, slice_set}
 use Rattle.sig_core.specs.declared.member.Member.{Member}
 use Rattle.qmgr_block.specs.declared.starts.Starts.{Starts}
 use Rattle.qmgr_block.specs.declared.starts.TheConstants.{NODES}

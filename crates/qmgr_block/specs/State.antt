@@ -1,11 +1,10 @@
 -- The state of the membership of a node.
-use Rattle.std.specs.Prelude.{ℕ, List, [], ◌∷◌, Option, None, Some, false, ◌||◌}
-use Rattle.frag_map.specs.Layout.{Layout, in_view}
+use Rattle.std.specs.Prelude.{List, [], ◌∷◌, Option, None}
+use Rattle.frag_map.specs.Layout.{Layout}
 use Rattle.sig_core.specs.declared.mark.Mark.{Mark}
 use Rattle.sig_core.specs.declared.member.Member.{Member}
 use Rattle.sig_core.specs.declared.outs.Outgoing.{Outgoing}
-use Rattle.sig_core.specs.declared.view.View.{View}
-use Rattle.sig_core.specs.Step.{Effects, Step, joined, sends_only}
+use Rattle.sig_core.specs.Step.{Step, joined, sends_only}
 use Rattle.qmgr_block.specs.declared.known.Known.{Known}
 use Rattle.qmgr_block.specs.declared.known.Proposal.{Proposal}
 use Rattle.qmgr_block.specs.declared.promise.Promise.{Promise}

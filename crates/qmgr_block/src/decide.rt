@@ -1,7 +1,11 @@
 //! What becomes of a proposal.
-ghost use Rattle.std.specs.Prelude.{◌≡◌, ◌≤◌, IfOk, OnOk, OnErr, length};
-ghost use Rattle.sig_core.specs.Step.{HasRoom, IsTaken, IsUntouched};
-ghost use Rattle.qmgr_block.specs.Decide.{awaits, confirm_row, confirmed_one, granted_row, heard, is_asked, needs_no_grant, refused_cause, refused_row, stop_row, unpromised_row, with_unlike};
+ghost use Rattle.std.specs.Prelude.{◌≡◌, ◌≤◌, ◌<◌, IfOk, OnOk, OnErr, length};
+ghost use Rattle.sig_core.specs.declared.mark.Mark.TheVariants.{Installed};
+ghost use Rattle.sig_core.specs.Step.{HasRoom, IsTaken, IsUntouched, and_mark};
+ghost use Rattle.qmgr_block.specs.Decide.{awaits, confirm_row, confirmed_one, granted_row, heard, is_asked};
+ghost use Rattle.qmgr_block.specs.Decide.{needs_no_grant, refused_cause, refused_row, stop_row, unpromised_row};
+ghost use Rattle.qmgr_block.specs.Decide.{with_unlike};
+ghost use Rattle.qmgr_block.specs.Settle.{grant_settles, promise_settles, settled_by_all};
 ghost use Rattle.qmgr_block.specs.State.{sending_all};
 
 use crate::known::{Known, Proposal};
@@ -45,73 +49,88 @@ impl Known {
         p.joining.is_none() && whole_group(&p.view, &self.layout.shape())
     }
 
-    /// A member has promised: when all have, installs the view or asks the arbitrator.
+    /// A member has promised: when all have, settles on the view or asks the arbitrator. Answers the view
+    /// that it settles on.
     ///
     /// # Errors
     /// `NoMemory`, and then nothing has happened.
-    #[tactic(auto, unfolding(crate::specs::Decide::confirm_row))]
+    #[tactic(auto, unfolding(crate::specs::Decide::confirm_row, crate::specs::Settle::promise_settles))]
     pub fn confirm(
         &mut self,
         alloc: Global,
         number: u64,
         member: &Member,
         out: &mut Outs,
-    ) -> Result<(), NoMemory>
+    ) -> Result<Option<Held<View>>, NoMemory>
         requires { HasRoom out.old }
+        ensures settles { IfOk result (λ view. view ≡ promise_settles self.old number member.now) }
         ensures ok { OnOk result (IsTaken (confirm_row self.old number member.now) self.new out.old out.new) }
         ensures err { OnErr result (IsUntouched self.old self.new out.old out.new) }
     {
         let Some(p) = &self.outstanding else {
-            return Ok(());
+            return Ok(None);
         };
         if p.awaits(number, member) {
             let next = p.heard(member);
             self.hear_from(alloc, &next, out)
         } else {
-            Ok(())
+            Ok(None)
         }
     }
 
     // The outstanding proposal has come so far.
-    fn hear_from(&mut self, alloc: Global, p: &Proposal, out: &mut Outs) -> Result<(), NoMemory>
+    fn hear_from(
+        &mut self,
+        alloc: Global,
+        p: &Proposal,
+        out: &mut Outs,
+    ) -> Result<Option<Held<View>>, NoMemory>
         requires { HasRoom out.old }
+        ensures settles { IfOk result (λ view. view ≡ settled_by_all self.old p.now p.now.awaited) }
         ensures ok { OnOk result (IsTaken (confirmed_one self.old p.now p.now.awaited) self.new out.old out.new) }
         ensures err { OnErr result (IsUntouched self.old self.new out.old out.new) }
     {
-        if p.is_asked() {
-            if self.needs_no_grant(p) {
-                let view = Held::new(alloc, p.view)?;
-                out.mark(Mark::Installed { view });
-            } else {
-                let question = MembershipSignal::ArbitReq {
-                    number: p.view.number,
-                    members: members_of(&p.view),
-                    joining: p.joining,
-                };
-                out.send(ARBITER, Body::Membership(question));
-            }
+        if !p.is_asked() {
+            self.outstanding = Some(*p);
+            return Ok(None);
         }
+        if self.needs_no_grant(p) {
+            let view = settle(alloc, &p.view, out)?;
+            self.outstanding = Some(*p);
+            return Ok(Some(view));
+        }
+        let question = MembershipSignal::ArbitReq {
+            number: p.view.number,
+            members: members_of(&p.view),
+            joining: p.joining,
+        };
+        out.send(ARBITER, Body::Membership(question));
         self.outstanding = Some(*p);
-        Ok(())
+        Ok(None)
     }
 
-    /// The arbitrator has granted a number: installs the outstanding proposal, if it is that.
+    /// The arbitrator has granted a number: settles on the outstanding proposal, if it is that. Answers
+    /// the view that it settles on.
     ///
     /// # Errors
     /// `NoMemory`, and then nothing has happened.
-    #[tactic(auto, unfolding(crate::specs::Decide::granted_row))]
-    pub fn grant(&mut self, alloc: Global, number: u64, out: &mut Outs) -> Result<(), NoMemory>
+    #[tactic(auto, unfolding(crate::specs::Decide::granted_row, crate::specs::Settle::grant_settles))]
+    pub fn grant(
+        &mut self,
+        alloc: Global,
+        number: u64,
+        out: &mut Outs,
+    ) -> Result<Option<Held<View>>, NoMemory>
         requires { HasRoom out.old }
+        ensures settles { IfOk result (λ view. view ≡ grant_settles self.old number) }
         ensures ok { OnOk result (IsTaken (granted_row self.old number) self.new out.old out.new) }
         ensures err { OnErr result (IsUntouched self.old self.new out.old out.new) }
     {
         match &self.outstanding {
             Some(p) if p.view.number == number && p.is_asked() && p.lost.is_none() => {
-                let view = Held::new(alloc, p.view)?;
-                out.mark(Mark::Installed { view });
-                Ok(())
+                Ok(Some(settle(alloc, &p.view, out)?))
             }
-            _ => Ok(()),
+            _ => Ok(None),
         }
     }
 
@@ -152,6 +171,19 @@ impl Known {
         }
         out.mark(Mark::Stopped { cause });
     }
+}
+
+// A view is settled on, and marked.
+fn settle(alloc: Global, view: &View, out: &mut Outs) -> Result<Held<View>, NoMemory>
+    requires { length out.old.marks < 16 }
+    ensures settles { IfOk result (λ settled. settled ≡ view.now) }
+    ensures ok { OnOk result (out.new ≡ and_mark out.old (Installed view.now)) }
+    ensures err { OnErr result (out.new ≡ out.old) }
+{
+    let settled = Held::new(alloc, *view)?;
+    let view = settled.share()?;
+    out.mark(Mark::Installed { view });
+    Ok(settled)
 }
 
 // Why a set stops that the arbitrator refused.

@@ -2,7 +2,9 @@
 ghost use Rattle.std.specs.Prelude.{◌≡◌, ◌+◌, ◌≤◌, ◌<◌, ◌^◌, length, map};
 ghost use Rattle.sig_core.specs.Portion.{all_offered, offered, so_far};
 ghost use Rattle.sig_core.specs.Step.{HasRoom, IsTaken, joined};
-ghost use Rattle.qmgr_block.specs.Install.{commit_of, copy_of, installed_row, installing, is_oldest, is_of_view, is_some_suspect, left_of, left_open, order_effects, order_row, orders, own_orders, work_if};
+ghost use Rattle.qmgr_block.specs.Install.{commit_of, copy_of, installed_row, installing, is_oldest, is_of_view};
+ghost use Rattle.qmgr_block.specs.Install.{is_some_suspect, left_of, left_open, order_effects, order_row, orders};
+ghost use Rattle.qmgr_block.specs.Install.{own_orders, work_if};
 
 use crate::known::{Known, Proposal};
 use crate::sets::{is_in, is_same, members_of, within};

@@ -1,6 +1,7 @@
 //! What is true of the membership of a node, whatever signals come and whatever views are
 //! installed.
-ghost use Rattle.qmgr_block.specs.Laws.{LastPromiseIsNotBelowTheView, NumbersNeverFall, ProposalsAreNew, StartsAreNotForgotten};
+ghost use Rattle.qmgr_block.specs.Laws.{LastPromiseIsNotBelowTheView, NumbersNeverFall, ProposalsAreNew};
+ghost use Rattle.qmgr_block.specs.Laws.{StartsAreNotForgotten};
 ghost use Rattle.qmgr_block.specs.Words.{QmgrKeepsToItsWords};
 
 /// The number of the last promise, and the greatest number proposed, never fall.

@@ -1,6 +1,7 @@
 //! Promises: a node promises one set for each number, and its fences are up before it says so.
 ghost use Rattle.std.specs.Prelude.{◌≡◌, ◌≤◌, ◌<◌, IfOk, IfSome, length, position, [], ◌∷◌};
-ghost use Rattle.qmgr_block.specs.Promise.{fence_of, fences, is_fenced, is_ldm, less, may_promise, promising, refusal_of, waiting_promise, waits_for, with_absent};
+ghost use Rattle.qmgr_block.specs.Promise.{fence_of, fences, is_fenced, is_ldm, less, may_promise, promising};
+ghost use Rattle.qmgr_block.specs.Promise.{refusal_of, waiting_promise, waits_for, with_absent};
 
 use crate::known::Known;
 use crate::sends::one_signal;

@@ -1,6 +1,7 @@
 //! Proposals of views.
 ghost use Rattle.std.specs.Prelude.{◌≡◌, ◌≤◌, IfOk, length};
-ghost use Rattle.qmgr_block.specs.Propose.{awaited_at_first, greatest_number, has_number, next_number, number_for, propose, proposal_sends, proposed_if, proposed_view, remaining_view};
+ghost use Rattle.qmgr_block.specs.Propose.{awaited_at_first, greatest_number, has_number, next_number, number_for};
+ghost use Rattle.qmgr_block.specs.Propose.{propose, proposal_sends, proposed_if, proposed_view, remaining_view};
 ghost use Rattle.qmgr_block.specs.State.{sending_all};
 
 use crate::known::{Known, Proposal};

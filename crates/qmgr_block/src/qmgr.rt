@@ -1,10 +1,12 @@
 //! The membership of a node.
 ghost use Rattle.std.specs.Prelude.{◌≡◌, ◌<◌, ◌≤◌, false, true, IfOk, OnOk, OnErr, length, slice_get};
 ghost use Rattle.sig_core.specs.Step.{HasRoom, IsTaken, IsUntouched};
-ghost use Rattle.qmgr_block.specs.Promise.{confirmed_at, confirmed_if, fence_row, is_fenced, promise_by, promise_row, with_promise};
+ghost use Rattle.qmgr_block.specs.Promise.{confirmed_at, confirmed_if, fence_row, is_fenced, promise_by, promise_row};
+ghost use Rattle.qmgr_block.specs.Promise.{with_promise};
 ghost use Rattle.qmgr_block.specs.Decide.{unpromised_row};
 ghost use Rattle.qmgr_block.specs.Qmgr.{host_table, joining_table, membership_table, qmgr_installed, qmgr_row};
 ghost use Rattle.qmgr_block.specs.Install.{work_row};
+ghost use Rattle.qmgr_block.specs.Settle.{membership_settles, qmgr_settles};
 ghost use Rattle.qmgr_block.specs.State.{beside, fresh_qmgr, sending_all};
 
 use crate::known::Known;
@@ -257,7 +259,8 @@ impl Qmgr {
         }
     }
 
-    // Handles a signal of membership, by the host and the member that it comes from.
+    // Handles a signal of membership, by the host and the member that it comes from. Answers the view
+    // that it settles on.
     fn handle_membership(
         &mut self,
         alloc: Global,
@@ -265,45 +268,48 @@ impl Qmgr {
         member: &Member,
         signal: &MembershipSignal,
         out: &mut Outs,
-    ) -> Result<(), NoMemory>
+    ) -> Result<Option<Held<View>>, NoMemory>
         requires { HasRoom out.old }
+        ensures settles { IfOk result (λ view. view ≡ membership_settles self.old.known member.now signal.now) }
         ensures ok { OnOk result (IsTaken (membership_table self.old host.0 member.now signal.now) self.new out.old out.new) }
         ensures err { OnErr result (IsUntouched self.old self.new out.old out.new) }
     {
         match signal {
             MembershipSignal::Heartbeat => {
                 self.known.hear(member);
-                Ok(())
+                Ok(None)
             }
             MembershipSignal::FailRep { suspects } => {
                 let mut next = self.known;
                 let sends = next.report(alloc, suspects)?;
                 self.settle(&next, sends, out);
-                Ok(())
+                Ok(None)
             }
             MembershipSignal::PrepFailReq { proposal } => {
-                self.promise(alloc, member.node, proposal, out)
+                self.promise(alloc, member.node, proposal, out)?;
+                Ok(None)
             }
             MembershipSignal::FenceConf => {
                 self.fence(host, out);
-                Ok(())
+                Ok(None)
             }
             MembershipSignal::PrepFailConf { number } => {
                 self.known.confirm(alloc, *number, member, out)
             }
             MembershipSignal::PrepFailRef { promised } => {
-                self.unpromised(alloc, promised.get(), out)
+                self.unpromised(alloc, promised.get(), out)?;
+                Ok(None)
             }
             MembershipSignal::ArbitConf { number } => self.known.grant(alloc, *number, out),
             MembershipSignal::ArbitRef { number, members } => {
                 self.known.refused(*number, members, out);
-                Ok(())
+                Ok(None)
             }
             MembershipSignal::StopSet { cause } => {
                 self.known.stop(*cause, out);
-                Ok(())
+                Ok(None)
             }
-            _ => Ok(()),
+            _ => Ok(None),
         }
     }
 
@@ -340,6 +346,39 @@ impl Qmgr {
             _ => Ok(()),
         }
     }
+
+    /// Handles a signal, as `handle`, and answers the view that it settles on with it, if it does: its
+    /// host is to install that in the same event.
+    ///
+    /// # Errors
+    /// `NoMemory`, and then nothing has happened.
+    pub fn decide(
+        &mut self,
+        alloc: Global,
+        signal: &Signal,
+        out: &mut Outs,
+    ) -> Result<Option<Held<View>>, NoMemory>
+        requires { HasRoom out.old }
+        ensures settles { IfOk result (λ view. view ≡ qmgr_settles self.old signal.now) }
+        ensures ok { OnOk result (IsTaken (qmgr_row self.old signal.now) self.new out.old out.new) }
+        ensures err { OnErr result (IsUntouched self.old self.new out.old out.new) }
+    {
+        match &signal.body {
+            Body::Host(body) => {
+                let number = signal.view.get().number;
+                self.handle_host(alloc, &signal.member, number, body, out)?;
+                Ok(None)
+            }
+            Body::Membership(body) => {
+                self.handle_membership(alloc, signal.from, &signal.member, body, out)
+            }
+            Body::Joining(body) => {
+                self.handle_joining(alloc, body, out)?;
+                Ok(None)
+            }
+            _ => Ok(None),
+        }
+    }
 }
 
 impl Actor for Qmgr {
@@ -348,17 +387,8 @@ impl Actor for Qmgr {
     ghost installed = { qmgr_installed };
 
     fn handle(&mut self, alloc: Global, signal: &Signal, out: &mut Outs) -> Result<(), NoMemory> {
-        match &signal.body {
-            Body::Host(body) => {
-                let number = signal.view.get().number;
-                self.handle_host(alloc, &signal.member, number, body, out)
-            }
-            Body::Membership(body) => {
-                self.handle_membership(alloc, signal.from, &signal.member, body, out)
-            }
-            Body::Joining(body) => self.handle_joining(alloc, body, out),
-            _ => Ok(()),
-        }
+        self.decide(alloc, signal, out)?;
+        Ok(())
     }
 
     fn install(&mut self, view: &View, out: &mut Outs) {

@@ -2,7 +2,8 @@
 ghost use Rattle.std.specs.Prelude.{◌≡◌, ◌<◌, ◌≤◌, IfOk, IfSome, Some, length, position};
 ghost use Rattle.sig_core.specs.Step.{stay};
 ghost use Rattle.qmgr_block.specs.Sets.{same_member};
-ghost use Rattle.qmgr_block.specs.Ring.{heartbeat_row, place_behind, place_in_front, round_by, round_row, sides, sides_at, with_missing, with_round};
+ghost use Rattle.qmgr_block.specs.Ring.{heartbeat_row, place_behind, place_in_front, round_by, round_row, sides};
+ghost use Rattle.qmgr_block.specs.Ring.{sides_at, with_missing, with_round};
 ghost use Rattle.qmgr_block.specs.State.{sending_all};
 
 use crate::known::{Known, MISSED};

@@ -1,6 +1,8 @@
 //! Sets of members, and views made of others.
 ghost use Rattle.std.specs.Prelude.{◌≡◌, ◌≤◌, ◌++◌, length, take};
-ghost use Rattle.qmgr_block.specs.Sets.{are_same_parts, is_among, is_in, is_join, is_part, is_promotion, is_same_set, is_special, joined_view, joins, lie_in, members_of, promoted_view, promotes, same_member, with_member, within, without};
+ghost use Rattle.qmgr_block.specs.Sets.{are_same_parts, is_among, is_in, is_join, is_part, is_promotion, is_same_set};
+ghost use Rattle.qmgr_block.specs.Sets.{is_special, joined_view, joins, lie_in, members_of, promoted_view, promotes};
+ghost use Rattle.qmgr_block.specs.Sets.{same_member, with_member, within, without};
 
 use sig_core::{MEMBERS, Member, Members, View};
 

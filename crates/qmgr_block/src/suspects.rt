@@ -1,7 +1,9 @@
 //! Suspects, and who is told of them.
 ghost use Rattle.std.specs.Prelude.{◌≡◌, ◌≤◌, IfOk, length, position};
 ghost use Rattle.qmgr_block.specs.State.{sending_all};
-ghost use Rattle.qmgr_block.specs.Suspects.{close_row, closed_of, is_kept_suspect, is_left_out, is_new, is_trusted, president, presides, report_row, told, told_if, with_closed, with_suspect, with_suspects};
+ghost use Rattle.qmgr_block.specs.Suspects.{close_row, closed_of, is_kept_suspect, is_left_out, is_new, is_trusted};
+ghost use Rattle.qmgr_block.specs.Suspects.{president, presides, report_row, told, told_if, with_closed, with_suspect};
+ghost use Rattle.qmgr_block.specs.Suspects.{with_suspects};
 
 use crate::known::{Known, Proposal};
 use crate::sends::one_signal;

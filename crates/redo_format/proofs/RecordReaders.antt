@@ -1,5 +1,6 @@
 -- Each part of a record is read as it is spelled.
-use Rattle.std.proofs.Common.{◌≡◌, ℕ, zero, suc, ◌-◌, ◌+◌, ◌≤◌, ◌<◌, ◌^◌, Bool, true, false, List, [], ◌∷◌, ◌++◌, length, refl, sym, ap, ◌∙◌, arith}
+use Rattle.std.proofs.Common.{◌≡◌, ℕ, zero, suc, ◌-◌, ◌+◌, ◌≤◌, ◌<◌, ◌^◌, Bool, true, false, List, [], ◌∷◌, ◌++◌}
+use Rattle.std.proofs.Common.{length, refl, sym, ap, ◌∙◌, arith}
 use Rattle.std.specs.Prelude.{Option, None, Some, IfSome, nat_lt, ◌==◌, if◌then◌else◌, max, min}
 use Rattle.std.specs.Int.{w32, w64, to_be_bytes}
 use Rattle.std.proofs.lemmas.Bool.{le-ltb}
@@ -11,8 +12,11 @@ use Rattle.sig_core.specs.declared.redo.Redo.TheVariants.{Prepare, Commit, Abort
 use Rattle.sig_core.specs.Redo.{prepare_bytes, commit_bytes, image_size}
 use Rattle.sig_core.specs.Redo.{word, flag, image_bytes}
 use Rattle.redo_format.specs.Records.{IsTransaction}
-use Rattle.redo_format.specs.Reading.{and_then, told, byte_at, number_at, word_at, transaction_of, transaction_at, head_at, least_flag, most_flag, image_at, prepared, prepare_at, committed, commit_at, aborted, abort_at, of_kind, record_at}
-use Rattle.redo_format.proofs.Readers.{Reads, reads_then, reads_told, reads_byte, reads_word, reads_number, IsWord, four_bytes, eight_bytes}
+use Rattle.redo_format.specs.Reading.{and_then, told, byte_at, number_at, word_at, transaction_of, transaction_at}
+use Rattle.redo_format.specs.Reading.{head_at, least_flag, most_flag, image_at, prepared, prepare_at, committed}
+use Rattle.redo_format.specs.Reading.{commit_at, aborted, abort_at, of_kind, record_at}
+use Rattle.redo_format.proofs.Readers.{Reads, reads_then, reads_told, reads_byte, reads_word, reads_number, IsWord}
+use Rattle.redo_format.proofs.Readers.{four_bytes, eight_bytes}
 
 abbrev pub transaction_bytes : TxId → List ℕ
 transaction_bytes tx = (tx.tc ∷ []) ++ (to_be_bytes w32 tx.start ++ to_be_bytes w64 tx.seq)

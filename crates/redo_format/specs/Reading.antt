@@ -1,6 +1,7 @@
 -- Reading from the front of some bytes: what stands there and the bytes behind it, or how many bytes are
 -- left where the first stands that doesn't fit.
-use Rattle.std.specs.Prelude.{◌≡◌, ℕ, ◌-◌, Bool, ◌||◌, ◌==◌, nat_lt, if◌then◌else◌, max, min, List, [], ◌∷◌, length, take, drop, position, Option, None, Some, Result, Ok, Err}
+use Rattle.std.specs.Prelude.{◌≡◌, ℕ, ◌-◌, Bool, ◌||◌, ◌==◌, nat_lt, if◌then◌else◌, max, min, List, [], ◌∷◌, length}
+use Rattle.std.specs.Prelude.{take, drop, position, Option, None, Some, Result, Ok, Err}
 use Rattle.std.specs.Int.{Width, w32, w64, byte_len, from_be_bytes}
 use Rattle.sig_core.specs.Word.{is_unprintable}
 use Rattle.sig_core.specs.declared.member.TxId.{TxId}

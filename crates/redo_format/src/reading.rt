@@ -3,7 +3,8 @@
 ghost use Rattle.std.specs.Prelude.{◌≡◌, ◌≤◌, ◌-◌, position, take, length, IfOk, None};
 ghost use Rattle.std.specs.Int.{w32, w64};
 ghost use Rattle.sig_core.specs.Word.{is_unprintable};
-ghost use Rattle.redo_format.specs.Reading.{Gives, abort_at, byte_at, commit_at, head_at, least_flag, most_flag, number_at, prepare_at, record_at, run_at, transaction_at, word_at};
+ghost use Rattle.redo_format.specs.Reading.{Gives, abort_at, byte_at, commit_at, head_at, least_flag, most_flag};
+ghost use Rattle.redo_format.specs.Reading.{number_at, prepare_at, record_at, run_at, transaction_at, word_at};
 
 use sig_core::{Key, Redo, TxId, Value};
 

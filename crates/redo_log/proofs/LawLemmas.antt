@@ -1,11 +1,13 @@
 -- The pieces that calls give out lie one behind the other, and are the bytes of the records.
-use Rattle.std.proofs.Common.{◌≡◌, ◌<◌, ◌+◌, ℕ, Bool, true, false, List, [], ◌∷◌, ◌++◌, length, take, refl, sym, ap, subst, ◌∙◌, append_assoc, append-nil, arith}
+use Rattle.std.proofs.Common.{◌≡◌, ◌<◌, ◌+◌, ℕ, Bool, true, false, List, [], ◌∷◌, ◌++◌, length, take, refl, sym, ap}
+use Rattle.std.proofs.Common.{subst, ◌∙◌, append_assoc, append-nil, arith}
 use Rattle.std.specs.Prelude.{nat_eq, if◌then◌else◌}
 use Rattle.std.specs.List.{flat_map}
 use Rattle.std.proofs.lemmas.Bool.Decides.{nat_tests}
 use Rattle.std.proofs.lemmas.List.{length-take-le, take-append-drop}
 use Rattle.sig_core.specs.Redo.{bytes_of}
-use Rattle.redo_log.specs.Laws.{LogCall, Keep, Append, GiveOut, Cut, IsLaidAt, AreLaidFrom, after_all, records_of, pieces_of, bytes_in}
+use Rattle.redo_log.specs.Laws.{LogCall, Keep, Append, GiveOut, Cut, IsLaidAt, AreLaidFrom, after_all, records_of}
+use Rattle.redo_log.specs.Laws.{pieces_of, bytes_in}
 use Rattle.sig_core.specs.declared.piece.Piece.{Piece}
 use Rattle.redo_log.specs.LogState.{LogState, appended, cut_to, given_out, next_len, next_piece, with_reserved}
 

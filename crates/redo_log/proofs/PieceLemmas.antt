@@ -1,9 +1,12 @@
 -- What the pieces of a log leave in files, and what a crash leaves of it.
-use Rattle.std.proofs.Common.{◌≡◌, ◌∙◌, ◌⊎◌, ◌≤◌, ◌<◌, ◌+◌, ◌-◌, ℕ, Bool, true, false, ◌==◌, List, [], ◌∷◌, ◌++◌, length, take, drop, get_or, if◌then◌else◌, nat_eq, refl, sym, ap, subst, inl, inr, length-append, arith}
+use Rattle.std.proofs.Common.{◌≡◌, ◌∙◌, ◌⊎◌, ◌≤◌, ◌<◌, ◌+◌, ◌-◌, ℕ, Bool, true, false, ◌==◌, List, [], ◌∷◌, ◌++◌}
+use Rattle.std.proofs.Common.{length, take, drop, get_or, if◌then◌else◌, nat_eq, refl, sym, ap, subst, inl, inr}
+use Rattle.std.proofs.Common.{length-append, arith}
 use Rattle.std.specs.List.{flat_map}
 use Rattle.std.proofs.lemmas.Bool.{cases_lt, eq-eqb, eqb-true}
 use Rattle.std.proofs.lemmas.Bool.Decides.{nat_tests}
-use Rattle.std.proofs.lemmas.List.{get_or-append_right, get_or-drop, get_or_append_left, length-drop, length-take-le, take_at}
+use Rattle.std.proofs.lemmas.List.{get_or-append_right, get_or-drop, get_or_append_left, length-drop, length-take-le}
+use Rattle.std.proofs.lemmas.List.{take_at}
 use Rattle.host_io.specs.declared.limits.TheConstants.{FILES}
 use Rattle.host_io.specs.DiskState.{FileState, laid, settled, state_of, written}
 use Rattle.host_io.proofs.LaidLemmas.{laid_elsewhere, laid_here, laid_reaches}
@@ -11,9 +14,11 @@ use Rattle.host_io.proofs.StateLemmas.{laid_grows}
 use Rattle.sig_core.specs.declared.journal.TheConstants.{JOURNAL_BYTES}
 use Rattle.sig_core.specs.Redo.{bytes_of}
 use Rattle.sig_core.specs.declared.ring.TheConstants.{LOG_FILE_BYTES}
-use Rattle.redo_log.specs.Laws.{LogCall, Keep, Append, GiveOut, Cut, AreLaidFrom, IsLaidAt, after_all, bytes_in, pieces_of, records_of}
+use Rattle.redo_log.specs.Laws.{LogCall, Keep, Append, GiveOut, Cut, AreLaidFrom, IsLaidAt, after_all, bytes_in}
+use Rattle.redo_log.specs.Laws.{pieces_of, records_of}
 use Rattle.sig_core.specs.declared.piece.Piece.{Piece}
-use Rattle.redo_log.specs.LogState.{LogState, appended, cut_to, fresh_log, given_out, next_len, next_piece, with_reserved}
+use Rattle.redo_log.specs.LogState.{LogState, appended, cut_to, fresh_log, given_out, next_len, next_piece}
+use Rattle.redo_log.specs.LogState.{with_reserved}
 use Rattle.sig_core.specs.Ring.{file_of, place_of}
 use Rattle.redo_log.specs.Stored.{AreStored, IsStored}
 use Rattle.redo_log.specs.StoredLaws.{PiecesAreStored, SyncedBytesStay, WritesLayPieces, with_piece, with_pieces}

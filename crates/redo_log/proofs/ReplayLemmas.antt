@@ -1,5 +1,6 @@
 -- Replaying record by record.
-use Rattle.std.proofs.Common.{◌≡◌, ◌≤◌, ◌<◌, ◌+◌, ◌-◌, ℕ, cond, List, [], ◌∷◌, ◌++◌, length, take, drop, refl, sym, ap, subst, ◌∙◌, append_assoc, arith}
+use Rattle.std.proofs.Common.{◌≡◌, ◌≤◌, ◌<◌, ◌+◌, ◌-◌, ℕ, cond, List, [], ◌∷◌, ◌++◌, length, take, drop, refl, sym, ap}
+use Rattle.std.proofs.Common.{subst, ◌∙◌, append_assoc, arith}
 use Rattle.std.specs.Prelude.{Option, Result, Ok, Err}
 use Rattle.std.proofs.lemmas.List.{length-append, length-drop, length-take, take-append-drop}
 use Rattle.sig_core.specs.declared.redo.Redo.{Redo}
@@ -12,7 +13,8 @@ use Rattle.redo_format.specs.Decoding.{IsDecoded, decoded, from_read}
 use Rattle.redo_format.specs.Reading.{record_at}
 use Rattle.sig_core.specs.declared.fault.ReadFault.{ReadFault}
 use Rattle.redo_log.specs.declared.image_id.ImageId.{ImageId}
-use Rattle.redo_log.specs.Replaying.{Images, IsReplayed, Replays, applied, damage, id_of, image_at, image_of, log_bytes, prepared_by, same_id}
+use Rattle.redo_log.specs.Replaying.{Images, IsReplayed, Replays, applied, damage, id_of, image_at, image_of, log_bytes}
+use Rattle.redo_log.specs.Replaying.{prepared_by, same_id}
 
 pub some_bytes : (redo : Redo) → 1 ≤ length (bytes_of redo)
 unfolding bytes_of

@@ -6,7 +6,8 @@ use Rattle.sig_core.specs.Redo.{bytes_of}
 use Rattle.sig_core.specs.declared.piece.TheConstants.{PIECE_BYTES}
 use Rattle.sig_core.specs.declared.ring.TheConstants.{LOG_FILE_BYTES}
 use Rattle.sig_core.specs.declared.piece.Piece.{Piece}
-use Rattle.redo_log.specs.LogState.{LogState, appended, cut_to, fresh_log, given_out, next_len, next_piece, with_reserved}
+use Rattle.redo_log.specs.LogState.{LogState, appended, cut_to, fresh_log, given_out, next_len, next_piece}
+use Rattle.redo_log.specs.LogState.{with_reserved}
 use Rattle.sig_core.specs.Ring.{file_of, place_of}
 
 -- a call on a log that changes it: so many bytes are kept free, a record is appended, a piece is given out, a front is

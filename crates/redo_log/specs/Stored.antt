@@ -1,5 +1,6 @@
 -- The bytes of a log in files, and what replaying them makes of rows.
-use Rattle.std.specs.Prelude.{◌≡◌, ◌⊎◌, ◌<◌, ◌≤◌, ℕ, ◌+◌, ◌-◌, min, List, ◌++◌, length, take, drop, slice_index, Result, Ok, Err}
+use Rattle.std.specs.Prelude.{◌≡◌, ◌⊎◌, ◌<◌, ◌≤◌, ℕ, ◌+◌, ◌-◌, min, List, ◌++◌, length, take, drop, slice_index, Result}
+use Rattle.std.specs.Prelude.{Ok, Err}
 use Rattle.host_io.specs.Call.{Call}
 use Rattle.host_io.specs.DiskState.{state_of}
 use Rattle.host_io.specs.Fault.{Rose}

@@ -1,7 +1,8 @@
 //! What is true of every log, whatever the calls on it were.
 ghost use Rattle.redo_log.specs.Laws.{PiecesAreTheRecords};
 ghost use Rattle.redo_log.specs.Replaying.{RecordsAreNotDamaged};
-ghost use Rattle.redo_log.specs.StoredLaws.{PiecesAreStored, StoredRecordsAreReplayed, SyncedBytesStay, WritesLayPieces};
+ghost use Rattle.redo_log.specs.StoredLaws.{PiecesAreStored, StoredRecordsAreReplayed, SyncedBytesStay};
+ghost use Rattle.redo_log.specs.StoredLaws.{WritesLayPieces};
 
 /// The pieces of a log, laid at their places, are the bytes of its records, each once.
 pub fn pieces_are_the_records()

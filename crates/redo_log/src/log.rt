@@ -3,7 +3,8 @@ ghost use Rattle.std.specs.Prelude.{◌≡◌, ◌≢◌, ◌≤◌, ◌<◌, �
 ghost use Rattle.sig_core.specs.declared.journal.JournalFault.TheVariants as fault;
 ghost use Rattle.sig_core.specs.Journal.{GivesOut as GivesBytes, Reserves, appending, behind, unreserving, used_from};
 ghost use Rattle.sig_core.specs.Redo.{size_of};
-ghost use Rattle.redo_log.specs.LogState.{GivesOut, LogView, appended, cut_to, end_of, fresh_log, journal_of, next_len, outlet_in, with_reserved};
+ghost use Rattle.redo_log.specs.LogState.{GivesOut, LogView, appended, cut_to, end_of, fresh_log, journal_of, next_len};
+ghost use Rattle.redo_log.specs.LogState.{outlet_in, with_reserved};
 
 use redo_format::encode;
 use sig_core::{

@@ -1,5 +1,6 @@
 //! The records of a log, replayed onto rows.
-ghost use Rattle.std.specs.Prelude.{◌≡◌, ◌≤◌, ◌<◌, ◌+◌, ◌-◌, ◌^◌, ◌++◌, List, Some, Err, MatchResult, OnOk, cond, length};
+ghost use Rattle.std.specs.Prelude.{◌≡◌, ◌≤◌, ◌<◌, ◌+◌, ◌-◌, ◌^◌, ◌++◌, List, Some, Err, MatchResult, OnOk, cond};
+ghost use Rattle.std.specs.Prelude.{length};
 ghost use Rattle.host_io.specs.Call.{Call};
 ghost use Rattle.redo_format.specs.declared.fault.FormatFault.TheVariants as format;
 ghost use Rattle.sig_core.specs.Redo.{bytes_of};

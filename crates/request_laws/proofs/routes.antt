@@ -27,6 +27,5 @@ pub mod Sends
 pub mod Takeovers
 pub mod Taking
 pub mod Turns
-pub mod UnansweredPhases
 pub mod Unsent
 pub mod ViableViews

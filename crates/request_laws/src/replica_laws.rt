@@ -1,5 +1,6 @@
 //! The keys of a node's rows under views, and the requests that wait for them.
-ghost use Rattle.request_laws.specs.Replicas.{InstallationsAreEvents, InstallationsKeepWell, SignalsAreEvents, SignalsKeepWell};
+ghost use Rattle.request_laws.specs.Replicas.{InstallationsAreEvents, InstallationsKeepWell, SignalsAreEvents};
+ghost use Rattle.request_laws.specs.Replicas.{SignalsKeepWell};
 ghost use Rattle.request_laws.specs.Waiting.{InstalledAreAttended, RowsAreWell, SignalsKeepAttended, WaitsHaveRequests};
 
 /// Each signal does to each key of the rows what its event there says, and an installation ends all

@@ -1,5 +1,6 @@
 -- Who is granted the lock stood first in the queue, and is among the last holders.
-use Rattle.std.proofs.Common.{◌≡◌, ℕ, ◌+◌, ◌-◌, ◌≤◌, zero, suc, Bool, true, false, not, List, [], ◌∷◌, ◌++◌, length, map, take, drop, refl, ap, sym, ◌∙◌, arith, append_assoc, append-nil, add-zero}
+use Rattle.std.proofs.Common.{◌≡◌, ℕ, ◌+◌, ◌-◌, ◌≤◌, zero, suc, Bool, true, false, not, List, [], ◌∷◌, ◌++◌, length}
+use Rattle.std.proofs.Common.{map, take, drop, refl, ap, sym, ◌∙◌, arith, append_assoc, append-nil, add-zero}
 use Rattle.std.proofs.lemmas.Bool.{and_parts, not-true, or_parts, or_from}
 use Rattle.std.proofs.lemmas.List.{length-append, length-map, length-take-le, drop_at}
 use Rattle.sig_core.specs.declared.member.TxId.{TxId}

@@ -1,5 +1,6 @@
 -- Where waits end and some holders let go, each lock stays orderly, and of each key those are left that are to stay.
-use Rattle.std.proofs.Common.{◌≡◌, ℕ, ◌+◌, ◌≤◌, Bool, true, false, not, ◌||◌, cond, List, [], ◌∷◌, length, map, refl, ap, sym, ◌∙◌, subst, arith, Ordering}
+use Rattle.std.proofs.Common.{◌≡◌, ℕ, ◌+◌, ◌≤◌, Bool, true, false, not, ◌||◌, cond, List, [], ◌∷◌, length, map, refl}
+use Rattle.std.proofs.Common.{ap, sym, ◌∙◌, subst, arith, Ordering}
 use Rattle.std.proofs.lemmas.Bool.{true≢false, and_parts, and_from, not-true, or_parts, or_from}
 use Rattle.std.proofs.lemmas.Map.Entries.{option_filter, lookup-filter-values}
 use Rattle.std.proofs.lemmas.Map.Keys.{IsDistinct-from_sorted}

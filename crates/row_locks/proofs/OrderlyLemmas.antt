@@ -1,5 +1,6 @@
 -- Each call leaves the lock of a row orderly.
-use Rattle.std.proofs.Common.{◌≡◌, ℕ, ◌+◌, Bool, true, false, not, ◌&&◌, ◌||◌, nat_lt, List, [], ◌∷◌, ◌++◌, refl, ap, sym, ◌∙◌, arith}
+use Rattle.std.proofs.Common.{◌≡◌, ℕ, ◌+◌, Bool, true, false, not, ◌&&◌, ◌||◌, nat_lt, List, [], ◌∷◌, ◌++◌, refl, ap}
+use Rattle.std.proofs.Common.{sym, ◌∙◌, arith}
 use Rattle.std.proofs.lemmas.Bool.Decides.{nat_tests}
 use Rattle.std.proofs.lemmas.Bool.{true≢false, and_parts, and_from, not-true, or_parts, or_from}
 use Rattle.sig_core.specs.declared.member.TxId.{TxId}
@@ -11,10 +12,13 @@ use Rattle.sig_core.specs.Same.{same_tx}
 use Rattle.row_locks.specs.Modes.{agree, stronger}
 use Rattle.row_locks.specs.Holders.{unless_gone, others, agrees_with, holds, holds_enough, holder_of, hold}
 use Rattle.row_locks.specs.Queues.{waits, without, wait_of, raised, raised_if, aged, aged_all, ages, is_open, one_round}
-use Rattle.row_locks.specs.Rows.{RowLock, may_hold, served, served_if, asked, asked_by, asked_anew, anew, is_quiet, released, unwaited, unqueued, grown_old}
-use Rattle.row_locks.specs.Orderly.{IsOrderly, are_held_once, are_agreed, are_waiting_once, is_first_held_up, none_holds, are_raises_first, test_if, none_has_enough, are_within_rounds}
+use Rattle.row_locks.specs.Rows.{RowLock, may_hold, served, served_if, asked, asked_by, asked_anew, anew, is_quiet}
+use Rattle.row_locks.specs.Rows.{released, unwaited, unqueued, grown_old}
+use Rattle.row_locks.specs.Orderly.{IsOrderly, are_held_once, are_agreed, are_waiting_once, is_first_held_up}
+use Rattle.row_locks.specs.Orderly.{none_holds, are_raises_first, test_if, none_has_enough, are_within_rounds}
 use Rattle.sig_core.proofs.TxLemmas.{same_tx-swap, apart_too}
-use Rattle.row_locks.proofs.NeedLemmas.{enough_shared, need-others, need-hold, need-without, need-aged, need-raised, need-end, need-quiet}
+use Rattle.row_locks.proofs.NeedLemmas.{enough_shared, need-others, need-hold, need-without, need-aged, need-raised}
+use Rattle.row_locks.proofs.NeedLemmas.{need-end, need-quiet}
 use Rattle.row_locks.proofs.WithinLemmas.{within-without, within-aged, within-raised, within-end}
 
 agree-swap : (m n : Mode) → agree m n ≡ agree n m

@@ -1,5 +1,6 @@
 -- Loops over a list that leave something of each item.
-use Rattle.std.proofs.Common.{◌≡◌, ◌<◌, ◌+◌, ◌++◌, ℕ, suc, List, [], ◌∷◌, length, take, drop, map, get_or, slice_set, ap, sym, ◌∙◌, arith, append_assoc, drop-cons}
+use Rattle.std.proofs.Common.{◌≡◌, ◌<◌, ◌+◌, ◌++◌, ℕ, suc, List, [], ◌∷◌, length, take, drop, map, get_or, slice_set}
+use Rattle.std.proofs.Common.{ap, sym, ◌∙◌, arith, append_assoc, drop-cons}
 use Rattle.std.proofs.lemmas.List.{take_more_set, drop-set-lt, drop_more}
 
 -- the next item is changed: what was passed and what is left lead to the same list

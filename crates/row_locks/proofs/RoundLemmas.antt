@@ -8,7 +8,8 @@ use Rattle.std.specs.List.{AllByRecursion}
 use Rattle.std.specs.List.Sorted.{IsStrictlySortedBy}
 use Rattle.std.specs.Map.{keys_of}
 use Rattle.std.specs.BTreeMap.{BTreeMap, is_at, IsOrdered}
-use Rattle.std.specs.FinMap.{from_entries, from_sorted, entries, is_sorted, same_map, get-entries, get-from_sorted, get-from_entries, entries-from_sorted, slice_cmp-IsAntisymmetric, nat_cmp-IsAntisymmetric}
+use Rattle.std.specs.FinMap.{from_entries, from_sorted, entries, is_sorted, same_map, get-entries, get-from_sorted}
+use Rattle.std.specs.FinMap.{get-from_entries, entries-from_sorted, slice_cmp-IsAntisymmetric, nat_cmp-IsAntisymmetric}
 use Rattle.std.specs.FinMap.Entries.{below_all}
 use Rattle.std.proofs.lemmas.Map.Made.{lookup-map_values}
 use Rattle.row_locks.specs.Rows.{RowLock}

@@ -12,7 +12,8 @@ use Rattle.row_locks.specs.Queues.{waits, without, raised, raised_if, aged, aged
 use Rattle.row_locks.specs.Rows.{row_lock, anew, served}
 use Rattle.row_locks.specs.Orderly.{IsOrderly, are_waiting_once, none_has_enough}
 use Rattle.row_locks.proofs.NeedLemmas.{need-others, need-without}
-use Rattle.row_locks.proofs.OrderlyLemmas.{waiting-without, gone-without, grown_old_orderly, asked_at-orderly, anew_orderly, released_orderly, unwaited_orderly}
+use Rattle.row_locks.proofs.OrderlyLemmas.{waiting-without, gone-without, grown_old_orderly, asked_at-orderly}
+use Rattle.row_locks.proofs.OrderlyLemmas.{anew_orderly, released_orderly, unwaited_orderly}
 
 -- what a row keeps, where there is room for so many holders
 abbrev IsRow : List Holder → List Wait → ℕ → Type 0

@@ -1,6 +1,9 @@
 -- A queue is served at once: one exclusive request, or the shared requests that stand first.
-use Rattle.std.proofs.Common.{◌≡◌, ℕ, ◌+◌, ◌<◌, suc, Bool, true, false, not, ◌&&◌, ◌||◌, cond, nat_lt, List, [], ◌∷◌, ◌++◌, length, map, take, drop, get_or, remove, refl, ap, sym, ◌∙◌, arith, append_assoc, append-nil, add-zero, lt_irrefl}
-use Rattle.std.proofs.lemmas.Bool.{true≢false, and_parts, and_from, not-true, or_from, or_right, false_from_ne_true, or_parts}
+use Rattle.std.proofs.Common.{◌≡◌, ℕ, ◌+◌, ◌<◌, suc, Bool, true, false, not, ◌&&◌, ◌||◌, cond, nat_lt, List, [], ◌∷◌}
+use Rattle.std.proofs.Common.{◌++◌, length, map, take, drop, get_or, remove, refl, ap, sym, ◌∙◌, arith, append_assoc}
+use Rattle.std.proofs.Common.{append-nil, add-zero, lt_irrefl}
+use Rattle.std.proofs.lemmas.Bool.{true≢false, and_parts, and_from, not-true, or_from, or_right, false_from_ne_true}
+use Rattle.std.proofs.lemmas.Bool.{or_parts}
 use Rattle.sig_core.specs.declared.member.TxId.{TxId}
 use Rattle.row_locks.specs.declared.mode.Mode.{Mode}
 use Rattle.row_locks.specs.declared.mode.Mode.TheVariants.{Shared, Exclusive}

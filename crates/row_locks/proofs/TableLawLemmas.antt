@@ -1,5 +1,6 @@
 -- Each call leaves the locks of all keys orderly.
-use Rattle.std.proofs.Common.{◌≡◌, ℕ, Bool, true, false, not, ◌&&◌, cond, List, [], ◌∷◌, ◌++◌, map, refl, ap, sym, ◌∙◌, subst}
+use Rattle.std.proofs.Common.{◌≡◌, ℕ, Bool, true, false, not, ◌&&◌, cond, List, [], ◌∷◌, ◌++◌, map, refl, ap, sym, ◌∙◌}
+use Rattle.std.proofs.Common.{subst}
 use Rattle.std.specs.Prelude.{Option, Some, None, option_map}
 use Rattle.std.specs.Ordering.{eq_by_cmp}
 use Rattle.std.specs.Cmp.Lexicographic.{nat_list_cmp_total}
@@ -17,7 +18,8 @@ use Rattle.row_locks.specs.Rows.{RowLock, unlocked, asked, asked_by, asked_anew,
 use Rattle.row_locks.specs.Orderly.{IsOrderly, is_first_held_up, is_first_open}
 use Rattle.row_locks.specs.OrderlyTables.{AreOrderly}
 use Rattle.row_locks.specs.Rounds.{map_locks, round_later}
-use Rattle.row_locks.specs.Tables.{Locks, lock_at, or_unlocked, is_free, is_idle, kept, kept_if, asked_at, released_at, unwaited_at}
+use Rattle.row_locks.specs.Tables.{Locks, lock_at, or_unlocked, is_free, is_idle, kept, kept_if, asked_at, released_at}
+use Rattle.row_locks.specs.Tables.{unwaited_at}
 use Rattle.row_locks.proofs.LocksLemmas.{key_cmp, get-locks, find-lookup}
 use Rattle.row_locks.proofs.OrderlyLemmas.{asked_orderly, released_orderly, unwaited_orderly, grown_old_orderly}
 

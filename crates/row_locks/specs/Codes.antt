@@ -28,7 +28,8 @@ abbrev pub mode_code : Coded Mode
 mode_code = code_by Bool coded_bool is_shared mode_of mode_of-is_shared
 
 abbrev pub holder_code : Coded Holder
-holder_code = code_by (TxId × Mode) (coded× tx_code mode_code) (λ h. (h.tx, h.mode)) (λ p. record { tx = p.0; mode = p.1 }) (λ _. refl)
+holder_code = code_by (TxId × Mode) (coded× tx_code mode_code) (λ h. (h.tx, h.mode))
+    (λ p. record { tx = p.0; mode = p.1 }) (λ _. refl)
 
 abbrev pub wait_code : Coded Wait
 wait_code =
@@ -38,5 +39,6 @@ wait_code =
 -- the lock of a row, as its two lists
 abbrev pub lock_code : Coded RowLock
 lock_code =
-    code_by (List Holder × List Wait) (coded× (coded_list holder_code) (coded_list wait_code)) (λ l. (l.holders, l.queue))
+    code_by (List Holder × List Wait) (coded× (coded_list holder_code) (coded_list wait_code))
+    (λ l. (l.holders, l.queue))
     (λ p. record { holders = p.0; queue = p.1 }) (λ _. refl)

@@ -29,7 +29,8 @@ holds tx (holder ∷ holders) = same_tx holder.tx tx || holds tx holders
 -- the transaction holds the lock in a mode that is enough
 abbrev pub holds_enough : TxId → Mode → List Holder → Bool
 holds_enough tx asked [] = false
-holds_enough tx asked (holder ∷ holders) = (same_tx holder.tx tx && is_enough holder.mode asked) || holds_enough tx asked holders
+holds_enough tx asked (holder ∷ holders) =
+    (same_tx holder.tx tx && is_enough holder.mode asked) || holds_enough tx asked holders
 
 -- one holder
 abbrev pub holder_of : TxId → Mode → Holder

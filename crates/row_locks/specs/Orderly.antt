@@ -22,7 +22,8 @@ abbrev pub are_waiting_once : List Wait → Bool
 are_waiting_once [] = true
 are_waiting_once (wait ∷ queue) = not (waits wait.tx queue) && are_waiting_once queue
 
--- the first in the queue doesn't agree with all other holders, or its wait is closed: who may hold the lock doesn't wait
+-- the first in the queue doesn't agree with all other holders, or its wait is closed: who may hold the lock doesn't
+-- wait
 abbrev pub is_first_held_up : List Holder → List Wait → Bool
 is_first_held_up holders [] = true
 is_first_held_up holders (wait ∷ queue) = not (may_hold wait holders)
@@ -45,7 +46,8 @@ test_if false one other = other
 -- those that hold the lock, and wait to be raised, stand before those that don't
 abbrev pub are_raises_first : List Holder → List Wait → Bool
 are_raises_first holders [] = true
-are_raises_first holders (wait ∷ queue) = test_if (holds wait.tx holders) (are_raises_first holders queue) (none_holds holders queue)
+are_raises_first holders (wait ∷ queue) =
+    test_if (holds wait.tx holders) (are_raises_first holders queue) (none_holds holders queue)
 
 -- nobody in the queue holds the lock in a mode that is enough for what it waits for
 abbrev pub none_has_enough : List Holder → List Wait → Bool

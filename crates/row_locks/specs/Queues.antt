@@ -31,7 +31,8 @@ raised_if false mode wait = wait
 abbrev pub raised : TxId → Mode → List Wait → List Wait
 raised tx mode queue = map (λ wait. raised_if (same_tx wait.tx tx) mode wait) queue
 
--- the wait has not stood at eight rounds. One that has is closed: it isn't granted any more, and nor is a wait behind it until it is taken out
+-- the wait has not stood at eight rounds. One that has is closed: it isn't granted any more, and nor is a wait behind
+-- it until it is taken out
 abbrev pub is_open : Wait → Bool
 is_open wait = nat_lt wait.rounds ROUNDS
 

@@ -47,6 +47,7 @@ abbrev pub expired_in : List (List ℕ × RowLock) → Option (TxId × List ℕ)
 expired_in [] = None
 expired_in (e ∷ es) = found_at (first_expired e.1.queue) e.0 (expired_in es)
 
--- the first wait, in byte order of the keys and then in the order of the queue, that has stood at eight rounds: who waits, and for which key
+-- the first wait, in byte order of the keys and then in the order of the queue, that has stood at eight rounds: who
+-- waits, and for which key
 abbrev pub expired : Locks → Option (TxId × List ℕ)
 expired locks = expired_in (entries locks)

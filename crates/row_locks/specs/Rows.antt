@@ -37,7 +37,8 @@ abbrev pub served_if : Bool → Served → Served → Served
 served_if true one other = one
 served_if false one other = other
 
--- the queue is served in order: while the first waiter may hold the lock it becomes the last holder. `granted` were so before
+-- the queue is served in order: while the first waiter may hold the lock it becomes the last holder. `granted` were so
+-- before
 abbrev pub served : ℕ → List Holder → List Wait → Served
 served granted holders [] = record { lock = record { holders = holders; queue = [] }; granted = granted }
 served granted holders (wait ∷ queue) =
@@ -51,15 +52,20 @@ granting lock = record { lock = lock; answer = Granted }
 
 -- a request of the transaction waits
 abbrev pub queueing : TxId → List Holder → List Wait → Asked
-queueing tx holders queue = record { lock = record { holders = holders; queue = queue }; answer = Queued (first_other tx holders) }
+queueing tx holders queue = record {
+  lock = record { holders = holders; queue = queue };
+  answer = Queued (first_other tx holders);
+}
 
 -- nobody waits
 abbrev pub is_quiet : List Wait → Bool
 is_quiet [] = true
 is_quiet (wait ∷ queue) = false
 
--- a request of a transaction that doesn't wait and doesn't hold enough. Where it holds less: the only holder is raised at once, which is the one that
--- agrees with all others, and else its request stands first in the queue. Where it holds nothing: it is granted if it agrees with all holders and nobody waits,
+-- a request of a transaction that doesn't wait and doesn't hold enough. Where it holds less: the only holder is raised
+-- at once, which is the one that
+-- agrees with all others, and else its request stands first in the queue. Where it holds nothing: it is granted if it
+-- agrees with all holders and nobody waits,
 -- and else its request stands last
 abbrev pub asked_anew : (holds agrees quiet : Bool) → RowLock → TxId → Mode → Asked
 asked_anew true true quiet lock tx mode = granting (record { holders = hold tx mode lock.holders; queue = lock.queue })
@@ -74,9 +80,11 @@ row_lock holders queue = record { holders = holders; queue = queue }
 
 -- a request of the transaction that doesn't wait and doesn't hold enough
 abbrev pub anew : RowLock → TxId → Mode → Asked
-anew lock tx mode = asked_anew (holds tx lock.holders) (agrees_with tx mode lock.holders) (is_quiet lock.queue) lock tx mode
+anew lock tx mode =
+    asked_anew (holds tx lock.holders) (agrees_with tx mode lock.holders) (is_quiet lock.queue) lock tx mode
 
--- a request, where the transaction holds enough, or waits already: then it keeps its place and its rounds, and waits for the stronger of both modes
+-- a request, where the transaction holds enough, or waits already: then it keeps its place and its rounds, and waits
+-- for the stronger of both modes
 abbrev pub asked_by : (enough waiting : Bool) → RowLock → TxId → Mode → Asked
 asked_by true waiting lock tx mode = granting lock
 asked_by false true lock tx mode = queueing tx lock.holders (raised tx mode lock.queue)

@@ -4,7 +4,8 @@ use Rattle.std.proofs.Common.{◌≡◌, ℕ, zero, suc, Bool, true, false, List
 use Rattle.std.specs.Prelude.{if◌then◌else◌, Option, None, Some, is_some, slice_index_or, slice_set}
 use Rattle.sig_core.specs.declared.rows.PendingRecord.{PendingRecord}
 use Rattle.sig_core.specs.declared.rows.Slot.{Slot}
-use Rattle.sig_core.specs.Rows.{RowsState, freed, freed_by, freed_if, is_at, is_idle, no_row, place_of, placed, row_by, row_in, row_of, set_row, set_row_by, with_place, with_place_by, with_row}
+use Rattle.sig_core.specs.Rows.{RowsState, freed, freed_by, freed_if, is_at, is_idle, no_row, place_of, placed, row_by}
+use Rattle.sig_core.specs.Rows.{row_in, row_of, set_row, set_row_by, with_place, with_place_by, with_row}
 use Rattle.sig_core.specs.Same.{same_key}
 use Rattle.sig_core.proofs.Firsts.{first-set, place_by, position-cons, set_by, set_first}
 use Rattle.sig_core.proofs.Keys.{same_key-self, same_key-swap}

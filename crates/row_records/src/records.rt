@@ -1,5 +1,6 @@
 //! The records of transactions that are at work on rows, the oldest first.
-ghost use Rattle.std.specs.Prelude.{◌≡◌, ◌<◌, ◌^◌, IfSome, IsOk, OnOk, Some, [], is_some, length, not, option_map, position, remove, slice_get, true};
+ghost use Rattle.std.specs.Prelude.{◌≡◌, ◌<◌, ◌^◌, IfSome, IsOk, OnOk, Some, [], is_some, length, not, option_map};
+ghost use Rattle.std.specs.Prelude.{position, remove, slice_get, true};
 ghost use Rattle.sig_core.specs.Rows.{prepared, record_at, recorded_by};
 ghost use Rattle.row_records.specs.Records.{committed_at, is_id, record_by};
 

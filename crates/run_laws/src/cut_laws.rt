@@ -1,5 +1,6 @@
 //! What holds of every closed cut of right logs.
-ghost use Rattle.run_laws.specs.Laws.{CommitsAreOfDecided, EpochsNeverFall, GreatestViewIsFirst, GreatestViewIsViable, HistoriesAreStrict, KeysMakeSerial};
+ghost use Rattle.run_laws.specs.Laws.{CommitsAreOfDecided, EpochsNeverFall, GreatestViewIsFirst, GreatestViewIsViable};
+ghost use Rattle.run_laws.specs.Laws.{HistoriesAreStrict, KeysMakeSerial};
 
 /// Epochs never fall along the history of a closed cut.
 #[tactic(auto, using(crate::proofs::history::Epochs::epochs_ordered))]

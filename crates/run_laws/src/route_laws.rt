@@ -1,7 +1,8 @@
 //! Where signals along chains go, and what a transaction has of its keys.
 ghost use Rattle.frag_map.specs.Laws.{ReplicasAreApart};
 ghost use Rattle.run_laws.specs.Keyed.{TransactionsAreKeyed};
-ghost use Rattle.run_laws.specs.Routes.{ComingAreRouted, CommitsEndAtPrimary, ReplicasAreNodes, RequestsAreForReplicas, SignalsAreForBlocks, SignalsAreRouted};
+ghost use Rattle.run_laws.specs.Routes.{ComingAreRouted, CommitsEndAtPrimary, ReplicasAreNodes, RequestsAreForReplicas};
+ghost use Rattle.run_laws.specs.Routes.{SignalsAreForBlocks, SignalsAreRouted};
 
 /// The replicas of a key are nodes of the group that has the key, each of them once.
 pub fn replicas_are_nodes()

@@ -1,7 +1,8 @@
 //! Which way a transaction goes, told from what is in transit.
 ghost use Rattle.run_laws.specs.Circle.{WhoAsksWaits};
 ghost use Rattle.run_laws.specs.Decided.{CommitsAreDecided};
-ghost use Rattle.run_laws.specs.GivenUp.{AbortsAreOfGivenUp, CommitsAreOfCarriedOut, CompletionsAreOfCarriedOut, KeptAreNotGivenUp, NoneIsBoth};
+ghost use Rattle.run_laws.specs.GivenUp.{AbortsAreOfGivenUp, CommitsAreOfCarriedOut, CompletionsAreOfCarriedOut};
+ghost use Rattle.run_laws.specs.GivenUp.{KeptAreNotGivenUp, NoneIsBoth};
 ghost use Rattle.run_laws.specs.Transit.{RunsHaveTransit};
 
 /// After each run some signals are in transit: of each link those that were sent on it and weren't

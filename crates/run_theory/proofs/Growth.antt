@@ -15,7 +15,8 @@ use Rattle.run_theory.proofs.Runs.{logs_of_run, taken-step}
 use Rattle.run_theory.proofs.Cuts.{closed_of_logs, taken_past}
 use Rattle.run_theory.proofs.Orders.{run_in_order, each_event, causal_by_stamp, IsLater, later_in_log}
 use Rattle.run_theory.proofs.Along.{within_cut}
-use Rattle.run_theory.proofs.Merging.{AreOfHosts, Rises, each_insert_all, by_stamp_merged, has_logs_merged, log_at, log_rises, log_of-append, merged_run, logs_merged}
+use Rattle.run_theory.proofs.Merging.{AreOfHosts, Rises, each_insert_all, by_stamp_merged, has_logs_merged, log_at}
+use Rattle.run_theory.proofs.Merging.{log_rises, log_of-append, merged_run, logs_merged}
 
 module _ {E X : Type 0} (m : Machine E X) where
   rises_front : (xs ys : List E) → Rises m (xs ++ ys) → Rises m xs

@@ -1,5 +1,6 @@
 -- What running hosts and links keep in the order of time are right logs.
-use Rattle.std.proofs.Common.{◌≡◌, ◌==◌, ◌++◌, ℕ, Bool, true, false, List, [], ◌∷◌, reverse, filter, if◌then◌else◌, refl, sym, ap, ◌∙◌, subst, subst₂, take, drop, take-append-drop, append_assoc, append-nil}
+use Rattle.std.proofs.Common.{◌≡◌, ◌==◌, ◌++◌, ℕ, Bool, true, false, List, [], ◌∷◌, reverse, filter, if◌then◌else◌}
+use Rattle.std.proofs.Common.{refl, sym, ap, ◌∙◌, subst, subst₂, take, drop, take-append-drop, append_assoc, append-nil}
 use Rattle.std.proofs.lemmas.List.{reverse-append, reverse-reverse}
 use mathlib.Core.List.{IsPrefix}
 use Rattle.run_theory.specs.Lists.{HasEntry, IsPast}

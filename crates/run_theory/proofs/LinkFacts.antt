@@ -1,5 +1,7 @@
 -- Links in words of their own: order, closing, stamps, and how often a signal is taken.
-use Rattle.std.proofs.Common.{◌≡◌, ◌≢◌, ◌⊎◌, ◌==◌, ◌+◌, ◌<◌, ◌≤◌, ℕ, zero, suc, Bool, true, false, cond, List, [], ◌∷◌, ◌++◌, length, reverse, count_by, slice_get, Some, if◌then◌else◌, refl, sym, ap, ◌∙◌, subst, inl, inr, arith, eqb-true, Option, None, filter_map}
+use Rattle.std.proofs.Common.{◌≡◌, ◌≢◌, ◌⊎◌, ◌==◌, ◌+◌, ◌<◌, ◌≤◌, ℕ, zero, suc, Bool, true, false, cond, List, [], ◌∷◌}
+use Rattle.std.proofs.Common.{◌++◌, length, reverse, count_by, slice_get, Some, if◌then◌else◌, refl, sym, ap, ◌∙◌}
+use Rattle.std.proofs.Common.{subst, inl, inr, arith, eqb-true, Option, None, filter_map}
 use Rattle.std.proofs.lemmas.List.{reverse-append, length-reverse}
 use Rattle.std.proofs.lemmas.List.Sums.{sum_by-append}
 use Rattle.run_theory.specs.Lists.{IsIn, IsPast}
@@ -8,8 +10,10 @@ use Rattle.run_theory.specs.Links.{sent_by, put, sent, taken, Closes, IsGiven}
 use Rattle.run_theory.specs.Logs.{last, IsStep, IsLog, IsMade, IsThere}
 use Rattle.run_theory.specs.Runs.{AreLogs}
 use Rattle.run_theory.specs.LinkLaws.{at_time, IsClosingOf, offered, IsSentBy}
-use Rattle.run_theory.proofs.Pasts.{entry_past, past_map, filter_map_none, past_self, past_more, past_trans, each_in, in_past}
-use Rattle.run_theory.proofs.Links.{step_above, signal_below, log_past, sent_by_stop, sent_by_stamped, sent_below, given_less}
+use Rattle.run_theory.proofs.Pasts.{entry_past, past_map, filter_map_none, past_self, past_more, past_trans, each_in}
+use Rattle.run_theory.proofs.Pasts.{in_past}
+use Rattle.run_theory.proofs.Links.{step_above, signal_below, log_past, sent_by_stop, sent_by_stamped, sent_below}
+use Rattle.run_theory.proofs.Links.{given_less}
 use Rattle.run_theory.proofs.Runs.{taken-step, if_true}
 use Rattle.run_theory.proofs.Orders.{made_last}
 use Rattle.run_theory.proofs.Cuts.{taken_past}

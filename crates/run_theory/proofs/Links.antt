@@ -1,5 +1,6 @@
 -- Stamps along a log and along a link, and what a link gives as its sender's log grows or is cut.
-use Rattle.std.proofs.Common.{◌≡◌, ◌⊎◌, ◌==◌, ◌<◌, ◌≤◌, ℕ, max, Bool, true, false, List, [], ◌∷◌, ◌++◌, if◌then◌else◌, refl, sym, ap, subst, inl, inr, arith}
+use Rattle.std.proofs.Common.{◌≡◌, ◌⊎◌, ◌==◌, ◌<◌, ◌≤◌, ℕ, max, Bool, true, false, List, [], ◌∷◌, ◌++◌, if◌then◌else◌}
+use Rattle.std.proofs.Common.{refl, sym, ap, subst, inl, inr, arith}
 use Rattle.run_theory.specs.Lists.{Each, IsPast}
 use Rattle.run_theory.specs.Machine.{Machine, IsStamped}
 use Rattle.run_theory.specs.Links.{sent_by, put, sent, IsGiven}

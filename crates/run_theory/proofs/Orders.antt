@@ -1,5 +1,6 @@
 -- Right logs are a run, in any order that keeps to causes.
-use Rattle.std.proofs.Common.{◌≡◌, ◌≢◌, ◌⊎◌, ◌<◌, ◌≤◌, ℕ, false, List, [], ◌∷◌, refl, sym, ap, ◌∙◌, subst, inl, inr, arith}
+use Rattle.std.proofs.Common.{◌≡◌, ◌≢◌, ◌⊎◌, ◌<◌, ◌≤◌, ℕ, false, List, [], ◌∷◌, refl, sym, ap, ◌∙◌, subst, inl, inr}
+use Rattle.std.proofs.Common.{arith}
 use Rattle.std.proofs.lemmas.Bool.{cases_eq}
 use Rattle.std.proofs.Math.Path.{fun_ext}
 use Rattle.run_theory.specs.Lists.{Each, HasEntry, IsPast}
@@ -10,7 +11,8 @@ use Rattle.run_theory.specs.Runs.{log_of, Happens, Run, AreLogs}
 use Rattle.run_theory.specs.Orders.{HasLogs, IsByStamp, MayFollow, IsCausal}
 use Rattle.run_theory.proofs.Pasts.{past_cases, entry_past, each_map, each_past}
 use Rattle.run_theory.proofs.Links.{step_above, signal_below, given_before, given_less, HeadBelow, log_past}
-use Rattle.run_theory.proofs.Runs.{log_of-own, log_of-other, log_of-past, taken-step, TakenCases, taken_cases, took, same}
+use Rattle.run_theory.proofs.Runs.{log_of-own, log_of-other, log_of-past, taken-step, TakenCases, taken_cases, took}
+use Rattle.run_theory.proofs.Runs.{same}
 use Rattle.run_theory.proofs.Cuts.{taken_past}
 
 module _ {E X : Type 0} (m : Machine E X) where

@@ -1,5 +1,6 @@
 -- Older parts of a list, and what holds of each entry.
-use Rattle.std.proofs.Common.{◌≡◌, ◌⊎◌, List, [], ◌∷◌, ◌++◌, refl, sym, ap, ◌∙◌, subst, inl, inr, append_assoc, ◌≤◌, length, Option, None, filter_map, arith, length-append}
+use Rattle.std.proofs.Common.{◌≡◌, ◌⊎◌, List, [], ◌∷◌, ◌++◌, refl, sym, ap, ◌∙◌, subst, inl, inr, append_assoc, ◌≤◌}
+use Rattle.std.proofs.Common.{length, Option, None, filter_map, arith, length-append}
 use Rattle.std.proofs.lemmas.List.Elements.{filter_map-append}
 use Rattle.run_theory.specs.Lists.{Each, IsIn, HasEntry, IsPast}
 

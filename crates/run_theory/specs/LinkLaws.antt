@@ -1,5 +1,6 @@
 -- The laws of logs and links in words of their own, as the contracts of functions name them.
-use Rattle.std.specs.Prelude.{◌≡◌, ◌≢◌, ◌⊎◌, ◌<◌, ◌≤◌, ℕ, suc, Bool, true, false, List, [], ◌∷◌, ◌++◌, length, reverse, count_by, slice_get, Option, Some, None, filter_map, if◌then◌else◌}
+use Rattle.std.specs.Prelude.{◌≡◌, ◌≢◌, ◌⊎◌, ◌<◌, ◌≤◌, ℕ, suc, Bool, true, false, List, [], ◌∷◌, ◌++◌, length, reverse}
+use Rattle.std.specs.Prelude.{count_by, slice_get, Option, Some, None, filter_map, if◌then◌else◌}
 use Rattle.run_theory.specs.Lists.{IsIn, IsPast}
 use Rattle.run_theory.specs.Machine.{Machine, IsStamped}
 use Rattle.run_theory.specs.TestMachine.{TestMachine, machine}

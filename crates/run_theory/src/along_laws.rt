@@ -1,5 +1,6 @@
 //! Induction along runs.
-ghost use Rattle.run_theory.specs.AlongLaws.{RunsKeep, RunsKeepWithSignals, LogsKeepWithSignals, CutsKeepWithSignals, LogsAreAsRuns, CutsAreAsRuns};
+ghost use Rattle.run_theory.specs.AlongLaws.{RunsKeep, RunsKeepWithSignals, LogsKeepWithSignals, CutsKeepWithSignals};
+ghost use Rattle.run_theory.specs.AlongLaws.{LogsAreAsRuns, CutsAreAsRuns};
 
 /// What holds at the start and is kept by each event holds after every run.
 pub fn along_run<E, X>()

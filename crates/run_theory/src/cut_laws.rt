@@ -1,5 +1,6 @@
 //! Closed cuts of right logs.
-ghost use Rattle.run_theory.specs.CutLaws.{CutsAreClosedWhereRight, LogsAreClosed, ClosedCutsRun, ClosedCutsGrow, ClosedCutsKeep};
+ghost use Rattle.run_theory.specs.CutLaws.{CutsAreClosedWhereRight, LogsAreClosed, ClosedCutsRun, ClosedCutsGrow};
+ghost use Rattle.run_theory.specs.CutLaws.{ClosedCutsKeep};
 
 /// A cut of right logs is closed exactly where it is right logs itself, and so a run.
 pub fn closed_cuts_are_right_logs<E, X>()

@@ -1,6 +1,8 @@
 //! What running hosts promise, each of its own log and its own links.
-ghost use Rattle.run_theory.specs.HostLaws.{HostsKeepRightLogs, HostsRun, RightLogsAreKept, SendsBehind, TakesBehind, LengthsCutLogs};
-ghost use Rattle.run_theory.specs.PairLaws.{PairsFlow, PairsKeepRightLogs, LengthsTellQuiet, LengthsOfLinksTellQuiet, LengthsOfEndsTellQuiet};
+ghost use Rattle.run_theory.specs.HostLaws.{HostsKeepRightLogs, HostsRun, RightLogsAreKept, SendsBehind, TakesBehind};
+ghost use Rattle.run_theory.specs.HostLaws.{LengthsCutLogs};
+ghost use Rattle.run_theory.specs.PairLaws.{PairsFlow, PairsKeepRightLogs, LengthsTellQuiet, LengthsOfLinksTellQuiet};
+ghost use Rattle.run_theory.specs.PairLaws.{LengthsOfEndsTellQuiet};
 
 /// What running hosts and links keep are right logs, and so a run; and it promises no more.
 pub fn logs_of_hosts<E, X>()

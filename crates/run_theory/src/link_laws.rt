@@ -1,5 +1,6 @@
 //! The laws of logs and links in words of their own.
-ghost use Rattle.run_theory.specs.LinkLaws.{FirstInFirstOut, NothingFollowsStop, ClosingIsLast, StampsRise, HostsAreMadeFirst, TakenAtMostOnce, LinksProject};
+ghost use Rattle.run_theory.specs.LinkLaws.{FirstInFirstOut, NothingFollowsStop, ClosingIsLast, StampsRise};
+ghost use Rattle.run_theory.specs.LinkLaws.{HostsAreMadeFirst, TakenAtMostOnce, LinksProject};
 
 /// The k-th signal that was taken from a link is the k-th that was sent, until the closing.
 pub fn first_in_first_out<E, X>()

@@ -1,5 +1,6 @@
 //! Runs and right logs are the same thing.
-ghost use Rattle.run_theory.specs.RunLaws.{RunsLeaveRightLogs, RunsAreCausal, MergedLogsRun, LogsByStampRun, SortedLogsRun, CausalLogsRun, SchedulesRunMerged};
+ghost use Rattle.run_theory.specs.RunLaws.{RunsLeaveRightLogs, RunsAreCausal, MergedLogsRun, LogsByStampRun};
+ghost use Rattle.run_theory.specs.RunLaws.{SortedLogsRun, CausalLogsRun, SchedulesRunMerged};
 ghost use Rattle.run_theory.specs.RankLaws.{RankedLogsRun};
 
 /// A run leaves right logs, and keeps to causes.

@@ -8,7 +8,8 @@ use Rattle.node_core.specs.declared.host.Host.{Host}
 use Rattle.node_core.specs.Requests.{is_request}
 use Rattle.node_core.specs.Row.{row}
 use Rattle.world_core.specs.Hosts.{first_membership, started}
-use Rattle.world_core.specs.Machine.{after, all_addressed, asked_rightly, count_sends, last_stamp, machine, sent_count, signals_of, step_after}
+use Rattle.world_core.specs.Machine.{after, all_addressed, asked_rightly, count_sends, last_stamp, machine, sent_count}
+use Rattle.world_core.specs.Machine.{signals_of, step_after}
 use Rattle.world_core.specs.Start.{Start}
 use Rattle.world_core.specs.Steps.{Addressed, HostStep}
 

@@ -15,7 +15,8 @@ use Rattle.sig_core.specs.declared.signal.Body.TheVariants.{Chain, Client, Epoch
 use Rattle.sig_core.specs.declared.signal.chain.ChainSignal.TheVariants as rows
 use Rattle.sig_core.specs.declared.signal.chain.RowWork.TheVariants.{Operate}
 use Rattle.sig_core.specs.declared.signal.client.ClientSignal.TheVariants.{TcBeginConf, TcBeginReq, TcCommitAck}
-use Rattle.sig_core.specs.declared.signal.client.ClientSignal.TheVariants.{TcCommitConf, TcCommitReq, TcKeyConf, TcKeyReq}
+use Rattle.sig_core.specs.declared.signal.client.ClientSignal.TheVariants.{TcCommitConf, TcCommitReq, TcKeyConf}
+use Rattle.sig_core.specs.declared.signal.client.ClientSignal.TheVariants.{TcKeyReq}
 use Rattle.sig_core.specs.declared.signal.epoch.EpochSignal.TheVariants.{DiVerifyConf, DiVerifyEnd, DiVerifyReq}
 use Rattle.sig_core.specs.declared.signal.host.HostSignal.TheVariants.{Continue}
 use Rattle.sig_core.specs.declared.signal.host.Work.TheVariants.{Granted}

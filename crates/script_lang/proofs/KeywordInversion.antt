@@ -6,7 +6,8 @@ use Rattle.script_lang.specs.declared.keyword.OpKind.{OpKind}
 use Rattle.script_lang.specs.declared.keyword.OpKind.TheVariants as kind
 use Rattle.script_lang.specs.declared.keyword.Keyword.{Keyword}
 use Rattle.script_lang.specs.declared.keyword.Keyword.TheVariants as keyword
-use Rattle.script_lang.specs.Keyword.{operation_of, transaction_word, operator_word, keyword_else, keyword_by, keyword_of}
+use Rattle.script_lang.specs.Keyword.{operation_of, transaction_word, operator_word, keyword_else, keyword_by}
+use Rattle.script_lang.specs.Keyword.{keyword_of}
 
 abbrev pub operation_word : OpKind → List ℕ
 operation_word kind.Get = codes "get"
@@ -38,11 +39,13 @@ keyword_word keyword.View = codes "view"
 keyword_word keyword.Quit = codes "quit"
 
 -- one test of a chain: what is found is what the word spells, if that holds of the tests behind it
-link : {A : Type 0} (spelling : A → List ℕ) (word : List ℕ) (it found : A) (rest : Option A) → (rest ≡ Some found → word ≡ spelling found)
+link : {A : Type 0} (spelling : A → List ℕ) (word : List ℕ) (it found : A) (rest : Option A)
+    → (rest ≡ Some found → word ≡ spelling found)
     → (if bytes_eq word (spelling it) then Some it else rest) ≡ Some found → word ≡ spelling found
 link {A} spelling word it found rest further e = by_test (bytes_eq word (spelling it)) refl e
   where
-    by_test : (b : Bool) → bytes_eq word (spelling it) ≡ b → (if b then Some it else rest) ≡ Some found → word ≡ spelling found
+    by_test : (b : Bool) → bytes_eq word (spelling it) ≡ b → (if b then Some it else rest) ≡ Some found
+        → word ≡ spelling found
     by_test true test e = let is : it ≡ found = cc in (bytes_eq-Decides word (spelling it)).0 test ∙ ap spelling is
     by_test false test e = further e
 
@@ -91,10 +94,13 @@ some_keyword one other e = cc
 pub keyword_named : (word : List ℕ) (found : Keyword) → keyword_of word ≡ Some found → word ≡ keyword_word found
 keyword_named word found e = by_operation (operation_of word) refl e
   where
-    by_transaction : (o : Option Keyword) → transaction_word word ≡ o → keyword_else o (operator_word word) ≡ Some found → word ≡ keyword_word found
+    by_transaction : (o : Option Keyword) → transaction_word word ≡ o → keyword_else o (operator_word word) ≡ Some found
+        → word ≡ keyword_word found
     by_transaction (Some it) is e = transaction_named word it is ∙ ap keyword_word (some_keyword it found e)
     by_transaction None is e = operator_named word found e
 
-    by_operation : (o : Option OpKind) → operation_of word ≡ o → keyword_by o word ≡ Some found → word ≡ keyword_word found
-    by_operation (Some it) is e = operation_named word it is ∙ ap keyword_word (some_keyword (keyword.Operation it) found e)
+    by_operation : (o : Option OpKind) → operation_of word ≡ o → keyword_by o word ≡ Some found
+        → word ≡ keyword_word found
+    by_operation (Some it) is e =
+        operation_named word it is ∙ ap keyword_word (some_keyword (keyword.Operation it) found e)
     by_operation None is e = by_transaction (transaction_word word) refl e

@@ -15,7 +15,8 @@ use Rattle.sig_core.specs.declared.word.WordFault.TheVariants.{Length}
 use Rattle.sig_core.specs.Word.{if_word, unless_spoilt, is_unprintable}
 use Rattle.script_lang.specs.declared.command.Command.{Command}
 use Rattle.script_lang.specs.declared.command.Command.TheVariants as commands
-use Rattle.script_lang.specs.Spelling.{spelled, line_of, operation_words, value_words, IsName, IsNode, IsKey, IsValue, IsOperation, IsCommand, CommandsHaveLines}
+use Rattle.script_lang.specs.Spelling.{spelled, line_of, operation_words, value_words, IsName, IsNode, IsKey, IsValue}
+use Rattle.script_lang.specs.Spelling.{IsOperation, IsCommand, CommandsHaveLines}
 use Rattle.script_lang.specs.Words.{is_word}
 use Rattle.script_lang.proofs.SpelledIsRead.{spellings_are_read}
 use Rattle.script_lang.proofs.WordCuts.{none_left}
@@ -33,7 +34,8 @@ digits_visible (byte ∷ word) all =
     and_from (nat_lt 32 byte) (are_visible word) (lt-ltb 32 byte (omega (arith, digit.0))) (digits_visible word all.1)
 
 number_shown : (value : ℕ) → value < 2 ^ 64 → IsShown (decimal value)
-number_shown value small = let is = decimal_is_IsNumeral value small in (long_word (decimal value) is.0.0, digits_visible (decimal value) is.0.1)
+number_shown value small = let is = decimal_is_IsNumeral value small in
+    (long_word (decimal value) is.0.0, digits_visible (decimal value) is.0.1)
 
 name_shown : (name : ℕ) → IsName name → IsShown (decimal name)
 name_shown name is = number_shown name (omega arith)
@@ -55,16 +57,25 @@ record IsGoodWord (least : ℕ) (bytes : List ℕ) : Type 0 where
 word_taken : (least most : ℕ) (bytes : List ℕ) → if_word least most bytes bytes ≡ Ok bytes → IsGoodWord least bytes
 word_taken least most bytes e = by_length (nat_lt (length bytes) least || nat_lt most (length bytes)) refl e
   where
-    by_place : (o : Option ℕ) → position is_unprintable bytes ≡ o → unless_spoilt bytes o ≡ Ok bytes → least ≤ length bytes → IsGoodWord least bytes
+    by_place : (o : Option ℕ) → position is_unprintable bytes ≡ o → unless_spoilt bytes o ≡ Ok bytes
+        → least ≤ length bytes → IsGoodWord least bytes
     by_place None is e long =
-        record { long = long; visible = visible_all bytes (All-weaker (λ byte. is_unprintable byte ≡ false) (λ byte. 32 < byte) printable bytes (none_found is_unprintable bytes is)) }
+        record {
+          long = long;
+          visible = visible_all bytes
+              (All-weaker (λ byte. is_unprintable byte ≡ false) (λ byte. 32 < byte) printable bytes
+              (none_found is_unprintable bytes is));
+        }
     by_place (Some at) is e long = cc
 
     by_length : (b : Bool) → (nat_lt (length bytes) least || nat_lt most (length bytes)) ≡ b
-        → (if b then Err (Length (length bytes)) else unless_spoilt bytes (position is_unprintable bytes)) ≡ Ok bytes → IsGoodWord least bytes
+        → (if b then Err (Length (length bytes)) else unless_spoilt bytes (position is_unprintable bytes)) ≡ Ok bytes
+        → IsGoodWord least bytes
     by_length true test e = cc
     by_length false test e =
-        by_place (position is_unprintable bytes) refl e (ltb-false (length bytes) least (or_parts (nat_lt (length bytes) least) (nat_lt most (length bytes)) test).0)
+        by_place (position is_unprintable bytes) refl e
+        (ltb-false (length bytes) least
+        (or_parts (nat_lt (length bytes) least) (nat_lt most (length bytes)) test).0)
 
 key_shown : (key : List ℕ) → IsKey key → IsShown key
 key_shown key is = let good = word_taken 1 32 key is in (long_word key (omega (arith, good.long)), good.visible)
@@ -81,11 +92,14 @@ operation_shown (op.Ins key value) is = ((refl, refl), (key_shown key is.0, valu
 operation_shown (op.Upd key value) is = ((refl, refl), (key_shown key is.0, value_shown value is.1))
 operation_shown (op.Del key) is = ((refl, refl), (key_shown key is, tt))
 
-spelling_shown : (batch : Bool) (nodes : ℕ) (command : Command) → nodes < 2 ^ 64 → IsCommand batch nodes command → AllByRecursion IsShown (spelled command)
+spelling_shown : (batch : Bool) (nodes : ℕ) (command : Command) → nodes < 2 ^ 64 → IsCommand batch nodes command
+    → AllByRecursion IsShown (spelled command)
 spelling_shown batch nodes (commands.Begin name None) small is = ((refl, refl), (name_shown name is.0, tt))
-spelling_shown batch nodes (commands.Begin name (Some node)) small is = ((refl, refl), (name_shown name is.0, (node_shown nodes node small is.1, tt)))
+spelling_shown batch nodes (commands.Begin name (Some node)) small is =
+    ((refl, refl), (name_shown name is.0, (node_shown nodes node small is.1, tt)))
 spelling_shown batch nodes (commands.Operate None operation) small is = operation_shown operation is.1
-spelling_shown batch nodes (commands.Operate (Some name) operation) small is = ((refl, (name_shown name is.0).1), operation_shown operation is.1)
+spelling_shown batch nodes (commands.Operate (Some name) operation) small is =
+    ((refl, (name_shown name is.0).1), operation_shown operation is.1)
 spelling_shown batch nodes (commands.Commit name) small is = ((refl, refl), (name_shown name is.1, tt))
 spelling_shown batch nodes (commands.Abort name) small is = ((refl, refl), (name_shown name is.1, tt))
 spelling_shown batch nodes commands.Batch small is = ((refl, refl), tt)
@@ -93,8 +107,10 @@ spelling_shown batch nodes commands.End small is = ((refl, refl), tt)
 spelling_shown batch nodes (commands.Kill node) small is = ((refl, refl), (node_shown nodes node small is.1, tt))
 spelling_shown batch nodes (commands.KillAfter node after) small is =
     ((refl, refl), (node_shown nodes node small is.1, ((refl, refl), (number_shown after (omega (arith, is.2)), tt))))
-spelling_shown batch nodes (commands.Cut one other) small is = ((refl, refl), (node_shown nodes one small is.1, (node_shown nodes other small is.2, tt)))
-spelling_shown batch nodes (commands.Tick rounds) small is = ((refl, refl), (number_shown rounds (omega (arith, is.2)), tt))
+spelling_shown batch nodes (commands.Cut one other) small is =
+    ((refl, refl), (node_shown nodes one small is.1, (node_shown nodes other small is.2, tt)))
+spelling_shown batch nodes (commands.Tick rounds) small is =
+    ((refl, refl), (number_shown rounds (omega (arith, is.2)), tt))
 spelling_shown batch nodes commands.Micro small is = ((refl, refl), tt)
 spelling_shown batch nodes commands.Gcp small is = ((refl, refl), tt)
 spelling_shown batch nodes commands.Lcp small is = ((refl, refl), tt)
@@ -108,4 +124,5 @@ spelling_shown batch nodes commands.Quit small is = ((refl, refl), tt)
 
 pub commands_have_lines : CommandsHaveLines
 commands_have_lines batch nodes command small is =
-    spellings_are_read batch nodes (line_of command) command small is (words_of_joined (spelled command) (spelling_shown batch nodes command small is))
+    spellings_are_read batch nodes (line_of command) command small is
+    (words_of_joined (spelled command) (spelling_shown batch nodes command small is))

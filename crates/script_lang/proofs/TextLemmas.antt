@@ -1,5 +1,6 @@
 -- How a loop that adds pieces to a line goes on, and what a byte is as two digits.
-use Rattle.std.proofs.Common.{◌≡◌, ℕ, ◌+◌, ◌<◌, ◌/◌, ◌%◌, List, [], ◌∷◌, ◌++◌, length, drop, get_or, false, ap, sym, subst, ◌∙◌, append_assoc}
+use Rattle.std.proofs.Common.{◌≡◌, ℕ, ◌+◌, ◌<◌, ◌/◌, ◌%◌, List, [], ◌∷◌, ◌++◌, length, drop, get_or, false, ap, sym}
+use Rattle.std.proofs.Common.{subst, ◌∙◌, append_assoc}
 use Rattle.std.specs.Prelude.{Option, IfSome, Some, codes}
 use Rattle.std.specs.Fmt.{decimal, digits, digit_glyph, padded_integral, format_spec}
 use Rattle.std.specs.Option.{option_map}
@@ -10,13 +11,15 @@ use Rattle.script_lang.specs.ViewText.{further_nodes}
 use Rattle.script_lang.specs.DigestText.{hex_digits}
 
 -- a piece that is added moves from what is left to what is done
-pub moved : (line piece rest : List ℕ) {left now whole : List ℕ} → now ≡ line ++ piece → left ≡ piece ++ rest → line ++ left ≡ whole → now ++ rest ≡ whole
+pub moved : (line piece rest : List ℕ) {left now whole : List ℕ} → now ≡ line ++ piece → left ≡ piece ++ rest
+    → line ++ left ≡ whole → now ++ rest ≡ whole
 moved line piece rest added split kept =
     ap (λ xs. xs ++ rest) added ∙ append_assoc line piece rest ∙ ap (λ xs. line ++ xs) (sym split) ∙ kept
 
 -- the nodes of the members that are left begin with that of the next one
 pub further_nodes-next : (members : List Member) (index : ℕ) (default : Member) → index < length members
-    → further_nodes (drop index members) ≡ (codes "," ++ decimal (get_or members index default).node) ++ further_nodes (drop (index + 1) members)
+    → further_nodes (drop index members) ≡ (codes "," ++ decimal (get_or members index default).node)
+    ++ further_nodes (drop (index + 1) members)
 further_nodes-next members index default within = ap further_nodes (drop_more members index default within)
 
 -- a byte as two digits
@@ -33,9 +36,11 @@ abbrev pub two_places : List ℕ → List ℕ
 two_places = padded_integral (format_spec 32 0 4 2 18446744073709551615) false []
 
 -- what they write of a byte
-pub byte_digits-shown : (byte : ℕ) (number : Option (List ℕ)) (shown : List ℕ) → byte < 256 → number ≡ Some (digits 16 false byte)
+pub byte_digits-shown : (byte : ℕ) (number : Option (List ℕ)) (shown : List ℕ) → byte < 256
+    → number ≡ Some (digits 16 false byte)
     → IfSome (option_map two_places number) (λ bytes. shown ≡ bytes) → shown ≡ byte_digits byte
-byte_digits-shown byte number shown small is written = written_as (subst (λ n. IfSome (option_map two_places n) (λ bytes. shown ≡ bytes)) is written)
+byte_digits-shown byte number shown small is written =
+    written_as (subst (λ n. IfSome (option_map two_places n) (λ bytes. shown ≡ bytes)) is written)
   where
     written_as : shown ≡ two_places (digits 16 false byte) → shown ≡ byte_digits byte
     written_as same = same ∙ hex_byte false byte small

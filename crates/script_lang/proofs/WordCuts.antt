@@ -1,5 +1,6 @@
 -- How a line falls into words.
-use Rattle.std.proofs.Common.{◌≡◌, ℕ, suc, ◌+◌, ◌≤◌, List, [], ◌∷◌, length, take, drop, Bool, true, false, cond, not, refl, ap, sym, subst, ◌∙◌, arith}
+use Rattle.std.proofs.Common.{◌≡◌, ℕ, suc, ◌+◌, ◌≤◌, List, [], ◌∷◌, length, take, drop, Bool, true, false, cond, not}
+use Rattle.std.proofs.Common.{refl, ap, sym, subst, ◌∙◌, arith}
 use Rattle.std.specs.Prelude.{None, Some, position, nat_lt, filter}
 use Rattle.std.specs.List.{position_or_len, before_first, after_first, slice_split, onto_first}
 use Rattle.std.proofs.lemmas.Bool.{ne_eqb}
@@ -45,7 +46,8 @@ record IsCut (line : List ℕ) : Type 0 where
 place-space : (byte : ℕ) (line : List ℕ) → is_space byte ≡ true → position_or_len is_space (byte ∷ line) ≡ 0
 place-space byte line space = ap (λ b. cond (not b) (1 + position_or_len is_space line) 0) space
 
-place-other : (byte : ℕ) (line : List ℕ) → is_space byte ≡ false → position_or_len is_space (byte ∷ line) ≡ suc (position_or_len is_space line)
+place-other : (byte : ℕ) (line : List ℕ) → is_space byte ≡ false
+    → position_or_len is_space (byte ∷ line) ≡ suc (position_or_len is_space line)
 place-other byte line other =
     let one_more : 1 + position_or_len is_space line ≡ suc (position_or_len is_space line) = omega arith in
     ap (λ b. cond (not b) (1 + position_or_len is_space line) 0) other ∙ one_more
@@ -53,7 +55,8 @@ place-other byte line other =
 cut_space : (byte : ℕ) (line : List ℕ) → is_space byte ≡ true → IsCut (byte ∷ line)
 cut_space byte line space = record {
   parts = slice_split is_space line;
-  split = slice_split-cons_yes is_space byte line space ∙ ap (λ n. take n (byte ∷ line) ∷ slice_split is_space line) (sym (place-space byte line space));
+  split = slice_split-cons_yes is_space byte line space
+      ∙ ap (λ n. take n (byte ∷ line) ∷ slice_split is_space line) (sym (place-space byte line space));
   rest = ap (λ n. words (drop (n + 1) (byte ∷ line))) (sym (place-space byte line space));
 }
 
@@ -62,7 +65,8 @@ cut_other byte line other cut = record {
   parts = cut.parts;
   split = slice_split-cons_no is_space byte line other ∙ ap (onto_first byte) cut.split
       ∙ ap (λ n. take n (byte ∷ line) ∷ cut.parts) (sym (place-other byte line other));
-  rest = cut.rest ∙ (let shift : suc (position_or_len is_space line + 1) ≡ suc (position_or_len is_space line) + 1 = omega arith in
+  rest = cut.rest ∙ (let shift : suc (position_or_len is_space line + 1) ≡ suc (position_or_len is_space line) + 1 =
+      omega arith in
       ap (λ n. words (drop n (byte ∷ line))) shift)
       ∙ ap (λ n. words (drop (n + 1) (byte ∷ line))) (sym (place-other byte line other));
 }

@@ -3,7 +3,9 @@ use Rattle.std.specs.Prelude.{ℕ, Bool, true, not, List, codes, bytes_eq, if◌
 use Rattle.script_lang.specs.declared.keyword.OpKind.{OpKind}
 use Rattle.script_lang.specs.declared.keyword.OpKind.TheVariants as kind
 use Rattle.script_lang.specs.declared.keyword.Keyword.{Keyword}
-use Rattle.script_lang.specs.declared.keyword.Keyword.TheVariants.{Operation, Begin, Commit, Abort, Batch, End, Kill, Cut, Tick, Micro, Gcp, Lcp, Start, Crash, Restart, Rows, Digest, View, Quit}
+use Rattle.script_lang.specs.declared.keyword.Keyword.TheVariants.{Operation, Begin, Commit, Abort, Batch, End, Kill}
+use Rattle.script_lang.specs.declared.keyword.Keyword.TheVariants.{Cut, Tick, Micro, Gcp, Lcp, Start, Crash, Restart}
+use Rattle.script_lang.specs.declared.keyword.Keyword.TheVariants.{Rows, Digest, View, Quit}
 
 -- the operation that a word names
 abbrev pub operation_of : List ℕ → Option OpKind

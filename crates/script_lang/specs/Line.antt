@@ -1,5 +1,6 @@
 -- What a line means.
-use Rattle.std.specs.Prelude.{ℕ, ◌-◌, ◌==◌, Bool, true, false, List, [], ◌∷◌, length, take, drop, slice_index, codes, bytes_eq, if◌then◌else◌, Option, None, Some, Result, Ok, Err}
+use Rattle.std.specs.Prelude.{ℕ, ◌-◌, ◌==◌, Bool, true, false, List, [], ◌∷◌, length, take, drop, slice_index, codes}
+use Rattle.std.specs.Prelude.{bytes_eq, if◌then◌else◌, Option, None, Some, Result, Ok, Err}
 use Rattle.script_lang.specs.declared.command.Command.{Command}
 use Rattle.script_lang.specs.declared.command.Command.TheVariants as command
 use Rattle.script_lang.specs.declared.fault.LineFault.{LineFault}
@@ -43,7 +44,8 @@ made make (Err fault) = Err fault
 -- `T` or `T N`
 abbrev pub begin_at : ℕ → ℕ → List ℕ → Result Command LineFault
 begin_at nodes name [] = Ok (command.Begin name None)
-begin_at nodes name (byte ∷ word) = with_number (node nodes (byte ∷ word)) (λ value. Ok (command.Begin name (Some value)))
+begin_at nodes name (byte ∷ word) =
+    with_number (node nodes (byte ∷ word)) (λ value. Ok (command.Begin name (Some value)))
 
 abbrev pub begin_by : ℕ → Option (List ℕ × List ℕ) → Result Command LineFault
 begin_by nodes None = Err Arity
@@ -55,7 +57,8 @@ begin nodes words = begin_by nodes (one_or_two words)
 -- `A B`
 abbrev pub cut_by : ℕ → Option (List ℕ × List ℕ) → Result Command LineFault
 cut_by nodes None = Err Arity
-cut_by nodes (Some both) = with_number (node nodes both.0) (λ one. with_number (node nodes both.1) (λ other. Ok (command.Cut one other)))
+cut_by nodes (Some both) =
+    with_number (node nodes both.0) (λ one. with_number (node nodes both.1) (λ other. Ok (command.Cut one other)))
 
 abbrev pub cut : ℕ → List (List ℕ) → Result Command LineFault
 cut nodes words = cut_by nodes (two_words words)
@@ -63,7 +66,8 @@ cut nodes words = cut_by nodes (two_words words)
 -- `N after R`
 abbrev pub kill_at : ℕ → List ℕ → List ℕ → Result Command LineFault
 kill_at node word count =
-    if bytes_eq word (codes "after") then with_number (number 0 100000 count) (λ after. Ok (command.KillAfter node after)) else Err BadWord
+    if bytes_eq word (codes "after") then with_number (number 0 100000 count)
+    (λ after. Ok (command.KillAfter node after)) else Err BadWord
 
 abbrev pub kill_by : ℕ → List ℕ → Option (List ℕ × List ℕ) → Result Command LineFault
 kill_by nodes first None = Err Arity
@@ -123,7 +127,8 @@ with_keyword batch nodes keyword.Quit words = bare command.Quit words
 -- a line that may begin so, in a batch or outside
 abbrev pub if_known : Bool → ℕ → Option Keyword → List (List ℕ) → Result Command LineFault
 if_known batch nodes None words = Err UnknownCommand
-if_known batch nodes (Some keyword) words = if is_in batch keyword then with_keyword batch nodes keyword words else Err UnknownCommand
+if_known batch nodes (Some keyword) words =
+    if is_in batch keyword then with_keyword batch nodes keyword words else Err UnknownCommand
 
 -- a first word that begins with @ is the name of a transaction
 abbrev pub command_of : Bool → ℕ → List ℕ → List (List ℕ) → Result Command LineFault
@@ -137,7 +142,8 @@ meant (Err fault) = Err fault
 -- a first word that begins with # makes a comment of the line
 abbrev pub parsed_words : Bool → ℕ → List (List ℕ) → Result (Option Command) LineFault
 parsed_words batch nodes [] = Ok None
-parsed_words batch nodes (first ∷ rest) = if slice_index first 0 == 35 then Ok None else meant (command_of batch nodes first rest)
+parsed_words batch nodes (first ∷ rest) =
+    if slice_index first 0 == 35 then Ok None else meant (command_of batch nodes first rest)
 
 -- a line without the carriage return at its end
 abbrev pub without_return : List ℕ → List ℕ

@@ -1,5 +1,6 @@
 -- The numbers of a script: decimal digits without leading zeros.
-use Rattle.std.specs.Prelude.{◌≡◌, ℕ, ◌+◌, ◌-◌, ◌*◌, ◌^◌, ◌<◌, ◌≤◌, ◌==◌, ◌&&◌, ◌||◌, not, Bool, nat_lt, if◌then◌else◌, List, [], ◌∷◌, length, slice_index, Option, None, Some}
+use Rattle.std.specs.Prelude.{◌≡◌, ℕ, ◌+◌, ◌-◌, ◌*◌, ◌^◌, ◌<◌, ◌≤◌, ◌==◌, ◌&&◌, ◌||◌, not, Bool, nat_lt, if◌then◌else◌}
+use Rattle.std.specs.Prelude.{List, [], ◌∷◌, length, slice_index, Option, None, Some}
 use Rattle.std.specs.Fmt.{decimal}
 
 abbrev pub is_digit : ℕ → Bool
@@ -34,8 +35,10 @@ number least most word = if has_no_leading_zero word then at_least least (read_d
 -- a word that tells a number is its decimal text, and the number is in its range
 abbrev pub NumbersAreSpelled : Type 0
 NumbersAreSpelled =
-    (least most value : ℕ) (word : List ℕ) → most < 2 ^ 64 → number least most word ≡ Some value → (word ≡ decimal value) × (least ≤ value) × (value ≤ most)
+    (least most value : ℕ) (word : List ℕ) → most < 2 ^ 64 → number least most word ≡ Some value
+    → (word ≡ decimal value) × (least ≤ value) × (value ≤ most)
 
 -- the decimal text of a number in its range tells it
 abbrev pub DecimalsAreRead : Type 0
-DecimalsAreRead = (least most value : ℕ) → value < 2 ^ 64 → least ≤ value → value ≤ most → number least most (decimal value) ≡ Some value
+DecimalsAreRead = (least most value : ℕ) → value < 2 ^ 64 → least ≤ value → value ≤ most
+    → number least most (decimal value) ≡ Some value

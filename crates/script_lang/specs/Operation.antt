@@ -43,7 +43,8 @@ op_with Ins key value = op.Ins key value
 op_with Upd key value = op.Upd key value
 op_with Del key value = op.Del key
 
-abbrev pub operate_if : Option ℕ → OpKind → Result (List ℕ) WordFault → Result (List ℕ) WordFault → Result Command LineFault
+abbrev pub operate_if : Option ℕ → OpKind → Result (List ℕ) WordFault → Result (List ℕ) WordFault
+    → Result Command LineFault
 operate_if name kind (Ok key) (Ok value) = Ok (Operate name (op_with kind key value))
 operate_if name kind (Ok key) (Err fault) = Err BadWord
 operate_if name kind (Err fault) value = Err BadWord

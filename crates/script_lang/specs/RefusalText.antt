@@ -2,7 +2,9 @@
 use Rattle.std.specs.Prelude.{ℕ, List, ◌++◌, codes, Option, None}
 use Rattle.std.specs.Fmt.{decimal}
 use Rattle.sig_core.specs.declared.reply.Refusal.{Refusal}
-use Rattle.sig_core.specs.declared.reply.Refusal.TheVariants.{Down, Running, NotOpen, IsOpen, NoMember, NotRunning, RunningNode, InView, Busy, TooManyOperations, TooManyOpen, Batch, NoSubscriber, IsSubscribed, NotSubscribed}
+use Rattle.sig_core.specs.declared.reply.Refusal.TheVariants.{Down, Running, NotOpen, IsOpen, NoMember, NotRunning}
+use Rattle.sig_core.specs.declared.reply.Refusal.TheVariants.{RunningNode, InView, Busy, TooManyOperations, TooManyOpen}
+use Rattle.sig_core.specs.declared.reply.Refusal.TheVariants.{Batch, NoSubscriber, IsSubscribed, NotSubscribed}
 
 -- the words of a refusal
 abbrev pub refusal_words : Refusal → List ℕ

@@ -2,7 +2,12 @@
 use Rattle.std.specs.Prelude.{ℕ, List, [], ◌∷◌, ◌++◌, Option, None, Some, codes}
 use Rattle.std.specs.Fmt.{decimal}
 use Rattle.sig_core.specs.declared.reply.ApiReply.{ApiReply}
-use Rattle.sig_core.specs.declared.reply.ApiReply.TheVariants.{Begun, Answered, Ended, Pending, Refused, Stopped, Ticked, Cut, Closed, Durable, Checkpoint, Started, StartEnded, Row, Rows, Digest, View, Crashed, Restarted, BatchEnd, Loaded, Subscribed, Unsubscribed, Changes, SubscriberFailed, BackedUp, BackupEnded, BackupTooLarge, NoBackup, DumpRow, Dumped, Unique}
+use Rattle.sig_core.specs.declared.reply.ApiReply.TheVariants.{Begun, Answered, Ended, Pending, Refused, Stopped}
+use Rattle.sig_core.specs.declared.reply.ApiReply.TheVariants.{Ticked, Cut, Closed, Durable, Checkpoint, Started}
+use Rattle.sig_core.specs.declared.reply.ApiReply.TheVariants.{StartEnded, Row, Rows, Digest, View, Crashed, Restarted}
+use Rattle.sig_core.specs.declared.reply.ApiReply.TheVariants.{BatchEnd, Loaded, Subscribed, Unsubscribed, Changes}
+use Rattle.sig_core.specs.declared.reply.ApiReply.TheVariants.{SubscriberFailed, BackedUp, BackupEnded, BackupTooLarge}
+use Rattle.sig_core.specs.declared.reply.ApiReply.TheVariants.{NoBackup, DumpRow, Dumped, Unique}
 use Rattle.script_lang.specs.AnswerText.{answer_words}
 use Rattle.script_lang.specs.BackupText.{backup_words, dump_words, ended_words, too_large_words}
 use Rattle.script_lang.specs.EpochText.{epoch_words}

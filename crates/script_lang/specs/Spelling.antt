@@ -1,5 +1,6 @@
 -- How commands are spelled, and where each may stand.
-use Rattle.std.specs.Prelude.{◌≡◌, ℕ, ◌^◌, ◌<◌, ◌≤◌, Bool, true, false, List, [], ◌∷◌, ◌++◌, codes, Option, None, Some, IfSome, Ok}
+use Rattle.std.specs.Prelude.{◌≡◌, ℕ, ◌^◌, ◌<◌, ◌≤◌, Bool, true, false, List, [], ◌∷◌, ◌++◌, codes, Option, None, Some}
+use Rattle.std.specs.Prelude.{IfSome, Ok}
 use Rattle.std.specs.Fmt.{decimal}
 use Rattle.std.specs.List.{join_with_byte}
 use Rattle.sig_core.specs.declared.key.TheConstants.{KEY_BYTES}
@@ -111,13 +112,15 @@ IsCommand batch nodes command.Quit = batch ≡ false
 abbrev pub LinesAreSpelled : Type 0
 LinesAreSpelled =
     (batch : Bool) (nodes : ℕ) (line : List ℕ) (command : Command) → nodes < 2 ^ 64
-    → parsed_line batch nodes line ≡ Ok (Some command) → (words (without_return line) ≡ spelled command) × IsCommand batch nodes command
+    → parsed_line batch nodes line ≡ Ok (Some command)
+    → (words (without_return line) ≡ spelled command) × IsCommand batch nodes command
 
 -- a line with the words of a command that may stand there is read as it
 abbrev pub SpellingsAreRead : Type 0
 SpellingsAreRead =
     (batch : Bool) (nodes : ℕ) (line : List ℕ) (command : Command) → nodes < 2 ^ 64
-    → IsCommand batch nodes command → words (without_return line) ≡ spelled command → parsed_line batch nodes line ≡ Ok (Some command)
+    → IsCommand batch nodes command → words (without_return line) ≡ spelled command
+    → parsed_line batch nodes line ≡ Ok (Some command)
 
 -- no two commands that may stand in one place have the same words
 abbrev pub SpellingsDiffer : Type 0
@@ -128,4 +131,5 @@ SpellingsDiffer =
 -- each command that may stand there has a line
 abbrev pub CommandsHaveLines : Type 0
 CommandsHaveLines =
-    (batch : Bool) (nodes : ℕ) (command : Command) → nodes < 2 ^ 64 → IsCommand batch nodes command → parsed_line batch nodes (line_of command) ≡ Ok (Some command)
+    (batch : Bool) (nodes : ℕ) (command : Command) → nodes < 2 ^ 64 → IsCommand batch nodes command
+    → parsed_line batch nodes (line_of command) ≡ Ok (Some command)

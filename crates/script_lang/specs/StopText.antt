@@ -2,7 +2,8 @@
 use Rattle.std.specs.Prelude.{ℕ, List, ◌++◌, codes}
 use Rattle.std.specs.Fmt.{decimal}
 use Rattle.sig_core.specs.declared.outcome.StopCause.{StopCause}
-use Rattle.sig_core.specs.declared.outcome.StopCause.TheVariants.{Killed, Excluded, NoGroup, Disk, Memory, Clock, Sibling}
+use Rattle.sig_core.specs.declared.outcome.StopCause.TheVariants.{Killed, Excluded, NoGroup, Disk, Memory, Clock}
+use Rattle.sig_core.specs.declared.outcome.StopCause.TheVariants.{Sibling}
 
 -- the words of a cause
 abbrev pub cause_words : StopCause → List ℕ

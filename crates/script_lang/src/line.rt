@@ -1,6 +1,7 @@
 //! What a line means.
 ghost use Rattle.std.specs.Prelude.{◌≡◌, ◌≤◌, IfOk, MatchOption, None, Some};
-ghost use Rattle.script_lang.specs.Line.{bare, begin, command_of, cut, first_word, kill_after, named, one_number, parsed_line, parsed_words, plain, with_keyword, without_return};
+ghost use Rattle.script_lang.specs.Line.{bare, begin, command_of, cut, first_word, kill_after, named, one_number};
+ghost use Rattle.script_lang.specs.Line.{parsed_line, parsed_words, plain, with_keyword, without_return};
 ghost use Rattle.script_lang.specs.Words.{words};
 
 use crate::command::Command;

@@ -1,6 +1,7 @@
 //! The numbers of a script.
 ghost use Rattle.std.specs.Prelude.{◌≡◌, ◌≤◌, IfSome};
-ghost use Rattle.script_lang.specs.Number.{DecimalsAreRead, NumbersAreSpelled, has_no_leading_zero, number, read_digits, with_digit};
+ghost use Rattle.script_lang.specs.Number.{DecimalsAreRead, NumbersAreSpelled, has_no_leading_zero, number};
+ghost use Rattle.script_lang.specs.Number.{read_digits, with_digit};
 
 /// The number that a word tells, if it is from `least` to `most`.
 pub fn read_number(word: &[u8], least: u32, most: u32) -> Option<u32>

@@ -1,5 +1,6 @@
 -- One start row, one operation and one entry more.
-use Rattle.std.proofs.Common.{◌≡◌, ℕ, ◌+◌, ◌<◌, List, [], ◌∷◌, ◌++◌, length, get_or, take, drop, arith, refl, ap, sym, ◌∙◌, subst}
+use Rattle.std.proofs.Common.{◌≡◌, ℕ, ◌+◌, ◌<◌, List, [], ◌∷◌, ◌++◌, length, get_or, take, drop, arith, refl, ap, sym}
+use Rattle.std.proofs.Common.{◌∙◌, subst}
 use Rattle.std.specs.FinMap as map
 use Rattle.std.proofs.lemmas.List.{length-take-le}
 use Rattle.sig_core.specs.declared.op.Answer.{Answer}
@@ -7,7 +8,8 @@ use Rattle.sig_core.specs.declared.op.Op.{Op}
 use Rattle.sig_core.specs.declared.entry.Entry.{Entry}
 use Rattle.sig_core.specs.Table.{Rows}
 use Rattle.serial_model.specs.Serial.{perform}
-use Rattle.serial_model.specs.Legal.{rows_over, AreAnswered, after_ops, IsLegal, fold, IsFirstWrong, IsFirstDifference, IsOpsFault, IsReplayFault, fault_at}
+use Rattle.serial_model.specs.Legal.{rows_over, AreAnswered, after_ops, IsLegal, fold, IsFirstWrong, IsFirstDifference}
+use Rattle.serial_model.specs.Legal.{IsOpsFault, IsReplayFault, fault_at}
 use Rattle.serial_model.specs.declared.legal.OpsFault.{OpsFault}
 use Rattle.serial_model.specs.declared.legal.OpsFault.TheVariants.{Differs, NoMemory}
 use Rattle.serial_model.proofs.Prefixes.{take_more, cut_at}

@@ -15,5 +15,6 @@ LegalListsHaveNoDifference =
 abbrev pub FirstDifferencesAreOne : Type 0
 FirstDifferencesAreOne =
     (rows : Rows) (entries : List Entry) (entry1 entry2 op1 op2 : ℕ) (stored1 stored2 found1 found2 : Answer)
-    → IsFirstDifference rows entries entry1 op1 stored1 found1 → IsFirstDifference rows entries entry2 op2 stored2 found2
+    → IsFirstDifference rows entries entry1 op1 stored1 found1
+    → IsFirstDifference rows entries entry2 op2 stored2 found2
     → (entry1 ≡ entry2) × (op1 ≡ op2) × (stored1 ≡ stored2) × (found1 ≡ found2)

@@ -1,6 +1,7 @@
 //! Replaying a list of entries on one table.
 ghost use Rattle.std.specs.Prelude.{◌≡◌, ◌↔◌, IsTrue, IfOk, IfErr, OnOk};
-ghost use Rattle.serial_model.specs.Legal.{AreAnswered, IsLegal, IsReplayFault, IsOpsFault, after_ops, fault_at, fold, rows_of};
+ghost use Rattle.serial_model.specs.Legal.{AreAnswered, IsLegal, IsReplayFault, IsOpsFault, after_ops, fault_at, fold};
+ghost use Rattle.serial_model.specs.Legal.{rows_of};
 
 use crate::do_op;
 use sig_core::{Answer, Entry, Key, NoMemory, Op, Table, Value};

@@ -13,7 +13,7 @@
 //! | `read N` | the script is read in pieces of at most so many bytes |
 //! | `no read N`, `no write N` | the call of this number, from 0, fails |
 //! | `logs` | at the end, the logs of each life are told: how many steps a host has, and which marks stand there |
-//! | `N times LINE` | a line of these, so many times |
+//! | `N times > LINE` | a line of the script, so many times |
 //!
 //! Printed are the title, what the session prints, and `status N`; where reads or writes failed, how
 //! many; and what is told of logs. Empty lines say nothing, nor do comments, which begin with `#` and a

@@ -1,5 +1,6 @@
 -- What peaceful lives say.
-use Rattle.std.proofs.Common.{◌≡◌, ◌⊎◌, ◌≤◌, ℕ, List, [], ◌∷◌, ◌++◌, true, refl, ap, sym, subst, ◌∙◌, append_assoc, inl, inr}
+use Rattle.std.proofs.Common.{◌<◌, ◌≡◌, ◌⊎◌, ◌≤◌, ℕ, List, [], ◌∷◌, ◌++◌, true, refl, ap, sym, subst, ◌∙◌, append_assoc}
+use Rattle.std.proofs.Common.{inl, inr}
 use Rattle.frag_map.specs.Shape.{IsShape}
 use Rattle.run_theory.proofs.Pasts.{past_self, past_trans}
 use Rattle.run_theory.specs.Cuts.{IsCut}
@@ -63,7 +64,7 @@ last_of (x ∷ xs) = go (last_of xs)
         inr (record { front = x ∷ has.front; last = has.last; is = ap (λ (ys : List ApiReq). x ∷ ys) has.is })
 
 module _ (plain_lives : PeacefulLivesArePlain) (closings : ClosingsAreAnswered) (start : Start)
-    (shape : IsShape start.shape) (rows : start.rows ≡ []) (some : 1 ≤ start.epoch)
+    (shape : IsShape start.shape) (rows : start.rows ≡ []) (some : start.start_epoch < start.epoch)
   where
     life : (asked : List ApiReq) (logs : ℕ → List HostStep) → AreServedBy start asked logs
         → IsPeacefulLife start asked logs

@@ -1,5 +1,5 @@
 -- Every closed cut is safe.
-use Rattle.std.proofs.Common.{◌≤◌, ℕ, List, subst}
+use Rattle.std.proofs.Common.{◌<◌, ◌≤◌, ℕ, List, subst}
 use Rattle.frag_map.specs.Shape.{IsShape}
 use Rattle.run_theory.proofs.Cuts.{logs_of_closed}
 use Rattle.run_theory.proofs.Pasts.{past_trans}
@@ -23,11 +23,12 @@ use Rattle.outcome_laws.proofs.order.ReportsBeforeAsks.{histories_in_strict_orde
 use Rattle.talk_laws.proofs.Told.{decided_as_told}
 use Rattle.closing_laws.proofs.settled.ClosedStayClosed.{closed_stay_closed}
 use Rattle.closing_laws.proofs.durable.All.{durable_were_closed}
-use Rattle.commit_laws.proofs.led.CutLaws.{aborts_effectless, commits_effective, histories_legal, records_alike, resting_rows}
+use Rattle.commit_laws.proofs.led.CutLaws.{aborts_effectless, commits_effective, histories_legal, records_alike}
+use Rattle.commit_laws.proofs.led.CutLaws.{resting_rows}
 use Rattle.commit_laws.proofs.views.Greatest.{greatest_viable}
 use Rattle.shell_top.specs.Safe.{AreSafe, IsSafe}
 
-module _ (start : Start) (logs : ℕ → List HostStep) (some : 1 ≤ start.epoch) (shape : IsShape start.shape)
+module _ (start : Start) (logs : ℕ → List HostStep) (some : start.start_epoch < start.epoch) (shape : IsShape start.shape)
     (within : IsWithin (hosts start) logs) (right : AreLogs (machine start) logs)
   where
     of_cluster : (inside : ℕ → List HostStep) → IsCut inside logs → IsClosed (machine start) inside

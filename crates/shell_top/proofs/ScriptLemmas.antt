@@ -1,5 +1,6 @@
 -- How a script falls into lines, as they are read.
-use Rattle.std.proofs.Common.{◌≡◌, ℕ, suc, ◌+◌, ◌≤◌, ◌<◌, List, [], ◌∷◌, ◌++◌, length, take, drop, Bool, true, false, cond, not, refl, ap, sym, subst, ◌∙◌, append_assoc, arith}
+use Rattle.std.proofs.Common.{◌≡◌, ℕ, suc, ◌+◌, ◌≤◌, ◌<◌, List, [], ◌∷◌, ◌++◌, length, take, drop, Bool, true, false}
+use Rattle.std.proofs.Common.{cond, not, refl, ap, sym, subst, ◌∙◌, append_assoc, arith}
 use Rattle.std.specs.Prelude.{Option, None, Some, Result, Ok, Err, position, nat_lt, if◌then◌else◌}
 use Rattle.std.specs.List.{position_or_len, slice_split, onto_first}
 use Rattle.std.proofs.lemmas.Bool.Decides.{nat_tests}
@@ -15,7 +16,8 @@ use Rattle.shell_top.specs.Asked.{is_served}
 use Rattle.shell_top.specs.declared.script.Parsed.TheVariants as parsed
 use Rattle.shell_top.specs.Parsed.{asked as asked_as, available, may_stand, parsed as parsed_line, parsed_as}
 use Rattle.shell_top.specs.Reader.{is_newline}
-use Rattle.shell_top.specs.Script.{Script, nothing_more, ends_with, follow, is_too_long, whole_line, last_part, script_of, script_from}
+use Rattle.shell_top.specs.Script.{Script, nothing_more, ends_with, follow, is_too_long, whole_line, last_part}
+use Rattle.shell_top.specs.Script.{script_of, script_from}
 use Rattle.shell_top.specs.Session.{after}
 
 -- where a newline stands in what comes first, the first part ends there

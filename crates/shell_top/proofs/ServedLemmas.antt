@@ -1,5 +1,6 @@
 -- A world that has served some commands serves one more.
-use Rattle.std.proofs.Common.{◌≡◌, ◌⊎◌, inl, inr, ℕ, zero, suc, ◌+◌, ◌-◌, ◌≤◌, ◌<◌, arith, List, [], ◌∷◌, ◌++◌, length, take, drop, Bool, true, false, refl, ap, ap₂, sym, subst, ◌∙◌, append_assoc}
+use Rattle.std.proofs.Common.{◌≡◌, ◌⊎◌, inl, inr, ℕ, zero, suc, ◌+◌, ◌-◌, ◌≤◌, ◌<◌, arith, List, [], ◌∷◌, ◌++◌, length}
+use Rattle.std.proofs.Common.{take, drop, Bool, true, false, refl, ap, ap₂, sym, subst, ◌∙◌, append_assoc}
 use Rattle.std.specs.Global.{Vec}
 use Rattle.std.specs.Prelude.{Option, None, Some, IfOk, OnErr, OnOk, Result, Ok, Err, is_some, option_to_list}
 use Rattle.std.specs.Io.KnownBytes.{Appends}
@@ -15,17 +16,20 @@ use Rattle.sig_core.specs.declared.reply.ApiReply.{ApiReply}
 use Rattle.sig_core.specs.declared.request.ApiReq.{ApiReq}
 use Rattle.sig_core.specs.declared.request.ApiReq.TheVariants.{Tick}
 use Rattle.shell_top.specs.Arranged.{arranged}
-use Rattle.shell_top.specs.Asked.{AreAsked, AsksInPart, AsksOn, IsAskedNext, are_peaceful, is_peaceful_command, is_served, questions, requests_of}
+use Rattle.shell_top.specs.Asked.{AreAsked, AsksInPart, AsksOn, IsAskedNext, are_peaceful, is_peaceful_command}
+use Rattle.shell_top.specs.Asked.{is_served, questions, requests_of}
 use Rattle.shell_top.specs.Subject.{subject_in}
 use Rattle.shell_top.specs.Asked.{rounds_behind}
 use Rattle.shell_top.specs.declared.ended.Ending.TheVariants as ending
 use Rattle.shell_top.specs.Printed.{AppendsPart}
-use Rattle.shell_top.specs.Served.{AreInPeace, AreLeft, AreLeftOff, AsksFirst, HasGoneOn, HasServed, IsServed, NoneStops, PrintsCommand, ServesCommand}
+use Rattle.shell_top.specs.Served.{AreInPeace, AreLeft, AreLeftOff, AsksFirst, HasGoneOn, HasServed, IsServed}
+use Rattle.shell_top.specs.Served.{NoneStops, PrintsCommand, ServesCommand}
 use Rattle.shell_top.specs.Text.{down_line, reply_lines}
 use Rattle.shell_top.specs.Told.{text_of}
 use Rattle.shell_top.proofs.PeaceLemmas.{command_peaceful, commands_back, commands_front, first_peaceful, head_peaceful}
 use Rattle.shell_top.proofs.PeaceLemmas.{none_before, one_peaceful, requests_back, requests_front}
-use Rattle.shell_top.proofs.ToldLemmas.{HasFirst, asks_for, has_first, none_heads, none_both, none_take, one_more, requests_newer}
+use Rattle.shell_top.proofs.ToldLemmas.{HasFirst, asks_for, has_first, none_heads, none_both, none_take, one_more}
+use Rattle.shell_top.proofs.ToldLemmas.{requests_newer}
 use Rattle.world_views.specs.Driven.{HasAsked, HaveGrown, IsDriven, IsSound, IsWorld}
 use Rattle.world_core.specs.Labels.{AreLabelled}
 use Rattle.world_views.specs.Requests.{request_of, requests}

@@ -1,5 +1,6 @@
 -- How a session goes on, line by line, and how it ends.
-use Rattle.std.proofs.Common.{◌≡◌, ℕ, ◌+◌, ◌*◌, ◌≤◌, ◌<◌, List, [], ◌∷◌, ◌++◌, length, take, drop, Bool, true, false, refl, ap, sym, subst, ◌∙◌, append_assoc, arith}
+use Rattle.std.proofs.Common.{◌≡◌, ℕ, ◌+◌, ◌*◌, ◌≤◌, ◌<◌, List, [], ◌∷◌, ◌++◌, length, take, drop, Bool, true, false}
+use Rattle.std.proofs.Common.{refl, ap, sym, subst, ◌∙◌, append_assoc, arith}
 use Rattle.std.specs.Prelude.{Option, None, Some, MatchOption, position, nat_lt, ◌==◌, ◌&&◌}
 use Rattle.std.proofs.lemmas.Bool.Decides.{nat_tests}
 use Rattle.std.specs.Io.KnownBytes.{Consumes, Appends, IsAtEnd}
@@ -26,7 +27,9 @@ use Rattle.shell_top.specs.Parsed.{parsed as parsed_line}
 use Rattle.shell_top.specs.Reader.{Reads, IsPartial, is_newline}
 use Rattle.shell_top.specs.Script.{Script, nothing_more, ends_with, follow, is_too_long, last_part, script_from}
 use Rattle.shell_top.specs.Session.{Ends, IsUnderWay, AreLinesDone, after, is_finished}
-use Rattle.shell_top.proofs.ScriptLemmas.{script-part, script-line, script-held, found_within, whole_line-long, whole_line-short, too_long_line, too_long_bytes, short_line, last_part-long, last_part-partial, last_part-whole, after-append}
+use Rattle.shell_top.proofs.ScriptLemmas.{script-part, script-line, script-held, found_within, whole_line-long}
+use Rattle.shell_top.proofs.ScriptLemmas.{whole_line-short, too_long_line, too_long_bytes, short_line, last_part-long}
+use Rattle.shell_top.proofs.ScriptLemmas.{last_part-partial, last_part-whole, after-append}
 
 -- something is held, and nothing
 pub some_held : (held bytes : List ℕ) (empty : Bool) → bytes ≡ held → empty ≡ (length bytes == 0) → empty ≡ false

@@ -1,5 +1,6 @@
 -- The order in which the replies to a command are printed.
-use Rattle.std.specs.Prelude.{ℕ, ◌+◌, not, nat_lt, Bool, List, [], ◌∷◌, ◌++◌, take, drop, filter, map, position, Option, None, Some}
+use Rattle.std.specs.Prelude.{ℕ, ◌+◌, not, nat_lt, Bool, List, [], ◌∷◌, ◌++◌, take, drop, filter, map, position, Option}
+use Rattle.std.specs.Prelude.{None, Some}
 use Rattle.script_lang.specs.ReplyText.{name_of}
 use Rattle.shell_top.specs.declared.arranged.TheConstants.{LATE}
 use Rattle.shell_top.specs.declared.subject.Subject.{Subject}

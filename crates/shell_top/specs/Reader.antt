@@ -1,5 +1,6 @@
 -- Bytes that were read and are held until a line is whole.
-use Rattle.std.specs.Prelude.{◌≡◌, ℕ, Bool, true, false, ◌==◌, ◌≤◌, ◌<◌, List, ◌++◌, length, position, Option, None, Some}
+use Rattle.std.specs.Prelude.{◌≡◌, ℕ, Bool, true, false, ◌==◌, ◌≤◌, ◌<◌, List, ◌++◌, length, position, Option, None}
+use Rattle.std.specs.Prelude.{Some}
 use Rattle.std.specs.Io.KnownBytes.{Consumes, IsAtEnd}
 use Rattle.shell_top.specs.declared.reader.Filled.{Filled}
 use Rattle.shell_top.specs.declared.reader.Filled.TheVariants.{Line, Ended, Overlong, Failed, NoMemory}

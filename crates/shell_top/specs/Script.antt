@@ -1,5 +1,6 @@
 -- What a script asks for, line by line.
-use Rattle.std.specs.Prelude.{ℕ, ◌+◌, Bool, true, false, ◌||◌, nat_lt, if◌then◌else◌, List, [], ◌∷◌, length, Option, None, Some}
+use Rattle.std.specs.Prelude.{ℕ, ◌+◌, Bool, true, false, ◌||◌, nat_lt, if◌then◌else◌, List, [], ◌∷◌, length, Option}
+use Rattle.std.specs.Prelude.{None, Some}
 use Rattle.std.specs.List.{slice_split}
 use Rattle.script_lang.specs.declared.command.Command.{Command}
 use Rattle.shell_top.specs.declared.ended.Ending.{Ending}

@@ -5,7 +5,8 @@ use Rattle.std.specs.List.{list_any}
 use Rattle.sig_core.specs.declared.log.Life.{Life}
 use Rattle.sig_core.specs.declared.reply.ApiReply.{ApiReply}
 use Rattle.shell_top.specs.declared.ended.Ending.{Ending}
-use Rattle.shell_top.specs.declared.ended.Ending.TheVariants.{Finished, Words, Refused, ReadFault, WriteFault, NoMemory, TooLong}
+use Rattle.shell_top.specs.declared.ended.Ending.TheVariants.{Finished, Words, Refused, ReadFault, WriteFault, NoMemory}
+use Rattle.shell_top.specs.declared.ended.Ending.TheVariants.{TooLong}
 use Rattle.script_lang.specs.Fault.{code_of}
 use Rattle.script_lang.specs.ReplyText.{newline, reply_text}
 use Rattle.shell_top.specs.Stopped.{has_wanted}

@@ -1,5 +1,6 @@
 -- The shape that the words behind the program's name ask for.
-use Rattle.std.specs.Prelude.{ℕ, ◌&&◌, Bool, true, not, nat_le, if◌then◌else◌, List, [], length, codes, Option, None, Some}
+use Rattle.std.specs.Prelude.{ℕ, ◌&&◌, Bool, true, not, nat_le, if◌then◌else◌, List, [], length, codes, Option, None}
+use Rattle.std.specs.Prelude.{Some}
 use Rattle.std.specs.List.{list_any}
 use Rattle.std.specs.Str.{bytes_eq}
 use Rattle.clap.specs.Faults.{fault_of}

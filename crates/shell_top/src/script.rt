@@ -1,7 +1,8 @@
 //! What a line asks of the session.
 ghost use Rattle.std.specs.Prelude.{◌≡◌};
 ghost use Rattle.script_lang.specs.Line.{first_word};
-ghost use Rattle.shell_top.specs.Parsed.{asked, available, is_available, is_operation, is_operator, is_order, is_sign, may_stand, parsed};
+ghost use Rattle.shell_top.specs.Parsed.{asked, available, is_available, is_operation, is_operator, is_order, is_sign};
+ghost use Rattle.shell_top.specs.Parsed.{may_stand, parsed};
 
 use script_lang::{Command, LineFault, first_word, parse_line};
 

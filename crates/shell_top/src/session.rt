@@ -1,5 +1,6 @@
 //! A session: line after line is read, served and answered.
-ghost use Rattle.std.specs.Prelude.{◌≡◌, ◌≤◌, ◌<◌, ◌+◌, ℕ, List, Option, [], None, Some, IfOk, IfNone, length, position, nat_lt, ◌&&◌};
+ghost use Rattle.std.specs.Prelude.{◌≡◌, ◌≤◌, ◌<◌, ◌+◌, ℕ, List, Option, [], None, Some, IfOk, IfNone, length};
+ghost use Rattle.std.specs.Prelude.{position, nat_lt, ◌&&◌};
 ghost use Rattle.std.specs.Io.KnownBytes.{IsAtEnd};
 ghost use Rattle.host_io.specs.Fault.{Rose};
 ghost use Rattle.shell_top.specs.declared.ended.Ending.TheVariants as ending;
@@ -52,7 +53,7 @@ impl Session {
         ensures line { IfOk result (λ s. s.line ≡ 1) }
     {
         let reader = Reader::new(alloc)?;
-        let world = World::new(alloc, shape, FIRST_EPOCH, &[])?;
+        let world = World::new(alloc, shape, FIRST_EPOCH, 0, &[])?;
         Ok(Session {
             shape,
             reader,

@@ -1,5 +1,6 @@
 -- Going through a list of sends: an event sends the portion of it from a place on, and knows whether more is left.
-use Rattle.std.proofs.Common.{◌≡◌, ◌<◌, ◌+◌, ◌-◌, ◌++◌, ℕ, zero, suc, Bool, true, false, ◌||◌, List, [], ◌∷◌, length, take, drop, map, get_or, nat_lt, refl, ap, sym, ◌∙◌, arith, append_assoc}
+use Rattle.std.proofs.Common.{◌≡◌, ◌<◌, ◌+◌, ◌-◌, ◌++◌, ℕ, zero, suc, Bool, true, false, ◌||◌, List, [], ◌∷◌, length}
+use Rattle.std.proofs.Common.{take, drop, map, get_or, nat_lt, refl, ap, sym, ◌∙◌, arith, append_assoc}
 use Rattle.std.proofs.lemmas.Bool.Decides.{nat_tests}
 use Rattle.std.proofs.lemmas.List.{drop_more, append-nil}
 use Rattle.std.specs.List.{flat_map}
@@ -7,7 +8,8 @@ use Rattle.sig_core.specs.declared.outs.Outgoing.{Outgoing}
 use Rattle.sig_core.specs.declared.place.Place.{Place}
 use Rattle.sig_core.specs.declared.portion.Portion.{Portion}
 use Rattle.sig_core.specs.declared.signal.host.Work.{Work}
-use Rattle.sig_core.specs.Portion.{Offered, all_offered, go_on_at, offered, offered_by, offered_from, portion, portion_effects, rest_if, so_far}
+use Rattle.sig_core.specs.Portion.{Offered, all_offered, go_on_at, offered, offered_by, offered_from, portion}
+use Rattle.sig_core.specs.Portion.{portion_effects, rest_if, so_far}
 use Rattle.sig_core.specs.Step.{Effects, joined, and_send, sends_only}
 
 -- two lists, one after the other

@@ -1,5 +1,6 @@
 -- Keys of the index of values, which begin with a space and are no words.
-use Rattle.std.specs.Prelude.{◌≡◌, ℕ, ◌≤◌, ◌==◌, ◌&&◌, Bool, false, nat_lt, if◌then◌else◌, List, [], ◌∷◌, length, take, position, Option, None, Some}
+use Rattle.std.specs.Prelude.{◌≡◌, ℕ, ◌≤◌, ◌==◌, ◌&&◌, Bool, false, nat_lt, if◌then◌else◌, List, [], ◌∷◌, length, take}
+use Rattle.std.specs.Prelude.{position, Option, None, Some}
 use Rattle.sig_core.specs.declared.key.TheConstants.{KEY_BYTES, SPACE}
 use Rattle.sig_core.specs.Filled.{IsFilled}
 use Rattle.sig_core.specs.Word.{is_unprintable}

@@ -1,5 +1,6 @@
 -- What a journal is seen as: how many bytes it has used and reserved, and which are still to be given out.
-use Rattle.std.specs.Prelude.{◌≡◌, ◌≤◌, ◌<◌, ℕ, ◌+◌, ◌-◌, min, Bool, true, false, List, [], ◌++◌, length, take, drop, Option, None, Some, Result, Ok, Err}
+use Rattle.std.specs.Prelude.{◌≡◌, ◌≤◌, ◌<◌, ℕ, ◌+◌, ◌-◌, min, Bool, true, false, List, [], ◌++◌, length, take, drop}
+use Rattle.std.specs.Prelude.{Option, None, Some, Result, Ok, Err}
 use Rattle.sig_core.specs.declared.journal.JournalFault.{JournalFault}
 use Rattle.sig_core.specs.declared.journal.JournalFault.TheVariants.{LogFull, NoMemory}
 use Rattle.sig_core.specs.declared.journal.TheConstants.{JOURNAL_BYTES}

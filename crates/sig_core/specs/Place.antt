@@ -1,7 +1,8 @@
 -- Where the blocks are.
 use Rattle.std.specs.Prelude.{ℕ}
 use Rattle.sig_core.specs.declared.member.TxId.{TxId}
-use Rattle.sig_core.specs.declared.place.BlockId.TheVariants.{Api, Arbiter, Qmgr, Tc, Takeover, Dih, GcpMaster, Lqh, Copy, Files, Suma, Backup}
+use Rattle.sig_core.specs.declared.place.BlockId.TheVariants.{Api, Arbiter, Qmgr, Tc, Takeover, Dih, GcpMaster, Lqh}
+use Rattle.sig_core.specs.declared.place.BlockId.TheVariants.{Copy, Files, Suma, Backup}
 use Rattle.sig_core.specs.declared.place.Place.{Place}
 
 -- the interface to clients, on the shell host

@@ -1,5 +1,7 @@
 -- What the rows of a node are seen as: places, and the records of transactions that are at work on them.
-use Rattle.std.specs.Prelude.{◌≡◌, ℕ, ◌+◌, ◌&&◌, not, Bool, true, false, nat_le, is_some, List, [], ◌∷◌, ◌++◌, drop, position, remove, slice_get, slice_index_or, slice_set, Option, None, Some, Result, Ok, Err}
+use Rattle.std.specs.Prelude.{◌≡◌, ℕ, ◌+◌, ◌&&◌, not, Bool, true, false, nat_le, is_some, List, [], ◌∷◌, ◌++◌, drop}
+use Rattle.std.specs.Prelude.{position, remove, slice_get, slice_index_or, slice_set, Option, None, Some, Result, Ok}
+use Rattle.std.specs.Prelude.{Err}
 use Rattle.std.specs.List.{list_any}
 use Rattle.sig_core.specs.declared.member.TxId.{TxId}
 use Rattle.sig_core.specs.declared.op.Answer.{Answer}

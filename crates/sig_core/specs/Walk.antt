@@ -1,5 +1,6 @@
 -- What a local checkpoint on its way is seen as, and what its steps are.
-use Rattle.std.specs.Prelude.{◌≡◌, ℕ, ◌+◌, ◌==◌, if◌then◌else◌, max, true, is_some, List, [], ◌++◌, length, Option, None, Some}
+use Rattle.std.specs.Prelude.{◌≡◌, ℕ, ◌+◌, ◌==◌, if◌then◌else◌, max, true, is_some, List, [], ◌++◌, length, Option}
+use Rattle.std.specs.Prelude.{None, Some}
 use Rattle.std.specs.List.{flat_map}
 use Rattle.sig_core.specs.Rows.{RowsState, next_place}
 use Rattle.sig_core.specs.declared.piece.Piece.{Piece}

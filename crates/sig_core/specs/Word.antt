@@ -1,5 +1,6 @@
 -- Words: lists of the bytes 0x21 to 0x7e, each of which prints as one visible character.
-use Rattle.std.specs.Prelude.{◌≡◌, ℕ, ◌≤◌, Bool, ◌||◌, nat_lt, if◌then◌else◌, List, length, take, position, Option, None, Some, Result, Ok, Err}
+use Rattle.std.specs.Prelude.{◌≡◌, ℕ, ◌≤◌, Bool, ◌||◌, nat_lt, if◌then◌else◌, List, length, take, position, Option}
+use Rattle.std.specs.Prelude.{None, Some, Result, Ok, Err}
 use Rattle.sig_core.specs.declared.word.WordFault.{WordFault}
 use Rattle.sig_core.specs.declared.word.WordFault.TheVariants.{Length, BadByte}
 use Rattle.sig_core.specs.Filled.{IsFilled}

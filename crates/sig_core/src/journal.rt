@@ -1,7 +1,8 @@
 //! What a journal of redo records is.
 ghost use Rattle.std.specs.Prelude.{◌≡◌, ◌≢◌, ◌≤◌, ◌<◌, ◌+◌, ◌^◌, ℕ, Err, IfOk, OnErr, OnOk};
 ghost use Rattle.sig_core.specs.declared.journal.JournalFault.TheVariants as fault;
-ghost use Rattle.sig_core.specs.Journal.{GivesOut, JournalState, OutletState, Reserves, appending, behind, end_of, unreserving, used_from};
+ghost use Rattle.sig_core.specs.Journal.{GivesOut, JournalState, OutletState, Reserves, appending, behind, end_of};
+ghost use Rattle.sig_core.specs.Journal.{unreserving, used_from};
 ghost use Rattle.sig_core.specs.Redo.{size_of};
 
 use crate::no_memory::NoMemory;

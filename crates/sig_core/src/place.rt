@@ -1,7 +1,8 @@
 //! Where a signal is for.
 ghost use Rattle.std.specs.Prelude.{◌≡◌};
 ghost use Rattle.sig_core.specs.Part.{part_of};
-ghost use Rattle.sig_core.specs.Place.{backups, checkpoints, coordinator, coordinator_of, copying, epochs, files, membership, rows_of, subscriptions, takeover};
+ghost use Rattle.sig_core.specs.Place.{backups, checkpoints, coordinator, coordinator_of, copying, epochs, files};
+ghost use Rattle.sig_core.specs.Place.{membership, rows_of, subscriptions, takeover};
 
 use crate::member::TxId;
 

@@ -1,8 +1,11 @@
 //! What the rows of a node are.
-ghost use Rattle.std.specs.Prelude.{◌≡◌, ◌≢◌, IsTrue, List, ◌+◌, ◌<◌, ◌^◌, MatchOption, IfSome, None, Some, Err, OnOk, OnErr, length, slice_get, slice_index_or, ℕ};
+ghost use Rattle.std.specs.Prelude.{◌≡◌, ◌≢◌, IsTrue, List, ◌+◌, ◌<◌, ◌^◌, MatchOption, IfSome, None, Some, Err, OnOk};
+ghost use Rattle.std.specs.Prelude.{OnErr, length, slice_get, slice_index_or, ℕ};
 ghost use Rattle.sig_core.specs.declared.rows.RowsFault.TheVariants as fault;
 ghost use Rattle.sig_core.specs.Op.{key_of};
-ghost use Rattle.sig_core.specs.Rows.{IsRowAt, Prepares, RowsState, Stores, abort_record, commit_record, complete_record, has_row, next_place, put_row, record_state, row_epoch, row_of, seen};
+ghost use Rattle.sig_core.specs.Rows.{IsRowAt, Prepares, RowsState, Stores, abort_record, commit_record};
+ghost use Rattle.sig_core.specs.Rows.{complete_record, has_row, next_place, put_row, record_state, row_epoch, row_of};
+ghost use Rattle.sig_core.specs.Rows.{seen};
 
 use crate::hashed_key::HashedKey;
 use crate::key::Key;

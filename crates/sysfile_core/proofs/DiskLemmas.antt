@@ -1,5 +1,6 @@
 -- What is read of a slot, and what calls come to that are made one after the other.
-use Rattle.std.proofs.Common.{◌≡◌, ◌∙◌, ℕ, ◌+◌, ◌≤◌, Bool, true, false, ◌==◌, nat_le, ◌&&◌, List, [], ◌∷◌, ◌++◌, length, take, drop, get_or, if◌then◌else◌, refl, ap, sym, subst, arith, inl, inr, append-nil}
+use Rattle.std.proofs.Common.{◌≡◌, ◌∙◌, ℕ, ◌+◌, ◌≤◌, Bool, true, false, ◌==◌, nat_le, ◌&&◌, List, [], ◌∷◌, ◌++◌, length}
+use Rattle.std.proofs.Common.{take, drop, get_or, if◌then◌else◌, refl, ap, sym, subst, arith, inl, inr, append-nil}
 use Rattle.std.specs.Prelude.{Option, None, Some, slice_index}
 use Rattle.std.proofs.lemmas.Bool.{cases_lt, eqb-false, eqb-true, le-leb, lt-leb, true≢false}
 use Rattle.std.proofs.lemmas.List.{drop_all, get_or-drop, get_or-take}

@@ -8,10 +8,12 @@ use Rattle.sig_core.specs.declared.slots.SystemSlot.{SystemSlot}
 use Rattle.sysfile_core.specs.declared.control.TheConstants.{CONTROL_BYTES}
 use Rattle.sysfile_core.specs.declared.system.TheConstants.{SYSTEM_BYTES}
 use Rattle.sysfile_core.specs.Places.{place_of, slot_at}
-use Rattle.sysfile_core.specs.Reading.{HasCause, Reads, control_at, control_by, control_in, system_at, system_by, system_in}
+use Rattle.sysfile_core.specs.Reading.{HasCause, Reads, control_at, control_by, control_in, system_at, system_by}
+use Rattle.sysfile_core.specs.Reading.{system_in}
 
 -- what bytes say is read of them
-reads_itself : {S : Type 0} (found result : Result (Option S) ReadFault) → ((before now : ℕ) → HasCause before now result)
+reads_itself : {S : Type 0} (found result : Result (Option S) ReadFault)
+    → ((before now : ℕ) → HasCause before now result)
     → found ≡ result → Reads found result
 reads_itself found (Ok slot) cause is = is
 reads_itself found (Err (DiskFault count)) cause is = tt
@@ -23,8 +25,10 @@ opened : (found : Option (List ℕ)) (new : List ℕ) (gate : Bool) → found �
     → gate ≡ true → found ≡ Some new
 opened found new gate is so = is ∙ ap (λ (b : Bool). if b then Some new else None) so
 
-pub system_found : (bytes new : List ℕ) (which at size : ℕ) (gate : Bool) (result : Result (Option SystemSlot) ReadFault)
-    → at ≡ place_of which → size ≡ SYSTEM_BYTES → slot_at at size bytes ≡ (if gate then Some new else None) → gate ≡ true
+pub system_found : (bytes new : List ℕ) (which at size : ℕ) (gate : Bool)
+    (result : Result (Option SystemSlot) ReadFault)
+    → at ≡ place_of which → size ≡ SYSTEM_BYTES → slot_at at size bytes ≡ (if gate then Some new else None)
+    → gate ≡ true
     → result ≡ system_in (place_of which) new → ((before now : ℕ) → HasCause before now result)
     → Reads (system_at which bytes) result
 system_found bytes new which at size gate result place long is so told cause =
@@ -34,8 +38,10 @@ system_found bytes new which at size gate result place long is so told cause =
     ∙ ap (system_by (place_of which)) (opened (slot_at at size bytes) new gate is so)
     ∙ sym told)
 
-pub control_found : (bytes new : List ℕ) (which at size : ℕ) (gate : Bool) (result : Result (Option ControlSlot) ReadFault)
-    → at ≡ place_of which → size ≡ CONTROL_BYTES → slot_at at size bytes ≡ (if gate then Some new else None) → gate ≡ true
+pub control_found : (bytes new : List ℕ) (which at size : ℕ) (gate : Bool)
+    (result : Result (Option ControlSlot) ReadFault)
+    → at ≡ place_of which → size ≡ CONTROL_BYTES → slot_at at size bytes ≡ (if gate then Some new else None)
+    → gate ≡ true
     → result ≡ control_in (place_of which) new → ((before now : ℕ) → HasCause before now result)
     → Reads (control_at which bytes) result
 control_found bytes new which at size gate result place long is so told cause =

@@ -1,5 +1,7 @@
 -- Which slots the bytes of a file have.
-use Rattle.std.proofs.Common.{◌≡◌, ◌≢◌, ◌∙◌, ◌⊎◌, ℕ, suc, zero, ◌+◌, ◌≤◌, ◌<◌, Bool, true, false, nat_le, ◌&&◌, ◌==◌, List, ◌∷◌, length, take, drop, get_or, if◌then◌else◌, refl, ap, sym, arith, inl, inr, length-drop}
+use Rattle.std.proofs.Common.{◌≡◌, ◌≢◌, ◌∙◌, ◌⊎◌, ℕ, suc, zero, ◌+◌, ◌≤◌, ◌<◌, Bool, true, false, nat_le, ◌&&◌, ◌==◌}
+use Rattle.std.proofs.Common.{List, ◌∷◌, length, take, drop, get_or, if◌then◌else◌, refl, ap, sym, arith, inl, inr}
+use Rattle.std.proofs.Common.{length-drop}
 use Rattle.std.specs.Prelude.{None, Some}
 use Rattle.std.proofs.lemmas.Bool.{and_parts, eq-eqb, eqb-true, le-leb, leb-true, lt-leb, ne_eqb}
 use Rattle.std.proofs.lemmas.List.{ext_get_or, get_or-drop, get_or-take, length-take-le}

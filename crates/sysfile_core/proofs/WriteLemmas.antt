@@ -1,6 +1,8 @@
 -- What stands on a disk while a slot is written.
-use Rattle.std.proofs.Common.{◌≡◌, ◌≢◌, ◌∙◌, ◌⊎◌, ℕ, ◌+◌, ◌≤◌, ◌<◌, Bool, true, false, ◌==◌, nat_lt, not, List, [], ◌∷◌, length, get_or, if◌then◌else◌, refl, ap, sym, subst, arith, inl, inr}
-use Rattle.std.proofs.lemmas.Bool.{and_cases, and_parts, cases_lt, eqb-false, eqb-true, ltb-false, ltb-true, not-false, not-true}
+use Rattle.std.proofs.Common.{◌≡◌, ◌≢◌, ◌∙◌, ◌⊎◌, ℕ, ◌+◌, ◌≤◌, ◌<◌, Bool, true, false, ◌==◌, nat_lt, not, List, [], ◌∷◌}
+use Rattle.std.proofs.Common.{length, get_or, if◌then◌else◌, refl, ap, sym, subst, arith, inl, inr}
+use Rattle.std.proofs.lemmas.Bool.{and_cases, and_parts, cases_lt, eqb-false, eqb-true, ltb-false, ltb-true, not-false}
+use Rattle.std.proofs.lemmas.Bool.{not-true}
 use Rattle.host_io.specs.declared.limits.TheConstants.{FILES}
 use Rattle.host_io.specs.Call.{Call, Wrote, Tore, Synced}
 use Rattle.host_io.specs.DiskState.{FileState, laid, settled, state_of, written}
@@ -12,7 +14,8 @@ use Rattle.sysfile_core.specs.declared.place.TheConstants.{CLOSED, OPEN}
 use Rattle.sysfile_core.specs.Laws.{IsOldOrNew, MayBegin, OpenSlotIsWhole, OtherSlotStays, WrittenSlotStays}
 use Rattle.sysfile_core.specs.Places.{IsKept, slot_at}
 use Rattle.sysfile_core.specs.Writing.{closing_by, opening, slot_calls, stands_closed}
-use Rattle.sysfile_core.proofs.FileLemmas.{Keeps, clean_written, keeps_image, keeps_settled, keeps_written, settled_keeps}
+use Rattle.sysfile_core.proofs.FileLemmas.{Keeps, clean_written, keeps_image, keeps_settled, keeps_written}
+use Rattle.sysfile_core.proofs.FileLemmas.{settled_keeps}
 use Rattle.sysfile_core.proofs.RunLemmas.{HoldsThrough, all_done, moments}
 use Rattle.sysfile_core.proofs.SlotLemmas.{IsOpenAt, closed_slot, open_or_none, short_slot, slot_is_same, whole_slot}
 

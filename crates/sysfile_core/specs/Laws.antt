@@ -1,5 +1,6 @@
 -- What a crash may leave while a slot is written.
-use Rattle.std.specs.Prelude.{◌≡◌, ◌⊎◌, ℕ, ◌+◌, ◌≤◌, ◌<◌, Bool, true, List, ◌∷◌, Option, None, Some, length, get_or, ◌≢◌}
+use Rattle.std.specs.Prelude.{◌≡◌, ◌⊎◌, ℕ, ◌+◌, ◌≤◌, ◌<◌, Bool, true, List, ◌∷◌, Option, None, Some, length, get_or}
+use Rattle.std.specs.Prelude.{◌≢◌}
 use Rattle.host_io.specs.declared.limits.TheConstants.{FILES}
 use Rattle.host_io.specs.Call.{Call}
 use Rattle.host_io.specs.DiskState.{FileState, state_of}

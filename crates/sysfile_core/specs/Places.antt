@@ -1,5 +1,6 @@
 -- Where slots lie in the bytes of a file, and which of them are open.
-use Rattle.std.specs.Prelude.{◌≡◌, ℕ, ◌+◌, ◌*◌, ◌≤◌, ◌<◌, ◌==◌, ◌&&◌, ◌⊎◌, Bool, false, nat_le, List, Option, None, Some, take, drop, length, get_or, if◌then◌else◌}
+use Rattle.std.specs.Prelude.{◌≡◌, ℕ, ◌+◌, ◌*◌, ◌≤◌, ◌<◌, ◌==◌, ◌&&◌, ◌⊎◌, Bool, false, nat_le, List, Option, None}
+use Rattle.std.specs.Prelude.{Some, take, drop, length, get_or, if◌then◌else◌}
 use Rattle.host_io.specs.DiskState.{FileState, is_dirty}
 use Rattle.sysfile_core.specs.declared.place.TheConstants.{OPEN, SLOT_SPACE}
 

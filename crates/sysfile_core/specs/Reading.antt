@@ -1,5 +1,6 @@
 -- What the bytes of a file are read as.
-use Rattle.std.specs.Prelude.{◌≡◌, ℕ, ◌+◌, ◌==◌, ◌&&◌, ◌||◌, Bool, nat_lt, List, slice_index, Option, None, Some, Result, Ok, Err, if◌then◌else◌}
+use Rattle.std.specs.Prelude.{◌≡◌, ℕ, ◌+◌, ◌==◌, ◌&&◌, ◌||◌, Bool, nat_lt, List, slice_index, Option, None, Some}
+use Rattle.std.specs.Prelude.{Result, Ok, Err, if◌then◌else◌}
 use Rattle.host_io.specs.Fault.{Rose}
 use Rattle.sig_core.specs.declared.slots.ControlSlot.{ControlSlot}
 use Rattle.sysfile_core.specs.declared.control.TheConstants.{CONTROL_BYTES}

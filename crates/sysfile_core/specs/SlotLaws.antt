@@ -2,7 +2,8 @@
 use Rattle.std.specs.Prelude.{◌≡◌, None}
 use Rattle.sig_core.specs.declared.slots.ControlSlot.{ControlSlot}
 use Rattle.sig_core.specs.declared.slots.SystemSlot.{SystemSlot}
-use Rattle.sysfile_core.specs.Slots.{IsControlSlot, IsSystemSlot, control_bytes, control_fault, control_of, system_bytes, system_fault, system_of}
+use Rattle.sysfile_core.specs.Slots.{IsControlSlot, IsSystemSlot, control_bytes, control_fault, control_of}
+use Rattle.sysfile_core.specs.Slots.{system_bytes, system_fault, system_of}
 
 -- the bytes of a system slot are read as that slot
 abbrev pub SystemSlotsAreRead : Type 0

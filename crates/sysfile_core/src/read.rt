@@ -6,7 +6,9 @@ ghost use Rattle.host_io.specs.Fault.{Rose};
 ghost use Rattle.sysfile_core.specs.declared.place.TheConstants.{SLOT_SPACE};
 ghost use Rattle.sysfile_core.specs.Found.{HasRedo};
 ghost use Rattle.sysfile_core.specs.Places.{slot_at};
-ghost use Rattle.sysfile_core.specs.Reading.{HasCause, Reads, control_at, control_in, control_of_file, is_earlier, later_control, later_system, of_generation, system_at, system_in, system_of_file};
+ghost use Rattle.sysfile_core.specs.Reading.{HasCause, Reads, control_at, control_in, control_of_file, is_earlier};
+ghost use Rattle.sysfile_core.specs.Reading.{later_control, later_system, of_generation, system_at, system_in};
+ghost use Rattle.sysfile_core.specs.Reading.{system_of_file};
 
 use crate::control::{CONTROL_BYTES, control_fault, control_of};
 use crate::place::{CONTROL_FILE, OPEN, SYSTEM_FILE, place_of};

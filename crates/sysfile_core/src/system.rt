@@ -1,6 +1,7 @@
 //! System slots.
 ghost use Rattle.std.specs.Prelude.{◌≡◌, ◌<◌, IfSome, true, length};
-ghost use Rattle.sysfile_core.specs.Slots.{are_nodes, are_replicas, are_fragments, names_nodes, system_bytes, system_fault, system_of};
+ghost use Rattle.sysfile_core.specs.Slots.{are_nodes, are_replicas, are_fragments, names_nodes, system_bytes};
+ghost use Rattle.sysfile_core.specs.Slots.{system_fault, system_of};
 
 use crate::number::{number_at, put, put_number};
 use crate::place::{OPEN, VERSION};

@@ -1,7 +1,9 @@
 //! What is gathered of transactions.
-ghost use Rattle.std.specs.Prelude.{◌≡◌, ◌<◌, ◌≤◌, IfOk, IfSome, MatchOption, None, OnErr, OnOk, Some, length, position, slice_get};
+ghost use Rattle.std.specs.Prelude.{◌≡◌, ◌<◌, ◌≤◌, IfOk, IfSome, MatchOption, None, OnErr, OnOk, Some, length};
+ghost use Rattle.std.specs.Prelude.{position, slice_get};
 ghost use Rattle.sig_core.specs.Same.{same_tx};
-ghost use Rattle.takeover_block.specs.Gathered.{first_epoch, first_of, is_before, is_behind, is_of, noted, noted_at, place_for, told_epoch, told_first, told_more};
+ghost use Rattle.takeover_block.specs.Gathered.{first_epoch, first_of, is_before, is_behind, is_of, noted, noted_at};
+ghost use Rattle.takeover_block.specs.Gathered.{place_for, told_epoch, told_first, told_more};
 
 use crate::keys::Keys;
 use sig_core::{Key, NoMemory, RecordState, TxId};

@@ -1,5 +1,6 @@
 //! What is true of all that a takeover sends, whatever signals come, in whatever order.
-ghost use Rattle.takeover_block.specs.Laws.{AbortsWhatNobodyCommitted, CommitsWhatWasTold, GatheredStandInOrder, RulesWhenAllHaveEnded, TellsWhenAllHaveAnswered};
+ghost use Rattle.takeover_block.specs.Laws.{AbortsWhatNobodyCommitted, CommitsWhatWasTold, GatheredStandInOrder};
+ghost use Rattle.takeover_block.specs.Laws.{RulesWhenAllHaveEnded, TellsWhenAllHaveAnswered};
 ghost use Rattle.takeover_block.specs.Words.{TakeoverKeepsToItsWords};
 
 /// A transaction is committed, and told to the client as committed, only in an epoch that a member

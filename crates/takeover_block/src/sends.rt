@@ -3,7 +3,9 @@ ghost use Rattle.std.specs.Prelude.{◌≡◌, ◌+◌, ◌<◌, ◌≤◌, ◌^
 ghost use Rattle.std.specs.List.{flat_map};
 ghost use Rattle.sig_core.specs.Step.{HasRoom, and_send, joined, sends_only};
 ghost use Rattle.sig_core.specs.Portion.{all_offered, so_far};
-ghost use Rattle.takeover_block.specs.Sends.{abort_at, ask_effects, ask_left, ask_of, asks_of, commit_along, complete_along, front_sends, key_sends, stage_effects, stage_left, stage_sends, told_over};
+ghost use Rattle.takeover_block.specs.Sends.{abort_at, ask_effects, ask_left, ask_of, asks_of, commit_along};
+ghost use Rattle.takeover_block.specs.Sends.{complete_along, front_sends, key_sends, stage_effects, stage_left};
+ghost use Rattle.takeover_block.specs.Sends.{stage_sends, told_over};
 
 use crate::gathered::Gathered;
 use crate::keys::Keys;

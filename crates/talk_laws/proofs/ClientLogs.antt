@@ -17,7 +17,7 @@ use Rattle.sig_core.specs.Same.{same_tx}
 use Rattle.sig_core.specs.Step.{Step}
 use Rattle.api_block.specs.Opened.{has_tx}
 use Rattle.api_views.specs.Client.{client_row}
-use Rattle.node_views.specs.declared.host.Host.{Host}
+use Rattle.node_views.specs.declared.host_body.HostBody.{HostBody}
 use Rattle.node_views.specs.declared.parts.Parts.{Parts}
 use Rattle.node_views.specs.declared.parts.Parts.TheVariants as part
 use Rattle.outcome_laws.specs.Counts.{count_open, count_sent, count_unwished, is_begin, is_report, is_unwished, is_wish}
@@ -155,7 +155,7 @@ module _ (tx : TxId) where
       pub among : AreAmong (told_of start tx log) (taken_of (told_by tx) log)
 
     module _ (e : HostStep) (log : List HostStep) where
-      abbrev t : Step Host
+      abbrev t : Step HostBody
       t = step_after start 0 log e
 
       abbrev replied : List ApiReply

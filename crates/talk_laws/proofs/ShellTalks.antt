@@ -25,7 +25,7 @@ use Rattle.api_views.specs.Client.{client_row}
 use Rattle.api_views.specs.Members.{noted, same_member}
 use Rattle.api_views.specs.State.{ClientState}
 use Rattle.arbiter_block.specs.Arbiter.{arbiter_row}
-use Rattle.node_views.specs.declared.host.Host as hosts
+use Rattle.node_views.specs.declared.host_body.HostBody as hosts
 use Rattle.node_views.specs.declared.parts.Parts.TheVariants.{Shell}
 use Rattle.node_views.specs.declared.shell_part.ShellPart.{ShellPart}
 use Rattle.node_views.specs.declared.standing.Standing.{Standing}
@@ -89,7 +89,7 @@ unstopped s x =
 
 module _ (x : Signal) (R : Talk) where
   -- so it is of a step of the host, which sends nothing if it stops with it
-  abbrev Comes : Step hosts.Host → Type 0
+  abbrev Comes : Step hosts.HostBody → Type 0
   Comes t =
       R (opened_in t.state.parts) (unless_stopped t.effects.sends (list_any is_stop t.effects.marks)) t.effects.marks
       (replies_in t.state.parts)
@@ -98,7 +98,7 @@ module _ (x : Signal) (R : Talk) where
       (beside : HostForms p.client.api.opened p.client.api.replies R)
     where
       module _ (standing : Standing) where
-        abbrev s : hosts.Host
+        abbrev s : hosts.HostBody
         s = record { standing = standing; parts = Shell p }
 
         quiet : (marks : List Mark) → AreUnreported marks → R p.client.api.opened [] marks p.client.api.replies
@@ -171,7 +171,7 @@ module _ (x : Signal) (R : Talk) where
       unfolding headed_row entered noted
       headed_comes standing = by (nat_lt standing.view.number x.view.number)
         where
-          s : hosts.Host
+          s : hosts.HostBody
           s = record { standing = standing; parts = Shell p }
 
           behind : Comes (passed_row (entered s x.view).state x)
@@ -196,7 +196,7 @@ module _ (x : Signal) (R : Talk) where
       counted_comes standing (Some (suc zero)) = quiet p forms beside standing _ refl
       counted_comes standing (Some (suc (suc left))) = headed_comes (killed_after standing (Some (suc left)))
 
-      abbrev Done : Step hosts.Host → Type 0
+      abbrev Done : Step hosts.HostBody → Type 0
       Done t = R (opened_in t.state.parts) t.effects.sends t.effects.marks (replies_in t.state.parts)
 
       row_does : (standing : Standing) → Done (host_row (record { standing = standing; parts = Shell p }) x)
@@ -215,7 +215,7 @@ module _ (x : Signal) (R : Talk) where
           by (Some cause) = quiet p forms beside standing _ refl
           by None = row_does standing
 
-  pub shell_talks : (h : hosts.Host) (p : ShellPart) → h.parts ≡ Shell p
+  pub shell_talks : (h : hosts.HostBody) (p : ShellPart) → h.parts ≡ Shell p
       → TalkForms p.client.api.opened p.client.api.replies x.body R
       → HostForms p.client.api.opened p.client.api.replies R
       → R (opened_in (step_by 0 h x).state.parts) (step_by 0 h x).effects.sends (step_by 0 h x).effects.marks

@@ -26,7 +26,7 @@ use Rattle.sig_core.specs.declared.view.Shape.{Shape}
 use Rattle.dih_node.specs.Orders as dih
 use Rattle.dih_node.specs.Dih.{fresh_dih}
 use Rattle.takeover_block.specs.State.{resting}
-use Rattle.node_views.specs.declared.host.Host as node
+use Rattle.node_views.specs.declared.host_body.HostBody as node
 use Rattle.node_views.specs.declared.parts.Parts.TheVariants as part
 use Rattle.node_views.specs.declared.tc_part.TcPart.{TcPart}
 use Rattle.node_views.specs.Parts.{tc_entered, tc_row}
@@ -36,7 +36,6 @@ use Rattle.tc_views.specs.Views as coordinator
 use Rattle.world_core.specs.Entries.{verified_by}
 use Rattle.world_core.specs.Start.{Start, made}
 use Rattle.world_core.specs.Steps.{HostStep}
-use Rattle.world_views.specs.Hosts.{epoch_before}
 use Rattle.world_views.specs.Machine.{after, step_after}
 use Rattle.view_laws.specs.Runs.{view_after}
 use Rattle.moment_laws.specs.PartSteps.{PartEnters, PartTakes, TcDoes, handles, ignores, installs, remains, tc_kind}
@@ -255,15 +254,15 @@ module _ (tx : TxId) (me : Member) where
     first_part = record {
       coordinator = fresh_coordinator me.node me.start (first_layout start.shape);
       takeover = resting me.node (first_layout start.shape);
-      dih = fresh_dih me.node (first_layout start.shape).view.number start.epoch (epoch_before start.epoch);
+      dih = fresh_dih me.node (first_layout start.shape).view.number start.epoch start.start_epoch;
     }
 
     at_first : TalkedLog []
     at_first = record {
       own = first_part;
-      runs = ap (λ (s : node.Host). s.parts) (tc_started start me there);
+      runs = ap (λ (s : node.HostBody). s.parts) (tc_started start me there);
       is = record {
-        of = subst (IsTcOf me) (ap (λ (s : node.Host). s.parts) (tc_started start me there)) (tc_begins start me there);
+        of = subst (IsTcOf me) (ap (λ (s : node.HostBody). s.parts) (tc_started start me there)) (tc_begins start me there);
         talked = record {
           unborn = λ born. refl;
           fits = tt;

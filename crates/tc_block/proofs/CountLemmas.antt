@@ -1,6 +1,7 @@
 -- How many transactions a step leaves to a coordinator, and how many signals it sends for what an installation left to
 -- do.
-use Rattle.std.proofs.Common.{◌≡◌, ◌==◌, ◌≤◌, ◌+◌, arith, ℕ, zero, suc, Bool, true, false, List, [], ◌∷◌, ◌++◌, length, remove, slice_get, take, drop, nat_lt, nat_le, refl, sym, subst}
+use Rattle.std.proofs.Common.{◌≡◌, ◌==◌, ◌≤◌, ◌+◌, arith, ℕ, zero, suc, Bool, true, false, List, [], ◌∷◌, ◌++◌, length}
+use Rattle.std.proofs.Common.{remove, slice_get, take, drop, nat_lt, nat_le, refl, sym, subst}
 use Rattle.std.proofs.lemmas.Bool.{leb-false}
 use Rattle.std.specs.Map.{values_of}
 use Rattle.std.specs.Prelude.{◌-◌, ◌^◌, ◌||◌, Option, None, Some, if◌then◌else◌}

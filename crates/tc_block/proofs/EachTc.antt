@@ -13,7 +13,8 @@ use Rattle.tc_block.specs.Tc.{begin_if, pass_if, tc_table}
 use Rattle.tc_block.specs.Turn.{Turn}
 use Rattle.tc_block.proofs.EachTurn.{RowsAre}
 use Rattle.tc_block.proofs.LiveSplit.{Split}
-use Rattle.tc_block.proofs.TurnRows.{PlacedStep, goes, idles, lacks, lost, opens, placed_step, tells, turn_by, turn_row, tx_in}
+use Rattle.tc_block.proofs.TurnRows.{PlacedStep, goes, idles, lacks, lost, opens, placed_step, tells, turn_by, turn_row}
+use Rattle.tc_block.proofs.TurnRows.{tx_in}
 
 -- R is of each turn that a transaction of the coordinator may take at the signal, and S of the step that it makes; and
 -- of the other steps

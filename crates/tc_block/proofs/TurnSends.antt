@@ -39,7 +39,8 @@ use Rattle.tc_block.specs.declared.transaction.Transaction.{Transaction}
 use Rattle.tc_block.specs.Operate as operate
 use Rattle.tc_block.specs.Part.{part_effects}
 use Rattle.tc_block.specs.Resume.{anew_if, resume_row}
-use Rattle.tc_block.specs.Sends.{abort_of, commit_of, complete_if, complete_of, entering, front_sends, go_on_if, key_sends, phase_sends, reported, verify_end, wait_of}
+use Rattle.tc_block.specs.Sends.{abort_of, commit_of, complete_if, complete_of, entering, front_sends, go_on_if}
+use Rattle.tc_block.specs.Sends.{key_sends, phase_sends, reported, verify_end, wait_of}
 use Rattle.tc_block.specs.Turn.{Turn, asking, ending, going}
 use Rattle.tc_block.proofs.EachResume.{ResumeForms, resumes}
 use Rattle.tc_block.proofs.EachTurn.{AbortForms, CommittedForms, IsAnswered, TurnFormsAt, rows_at}

@@ -1,5 +1,6 @@
 -- The keys that a transaction has touched, in the order in which it first did.
-use Rattle.std.specs.Prelude.{ℕ, Bool, true, false, ◌||◌, nat_lt, is_some, List, [], ◌∷◌, ◌++◌, length, position, slice_set, Option, None, Some}
+use Rattle.std.specs.Prelude.{ℕ, Bool, true, false, ◌||◌, nat_lt, is_some, List, [], ◌∷◌, ◌++◌, length, position}
+use Rattle.std.specs.Prelude.{slice_set, Option, None, Some}
 use Rattle.sig_core.specs.declared.member.Member.{Member}
 use Rattle.tc_block.specs.declared.touched.TheConstants.{KEYS}
 use Rattle.tc_block.specs.declared.touched.Touched.{Touched}

@@ -1,7 +1,8 @@
 //! The abort of a transaction.
 ghost use Rattle.std.specs.Prelude.{◌≡◌, ◌+◌, ◌*◌, ◌≤◌, length};
 ghost use Rattle.sig_core.specs.Step.{HasRoom, IsTaken, joined, sends_only};
-ghost use Rattle.tc_block.specs.Abort.{abort_end, aborted_for, aborted_row, aborts_awaited, asked_count, is_verifying, refuse_row, replica_count, rollback_row};
+ghost use Rattle.tc_block.specs.Abort.{abort_end, aborted_for, aborted_row, aborts_awaited, asked_count, is_verifying};
+ghost use Rattle.tc_block.specs.Abort.{refuse_row, replica_count, rollback_row};
 
 use crate::complete::send_verify_end;
 use crate::phase::{Asked, Phase};

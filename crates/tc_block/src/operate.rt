@@ -1,7 +1,8 @@
 //! The operations of a transaction: one goes out, is answered, or waits.
 ghost use Rattle.std.specs.Prelude.{◌≡◌, None, Some, MatchOption, OnOk, OnErr};
 ghost use Rattle.tc_block.specs.declared.phase.Asked.{Asked};
-ghost use Rattle.tc_block.specs.Operate.{answer_row, answered, asked_on, can_operate, is_ready, late_answer, operate_row, wait_row};
+ghost use Rattle.tc_block.specs.Operate.{answer_row, answered, asked_on, can_operate, is_ready, late_answer};
+ghost use Rattle.tc_block.specs.Operate.{operate_row, wait_row};
 ghost use Rattle.sig_core.specs.Step.{HasRoom, IsTaken, IsUntouched};
 
 use crate::phase::{Asked, Phase};

@@ -4,7 +4,8 @@ ghost use Rattle.std.specs.List.{flat_map};
 ghost use Rattle.sig_core.specs.Step.{HasRoom, joined, sends_only};
 ghost use Rattle.sig_core.specs.Portion.{all_offered, so_far};
 ghost use Rattle.tc_block.specs.Part.{part_effects};
-ghost use Rattle.tc_block.specs.Sends.{aborts_of, commit_of, complete_if, front_sends, key_sends, phase_sends, waits_of};
+ghost use Rattle.tc_block.specs.Sends.{aborts_of, commit_of, complete_if, front_sends, key_sends, phase_sends};
+ghost use Rattle.tc_block.specs.Sends.{waits_of};
 
 use crate::phase::Phase;
 use crate::touched::Touched;

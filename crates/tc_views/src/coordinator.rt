@@ -4,7 +4,8 @@ ghost use Rattle.std.specs.Vec.{vec_capacity};
 ghost use Rattle.sig_core.specs.Same.{same_tx};
 ghost use Rattle.sig_core.specs.Step.{HasRoom, IsTaken, IsUntouched};
 ghost use Rattle.tc_block.specs.Doom.{is_among};
-ghost use Rattle.tc_views.specs.Coordinator.{calm_row, calm_unless, coordinator_row, fails, fresh_coordinator, is_failing, is_to_fail};
+ghost use Rattle.tc_views.specs.Coordinator.{calm_row, calm_unless, coordinator_row, fails, fresh_coordinator};
+ghost use Rattle.tc_views.specs.Coordinator.{is_failing, is_to_fail};
 ghost use Rattle.tc_views.specs.State.{still_live};
 ghost use Rattle.tc_views.specs.Views.{install_row};
 

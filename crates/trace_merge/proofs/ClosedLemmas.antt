@@ -1,5 +1,6 @@
 -- No step stands against a cut exactly where the cut is closed.
-use Rattle.std.proofs.Common.{◌≡◌, ◌↔◌, ◌≤◌, ◌==◌, ◌&&◌, ◌||◌, not, ℕ, zero, suc, ◌+◌, Bool, true, false, List, [], ◌∷◌, ◌++◌, reverse, refl, sym, ap, ◌∙◌, subst, arith, eq-eqb}
+use Rattle.std.proofs.Common.{◌≡◌, ◌↔◌, ◌≤◌, ◌==◌, ◌&&◌, ◌||◌, not, ℕ, zero, suc, ◌+◌, Bool, true, false, List, [], ◌∷◌}
+use Rattle.std.proofs.Common.{◌++◌, reverse, refl, sym, ap, ◌∙◌, subst, arith, eq-eqb}
 use Rattle.std.specs.Prelude.{nat_lt, map, slice_index_or, take, if◌then◌else◌, Option, None, Some}
 use Rattle.std.proofs.lemmas.Bool.Decides.{nat_tests}
 use Rattle.std.proofs.lemmas.List.{reverse-append, reverse-reverse}
@@ -16,7 +17,8 @@ use Rattle.world_core.specs.World.{no_steps, of_host, steps_of}
 use Rattle.world_views.specs.Machine.{machine}
 use Rattle.world_views.specs.Sending.{is_asked}
 use Rattle.trace_merge.specs.declared.closed.CutFault.{CutFault}
-use Rattle.trace_merge.specs.Closed.{fault_from, fault_in, first_fault, is_outside, is_sent_outside, last_inside, made_at, newest_inside, newest_stamp, or_later, parts_at}
+use Rattle.trace_merge.specs.Closed.{fault_from, fault_in, first_fault, is_outside, is_sent_outside, last_inside}
+use Rattle.trace_merge.specs.Closed.{made_at, newest_inside, newest_stamp, or_later, parts_at}
 use Rattle.trace_merge.proofs.MergeLemmas.{each_reverse, from_front, from_here, from_next}
 
 -- tests over plain numbers and truth values

@@ -1,5 +1,6 @@
 -- Whether a cut, given by how many steps of each log are inside, is closed.
-use Rattle.std.specs.Prelude.{◌&&◌, ◌||◌, not, nat_lt, ℕ, ◌+◌, Bool, List, [], ◌∷◌, map, reverse, slice_index_or, take, if◌then◌else◌, Option, None, Some, Result, Ok, Err}
+use Rattle.std.specs.Prelude.{◌&&◌, ◌||◌, not, nat_lt, ℕ, ◌+◌, Bool, List, [], ◌∷◌, map, reverse, slice_index_or, take}
+use Rattle.std.specs.Prelude.{if◌then◌else◌, Option, None, Some, Result, Ok, Err}
 use Rattle.sig_core.specs.declared.log.HostLog.{HostLog}
 use Rattle.sig_core.specs.declared.log.LogStep.{LogStep}
 use Rattle.world_core.specs.Steps.{HostStep}

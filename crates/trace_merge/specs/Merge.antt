@@ -1,5 +1,6 @@
 -- What a merge of logs is.
-use Rattle.std.specs.Prelude.{◌≡◌, ◌==◌, ◌&&◌, ◌||◌, nat_lt, ℕ, ◌+◌, Bool, List, [], ◌∷◌, ◌++◌, map, IsPermutation, IsSortedBy}
+use Rattle.std.specs.Prelude.{◌≡◌, ◌==◌, ◌&&◌, ◌||◌, nat_lt, ℕ, ◌+◌, Bool, List, [], ◌∷◌, ◌++◌, map, IsPermutation}
+use Rattle.std.specs.Prelude.{IsSortedBy}
 use Rattle.sig_core.specs.declared.log.HostLog.{HostLog}
 use Rattle.sig_core.specs.declared.log.LogStep.{LogStep}
 use Rattle.sig_core.specs.declared.member.HostId.{HostId}

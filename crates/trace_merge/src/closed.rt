@@ -5,7 +5,8 @@ ghost use Rattle.world_core.specs.Start.{Start};
 ghost use Rattle.world_core.specs.World.{no_steps};
 ghost use Rattle.world_views.specs.Machine.{machine};
 ghost use Rattle.world_views.specs.Sending.{is_asked, is_own_work};
-ghost use Rattle.trace_merge.specs.Closed.{cut_answer, fault_in, first_fault, is_outside, is_sent_outside, last_inside, made_at, parts_at};
+ghost use Rattle.trace_merge.specs.Closed.{cut_answer, fault_in, first_fault, is_outside, is_sent_outside, last_inside};
+ghost use Rattle.trace_merge.specs.Closed.{made_at, parts_at};
 
 use sig_core::{Body, HostId, HostLog, HostSignal, LogStep, Signal, Work};
 

@@ -1,6 +1,8 @@
 -- What a call on one slot does to the places that pages hold.
-use Rattle.std.proofs.Common.{◌≡◌, ◌≢◌, ◌≤◌, ◌<◌, ◌⊎◌, inl, inr, ℕ, zero, suc, ◌+◌, ◌-◌, ◌*◌, ◌/◌, ◌%◌, Bool, true, false, cond, nat_eq, nat_lt}
-use Rattle.std.proofs.Common.{List, [], ◌∷◌, ◌++◌, drop, map, length, min, get_or, set, refl, ap, sym, ◌∙◌, arith, subst, length-append}
+use Rattle.std.proofs.Common.{◌≡◌, ◌≢◌, ◌≤◌, ◌<◌, ◌⊎◌, inl, inr, ℕ, zero, suc, ◌+◌, ◌-◌, ◌*◌, ◌/◌, ◌%◌, Bool, true}
+use Rattle.std.proofs.Common.{false, cond, nat_eq, nat_lt}
+use Rattle.std.proofs.Common.{List, [], ◌∷◌, ◌++◌, drop, map, length, min, get_or, set, refl, ap, sym, ◌∙◌, arith}
+use Rattle.std.proofs.Common.{subst, length-append}
 use Rattle.std.specs.Prelude.{Option, Some, None, is_some, position, slice_get}
 use Rattle.std.specs.List.{range_with_len}
 use Rattle.std.specs.BinaryHeap.{HeapUnchanged, IsHeap, IsUpperBound, heap_capacity, heap_items, heap_len}
@@ -9,7 +11,8 @@ use Rattle.std.specs.declared.cmp.Reverse.{Reverse}
 use Rattle.std.specs.declared.collections.BinaryHeap.{BinaryHeap}
 use Rattle.std.proofs.lemmas.Bool.{and_parts, cases_eq, cases_lt, false≢true, ltb-true, ne_eqb, true≢false}
 use Rattle.std.proofs.lemmas.Bool.Decides.{nat_tests}
-use Rattle.std.proofs.lemmas.List.{drop_all, drop_more, ext_get_or, get_or-set_same, get_or-set_other, get_or_append_left, get_or_push, length-set}
+use Rattle.std.proofs.lemmas.List.{drop_all, drop_more, ext_get_or, get_or-set_same, get_or-set_other}
+use Rattle.std.proofs.lemmas.List.{get_or_append_left, get_or_push, length-set}
 use Rattle.std.proofs.lemmas.List.FromFn.{get_or-map-range_with_len, length-map-range_with_len, map-range_with_len_more}
 use Rattle.std.proofs.Math.ListN.{get_or-eq_default}
 use Rattle.std.proofs.lemmas.Nat.{div-add-mod', mod_below}
@@ -19,7 +22,8 @@ use Rattle.sig_core.specs.Rows.{has_row, next_by, placed, taken, with_row}
 use Rattle.tuple_pages.specs.declared.page.TheConstants.{PAGE_SLOTS}
 use Rattle.tuple_pages.specs.Free.{HoldsFree, first_free, listed}
 use Rattle.tuple_pages.specs.Places.{ArePages, AreWhole, has_spare, place_at, places_in, rewritten, written}
-use Rattle.tuple_pages.proofs.FreeLemmas.{IsTaken, Popped, empty_behind, grown_holds, is_taken, peek_least, placed-behind, placed-within}
+use Rattle.tuple_pages.proofs.FreeLemmas.{IsTaken, Popped, empty_behind, grown_holds, is_taken, peek_least}
+use Rattle.tuple_pages.proofs.FreeLemmas.{placed-behind, placed-within}
 use Rattle.tuple_pages.proofs.FreeLemmas.{popped_holds, set_holds, top_least, top_within}
 
 abbrev Slots : Type 0
@@ -250,7 +254,8 @@ module _ {A : Type 0} (pages : List Slots) (len : ℕ) (free : BinaryHeap (Rever
     pub read-past : (at : ℕ) → len ≤ at → get_or (places_in pages len) at None ≡ None
     read-past at past = get_or-eq_default (places_in pages len) None (omega (arith, past, places-length pages len))
 
-    pub taken_there : (at : ℕ) → is_some (get_or (places_in pages len) at None) ≡ true → IsTaken (places_in pages len) at
+    pub taken_there : (at : ℕ) → is_some (get_or (places_in pages len) at None) ≡ true
+        → IsTaken (places_in pages len) at
     taken_there at there = is_taken (places_in pages len) at there
 
     pub taken_inside : (at : ℕ) → is_some (get_or (places_in pages len) at None) ≡ true → at < len
@@ -268,7 +273,8 @@ module _ {A : Type 0} (pages : List Slots) (len : ℕ) (free : BinaryHeap (Rever
     module _ (now : List Slots) (after : BinaryHeap (Reverse ℕ) A) (at : ℕ) (slot : Option Slot)
         (page : at / PAGE_SLOTS < length pages) (within : at % PAGE_SLOTS < length (get_or pages (at / PAGE_SLOTS) []))
         (written_is : now ≡ written pages at slot) where
-      pub are_written : (n : ℕ) → n ≤ PAGE_SLOTS * length pages → HoldsFree (places_in now n) after → ArePages now n after
+      pub are_written : (n : ℕ) → n ≤ PAGE_SLOTS * length pages → HoldsFree (places_in now n) after
+          → ArePages now n after
       are_written n most holds =
           let P : ℕ → Type 0 = λ k. n ≤ PAGE_SLOTS * k in
           record {
@@ -360,13 +366,15 @@ module _ {A : Type 0} (pages : List Slots) (len : ℕ) (free : BinaryHeap (Rever
             is.within (subst P (sym pop_places) (popped_holds (places_in pages len) free after is.holds x pop slot))
 
     -- or one behind them
-    module _ (now : List Slots) (after : BinaryHeap (Reverse ℕ) A) (slot : Slot) (room : len < PAGE_SLOTS * length pages)
+    module _ (now : List Slots) (after : BinaryHeap (Reverse ℕ) A) (slot : Slot)
+        (room : len < PAGE_SLOTS * length pages)
         (written_is : now ≡ written pages len (Some slot)) (none : heap_len free ≡ 0) where
       pub more_places : places_in now (len + 1) ≡ placed slot (places_in pages len)
       more_places =
           places_more now after len (Some slot) (page_below pages len room) (slot_below pages len is.whole room)
           written_is refl
-          ∙ sym (placed-behind slot (places_in pages len) len (none_first none) (omega (arith, places-length pages len)))
+          ∙ sym (placed-behind slot (places_in pages len) len (none_first none)
+          (omega (arith, places-length pages len)))
 
       pub more_are : HeapUnchanged free after → heap_capacity after ≡ heap_capacity free → len < heap_capacity free
           → ArePages now (len + 1) after

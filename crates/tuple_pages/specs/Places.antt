@@ -1,5 +1,6 @@
 -- The places that pages hold.
-use Rattle.std.specs.Prelude.{◌≡◌, ℕ, ◌<◌, ◌≤◌, ◌*◌, ◌/◌, ◌%◌, ◌&&◌, Bool, nat_lt, List, [], map, length, slice_index_or, slice_set, Option, None, Some}
+use Rattle.std.specs.Prelude.{◌≡◌, ℕ, ◌<◌, ◌≤◌, ◌*◌, ◌/◌, ◌%◌, ◌&&◌, Bool, nat_lt, List, [], map, length}
+use Rattle.std.specs.Prelude.{slice_index_or, slice_set, Option, None, Some}
 use Rattle.std.specs.List.{range_with_len}
 use Rattle.std.specs.BinaryHeap.{heap_capacity}
 use Rattle.std.specs.declared.cmp.Reverse.{Reverse}

@@ -1,5 +1,7 @@
 //! Pages.
-ghost use Rattle.std.specs.Prelude.{◌≡◌, ◌≤◌, ◌<◌, ◌+◌, ◌*◌, ◌/◌, ◌%◌, ◌^◌, IfOk, IfSome, IsOk, MatchOption, OnErr, OnOk, None, Some, [], drop, is_some, length, position, slice_index_or, slice_set, true};
+ghost use Rattle.std.specs.Prelude.{◌≡◌, ◌≤◌, ◌<◌, ◌+◌, ◌*◌, ◌/◌, ◌%◌, ◌^◌, IfOk, IfSome, IsOk, MatchOption, OnErr};
+ghost use Rattle.std.specs.Prelude.{OnOk, None, Some, [], drop, is_some, length, position, slice_index_or, slice_set};
+ghost use Rattle.std.specs.Prelude.{true};
 ghost use Rattle.std.specs.BinaryHeap.{heap_capacity};
 ghost use Rattle.sig_core.specs.Rows.{has_row, next_by, no_row, placed, taken};
 ghost use Rattle.tuple_pages.specs.declared.page.TheConstants.{PAGE_SLOTS};

@@ -1,7 +1,8 @@
 //! What the membership of one node, and the arbitrator, keep by themselves of what ballots owe,
 //! whatever signals come and whatever views are installed.
 ghost use Rattle.view_laws.specs.Grants.{GrantsStandBehindOneAnother};
-ghost use Rattle.view_laws.specs.Kept.{EachPromiseIsAskedFor, EachProposalIsRight, PromisesRise, PromisesStandBehindOneAnother, ProposalsRise, WhatIsConfirmedWasPromised};
+ghost use Rattle.view_laws.specs.Kept.{EachPromiseIsAskedFor, EachProposalIsRight, PromisesRise};
+ghost use Rattle.view_laws.specs.Kept.{PromisesStandBehindOneAnother, ProposalsRise, WhatIsConfirmedWasPromised};
 
 /// The numbers of last promises rise, and the installed view never has a greater one.
 pub fn promises_rise()

@@ -1,5 +1,6 @@
 //! Views that hosts stand in, and headers of signals.
-ghost use Rattle.view_laws.specs.Standing.{HeadersAreInstalled, HostsAreOfTheirViews, NumbersNeverFall, SignalsGoToMembers, ViewsOnlyShrink};
+ghost use Rattle.view_laws.specs.Standing.{HeadersAreInstalled, HostsAreOfTheirViews, NumbersNeverFall};
+ghost use Rattle.view_laws.specs.Standing.{SignalsGoToMembers, ViewsOnlyShrink};
 
 /// The number of a host's view never falls.
 #[tactic(auto, using(crate::proofs::standing::Numbers::never_fall))]

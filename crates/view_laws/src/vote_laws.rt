@@ -1,5 +1,6 @@
 //! Who sends the signals by which views are chosen: memberships and the arbitrator, and at what.
-ghost use Rattle.view_laws.specs.Votes.{ArbitersFollowTheirSignals, ArbitersVote, HostsFollowTheirEvents, MembershipsVote, OthersDontVote};
+ghost use Rattle.view_laws.specs.Votes.{ArbitersFollowTheirSignals, ArbitersVote, HostsFollowTheirEvents};
+ghost use Rattle.view_laws.specs.Votes.{MembershipsVote, OthersDontVote};
 
 /// The main host of a member has the membership to which happened what its log says.
 pub fn hosts_follow_their_events()

@@ -1,7 +1,8 @@
 //! What a line of a run says.
+use crate::begin::{Epochs, epoch_of};
 use frag_map::is_shape;
 use script_lang::{Command, parse_line};
-use sig_core::{HostId, Shape};
+use sig_core::{HostId, Key, Shape, Value};
 use std::str::SplitWhitespace;
 use world_views::Pick;
 
@@ -24,6 +25,10 @@ pub enum Line<'a> {
     Run(&'a str),
     /// The shape of its cluster.
     Shape(Shape),
+    /// The epochs with which its life begins.
+    Epochs(Epochs),
+    /// Its life begins with this row.
+    Row((Key, Value)),
     /// It is made at so many points.
     Points(u32),
     /// The shell is asked for this.
@@ -55,6 +60,8 @@ pub fn parse<'a>(line: &'a str, nodes: u8) -> Option<Line<'a>> {
         "#" => Some(Line::Nothing),
         "run" => Some(Line::Run(rest)),
         "shape" => shape(rest),
+        "epoch" => epochs(rest),
+        "row" => row(rest),
         "points" => points(rest),
         "ask" => Some(Line::Ask(command(rest, nodes)?)),
         "do" => Some(Line::Serve(command(rest, nodes)?)),
@@ -112,6 +119,21 @@ fn shape<'a>(rest: &'a str) -> Option<Line<'a>> {
     }
     end(&mut words)?;
     Some(Line::Shape(shape))
+}
+
+fn epochs<'a>(rest: &'a str) -> Option<Line<'a>> {
+    let (first, start) = rest.split_once(" from ")?;
+    Some(Line::Epochs(Epochs {
+        first: epoch_of(first)?,
+        start: epoch_of(start)?,
+    }))
+}
+
+fn row<'a>(rest: &'a str) -> Option<Line<'a>> {
+    let (key, value) = rest.split_once(' ')?;
+    let key = Key::new(key.as_bytes()).ok()?;
+    let value = Value::new(value.as_bytes()).ok()?;
+    Some(Line::Row((key, value)))
 }
 
 fn points<'a>(rest: &'a str) -> Option<Line<'a>> {

@@ -2,10 +2,13 @@
 //! taken and what stops or is cut, and this program prints what comes of each.
 //!
 //! A run begins with its title, `run TITLE`, and the shape of its cluster, `shape NODES REPLICAS
-//! FRAGMENTS` (without it, 2 2 4), and goes up to the next title. With a line `points N` it is made
-//! N times, each time with one signal more at `drive point`; without, once. Empty lines say nothing,
-//! nor do comments, which begin with `#` and a space. COMMAND is one of the script language, and
-//! hosts are numbers: 0 is the shell's, and node k has 3k - 2 (main), 3k - 1 (tc) and 3k (ldm).
+//! FRAGMENTS` (without it, 2 2 4), and goes up to the next title. Behind these `epoch 7/3 from 6/5`
+//! says the first epoch of its life and the one that this starts from, which is below it, and each
+//! `row KEY VALUE` a row that it begins with, of distinct keys; without them it is fresh. With a line
+//! `points N` it is made N times, each time with one signal more at `drive point`; without, once.
+//! Empty lines say nothing, nor do comments, which begin with `#` and a space. COMMAND is one of the
+//! script language, and hosts are numbers: 0 is the shell's, and node k has 3k - 2 (main), 3k - 1 (tc)
+//! and 3k (ldm).
 //!
 //! | line | what happens |
 //! |---|---|
@@ -25,6 +28,7 @@
 //! any run.
 #![tactic(auto)]
 
+mod begin;
 mod cluster;
 mod fault;
 mod kind;

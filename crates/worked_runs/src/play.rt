@@ -3,13 +3,12 @@ ghost use Rattle.std.specs.Prelude.{◌≡◌, OnOk};
 ghost use Rattle.world_views.specs.Driven.{IsWorld};
 ghost use Rattle.world_views.specs.WorldOf.{whole_of};
 
+use crate::begin::{epochs_of, rows_of, shape_of};
 use crate::cluster::{Picked, ask_for, drive, pick, serve, take_first, tell_replies};
 use crate::fault::Fault;
 use crate::line::{Line, Signals};
-use crate::run::shape_of;
 use crate::trace::tell_log;
 use frag_map::is_shape;
-use gcp_master::MICROS;
 use sig_core::NoMemory;
 use std::alloc::Global;
 use std::sync::Wait;
@@ -49,7 +48,9 @@ pub fn play<W: Wait>(
         return Ok(());
     }
     let hosts = 1 + u32::from(shape.nodes) * PARTS;
-    let mut world = World::new(alloc, shape, MICROS, &[])?;
+    let epochs = epochs_of(lines);
+    let rows = rows_of(alloc, lines)?;
+    let mut world = World::new(alloc, shape, epochs.first, epochs.start, rows.as_slice())?;
     play_lines(rt, alloc, &mut world, hosts, lines, point, text)?;
     let life = world.end_life(alloc);
     for line in lines {

@@ -1,15 +1,8 @@
 //! The runs of a text.
+use crate::begin::SHAPE;
 use crate::fault::Fault;
 use crate::line::{Line, parse};
-use sig_core::Shape;
 use std::alloc::Global;
-
-/// The shape of a run that doesn't tell one.
-const SHAPE: Shape = Shape {
-    nodes: 2,
-    replicas: 2,
-    fragments: 4,
-};
 
 /// The lines of a text that say something.
 ///
@@ -33,15 +26,24 @@ pub fn lines_of<'a>(alloc: Global, text: &'a str) -> Result<Vec<Line<'a>>, Fault
     Ok(lines)
 }
 
-// Whether a line may stand behind this one: a title anywhere, a shape right behind a title, and all
-// else in a run.
+// Whether a line may stand behind this one: a title anywhere, a shape right behind a title, epochs and
+// rows where a life begins, and all else in a run.
 fn may_stand(before: Option<&Line>, line: &Line) -> bool {
     match (before, line) {
         (_, Line::Run(_)) => true,
         (Some(Line::Run(_)), Line::Shape(_)) => true,
         (_, Line::Shape(_)) => false,
+        (Some(before), Line::Epochs(_) | Line::Row(_)) => is_beginning(before),
         (before, _) => before.is_some(),
     }
+}
+
+// Whether a line is one of those with which a run begins.
+fn is_beginning(line: &Line) -> bool {
+    matches!(
+        line,
+        Line::Run(_) | Line::Shape(_) | Line::Epochs(_) | Line::Row(_)
+    )
 }
 
 // How many nodes there are in the lines behind one.
@@ -59,17 +61,6 @@ pub fn front<'a, 'b>(lines: &'b [Line<'a>]) -> &'b [Line<'a>] {
         Some(end) => &lines[..end],
         None => lines,
     }
-}
-
-/// The shape of a run: the last that its lines tell.
-pub fn shape_of(lines: &[Line]) -> Shape {
-    let mut shape = SHAPE;
-    for line in lines {
-        if let Line::Shape(told) = line {
-            shape = *told;
-        }
-    }
-    shape
 }
 
 /// How many points a run is made at, where it has any.

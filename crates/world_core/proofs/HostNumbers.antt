@@ -1,6 +1,8 @@
 -- Which host runs what, by its number.
-use Rattle.std.proofs.Common.{◌≡◌, ◌≢◌, ◌⊎◌, inl, inr, ℕ, zero, suc, ◌+◌, ◌-◌, ◌*◌, ◌/◌, ◌%◌, ◌<◌, ◌≤◌, List, [], ◌∷◌, ◌++◌, length, Bool, true, false, refl, ap, sym, ◌∙◌, subst, arith}
-use Rattle.std.specs.Prelude.{if◌then◌else◌, ◌==◌, ◌&&◌, filter, nat_lt, position, slice_get, slice_index_or, None, Some}
+use Rattle.std.proofs.Common.{◌≡◌, ◌≢◌, ◌⊎◌, inl, inr, ℕ, zero, suc, ◌+◌, ◌-◌, ◌*◌, ◌/◌, ◌%◌, ◌<◌, ◌≤◌, List, [], ◌∷◌}
+use Rattle.std.proofs.Common.{◌++◌, length, Bool, true, false, refl, ap, sym, ◌∙◌, subst, arith}
+use Rattle.std.specs.Prelude.{if◌then◌else◌, ◌==◌, ◌&&◌, filter, nat_lt, position, slice_get, slice_index_or, None}
+use Rattle.std.specs.Prelude.{Some}
 use Rattle.std.specs.List.{position_or_len}
 use Rattle.std.proofs.lemmas.Bool.{cases_lt, eq-eqb, eqb-true, false≢true}
 use Rattle.std.proofs.lemmas.Bool.Decides.{nat_tests}
@@ -32,8 +34,10 @@ use Rattle.node_core.proofs.HostCases.{api_stays, rows_stay, tc_stays}
 use Rattle.node_core.specs.Blocks.{has_api, has_lqh, has_tc}
 use Rattle.node_core.specs.Fresh.{fresh_part, fresh_shell}
 use Rattle.node_core.specs.Requests.{is_request}
-use Rattle.world_core.specs.Hosts.{first_membership, host_at, host_by, host_for, hosts, member_of, number_of, part_by, receiver, rows_host, started, tc_host}
-use Rattle.world_core.specs.Machine.{after, all_addressed, asked_rightly, counted, machine, sent_count, signals_of, step_after}
+use Rattle.world_core.specs.Hosts.{first_membership, host_at, host_by, host_for, hosts, member_of, number_of, part_by}
+use Rattle.world_core.specs.Hosts.{receiver, rows_host, started, tc_host}
+use Rattle.world_core.specs.Machine.{after, all_addressed, asked_rightly, counted, machine, sent_count, signals_of}
+use Rattle.world_core.specs.Machine.{step_after}
 use Rattle.world_core.specs.Start.{Start, made}
 use Rattle.world_core.specs.Steps.{Addressed, HostStep}
 

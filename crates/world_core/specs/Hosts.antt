@@ -1,7 +1,8 @@
 -- Hosts: which one runs what. Host 0 is the shell's. Behind it each member has three, one for each part, in the order
 -- in
 -- which members are made.
-use Rattle.std.specs.Prelude.{ℕ, zero, suc, ◌+◌, ◌*◌, ◌/◌, ◌%◌, ◌==◌, if◌then◌else◌, List, ◌++◌, filter, length, position, slice_get, slice_index_or, Option, None, Some}
+use Rattle.std.specs.Prelude.{ℕ, zero, suc, ◌+◌, ◌*◌, ◌/◌, ◌%◌, ◌==◌, if◌then◌else◌, List, ◌++◌, filter, length}
+use Rattle.std.specs.Prelude.{position, slice_get, slice_index_or, Option, None, Some}
 use Rattle.sig_core.specs.declared.member.Member.{Member}
 use Rattle.sig_core.specs.declared.member.TxId.{TxId}
 use Rattle.sig_core.specs.declared.place.Part.{Part}

@@ -2,10 +2,7 @@
 use Rattle.std.specs.Prelude.{◌≡◌, ◌≤◌, ℕ, true, List, [], ◌∷◌}
 use Rattle.std.specs.FinMap as map
 use Rattle.frag_map.specs.Groups.{is_viable}
-use Rattle.frag_map.specs.Shape.{IsShape}
-use Rattle.run_theory.specs.Cuts.{IsCut, IsClosed}
 use Rattle.run_theory.specs.Lists.{Each}
-use Rattle.run_theory.specs.Runs.{AreLogs, IsWithin}
 use Rattle.serial_model.specs.Legal.{IsLegal, fold, rows_of}
 use Rattle.sig_core.specs.declared.entry.Entry.{Entry}
 use Rattle.world_core.specs.Steps.{HostStep}
@@ -33,10 +30,3 @@ pub record IsSerial (start : Start) (logs : ℕ → List HostStep) : Type 0 wher
   pub viable : is_viable start.shape (greatest_view start logs) ≡ true
   pub rows : (key : List ℕ) → IsAtRest start logs key → (member : Member) → IsLiveReplica start logs key member
       → row_in start logs member.node key ≡ map.get (fold (rows_of start.rows) (history (hosts start) logs)) key
-
--- The history of every closed cut of right logs is a serial history.
-abbrev pub EveryCutIsSerial : Type 0
-EveryCutIsSerial =
-    (start : Start) (inside logs : ℕ → List HostStep) → IsShape start.shape → IsWithin (hosts start) logs
-    → AreLogs (machine start) logs → IsCut inside logs
-    → IsClosed (machine start) inside → IsSerial start inside

@@ -4,7 +4,7 @@ use Rattle.run_theory.specs.Lists.{IsPast}
 use Rattle.sig_core.specs.declared.reply.ApiReply.{ApiReply}
 use Rattle.sig_core.specs.declared.request.ApiReq.{ApiReq}
 use Rattle.sig_core.specs.Step.{Step}
-use Rattle.node_views.specs.declared.host.Host.{Host}
+use Rattle.node_views.specs.declared.host_body.HostBody.{HostBody}
 use Rattle.world_core.specs.Start.{Start}
 use Rattle.world_core.specs.Steps.{Addressed, HostStep}
 use Rattle.world_core.specs.World.{logs_at}
@@ -25,7 +25,7 @@ module _ (start : Start) (given : List ApiReply) (w : Whole) (right : IsRight st
   abbrev wish : Addressed
   wish = asking w 0 (request_body request)
 
-  abbrev step : Step Host
+  abbrev step : Step HostBody
   step = step_by 0 (body_at w.bodies 0) wish.signal
 
   ready : (others : List ApiReply) → IsRight start others w → IsReady start others w wish step

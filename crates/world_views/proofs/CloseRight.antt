@@ -1,5 +1,6 @@
 -- What stopping does to the links of the host that stops.
-use Rattle.std.proofs.Common.{◌≡◌, inl, ℕ, ◌+◌, ◌-◌, ◌*◌, ◌<◌, List, [], ◌∷◌, ◌++◌, length, take, drop, Bool, true, false, refl, ap, sym, ◌∙◌, subst, arith}
+use Rattle.std.proofs.Common.{◌≡◌, inl, ℕ, ◌+◌, ◌-◌, ◌*◌, ◌<◌, List, [], ◌∷◌, ◌++◌, length, take, drop, Bool, true}
+use Rattle.std.proofs.Common.{false, refl, ap, sym, ◌∙◌, subst, arith}
 use Rattle.std.specs.Prelude.{if◌then◌else◌, ◌==◌, ◌||◌}
 use Rattle.std.specs.List.{list_any}
 use Rattle.std.proofs.lemmas.Bool.{eq-eqb, eqb-true, true≢false}
@@ -14,7 +15,7 @@ use Rattle.sig_core.specs.declared.signal.Signal.{Signal}
 use Rattle.sig_core.specs.declared.view.View.{View}
 use Rattle.sig_core.specs.Step.{Effects, Step}
 use Rattle.api_views.specs.Members.{greater_view}
-use Rattle.node_views.specs.declared.host.Host.{Host}
+use Rattle.node_views.specs.declared.host_body.HostBody.{HostBody}
 use Rattle.node_views.specs.Row.{is_cut, is_one_of}
 use Rattle.world_core.proofs.HostNumbers.{members_length}
 use Rattle.world_core.specs.Hosts.{hosts}
@@ -22,7 +23,8 @@ use Rattle.world_core.specs.Start.{Start, made}
 use Rattle.world_core.specs.Steps.{Addressed, HostStep}
 use Rattle.world_core.specs.World.{logs_at}
 use Rattle.world_views.specs.Links.{AreLinks, LinkState, Links, close_below, closed_by, link, lose, put_all, without}
-use Rattle.world_views.specs.Machine.{after, closing_signal, closing_view, has_cut, has_stopped, machine, sender, sent_count, step_by, stops_by, told}
+use Rattle.world_views.specs.Machine.{after, closing_signal, closing_view, has_cut, has_stopped, machine, sender}
+use Rattle.world_views.specs.Machine.{sent_count, step_by, stops_by, told}
 use Rattle.world_views.specs.Right.{IsHeld, IsLinked, IsOpen, holds_by, on_link, stopped_holds}
 use Rattle.world_views.specs.Sending.{count_routed, routed_all}
 use Rattle.world_views.specs.World.{Whole, is_unclosed, step_made}
@@ -80,11 +82,11 @@ module _ (start : Start) (h j lost : ℕ) (log : List HostStep) (e : HostStep) (
         past = left_past;
       }
 
-module _ (start : Start) (given : List ApiReply) (w : Whole) (lost : ℕ) (x : Addressed) (t : Step Host)
+module _ (start : Start) (given : List ApiReply) (w : Whole) (lost : ℕ) (x : Addressed) (t : Step HostBody)
     (ready : IsReady start given w x t)
     (stops : stops_by t.effects.marks ≡ true) where
   -- the step that the machine makes
-  abbrev the_step : Step Host
+  abbrev the_step : Step HostBody
   the_step = step_by x.to (after start x.to (logs_at w.logs x.to)) x.signal
 
   step_silent : the_step.effects.sends ≡ []

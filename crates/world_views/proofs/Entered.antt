@@ -1,5 +1,6 @@
 -- What the making of a step does to a world, with the links told apart.
-use Rattle.std.proofs.Common.{◌≡◌, ◌≢◌, ℕ, ◌+◌, ◌*◌, ◌<◌, List, ◌∷◌, ◌++◌, length, Bool, true, false, refl, ap, ◌∙◌, arith}
+use Rattle.std.proofs.Common.{◌≡◌, ◌≢◌, ℕ, ◌+◌, ◌*◌, ◌<◌, List, ◌∷◌, ◌++◌, length, Bool, true, false, refl, ap, ◌∙◌}
+use Rattle.std.proofs.Common.{arith}
 use Rattle.std.specs.Prelude.{slice_set}
 use Rattle.std.proofs.lemmas.List.{get_or-set_same}
 use Rattle.frag_map.specs.Layout.{first_layout}
@@ -9,7 +10,7 @@ use Rattle.sig_core.specs.declared.signal.Body.TheVariants as body
 use Rattle.sig_core.specs.declared.signal.host.HostSignal.TheVariants.{Closed}
 use Rattle.sig_core.specs.Step.{Step}
 use Rattle.api_views.specs.Members.{greater_view}
-use Rattle.node_views.specs.declared.host.Host.{Host}
+use Rattle.node_views.specs.declared.host_body.HostBody.{HostBody}
 use Rattle.node_views.specs.declared.standing.Standing.{Standing}
 use Rattle.node_views.specs.Fresh.{fresh_shell}
 use Rattle.world_core.specs.Hosts.{hosts}
@@ -21,10 +22,11 @@ use Rattle.world_views.specs.Links.{AreLinks, Links, close_below, link, lose, pu
 use Rattle.world_views.specs.Machine.{cause_in, replies_at, sender, sent_count, stops_by, told}
 use Rattle.world_views.specs.Right.{IsLinked}
 use Rattle.world_views.specs.Sending.{headed, routed_all}
-use Rattle.world_views.specs.World.{Whole, body_at, closing_if, entered, is_unclosed, logged, sending, step_made, telling}
+use Rattle.world_views.specs.World.{Whole, body_at, closing_if, entered, is_unclosed, logged, sending, step_made}
+use Rattle.world_views.specs.World.{telling}
 use Rattle.world_views.proofs.Ready.{IsReady, host_step, log_with}
 
-module _ (w : Whole) (lost : ℕ) (x : Addressed) (t : Step Host) where
+module _ (w : Whole) (lost : ℕ) (x : Addressed) (t : Step HostBody) where
   -- the links with what the step sends
   abbrev pub sent_links : List Member → Standing → Links
   sent_links made standing =
@@ -55,7 +57,7 @@ module _ (w : Whole) (lost : ℕ) (x : Addressed) (t : Step Host) where
       }
 
   -- the host as the step leaves it
-  abbrev pub left_by : Host
+  abbrev pub left_by : HostBody
   left_by = body_at (slice_set w.bodies x.to (told x.to t)) x.to
 
   entered_by : entered w lost x t ≡ behind_step (links_by (stops_by t.effects.marks) w.made left_by.standing)
@@ -69,7 +71,7 @@ module _ (w : Whole) (lost : ℕ) (x : Addressed) (t : Step Host) where
       go true = refl
       go false = refl
 
-module _ (start : Start) (given : List ApiReply) (w : Whole) (lost : ℕ) (x : Addressed) (t : Step Host)
+module _ (start : Start) (given : List ApiReply) (w : Whole) (lost : ℕ) (x : Addressed) (t : Step HostBody)
     (ready : IsReady start given w x t) where
   -- the links behind the step
   abbrev pub new_links : Links
@@ -79,7 +81,7 @@ module _ (start : Start) (given : List ApiReply) (w : Whole) (lost : ℕ) (x : A
   entered_is =
       let b = stops_by t.effects.marks in
       entered_by w lost x t
-      ∙ ap (λ (s : Host). behind_step w lost x t (links_by w lost x t b w.made s.standing))
+      ∙ ap (λ (s : HostBody). behind_step w lost x t (links_by w lost x t b w.made s.standing))
       (get_or-set_same w.bodies x.to (told x.to t)
       (fresh_shell (first_layout (record { nodes = 0; replicas = 0; fragments = 0 })))
       (omega (arith, ready.there, ready.sizes.bodies)))
@@ -87,7 +89,7 @@ module _ (start : Start) (given : List ApiReply) (w : Whole) (lost : ℕ) (x : A
 
 -- The links behind a step are right: those of its host have what it sent, or are closed, and the others are as they
 -- were.
-pub record AreRightLinks (start : Start) (w : Whole) (x : Addressed) (t : Step Host) (links : Links) : Type 0 where
+pub record AreRightLinks (start : Start) (w : Whole) (x : Addressed) (t : Step HostBody) (links : Links) : Type 0 where
   pub are : AreLinks (hosts start) links
   pub other : (i j : ℕ) → i ≢ x.to → link links i j ≡ link w.links i j
   pub counts : (j : ℕ) → j < hosts start

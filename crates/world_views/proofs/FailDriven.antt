@@ -1,5 +1,6 @@
 -- A host that stops by itself drives its world, also with a signal in its hand: that is lost with the host.
-use Rattle.std.proofs.Common.{◌≡◌, ◌≢◌, ◌⊎◌, inl, inr, ℕ, zero, suc, ◌-◌, ◌+◌, ◌*◌, ◌<◌, ◌≤◌, List, [], ◌∷◌, length, take, Bool, true, false, refl, ap, sym, ◌∙◌, subst, arith}
+use Rattle.std.proofs.Common.{◌≡◌, ◌≢◌, ◌⊎◌, inl, inr, ℕ, zero, suc, ◌-◌, ◌+◌, ◌*◌, ◌<◌, ◌≤◌, List, [], ◌∷◌, length}
+use Rattle.std.proofs.Common.{take, Bool, true, false, refl, ap, sym, ◌∙◌, subst, arith}
 use Rattle.std.specs.Prelude.{if◌then◌else◌, slice_set}
 use Rattle.std.proofs.lemmas.Bool.{eqb-true, eq-eqb, true≢false, cases_eq, or_left}
 use Rattle.std.proofs.lemmas.List.{get_or-set_same, get_or-set_other, length-set}
@@ -10,7 +11,7 @@ use Rattle.sig_core.specs.declared.signal.Body.TheVariants as body
 use Rattle.sig_core.specs.declared.signal.Signal.{Signal}
 use Rattle.sig_core.specs.declared.signal.host.HostSignal.TheVariants.{Closed}
 use Rattle.frag_map.specs.Layout.{first_layout}
-use Rattle.node_views.specs.declared.host.Host.{Host}
+use Rattle.node_views.specs.declared.host_body.HostBody.{HostBody}
 use Rattle.node_views.specs.Fresh.{fresh_shell}
 use Rattle.node_views.specs.Row.{stopping}
 use Rattle.world_core.specs.Hosts.{hosts}
@@ -107,9 +108,9 @@ module _ (start : Start) (given : List ApiReply) (w : Whole) (right : IsRight st
     (there : h < hosts start)
     (runs : has_stopped (logs_at w.logs h) ≡ false) (some : 1 ≤ h) (cause : StopCause) (own : IsOwnCause cause) where
   -- no host but its own is what it wasn't
-  module _ (left : Host) (cut : left.standing.cut ≡ (body_at w.bodies h).standing.cut)
+  module _ (left : HostBody) (cut : left.standing.cut ≡ (body_at w.bodies h).standing.cut)
       (view : left.standing.view ≡ (body_at w.bodies h).standing.view) where
-    abbrev pub bodies : List Host
+    abbrev pub bodies : List HostBody
     bodies = slice_set w.bodies h left
 
     abbrev pub wish : Addressed
@@ -131,7 +132,7 @@ module _ (start : Start) (given : List ApiReply) (w : Whole) (right : IsRight st
         (λ k low other. get_or-set_other w.bodies h k left
         (fresh_shell (first_layout (record { nodes = 0; replicas = 0; fragments = 0 })))
         (λ same. absurd (true≢false (sym (eq-eqb h k (sym same)) ∙ other))))
-        (ap (λ (s : Host). s.standing.cut) left_is ∙ cut) (ap (λ (s : Host). s.standing.view) left_is ∙ view)
+        (ap (λ (s : HostBody). s.standing.cut) left_is ∙ cut) (ap (λ (s : HostBody). s.standing.view) left_is ∙ view)
 
     pub failing_driven : IsDriven start w (halted (with_body w h left) h (body_at w.bodies h).standing.view cause 0)
     failing_driven =

@@ -5,14 +5,14 @@ use Rattle.sig_core.specs.declared.place.Part.{Part}
 use Rattle.sig_core.specs.Rows.{RowsState, put_row}
 use Rattle.frag_map.specs.Layout.{Layout, first_layout}
 use Rattle.node_core.specs.Fresh.{with_rows}
-use Rattle.node_views.specs.declared.host.Host.{Host}
+use Rattle.node_views.specs.declared.host_body.HostBody.{HostBody}
 use Rattle.node_views.specs.Fresh.{fresh_shell}
 use Rattle.world_core.specs.Hosts.{member_at, part_by}
 use Rattle.world_core.specs.Start.{Start, made}
 use Rattle.world_views.specs.Hosts.{part_started, started}
 
 -- the first of all is put behind none
-pub first_put : (none items : List Host) (host first : Host) → items ≡ none ++ host ∷ [] → none ≡ [] → host ≡ first
+pub first_put : (none items : List HostBody) (host first : HostBody) → items ≡ none ++ host ∷ [] → none ≡ [] → host ≡ first
     → items ≡ first ∷ []
 first_put none items host first put are is = put ∙ ap (λ hosts. hosts ++ host ∷ []) are ∙ ap (λ h. h ∷ []) is
 
@@ -23,22 +23,31 @@ module _ (start : Start) where
   started_behind k = refl
 
   -- the shell's host
-  pub shell_begins : (layout : Layout) (shell : Host) → layout ≡ first_layout start.shape → shell ≡ fresh_shell layout
+  pub shell_begins : (layout : Layout) (shell : HostBody) → layout ≡ first_layout start.shape → shell ≡ fresh_shell layout
       → shell ≡ started start 0
   unfolding started
   shell_begins layout shell first is = is ∙ ap fresh_shell first
 
   -- one of a member
-  pub part_begins : (k : ℕ) (there : List Member) (layout : Layout) (part : Part) (member : Member) (body : Host)
+  pub part_begins : (k : ℕ) (there : List Member) (layout : Layout) (part : Part) (member : Member) (body : HostBody)
       → there ≡ made start → layout ≡ first_layout start.shape → part ≡ part_by (k % 3)
       → member ≡ member_at there (k + 1)
-      → body ≡ part_started (record { shape = layout.shape; epoch = start.epoch; rows = start.rows }) part member
+      → body ≡ part_started (record {
+        shape = layout.shape;
+        epoch = start.epoch;
+        start_epoch = start.start_epoch;
+        rows = start.rows;
+      }) part member
       → body ≡ started start (k + 1)
   part_begins k there layout part member body are first part_is member_is is =
       let next : k + 1 ≡ suc k = omega arith in
       is
-      ∙ ap (λ (l : Layout). part_started (record { shape = l.shape; epoch = start.epoch; rows = start.rows }) part
-      member) first
+      ∙ ap (λ (l : Layout). part_started (record {
+        shape = l.shape;
+        epoch = start.epoch;
+        start_epoch = start.start_epoch;
+        rows = start.rows;
+      }) part member) first
       ∙ ap (λ p. part_started start p member) part_is
       ∙ ap (part_started start (part_by (k % 3)))
       (member_is ∙ ap (λ n. member_at there n) next ∙ ap (λ ms. member_at ms (suc k)) are)

@@ -1,10 +1,11 @@
 -- A fresh world is right: nothing was sent, taken or asked.
-use Rattle.std.proofs.Common.{◌≡◌, ◌⊎◌, inl, inr, ℕ, ◌+◌, ◌*◌, ◌<◌, ◌≤◌, List, [], ◌∷◌, ◌++◌, length, Bool, false, refl, ap, ap₂, sym, ◌∙◌, subst, arith, replicate, reverse}
+use Rattle.std.proofs.Common.{◌≡◌, ◌⊎◌, inl, inr, ℕ, ◌+◌, ◌*◌, ◌<◌, ◌≤◌, List, [], ◌∷◌, ◌++◌, length, Bool, false, refl}
+use Rattle.std.proofs.Common.{ap, ap₂, sym, ◌∙◌, subst, arith, replicate, reverse}
 use Rattle.std.specs.Prelude.{map, slice_index_or}
 use Rattle.std.proofs.lemmas.Bool.{cases_lt}
 use Rattle.std.proofs.lemmas.List.{get_or-replicate, get_or_past, length-replicate}
 use Rattle.frag_map.specs.Layout.{first_layout}
-use Rattle.node_views.specs.declared.host.Host.{Host}
+use Rattle.node_views.specs.declared.host_body.HostBody.{HostBody}
 use Rattle.node_views.specs.Fresh.{fresh_shell}
 use Rattle.run_theory.proofs.Pasts.{past_nil}
 use Rattle.run_theory.specs.Links.{taken}
@@ -133,7 +134,7 @@ module _ (start : Start) where
   fresh_quiet i j = ap (λ (l : LinkState). l.signals) (inbox_idle (hosts start) j i (cases_lt j (hosts start)))
 
 -- a world of what each part of it begins as
-pub begins : (start : Start) (made_now : List Member) (n : ℕ) (bodies : List Host) (stopped : List Bool) (links : Links)
+pub begins : (start : Start) (made_now : List Member) (n : ℕ) (bodies : List HostBody) (stopped : List Bool) (links : Links)
     (stamps : List ℕ) (logs : List HostLog) (replies : List ApiReply) → made_now ≡ made start
     → n ≡ length made_now * 3 + 1
     → bodies ≡ for_each (hosts start) (started start) → stopped ≡ replicate n false

@@ -1,12 +1,15 @@
 -- What a change of one link, the sends of a step, a loss and a closing do to each link.
-use Rattle.std.proofs.Common.{◌≡◌, ◌≢◌, ◌⊎◌, inl, inr, ℕ, zero, suc, ◌<◌, ◌≤◌, List, [], ◌∷◌, length, Bool, true, false, refl, ap, sym, ◌∙◌, subst, arith}
+use Rattle.std.proofs.Common.{◌≡◌, ◌≢◌, ◌⊎◌, inl, inr, ℕ, zero, suc, ◌<◌, ◌≤◌, List, [], ◌∷◌, length, Bool, true, false}
+use Rattle.std.proofs.Common.{refl, ap, sym, ◌∙◌, subst, arith}
 use Rattle.std.proofs.lemmas.Bool.Decides.{nat_tests}
 use Rattle.std.proofs.lemmas.Bool.{cases_eq, cases_lt}
 use Rattle.std.proofs.lemmas.List.{get_or-map, get_or-set_other, get_or-set_same, get_or_past, length-map, length-set}
 use Rattle.std.specs.Prelude.{if◌then◌else◌, nat_lt, slice_set}
 use Rattle.sig_core.specs.declared.signal.Signal.{Signal}
 use Rattle.world_views.specs.declared.sender.Sender.{Sender}
-use Rattle.world_views.specs.Links.{AreLinks, Inbox, LinkState, Links, behind, changed, close_below, close_one, closed_by, inbox_of, link, link_from, lose, new_link, put, put_all, with_inbox, with_link, without}
+use Rattle.world_views.specs.Links.{AreLinks, Inbox, LinkState, Links, behind, changed, close_below, close_one}
+use Rattle.world_views.specs.Links.{closed_by, inbox_of, link, link_from, lose, new_link, put, put_all, with_inbox}
+use Rattle.world_views.specs.Links.{with_link, without}
 use Rattle.world_views.specs.Sending.{Routed}
 
 -- an inbox keeps its length

@@ -5,7 +5,7 @@ use Rattle.std.proofs.lemmas.Bool.{eqb-true, eq-eqb, true≢false}
 use Rattle.run_theory.specs.Links.{put, sent}
 use Rattle.sig_core.specs.declared.reply.ApiReply.{ApiReply}
 use Rattle.sig_core.specs.Step.{Step}
-use Rattle.node_views.specs.declared.host.Host.{Host}
+use Rattle.node_views.specs.declared.host_body.HostBody.{HostBody}
 use Rattle.world_core.specs.Start.{Start}
 use Rattle.world_core.specs.Steps.{Addressed, HostStep}
 use Rattle.world_core.specs.World.{logs_at}
@@ -44,7 +44,7 @@ sent_going_on start h j log e stops =
     put (machine start) j (if b then [] else signals_of start h log e) (sent (machine start) h j log))
     stops
 
-module _ (start : Start) (given : List ApiReply) (w : Whole) (x : Addressed) (t : Step Host)
+module _ (start : Start) (given : List ApiReply) (w : Whole) (x : Addressed) (t : Step HostBody)
     (ready : IsReady start given w x t) where
   -- a host that takes from a link behind the step took from it before
   pub was_open : (i j : ℕ) → IsOpen start i j (log_with w x t j) → IsOpen start i j (logs_at w.logs j)

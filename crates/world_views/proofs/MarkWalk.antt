@@ -11,7 +11,7 @@ use Rattle.sig_core.specs.declared.view.View.{View}
 use Rattle.step_forms.specs.Does.{Does}
 use Rattle.sig_core.specs.Step.{Step}
 use Rattle.node_views.specs.Blocks.{parts_entered, parts_row, settled_at}
-use Rattle.node_views.specs.declared.host.Host as hosts
+use Rattle.node_views.specs.declared.host_body.HostBody as hosts
 use Rattle.node_views.specs.declared.parts.Parts.{Parts}
 use Rattle.node_views.specs.Row.{entered, is_barred, is_excluded}
 use Rattle.node_views.proofs.HostEach as host
@@ -31,7 +31,7 @@ module _ (P : Mark → Type 0) where
         → Each P (parts_entered (parts_row parts x).state view).effects.marks
 
   -- by those of the host, at the signal or where its view is installed before
-  pub record IsMarkedBy (s : hosts.Host) (x : Signal) : Type 0 where
+  pub record IsMarkedBy (s : hosts.HostBody) (x : Signal) : Type 0 where
     pub goes : nat_lt s.standing.view.number x.view.number ≡ false → is_barred s x ≡ false → IsMarked x s.parts
     pub enters : Each P (parts_entered s.parts x.view).effects.marks
     pub behind : nat_lt s.standing.view.number x.view.number ≡ true → is_excluded s.standing x.view ≡ false
@@ -53,7 +53,7 @@ module _ (P : Mark → Type 0) where
     }
 
     -- whatever signal it is
-    pub step_marks : (h : ℕ) (s : hosts.Host) → IsMarkedBy s x → Each P (step_by h s x).effects.marks
+    pub step_marks : (h : ℕ) (s : hosts.HostBody) → IsMarkedBy s x → Each P (step_by h s x).effects.marks
     step_marks h s marked =
         (step_each AnySent P own x h s (record {
           goes = λ sound old barred. takes s.parts (marked.goes old barred);

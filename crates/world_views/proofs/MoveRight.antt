@@ -1,10 +1,11 @@
 -- A step keeps a world right.
-use Rattle.std.proofs.Common.{◌≡◌, ℕ, zero, suc, ◌+◌, ◌<◌, List, [], ◌∷◌, ◌++◌, append_assoc, append-nil, Bool, true, false, refl, ap, sym, ◌∙◌, subst, arith}
+use Rattle.std.proofs.Common.{◌≡◌, ℕ, zero, suc, ◌+◌, ◌<◌, List, [], ◌∷◌, ◌++◌, append_assoc, append-nil, Bool, true}
+use Rattle.std.proofs.Common.{false, refl, ap, sym, ◌∙◌, subst, arith}
 use Rattle.std.specs.Prelude.{if◌then◌else◌, ◌==◌, max, slice_index_or}
 use Rattle.std.proofs.lemmas.Bool.{eqb-true, true≢false}
 use Rattle.std.proofs.lemmas.List.{get_or-set_same, get_or-set_other, length-set}
 use Rattle.frag_map.specs.Layout.{first_layout}
-use Rattle.node_views.specs.declared.host.Host.{Host}
+use Rattle.node_views.specs.declared.host_body.HostBody.{HostBody}
 use Rattle.node_views.specs.Fresh.{fresh_shell}
 use Rattle.run_theory.specs.Links.{taken}
 use Rattle.run_theory.specs.Logs.{IsLog, IsRunning, IsStep}
@@ -34,13 +35,13 @@ running start [] runs = tt
 running start (e ∷ log) runs = runs
 
 -- a host that goes on has made the step that the machine makes
-pub runs_on : (start : Start) (given : List ApiReply) (w : Whole) (x : Addressed) (t : Step Host)
+pub runs_on : (start : Start) (given : List ApiReply) (w : Whole) (x : Addressed) (t : Step HostBody)
     → IsReady start given w x t → stops_by t.effects.marks ≡ false
     → t ≡ step_by x.to (after start x.to (logs_at w.logs x.to)) x.signal
 runs_on start given w x t ready going_on =
     ready.step.same (ap (λ (f : Effects). stops_by f.marks) (sym ready.step.effects) ∙ going_on)
 
-module _ (start : Start) (given : List ApiReply) (w : Whole) (lost : ℕ) (x : Addressed) (t : Step Host)
+module _ (start : Start) (given : List ApiReply) (w : Whole) (lost : ℕ) (x : Addressed) (t : Step HostBody)
     (ready : IsReady start given w x t) where
   -- the links behind the step, and the world with them
   abbrev links : Links
@@ -128,7 +129,7 @@ module _ (start : Start) (given : List ApiReply) (w : Whole) (lost : ℕ) (x : A
           get_or-set_other w.stopped x.to k (stops_by t.effects.marks) true (apart x.to k differs) ∙ ready.stopped k low
 
   -- a host where there is none
-  abbrev nobody_there : Host
+  abbrev nobody_there : HostBody
   nobody_there = fresh_shell (first_layout (record { nodes = 0; replicas = 0; fragments = 0 }))
 
   bodies_behind : (k : ℕ) → k < hosts start → has_stopped (log_with w x t k) ≡ false

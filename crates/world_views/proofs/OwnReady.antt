@@ -1,5 +1,6 @@
 -- What a host asks of itself makes it ready for a step, whatever its world is otherwise.
-use Rattle.std.proofs.Common.{◌≡◌, ℕ, zero, suc, ◌<◌, ◌≤◌, List, ◌∷◌, ◌++◌, length, Bool, true, false, refl, ap, sym, ◌∙◌, subst, arith}
+use Rattle.std.proofs.Common.{◌≡◌, ℕ, zero, suc, ◌<◌, ◌≤◌, List, ◌∷◌, ◌++◌, length, Bool, true, false, refl, ap, sym}
+use Rattle.std.proofs.Common.{◌∙◌, subst, arith}
 use Rattle.std.specs.Prelude.{if◌then◌else◌, ◌==◌, ◌&&◌, Option, None, Some, slice_index_or}
 use Rattle.std.proofs.lemmas.Bool.{eq-eqb, true≢false}
 use Rattle.run_theory.proofs.Runs.{taken-asked}
@@ -14,7 +15,7 @@ use Rattle.sig_core.specs.declared.signal.host.HostSignal.TheVariants.{Closed, C
 use Rattle.sig_core.specs.declared.signal.host.Work.TheVariants.{Request}
 use Rattle.sig_core.specs.declared.view.View.{View}
 use Rattle.sig_core.specs.Step.{Step}
-use Rattle.node_views.specs.declared.host.Host.{Host}
+use Rattle.node_views.specs.declared.host_body.HostBody.{HostBody}
 use Rattle.node_views.specs.Row.{stopping}
 use Rattle.world_core.specs.Hosts.{hosts}
 use Rattle.world_core.specs.Start.{Start, made}
@@ -22,7 +23,8 @@ use Rattle.world_core.specs.Steps.{Addressed, HostStep}
 use Rattle.world_core.specs.World.{logs_at}
 use Rattle.world_core.specs.Machine.{last_stamp}
 use Rattle.world_views.specs.Links.{link}
-use Rattle.world_views.specs.Machine.{IsOwn, IsOwnCause, IsOwnWork, after, comes_rightly, has_stopped, machine, own_signal, own_stop, step_by, step_if}
+use Rattle.world_views.specs.Machine.{IsOwn, IsOwnCause, IsOwnWork, after, comes_rightly, has_stopped, machine}
+use Rattle.world_views.specs.Machine.{own_signal, own_stop, step_by, step_if}
 use Rattle.world_views.specs.Right.{IsHeld, IsRight, on_link}
 use Rattle.world_views.specs.Sending.{is_asked, is_own_work}
 use Rattle.world_views.specs.World.{Whole, asking, body_at}
@@ -30,7 +32,7 @@ use Rattle.world_views.proofs.Ready.{IsLinkedTo, IsReady, IsStepOf, host_step, l
 use Rattle.world_views.proofs.TakeRight.{row_step}
 
 -- the world with these hosts
-abbrev pub with_bodies : Whole → List Host → Whole
+abbrev pub with_bodies : Whole → List HostBody → Whole
 with_bodies w bodies = record w { bodies = bodies }
 
 -- what a host may ask of itself, no link gives
@@ -50,13 +52,13 @@ pub stops_itself : (made : List Member) (h stamp : ℕ) (view : View) (cause : S
 stops_itself made h stamp view cause = ap (λ b. if b then Some cause else None) (eq-eqb h h refl)
 
 -- it makes the step of the machine, so far as that tells, if it still knows whom it had cut off and what its view is
-stopping_is : (h : ℕ) (s left : Host) (cause : StopCause) → 1 ≤ h → left.standing.cut ≡ s.standing.cut
+stopping_is : (h : ℕ) (s left : HostBody) (cause : StopCause) → 1 ≤ h → left.standing.cut ≡ s.standing.cut
     → left.standing.view ≡ s.standing.view → IsStepOf h (stopping s cause) (stopping left cause)
 stopping_is zero s left cause some cut view = absurd (omega (arith, some))
 stopping_is (suc h) s left cause some cut view =
     record { effects = refl; cut = cut; view = view; same = λ runs. absurd (true≢false runs); replies = refl }
 
-pub stop_step : (h : ℕ) (s left : Host) (x : Signal) (cause : StopCause) → 1 ≤ h → left.standing.cut ≡ s.standing.cut
+pub stop_step : (h : ℕ) (s left : HostBody) (x : Signal) (cause : StopCause) → 1 ≤ h → left.standing.cut ≡ s.standing.cut
     → left.standing.view ≡ s.standing.view → own_stop h x ≡ Some cause
     → IsStepOf h (step_by h s x) (stopping left cause)
 stop_step h s left x cause some cut view own =
@@ -77,14 +79,14 @@ module _ (start : Start) (given : List ApiReply) (w : Whole) (right : IsRight st
       record {
         is = ap (λ ms. own_signal ms h (slice_index_or w.stamps h 0) view work) right.made
             ∙ ap (λ n. own_signal (made start) h n view work) (right.stamps h there)
-            ∙ ap (λ (s : Host). own_signal (made start) h (last_stamp (logs_at w.logs h)) s.standing.view work) body_is;
+            ∙ ap (λ (s : HostBody). own_signal (made start) h (last_stamp (logs_at w.logs h)) s.standing.view work) body_is;
         work = own;
       }
 
   -- each other host is what it was
-  module _ (bodies : List Host) (few : length bodies ≡ hosts start)
+  module _ (bodies : List HostBody) (few : length bodies ≡ hosts start)
       (others : (k : ℕ) → k < hosts start → (h == k) ≡ false → body_at bodies k ≡ body_at w.bodies k)
-      (work : Body) (own : IsOwnWork start h work) (t : Step Host) where
+      (work : Body) (own : IsOwnWork start h work) (t : Step HostBody) where
     -- what it asked for
     abbrev wish : Addressed
     wish = asking w h work
@@ -158,7 +160,7 @@ module _ (start : Start) (given : List ApiReply) (w : Whole) (right : IsRight st
       (row_step h (after start h (logs_at w.logs h)) (body_at w.bodies h) x body_is)
 
   -- it stops, whatever is left of it
-  pub halt_ready : (bodies : List Host) (cause : StopCause) → 1 ≤ h → IsOwnCause cause → length bodies ≡ hosts start
+  pub halt_ready : (bodies : List HostBody) (cause : StopCause) → 1 ≤ h → IsOwnCause cause → length bodies ≡ hosts start
       → ((k : ℕ) → k < hosts start → (h == k) ≡ false → body_at bodies k ≡ body_at w.bodies k)
       → (body_at bodies h).standing.cut ≡ (body_at w.bodies h).standing.cut
       → (body_at bodies h).standing.view ≡ (body_at w.bodies h).standing.view
@@ -168,5 +170,5 @@ module _ (start : Start) (given : List ApiReply) (w : Whole) (right : IsRight st
       let x = (asking w h (body.Host (Closed cause))).signal in
       own_ready bodies few others (body.Host (Closed cause)) (some, own) (stopping (body_at bodies h) cause)
       (stop_step h (after start h (logs_at w.logs h)) (body_at bodies h) x cause some
-      (cut ∙ ap (λ (s : Host). s.standing.cut) body_is) (view ∙ ap (λ (s : Host). s.standing.view) body_is)
+      (cut ∙ ap (λ (s : HostBody). s.standing.cut) body_is) (view ∙ ap (λ (s : HostBody). s.standing.view) body_is)
       (stops_itself w.made h (slice_index_or w.stamps h 0) (body_at w.bodies h).standing.view cause))

@@ -9,7 +9,7 @@ use Rattle.run_theory.specs.Lists.{Each, IsPast}
 use Rattle.sig_core.specs.declared.reply.ApiReply.{ApiReply}
 use Rattle.sig_core.specs.declared.signal.Signal.{Signal}
 use Rattle.sig_core.specs.Step.{Step}
-use Rattle.node_views.specs.declared.host.Host.{Host}
+use Rattle.node_views.specs.declared.host_body.HostBody.{HostBody}
 use Rattle.world_core.specs.Hosts.{hosts}
 use Rattle.world_core.specs.Right.{arriving}
 use Rattle.world_core.specs.Start.{Start, made}
@@ -113,18 +113,18 @@ module _ (start : Start) (n : ℕ) (by : Sender) (j : ℕ) (Open : Type 0) (ther
       all_put (network.put links by r) (counted r.to count) (more_sent count all r (r.to == j)) before more
       (one_put links count all before r was)
 
-module _ (start : Start) (given : List ApiReply) (w : Whole) (lost : ℕ) (x : Addressed) (t : Step Host)
+module _ (start : Start) (given : List ApiReply) (w : Whole) (lost : ℕ) (x : Addressed) (t : Step HostBody)
     (ready : IsReady start given w x t)
     (same : t ≡ step_by x.to (after start x.to (logs_at w.logs x.to)) x.signal)
     (going_on : stops_by t.effects.marks ≡ false) where
   -- who sends, and what, where the step is this one
-  abbrev by : Step Host → Sender
+  abbrev by : Step HostBody → Sender
   by s = sender (made start) x.to (step_made w x t).stamp (told x.to s).standing.view
 
-  abbrev routed_by : Step Host → List Routed
+  abbrev routed_by : Step HostBody → List Routed
   routed_by s = routed_all (made start) x.to (told x.to s).standing s.effects.sends
 
-  abbrev the_step : Step Host
+  abbrev the_step : Step HostBody
   the_step = step_by x.to (after start x.to (logs_at w.logs x.to)) x.signal
 
   -- the host's log before the step, and what its links have given
@@ -149,7 +149,7 @@ module _ (start : Start) (given : List ApiReply) (w : Whole) (lost : ℕ) (x : A
       let h = x.to in
       let Open = IsOpen start h j (logs_at w.logs j) in
       let was = ready.linked h j ready.there low in
-      subst (λ (s : Step Host).
+      subst (λ (s : Step HostBody).
       IsPutting (hosts start) (put_all w.links (by s) (routed_by s)) h j
       (sent_count start h (host_step w x t ∷ older)) Open (all_sent j) (before j))
       (sym same)

@@ -7,7 +7,7 @@ use Rattle.run_theory.specs.Logs.{IsLog}
 use Rattle.sig_core.specs.declared.reply.ApiReply.{ApiReply}
 use Rattle.sig_core.specs.declared.signal.Signal.{Signal}
 use Rattle.sig_core.specs.Step.{Step}
-use Rattle.node_views.specs.declared.host.Host.{Host}
+use Rattle.node_views.specs.declared.host_body.HostBody.{HostBody}
 use Rattle.world_core.specs.Hosts.{hosts}
 use Rattle.world_core.specs.Right.{IsLabelled}
 use Rattle.world_core.specs.Start.{Start, made}
@@ -15,22 +15,23 @@ use Rattle.world_core.specs.Steps.{Addressed, HostStep}
 use Rattle.world_core.specs.World.{logs_at, no_steps, of_host}
 use Rattle.world_core.specs.Machine.{last_stamp}
 use Rattle.world_views.specs.Links.{LinkState, link}
-use Rattle.world_views.specs.Machine.{after, comes_rightly, has_stopped, machine, replies_at, sent_count, step_by, stops_by, told}
+use Rattle.world_views.specs.Machine.{after, comes_rightly, has_stopped, machine, replies_at, sent_count, step_by}
+use Rattle.world_views.specs.Machine.{stops_by, told}
 use Rattle.world_views.specs.Right.{IsHeld, IsOpen, on_link, replies_in}
 use Rattle.world_views.specs.Sending.{is_asked}
 use Rattle.world_views.specs.World.{IsOf, Whole, body_at, step_made}
 
 -- the step that the host of a signal makes in a world, and the log of a host with it
-abbrev pub host_step : Whole → Addressed → Step Host → HostStep
+abbrev pub host_step : Whole → Addressed → Step HostBody → HostStep
 host_step w x t = of_host x.to (step_made w x t)
 
-abbrev pub log_with : Whole → Addressed → Step Host → ℕ → List HostStep
+abbrev pub log_with : Whole → Addressed → Step HostBody → ℕ → List HostStep
 log_with w x t h = if x.to == h then host_step w x t ∷ logs_at w.logs h else logs_at w.logs h
 
 -- What host h did is the step that the machine makes; where it stops, so far as that tells: of a host that wanted
 -- memory it
 -- isn't known what is left, but for the hosts that it had cut off and its view.
-pub record IsStepOf (h : ℕ) (machine_step t : Step Host) : Type 0 where
+pub record IsStepOf (h : ℕ) (machine_step t : Step HostBody) : Type 0 where
   pub effects : t.effects ≡ machine_step.effects
   pub cut : (told h t).standing.cut ≡ (told h machine_step).standing.cut
   pub view : (told h t).standing.view ≡ (told h machine_step).standing.view
@@ -44,7 +45,7 @@ pub record IsLinkedTo (start : Start) (i j : ℕ) (sender taker next : List Host
   pub held : IsOpen start i j taker → IsHeld start i j sender (on_link j l ++ taken (machine start) i next)
 
 -- The world is right but for a signal, by which its host makes this step.
-pub record IsReady (start : Start) (given : List ApiReply) (w : Whole) (x : Addressed) (t : Step Host) : Type 0 where
+pub record IsReady (start : Start) (given : List ApiReply) (w : Whole) (x : Addressed) (t : Step HostBody) : Type 0 where
   pub shape : w.shape ≡ start.shape
   pub made : w.made ≡ made start
   pub sizes : IsOf (hosts start) w

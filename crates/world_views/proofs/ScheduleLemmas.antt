@@ -1,5 +1,6 @@
 -- What picks come to.
-use Rattle.std.proofs.Common.{◌≡◌, ◌⊎◌, inl, inr, ℕ, ◌+◌, ◌<◌, ◌≤◌, List, [], ◌∷◌, ◌++◌, length, take, Bool, true, false, refl, ap, sym, ◌∙◌, subst, arith}
+use Rattle.std.proofs.Common.{◌≡◌, ◌⊎◌, inl, inr, ℕ, ◌+◌, ◌<◌, ◌≤◌, List, [], ◌∷◌, ◌++◌, length, take, Bool, true}
+use Rattle.std.proofs.Common.{false, refl, ap, sym, ◌∙◌, subst, arith}
 use Rattle.std.specs.Prelude.{◌==◌, ◌&&◌, nat_lt, not, get_or, None, Some, Err}
 use Rattle.std.proofs.lemmas.Bool.{and_parts, cases_lt, true≢false}
 use Rattle.std.proofs.lemmas.Bool.Decides.{nat_tests}
@@ -20,7 +21,8 @@ use Rattle.world_views.specs.declared.schedule.ScheduleFault.TheVariants.{Empty,
 use Rattle.world_views.specs.Driven.{HaveGrown, IsDriven, IsSound, IsWorld}
 use Rattle.world_views.specs.Links.{Arrival, take_between}
 use Rattle.world_views.specs.Machine.{IsOwnWork, first_of, has_stopped, own_stop, step_by}
-use Rattle.world_views.specs.Schedule.{HasPicked, HavePicked, IsEmpty, IsGone, IsPicked, IsScheduled, LeavesRight, StopsAt, host_of, is_discarded, is_other, left_of, may_be}
+use Rattle.world_views.specs.Schedule.{HasPicked, HavePicked, IsEmpty, IsGone, IsPicked, IsScheduled, LeavesRight}
+use Rattle.world_views.specs.Schedule.{StopsAt, host_of, is_discarded, is_other, left_of, may_be}
 use Rattle.world_views.specs.World.{body_at, cutting, handled_by, has_stopped_in, HasHandled, is_stamp, IsThere, Whole}
 use Rattle.world_views.proofs.FailDriven.{fail_driven, stop_driven}
 use Rattle.world_views.proofs.OwnReady.{ask_ready}

@@ -1,5 +1,6 @@
 -- What each signal that was sent tells of its header.
-use Rattle.std.proofs.Common.{◌≡◌, ◌≢◌, ◌⊎◌, inl, inr, ℕ, ◌≤◌, List, [], ◌∷◌, Bool, true, false, refl, sym, ◌∙◌, subst, arith}
+use Rattle.std.proofs.Common.{◌≡◌, ◌≢◌, ◌⊎◌, inl, inr, ℕ, ◌≤◌, List, [], ◌∷◌, Bool, true, false, refl, sym, ◌∙◌, subst}
+use Rattle.std.proofs.Common.{arith}
 use Rattle.std.specs.Prelude.{if◌then◌else◌, ◌==◌, ◌&&◌, ◌||◌}
 use Rattle.std.proofs.lemmas.Bool.{cases_eq, eqb-true, true≢false}
 use Rattle.run_theory.proofs.Links.{sent_by_each, step_above}
@@ -17,9 +18,11 @@ use Rattle.world_core.specs.Steps.{Addressed, HostStep}
 use Rattle.world_core.specs.Machine.{counted, last_stamp}
 use Rattle.world_views.specs.declared.sender.Sender.{Sender}
 use Rattle.world_views.specs.Hosts.{reached}
-use Rattle.world_views.specs.Machine.{after, closing, has_cut, has_stopped, machine, routed_after, sender, sent_count, step_after}
+use Rattle.world_views.specs.Machine.{after, closing, has_cut, has_stopped, machine, routed_after, sender, sent_count}
+use Rattle.world_views.specs.Machine.{step_after}
 use Rattle.world_views.specs.Right.{IsHeld, holds_by, stopped_holds}
-use Rattle.world_views.specs.Sending.{Routed, all_addressed, is_asked, is_kept_back, is_own_work, routed, routed_all, routed_if}
+use Rattle.world_views.specs.Sending.{Routed, all_addressed, is_asked, is_kept_back, is_own_work, routed, routed_all}
+use Rattle.world_views.specs.Sending.{routed_if}
 
 -- a signal of this host and stamp; to itself it isn't what the host asks of itself
 record IsFrom (h stamp : ℕ) (x : Addressed) : Type 0 where

@@ -11,7 +11,7 @@ use Rattle.sig_core.specs.declared.view.View.{View}
 use Rattle.sig_core.specs.Step.{Step}
 use Rattle.step_forms.specs.Does.{Does}
 use Rattle.node_views.specs.Blocks.{parts_entered, parts_row, settled_at}
-use Rattle.node_views.specs.declared.host.Host as hosts
+use Rattle.node_views.specs.declared.host_body.HostBody as hosts
 use Rattle.node_views.specs.declared.parts.Parts.{Parts}
 use Rattle.node_views.specs.Row.{entered, is_barred, is_excluded}
 use Rattle.node_views.proofs.HostEach.{TakesEach}
@@ -26,7 +26,7 @@ module _ (P : Outgoing → Type 0) where
         → Each P (parts_entered (parts_row parts x).state view).effects.sends
 
   -- by those of the host, at the signal or where its view is installed before
-  pub record IsSentBy (s : hosts.Host) (x : Signal) : Type 0 where
+  pub record IsSentBy (s : hosts.HostBody) (x : Signal) : Type 0 where
     pub goes : nat_lt s.standing.view.number x.view.number ≡ false → is_barred s x ≡ false → IsSent x s.parts
     pub enters : Each P (parts_entered s.parts x.view).effects.sends
     pub behind : nat_lt s.standing.view.number x.view.number ≡ true → is_excluded s.standing x.view ≡ false
@@ -46,7 +46,7 @@ module _ (P : Outgoing → Type 0) where
     settles = λ view at. sending (parts_entered (parts_row parts x).state view) (is.settles view at);
   }
 
-  pub step_sends : (h : ℕ) (s : hosts.Host) (x : Signal) → IsSentBy s x → Each P (step_by h s x).effects.sends
+  pub step_sends : (h : ℕ) (s : hosts.HostBody) (x : Signal) → IsSentBy s x → Each P (step_by h s x).effects.sends
   step_sends h s x by =
       (step_each P AnyMark (record { stops = λ cause. tt; installs = λ view. tt; cuts = λ host. tt }) x h s (record {
         goes = λ sound old barred. takes x s.parts (by.goes old barred);

@@ -3,7 +3,7 @@ use Rattle.std.proofs.Common.{◌≡◌, ◌∙◌, List, [], ◌++◌, Bool, tr
 use Rattle.std.specs.Prelude.{◌&&◌, not}
 use Rattle.std.proofs.lemmas.List.{append-nil}
 use Rattle.node_views.specs.Replies as host
-use Rattle.node_views.specs.declared.host.Host.{Host}
+use Rattle.node_views.specs.declared.host_body.HostBody.{HostBody}
 use Rattle.sig_core.specs.declared.reply.ApiReply.{ApiReply}
 use Rattle.world_core.specs.Start.{Start}
 use Rattle.world_core.specs.World.{logs_at}
@@ -13,13 +13,13 @@ use Rattle.world_views.specs.Shell.{finds_down, leaves_open}
 use Rattle.world_views.specs.World.{Whole, body_at, has_stopped_in, is_down, is_left_open}
 
 -- of a host that runs its log says the same
-if_it_runs : (tells : Host → Bool) (one other : Host) (stopped : Bool) → (stopped ≡ false → one ≡ other)
+if_it_runs : (tells : HostBody → Bool) (one other : HostBody) (stopped : Bool) → (stopped ≡ false → one ≡ other)
     → (not stopped && tells one) ≡ (not stopped && tells other)
 if_it_runs tells one other true same = refl
 if_it_runs tells one other false same = ap tells (same refl)
 
 module _ (start : Start) (given : List ApiReply) (w : Whole) (right : IsRight start given w) where
-  knows : (tells : Host → Bool)
+  knows : (tells : HostBody → Bool)
       → (not (has_stopped_in w 0) && tells (body_at w.bodies 0))
       ≡ (not (has_stopped (logs_at w.logs 0)) && tells (after start 0 (logs_at w.logs 0)))
   knows tells =

@@ -1,5 +1,6 @@
 -- Steps that no request made: logs grow, and nothing is asked.
-use Rattle.std.proofs.Common.{◌≡◌, ◌⊎◌, inl, inr, ℕ, ◌<◌, ◌≤◌, List, [], ◌∷◌, ◌++◌, Bool, true, false, refl, ap, sym, ◌∙◌, subst, arith}
+use Rattle.std.proofs.Common.{◌≡◌, ◌⊎◌, inl, inr, ℕ, ◌<◌, ◌≤◌, List, [], ◌∷◌, ◌++◌, Bool, true, false, refl, ap, sym}
+use Rattle.std.proofs.Common.{◌∙◌, subst, arith}
 use Rattle.std.specs.Prelude.{if◌then◌else◌, ◌==◌, None, option_to_list}
 use Rattle.std.proofs.lemmas.Bool.{true≢false, cases_lt}
 use Rattle.std.proofs.lemmas.List.{append-nil}
@@ -10,7 +11,7 @@ use Rattle.run_theory.specs.Logs.{IsLog}
 use Rattle.run_theory.specs.Runs.{AreLogs, IsWithin}
 use Rattle.sig_core.specs.declared.reply.ApiReply.{ApiReply}
 use Rattle.sig_core.specs.Step.{Step}
-use Rattle.node_views.specs.declared.host.Host.{Host}
+use Rattle.node_views.specs.declared.host_body.HostBody.{HostBody}
 use Rattle.world_core.specs.Hosts.{hosts}
 use Rattle.world_core.specs.Requests.{request_in}
 use Rattle.world_core.specs.Start.{Start}
@@ -59,7 +60,7 @@ module _ (start : Start) where
   within given w right h high = logs_at_past w.logs h (omega (arith, high, right.sizes.logs))
 
   -- logs only grow by a step
-  pub log_grows : (given : List ApiReply) (w : Whole) (lost : ℕ) (x : Addressed) (t : Step Host)
+  pub log_grows : (given : List ApiReply) (w : Whole) (lost : ℕ) (x : Addressed) (t : Step HostBody)
       → IsReady start given w x t
       → (h : ℕ) → IsPast (logs_at w.logs h) (logs_at (entered w lost x t).logs h)
   log_grows given w lost x t ready h =
@@ -97,7 +98,7 @@ module _ (start : Start) where
 abbrev pub IsNoWish : Addressed → Type 0
 IsNoWish x = (x.to == 0) ≡ true → is_asked x.to x.signal ≡ false
 
-module _ (start : Start) (given : List ApiReply) (w : Whole) (lost : ℕ) (x : Addressed) (t : Step Host)
+module _ (start : Start) (given : List ApiReply) (w : Whole) (lost : ℕ) (x : Addressed) (t : Step HostBody)
     (ready : IsReady start given w x t) (plain : IsNoWish x) where
   -- a step that no request made
   pub requests_kept : requests (logs_at (entered w lost x t).logs 0) ≡ requests (logs_at w.logs 0)
@@ -129,12 +130,12 @@ module _ (start : Start) (given : List ApiReply) (w : Whole) (lost : ℕ) (x : A
           was newer e before rest asked
 
 -- the world with these hosts and links
-abbrev pub with_both : Whole → List Host → Links → Whole
+abbrev pub with_both : Whole → List HostBody → Links → Whole
 with_both w bodies links = record w { bodies = bodies; links = links }
 
 -- a step by a signal that is on no link any more, whichever that is
-pub entered_driven : (start : Start) (given : List ApiReply) (w : Whole) (bodies : List Host) (links : Links) (lost : ℕ)
-    (x : Addressed) (t : Step Host) → IsRight start given w
+pub entered_driven : (start : Start) (given : List ApiReply) (w : Whole) (bodies : List HostBody) (links : Links) (lost : ℕ)
+    (x : Addressed) (t : Step HostBody) → IsRight start given w
     → ((others : List ApiReply) → IsRight start others w → IsReady start others (with_both w bodies links) x t)
     → IsNoWish x
     → IsDriven start w (entered (with_both w bodies links) lost x t)

@@ -12,14 +12,14 @@ use Rattle.sig_core.specs.Step.{Step}
 use Rattle.step_forms.specs.Does.{Does, IsAmong, IsWord, Speaks}
 use Rattle.step_forms.proofs.DoesLemmas.{does_map, speaks_do}
 use Rattle.node_views.specs.Blocks.{parts_entered, parts_row}
-use Rattle.node_views.specs.declared.host.Host as hosts
+use Rattle.node_views.specs.declared.host_body.HostBody as hosts
 use Rattle.node_views.specs.declared.parts.Parts.{Parts}
 use Rattle.node_views.specs.Words.{host_marks, is_host_mark, parts_marks, parts_words}
 use Rattle.node_views.proofs.HostEach.{HostEach, IsOfHost, KeepsEach, each_kept, row_each}
 use Rattle.node_views.proofs.WordWalk.{host_speaks}
 use Rattle.world_views.specs.Machine.{own_stop, step_by, step_if}
 
-module _ (P : Outgoing → Type 0) (M : Mark → Type 0) (own : IsOfHost M) (x : Signal) (h : ℕ) (s : hosts.Host) where
+module _ (P : Outgoing → Type 0) (M : Mark → Type 0) (own : IsOfHost M) (x : Signal) (h : ℕ) (s : hosts.HostBody) where
   pub step_each : HostEach P M s x → Does P M (step_by h s x)
   step_each each = by (own_stop h x)
     where
@@ -32,7 +32,7 @@ module _ (P : Outgoing → Type 0) (M : Mark → Type 0) (own : IsOfHost M) (x :
   step_keeps_each Q keeps so = step_each (each_kept P M Q x keeps s so)
 
 -- a host keeps to the words of its part
-pub step_speaks : (h : ℕ) (s : hosts.Host) (x : Signal)
+pub step_speaks : (h : ℕ) (s : hosts.HostBody) (x : Signal)
     → Speaks (parts_words s.parts) (host_marks s.parts) (step_by h s x)
 step_speaks h s x = by (own_stop h x)
   where
@@ -41,7 +41,7 @@ step_speaks h s x = by (own_stop h x)
     by None = host_speaks s x
 
 -- so what is so of each of these words and marks is so of all that it sends and marks
-pub step_words : (Q : Body → Type 0) (N : Mark → Type 0) (h : ℕ) (s : hosts.Host) (x : Signal)
+pub step_words : (Q : Body → Type 0) (N : Mark → Type 0) (h : ℕ) (s : hosts.HostBody) (x : Signal)
     → ((body : Body) → parts_words s.parts body ≡ true → Q body)
     → ((mark : Mark) → host_marks s.parts mark ≡ true → N mark)
     → Does (λ (sent : Outgoing). Q sent.body) N (step_by h s x)

@@ -9,7 +9,7 @@ use Rattle.sig_core.specs.declared.signal.Signal.{Signal}
 use Rattle.sig_core.specs.declared.view.View.{View}
 use Rattle.sig_core.specs.Step.{Step}
 use Rattle.node_views.specs.Blocks.{parts_entered, parts_row, settled_at}
-use Rattle.node_views.specs.declared.host.Host as hosts
+use Rattle.node_views.specs.declared.host_body.HostBody as hosts
 use Rattle.node_views.specs.declared.parts.Parts.{Parts}
 use Rattle.node_views.specs.declared.standing.Standing.{Standing}
 use Rattle.node_views.specs.Replies.{giving}
@@ -20,12 +20,12 @@ use Rattle.world_views.specs.Machine.{own_stop, step_by, step_if, told}
 
 -- of where the host stands and its blocks come to, and what it sends and marks, also where it stops by a signal to
 -- itself
-pub step_so : (Says : host.Saying) (x : Signal) (h : ℕ) (s : hosts.Host) → HostSo Says s x
+pub step_so : (Says : host.Saying) (x : Signal) (h : ℕ) (s : hosts.HostBody) → HostSo Says s x
     → Says (step_by h s x).state.standing (step_by h s x).state.parts (step_by h s x).effects.sends
     (step_by h s x).effects.marks
 step_so Says x h s walked = by (own_stop h x)
   where
-    Comes : Step hosts.Host → Type 0
+    Comes : Step hosts.HostBody → Type 0
     Comes t = Says t.state.standing t.state.parts t.effects.sends t.effects.marks
 
     by : (o : Option StopCause) → Comes (step_if s x o)
@@ -45,7 +45,7 @@ pub record IsTaken (Says : Saying) (x : Signal) (stood : View) (parts : Parts) (
       (before ++ ((parts_row parts x).effects.sends ++ (parts_entered (parts_row parts x).state view).effects.sends))
 
 -- so it is of all that may happen to the blocks of a host at a signal, whose view may be installed before
-pub record IsWalked (Says : Saying) (s : hosts.Host) (x : Signal) : Type 0 where
+pub record IsWalked (Says : Saying) (s : hosts.HostBody) (x : Signal) : Type 0 where
   pub stays : Says s.standing.view s.parts []
   pub hushed : (view : View) (parts : Parts) (sends : List Outgoing) → Says view parts sends → Says view parts []
   pub goes : nat_lt s.standing.view.number x.view.number ≡ false → is_barred s x ≡ false
@@ -65,7 +65,7 @@ module _ (Says : Saying) (x : Signal) where
       → IsTaken Says x standing.view parts sends → host.TakesSo Unmarked x standing parts sends marks
   taken standing parts sends marks is = record { row = is.row; settles = is.settles }
 
-  of_host : (s : hosts.Host) → IsWalked Says s x → HostSo Unmarked s x
+  of_host : (s : hosts.HostBody) → IsWalked Says s x → HostSo Unmarked s x
   of_host s walked = record {
     own = record {
       counts = λ standing parts sends marks left so. so;
@@ -79,12 +79,12 @@ module _ (Says : Saying) (x : Signal) where
     behind = λ sound newer among barred left. taken _ _ _ _ (walked.behind newer among barred);
   }
 
-  pub step_comes : (h : ℕ) (s : hosts.Host) → IsWalked Says s x
+  pub step_comes : (h : ℕ) (s : hosts.HostBody) → IsWalked Says s x
       → Says (step_by h s x).state.standing.view (step_by h s x).state.parts (step_by h s x).effects.sends
   step_comes h s walked = step_so Unmarked x h s (of_host s walked)
 
   -- replies that are told change nothing of it, if they don't where the shell is
-  pub next_comes : (h : ℕ) (s : hosts.Host) → IsWalked Says s x
+  pub next_comes : (h : ℕ) (s : hosts.HostBody) → IsWalked Says s x
       → ((view : View) (parts : Parts) (sends : List Outgoing) → Says view parts sends
       → Says view (giving parts []) sends)
       → Says (told h (step_by h s x)).standing.view (told h (step_by h s x)).parts (step_by h s x).effects.sends

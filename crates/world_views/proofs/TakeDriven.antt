@@ -10,7 +10,7 @@ use Rattle.sig_core.specs.declared.signal.Signal.{Signal}
 use Rattle.sig_core.specs.declared.signal.host.HostSignal.TheVariants.{Closed}
 use Rattle.sig_core.specs.Step.{Step}
 use Rattle.sig_core.specs.declared.outcome.StopCause.{StopCause}
-use Rattle.node_views.specs.declared.host.Host as node
+use Rattle.node_views.specs.declared.host_body.HostBody as node
 use Rattle.world_core.specs.Hosts.{hosts}
 use Rattle.world_core.specs.Right.{arriving}
 use Rattle.world_core.specs.Start.{Start}
@@ -55,7 +55,7 @@ module _ (start : Start) (given : List ApiReply) (w : Whole) (right : IsRight st
         grown = grown_itself start given w right;
       }
 
-  abbrev pub step : Step node.Host
+  abbrev pub step : Step node.HostBody
   step = step_by at.to (body_at w.bodies at.to) at.signal
 
   -- its host is ready for its step, unless it is discarded

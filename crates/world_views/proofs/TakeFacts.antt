@@ -1,5 +1,6 @@
 -- Taking the first signal of a link, and links that have none.
-use Rattle.std.proofs.Common.{◌≡◌, ◌⊎◌, inl, inr, ℕ, zero, suc, ◌+◌, ◌<◌, ◌≤◌, List, [], ◌∷◌, length, Bool, true, false, refl, ap, sym, ◌∙◌, arith}
+use Rattle.std.proofs.Common.{◌≡◌, ◌⊎◌, inl, inr, ℕ, zero, suc, ◌+◌, ◌<◌, ◌≤◌, List, [], ◌∷◌, length, Bool, true, false}
+use Rattle.std.proofs.Common.{refl, ap, sym, ◌∙◌, arith}
 use Rattle.std.specs.List.{prefix_len}
 use Rattle.std.specs.Prelude.{if◌then◌else◌, is_some, nat_lt, not, position, slice_index_or, Option, None, Some}
 use Rattle.std.proofs.lemmas.Bool.{cases_lt, true≢false}
@@ -8,7 +9,9 @@ use Rattle.std.proofs.lemmas.List.{get_or_past}
 use Rattle.std.proofs.lemmas.List.Quantifiers.{position-Some}
 use Rattle.sig_core.specs.declared.signal.Signal.{Signal}
 use Rattle.world_core.specs.Right.{arriving}
-use Rattle.world_views.specs.Links.{AreIdle, AreLinks, Arrival, Inbox, LinkState, Links, arrival, changed, first_at, first_to, has_signal, inbox_of, is_busy, link, link_from, new_link, rest_on, take_between, take_first, taken_from}
+use Rattle.world_views.specs.Links.{AreIdle, AreLinks, Arrival, Inbox, LinkState, Links, arrival, changed, first_at}
+use Rattle.world_views.specs.Links.{first_to, has_signal, inbox_of, is_busy, link, link_from, new_link, rest_on}
+use Rattle.world_views.specs.Links.{take_between, take_first, taken_from}
 
 -- Where a signal was taken from: it was the first one of a link, and the rest stays there.
 pub record IsTakenFrom (n : ℕ) (links : Links) (t : Arrival) : Type 0 where

@@ -1,5 +1,6 @@
 -- Taking a signal of a link leaves a world ready to make its step, or right where the signal is discarded.
-use Rattle.std.proofs.Common.{◌≡◌, ◌≢◌, ◌⊎◌, inl, inr, ℕ, ◌<◌, ◌≤◌, List, [], ◌∷◌, ◌++◌, reverse, Bool, true, false, refl, ap, sym, ◌∙◌, subst, subst₂, arith}
+use Rattle.std.proofs.Common.{◌≡◌, ◌≢◌, ◌⊎◌, inl, inr, ℕ, ◌<◌, ◌≤◌, List, [], ◌∷◌, ◌++◌, reverse, Bool, true, false}
+use Rattle.std.proofs.Common.{refl, ap, sym, ◌∙◌, subst, subst₂, arith}
 use Rattle.std.specs.Prelude.{if◌then◌else◌, ◌==◌, map}
 use Rattle.std.proofs.lemmas.Bool.{eqb-true, eq-eqb, true≢false, cases_eq, or_from, or_parts}
 use Rattle.std.proofs.lemmas.List.{append_assoc, map-append, reverse-append}
@@ -10,7 +11,7 @@ use Rattle.run_theory.specs.Lists.{Each}
 use Rattle.sig_core.specs.declared.reply.ApiReply.{ApiReply}
 use Rattle.sig_core.specs.declared.signal.Signal.{Signal}
 use Rattle.sig_core.specs.Step.{Step}
-use Rattle.node_views.specs.declared.host.Host.{Host}
+use Rattle.node_views.specs.declared.host_body.HostBody.{HostBody}
 use Rattle.node_views.specs.Row.{is_cut}
 use Rattle.world_core.specs.Hosts.{hosts}
 use Rattle.world_core.specs.Right.{arriving}
@@ -31,7 +32,7 @@ use Rattle.world_views.proofs.SentFacts.{IsBetween, held_between}
 use Rattle.world_views.proofs.TakeFacts.{IsTakenFrom}
 
 -- a host makes the step of its row
-pub row_step : (h : ℕ) (s body : Host) (x : Signal) → body ≡ s → IsStepOf h (step_by h s x) (step_by h body x)
+pub row_step : (h : ℕ) (s body : HostBody) (x : Signal) → body ≡ s → IsStepOf h (step_by h s x) (step_by h body x)
 row_step h s body x same =
     subst (λ b. IsStepOf h (step_by h s x) (step_by h b x)) (sym same)
     (record { effects = refl; cut = refl; view = refl; same = λ runs. refl; replies = refl })
@@ -89,7 +90,7 @@ module _ (start : Start) (given : List ApiReply) (w : Whole) (right : IsRight st
       runs = sym (right.stopped at.to at.to_low) ∙ parts.0
 
       uncut : is_cut (after start at.to log).standing at.signal.from ≡ false
-      uncut = subst (λ (s : Host). is_cut s.standing at.signal.from ≡ false) (right.bodies at.to at.to_low runs) parts.1
+      uncut = subst (λ (s : HostBody). is_cut s.standing at.signal.from ≡ false) (right.bodies at.to at.to_low runs) parts.1
 
       takes : has_cut start at.to log at.from ≡ false
       takes = subst (λ n. has_cut start at.to log n ≡ false) sender_is uncut
@@ -100,7 +101,7 @@ module _ (start : Start) (given : List ApiReply) (w : Whole) (right : IsRight st
     where
       uncut : is_cut (body_at w.bodies at.to).standing at.signal.from ≡ false
       uncut =
-          subst (λ (s : Host). is_cut s.standing at.signal.from ≡ false) (sym (right.bodies at.to at.to_low takes.runs))
+          subst (λ (s : HostBody). is_cut s.standing at.signal.from ≡ false) (sym (right.bodies at.to at.to_low takes.runs))
           (subst (λ n. has_cut start at.to log n ≡ false) (sym sender_is) takes.takes)
 
   pub discard_right : is_discarded (left_of w t) arrived ≡ true → IsRight start given (left_of w t)
@@ -151,7 +152,7 @@ module _ (start : Start) (given : List ApiReply) (w : Whole) (right : IsRight st
         (record { newer = all; is = refl })
         (held_given start at.from at.to (logs_at w.logs at.from) (all ++ (arrived ∷ before)) held)
 
-    module _ (step : Step Host) where
+    module _ (step : Step HostBody) where
       abbrev next : HostStep
       next = host_step (left_of w t) arrived step
 

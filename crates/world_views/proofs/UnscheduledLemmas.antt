@@ -1,5 +1,6 @@
 -- Where no schedule picks, no host stops, or cuts off a node, because one had it do so.
-use Rattle.std.proofs.Common.{◌≡◌, inl, inr, ℕ, ◌+◌, ◌<◌, ◌≤◌, List, [], ◌∷◌, ◌++◌, Bool, true, false, refl, sym, ◌∙◌, subst}
+use Rattle.std.proofs.Common.{◌≡◌, inl, inr, ℕ, ◌+◌, ◌<◌, ◌≤◌, List, [], ◌∷◌, ◌++◌, Bool, true, false, refl, sym, ◌∙◌}
+use Rattle.std.proofs.Common.{subst}
 use Rattle.std.specs.Prelude.{◌==◌, if◌then◌else◌, max}
 use Rattle.std.proofs.lemmas.Bool.{eqb-true, true≢false}
 use Rattle.run_theory.proofs.Links.{given_more}
@@ -12,7 +13,7 @@ use Rattle.sig_core.specs.declared.signal.Body.TheVariants.{Host}
 use Rattle.sig_core.specs.declared.signal.host.HostSignal.TheVariants.{Closed, Continue}
 use Rattle.sig_core.specs.declared.signal.host.Work.TheVariants.{Request}
 use Rattle.sig_core.specs.Step.{Step}
-use Rattle.node_views.specs.declared.host.Host as node
+use Rattle.node_views.specs.declared.host_body.HostBody as node
 use Rattle.node_views.specs.Row.{stopping}
 use Rattle.world_core.specs.Hosts.{hosts}
 use Rattle.world_core.specs.Start.{Start}
@@ -24,7 +25,8 @@ use Rattle.world_views.specs.Right.{IsRight}
 use Rattle.world_views.specs.Schedule.{HasTaken, is_discarded, left_of, taken_if}
 use Rattle.world_views.specs.Sending.{is_asked}
 use Rattle.world_views.specs.Unscheduled.{AreUnscheduled, HasNoStamp, IsUnscheduled, IsWant}
-use Rattle.world_views.specs.World.{HasFailed, HasHandled, Whole, body_at, entered, halted, handled_by, is_stamp, with_body}
+use Rattle.world_views.specs.World.{HasFailed, HasHandled, Whole, body_at, entered, halted, handled_by, is_stamp}
+use Rattle.world_views.specs.World.{with_body}
 use Rattle.world_views.proofs.FailDriven.{bodies, fail_ready, wish}
 use Rattle.world_views.proofs.MoveRight.{logs_are, running}
 use Rattle.world_views.proofs.Ready.{IsReady, host_step}
@@ -33,7 +35,7 @@ use Rattle.world_views.proofs.TakeFacts.{IsTakenFrom}
 use Rattle.world_views.proofs.TakeRight.{fact, gives, on_open}
 
 -- A host makes a step.
-module _ (start : Start) (given : List ApiReply) (w : Whole) (lost : ℕ) (x : Addressed) (t : Step node.Host)
+module _ (start : Start) (given : List ApiReply) (w : Whole) (lost : ℕ) (x : Addressed) (t : Step node.HostBody)
     (ready : IsReady start given w x t) where
   abbrev new : ℕ → List HostStep
   new = logs_at (entered w lost x t).logs
@@ -103,7 +105,7 @@ module _ (start : Start) (given : List ApiReply) (w : Whole) (lost : ℕ) (x : A
 pub failed_unscheduled : (start : Start) (given : List ApiReply) (w : Whole) → IsRight start given w → (h : ℕ)
     → h < hosts start → has_stopped (logs_at w.logs h) ≡ false → 1 ≤ h → (cause : StopCause) → IsOwnCause cause
     → IsWant start (logs_at w.logs) h (logs_at w.logs h) cause
-    → (left : node.Host) → left.standing.cut ≡ (body_at w.bodies h).standing.cut
+    → (left : node.HostBody) → left.standing.cut ≡ (body_at w.bodies h).standing.cut
     → left.standing.view ≡ (body_at w.bodies h).standing.view → AreUnscheduled start (logs_at w.logs)
     → AreUnscheduled start (logs_at (halted (with_body w h left) h (body_at w.bodies h).standing.view cause 0).logs)
 failed_unscheduled start given w right h low runs some cause own wanted left cut view =

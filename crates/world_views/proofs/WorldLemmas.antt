@@ -1,5 +1,6 @@
 -- What the calls of a world come to.
-use Rattle.std.proofs.Common.{◌≡◌, inl, inr, ℕ, ◌<◌, List, ◌++◌, Bool, true, false, refl, ap, sym, ◌∙◌, subst, append_assoc, arith}
+use Rattle.std.proofs.Common.{◌≡◌, inl, inr, ℕ, ◌<◌, List, ◌++◌, Bool, true, false, refl, ap, sym, ◌∙◌, subst}
+use Rattle.std.proofs.Common.{append_assoc, arith}
 use Rattle.std.specs.Prelude.{None, Some, not, OnErr, OnOk, Result, Ok, Err, slice_index_or}
 use Rattle.std.proofs.lemmas.Bool.{true≢false}
 use Rattle.run_theory.proofs.Pasts.{past_trans}
@@ -8,7 +9,7 @@ use Rattle.sig_core.specs.declared.no_memory.NoMemory.{NoMemory}
 use Rattle.sig_core.specs.declared.reply.ApiReply.{ApiReply}
 use Rattle.sig_core.specs.declared.request.ApiReq.{ApiReq}
 use Rattle.sig_core.specs.declared.view.View.{View}
-use Rattle.node_views.specs.declared.host.Host.{Host}
+use Rattle.node_views.specs.declared.host_body.HostBody.{HostBody}
 use Rattle.world_core.specs.Hosts.{hosts}
 use Rattle.world_core.specs.Labels.{AreLabelled}
 use Rattle.world_core.specs.Right.{arriving}
@@ -21,7 +22,8 @@ use Rattle.world_views.specs.Machine.{has_stopped, own_signal, own_stop, request
 use Rattle.world_views.specs.Right.{IsRight}
 use Rattle.world_views.specs.Schedule.{HasTaken, is_discarded, left_of}
 use Rattle.world_views.specs.Unscheduled.{AreUnscheduled}
-use Rattle.world_views.specs.World.{asked, asking, body_at, handled_by, has_stopped_in, HasHandled, is_stamp, IsIdle, IsOf, IsThere, moved, new_world, Whole}
+use Rattle.world_views.specs.World.{asked, asking, body_at, handled_by, has_stopped_in, HasHandled, is_stamp, IsIdle}
+use Rattle.world_views.specs.World.{IsOf, IsThere, moved, new_world, Whole}
 use Rattle.world_views.proofs.AskDriven as ask
 use Rattle.world_views.proofs.FreshWorld.{fresh_sound}
 use Rattle.world_views.proofs.StepDriven.{grown_itself}
@@ -74,12 +76,12 @@ not_stopped true runs is e = absurd (true≢false (sym e ∙ is))
 not_stopped false runs is e = refl
 
 -- what the shell asks for
-pub wishes : (w : Whole) (view : View) (request : ApiReq) (s : Host) → view ≡ s.standing.view → s ≡ body_at w.bodies 0
+pub wishes : (w : Whole) (view : View) (request : ApiReq) (s : HostBody) → view ≡ s.standing.view → s ≡ body_at w.bodies 0
     → arriving 0 (own_signal w.made 0 (slice_index_or w.stamps 0 0) view (request_body request))
     ≡ asking w 0 (request_body request)
 wishes w view request s seen is =
     ap (λ v. arriving 0 (own_signal w.made 0 (slice_index_or w.stamps 0 0) v (request_body request)))
-    (seen ∙ ap (λ (b : Host). b.standing.view) is)
+    (seen ∙ ap (λ (b : HostBody). b.standing.view) is)
 
 -- the shell's host doesn't fail
 shell_handles : (w t : Whole) (x : Addressed) → x.to ≡ 0 → HasHandled w x t → t ≡ moved w 0 x

@@ -13,9 +13,8 @@ use Rattle.sig_core.specs.Part.{part_of}
 use Rattle.sig_core.specs.Place.{client}
 use Rattle.sig_core.specs.Rows.{no_rows}
 use Rattle.frag_map.specs.Layout.{first_layout}
-use Rattle.gcp_master.specs.declared.numbers.TheConstants.{MICROS}
 use Rattle.node_core.specs.Fresh.{own_rows, with_rows}
-use Rattle.node_views.specs.declared.host.Host as node
+use Rattle.node_views.specs.declared.host_body.HostBody as node
 use Rattle.node_views.specs.Fresh.{fresh_ldm, fresh_main, fresh_shell, fresh_tc}
 use Rattle.world_core.specs.Hosts.{host_by, member_at, member_of, part_by}
 use Rattle.world_core.specs.Start.{Start, made}
@@ -50,20 +49,16 @@ abbrev pub front_of : List Member → ℕ → Place
 front_of made zero = client
 front_of made (suc h) = record { node = (member_at made (suc h)).node; block = front_in (part_by (h % 3)) }
 
--- the first epoch of the checkpoint number before that of this one: a life that begins in this one starts from it
-abbrev pub epoch_before : ℕ → ℕ
-epoch_before epoch = (epoch / MICROS - 1) * MICROS
-
 -- a part of a member as it begins
-abbrev pub part_started : Start → Part → Member → node.Host
+abbrev pub part_started : Start → Part → Member → node.HostBody
 part_started start Main member = fresh_main member (first_layout start.shape) start.epoch
-part_started start Tc member = fresh_tc member (first_layout start.shape) start.epoch (epoch_before start.epoch)
+part_started start Tc member = fresh_tc member (first_layout start.shape) start.epoch start.start_epoch
 part_started start Ldm member =
     fresh_ldm member (first_layout start.shape)
-    (with_rows no_rows (own_rows start.shape member.node start.rows) (epoch_before start.epoch))
-    (epoch_before start.epoch)
+    (with_rows no_rows (own_rows start.shape member.node start.rows) start.start_epoch)
+    start.start_epoch
 
 -- a host as it begins
-unfoldable pub started : Start → ℕ → node.Host
+unfoldable pub started : Start → ℕ → node.HostBody
 started start zero = fresh_shell (first_layout start.shape)
 started start (suc h) = part_started start (part_by (h % 3)) (member_at (made start) (suc h))

@@ -1,5 +1,6 @@
 -- The links between the hosts: for each host, in their order, the links to it.
-use Rattle.std.specs.Prelude.{◌≡◌, ◌<◌, ℕ, zero, suc, ◌-◌, nat_lt, if◌then◌else◌, Bool, true, false, List, [], ◌∷◌, ◌++◌, is_some, length, map, position, slice_index_or, slice_set, take, Option, None, Some}
+use Rattle.std.specs.Prelude.{◌≡◌, ◌<◌, ℕ, zero, suc, ◌-◌, nat_lt, if◌then◌else◌, Bool, true, false, List, [], ◌∷◌}
+use Rattle.std.specs.Prelude.{◌++◌, is_some, length, map, position, slice_index_or, slice_set, take, Option, None, Some}
 use Rattle.sig_core.specs.declared.signal.Signal.{Signal}
 use Rattle.world_core.specs.Machine.{one_more}
 use Rattle.world_core.specs.Steps.{Addressed}

@@ -5,7 +5,8 @@
 -- a cut, each of which a host asks of itself. A step that stops its host sends the closings of its links and nothing
 -- else,
 -- and none follows it. The replies that a step of the shell makes are told with it, so none stays in the host.
-use Rattle.std.specs.Prelude.{◌≡◌, ◌≤◌, ℕ, zero, suc, ◌==◌, if◌then◌else◌, Bool, true, false, List, [], ◌∷◌, Option, None, Some}
+use Rattle.std.specs.Prelude.{◌≡◌, ◌≤◌, ℕ, zero, suc, ◌==◌, if◌then◌else◌, Bool, true, false, List, [], ◌∷◌, Option}
+use Rattle.std.specs.Prelude.{None, Some}
 use Rattle.std.specs.List.{list_any}
 use Rattle.run_theory.specs.Machine.{Machine}
 use Rattle.sig_core.specs.declared.mark.Mark.{Mark}
@@ -24,7 +25,7 @@ use Rattle.sig_core.specs.declared.signal.host.Work.TheVariants.{Request}
 use Rattle.sig_core.specs.declared.view.View.{View}
 use Rattle.sig_core.specs.Step.{Step}
 use Rattle.api_views.specs.Members.{greater_view}
-use Rattle.node_views.specs.declared.host.Host as node
+use Rattle.node_views.specs.declared.host_body.HostBody as node
 use Rattle.node_views.specs.Replies.{with_replies}
 use Rattle.node_views.specs.Replies as host
 use Rattle.node_views.specs.Row.{host_row, is_cut, is_stop, stopping}
@@ -46,31 +47,31 @@ closes body = None
 abbrev pub own_stop : ℕ → Signal → Option StopCause
 own_stop h x = if x.from.0 == h then closes x.body else None
 
-abbrev pub step_if : node.Host → Signal → Option StopCause → Step node.Host
+abbrev pub step_if : node.HostBody → Signal → Option StopCause → Step node.HostBody
 step_if s x (Some cause) = stopping s cause
 step_if s x None = host_row s x
 
 -- what host h, being so, does in a step that takes this signal
-abbrev pub step_by : ℕ → node.Host → Signal → Step node.Host
+abbrev pub step_by : ℕ → node.HostBody → Signal → Step node.HostBody
 step_by h s x = step_if s x (own_stop h x)
 
 -- host h behind a step: the replies of the shell's were told
-abbrev pub told : ℕ → Step node.Host → node.Host
+abbrev pub told : ℕ → Step node.HostBody → node.HostBody
 told zero t = with_replies t.state []
 told (suc h) t = t.state
 
 -- the replies that were told
-abbrev pub replies_at : ℕ → Step node.Host → List ApiReply
+abbrev pub replies_at : ℕ → Step node.HostBody → List ApiReply
 replies_at zero t = host.replies_of t.state
 replies_at (suc h) t = []
 
 -- host h after the steps of its log
-abbrev pub after : Start → ℕ → List HostStep → node.Host
+abbrev pub after : Start → ℕ → List HostStep → node.HostBody
 after start h [] = started start h
 after start h (e ∷ log) = told h (step_by h (after start h log) e.step.taken)
 
 -- what a step of host h does that comes after a log
-abbrev pub step_after : Start → ℕ → List HostStep → HostStep → Step node.Host
+abbrev pub step_after : Start → ℕ → List HostStep → HostStep → Step node.HostBody
 step_after start h log e = step_by h (after start h log) e.step.taken
 
 -- a step with these marks stops its host

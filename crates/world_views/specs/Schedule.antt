@@ -1,5 +1,6 @@
 -- Schedules: what happens, pick by pick.
-use Rattle.std.specs.Prelude.{◌≡◌, ℕ, ◌==◌, ◌&&◌, ◌||◌, nat_lt, not, Bool, true, false, List, [], ◌∷◌, slice_get, take, Some, Result, Ok, Err}
+use Rattle.std.specs.Prelude.{◌≡◌, ℕ, ◌==◌, ◌&&◌, ◌||◌, nat_lt, not, Bool, true, false, List, [], ◌∷◌, slice_get, take}
+use Rattle.std.specs.Prelude.{Some, Result, Ok, Err}
 use Rattle.sig_core.specs.declared.outcome.StopCause.TheVariants.{Killed}
 use Rattle.node_views.specs.Row.{is_cut}
 use Rattle.node_views.specs.WellFormed.{is_node}

@@ -1,5 +1,6 @@
 -- A world: the hosts, the links between them, and what each host has done.
-use Rattle.std.specs.Prelude.{◌≡◌, ◌<◌, ◌≤◌, ◌⊎◌, ℕ, ◌+◌, ◌*◌, ◌^◌, ◌==◌, ◌&&◌, ◌||◌, nat_lt, Bool, true, false, not, List, [], ◌++◌, length}
+use Rattle.std.specs.Prelude.{◌≡◌, ◌<◌, ◌≤◌, ◌⊎◌, ℕ, ◌+◌, ◌*◌, ◌^◌, ◌==◌, ◌&&◌, ◌||◌, nat_lt, Bool, true, false, not}
+use Rattle.std.specs.Prelude.{List, [], ◌++◌, length}
 use Rattle.std.specs.Prelude.{replicate, slice_index_or, slice_set}
 use Rattle.frag_map.specs.Layout.{first_layout}
 use Rattle.sig_core.specs.declared.log.HostLog.{HostLog}
@@ -17,7 +18,7 @@ use Rattle.sig_core.specs.declared.view.Shape.{Shape}
 use Rattle.sig_core.specs.declared.view.View.{View}
 use Rattle.sig_core.specs.Step.{Step}
 use Rattle.api_views.specs.Members.{greater_view}
-use Rattle.node_views.specs.declared.host.Host.{Host}
+use Rattle.node_views.specs.declared.host_body.HostBody.{HostBody}
 use Rattle.node_views.specs.declared.standing.Standing.{Standing}
 use Rattle.node_views.specs.Fresh.{fresh_shell}
 use Rattle.node_views.specs.Replies as host
@@ -28,7 +29,8 @@ use Rattle.world_core.specs.Steps.{Addressed}
 use Rattle.world_core.specs.World.{for_each, next_stamp, no_steps, with_step}
 use Rattle.world_views.specs.Hosts.{started}
 use Rattle.world_views.specs.Links.{AreIdle, AreLinks, Links, close_below, lose, new_link, put_all}
-use Rattle.world_views.specs.Machine.{cause_in, first_of, own_signal, replies_at, request_body, sender, step_by, stops_by, to_front, told}
+use Rattle.world_views.specs.Machine.{cause_in, first_of, own_signal, replies_at, request_body, sender, step_by}
+use Rattle.world_views.specs.Machine.{stops_by, to_front, told}
 use Rattle.world_views.specs.Sending.{headed, routed_all}
 
 -- the shape of the cluster, the members that were made, the hosts, which of them have stopped, the links to each, the
@@ -37,7 +39,7 @@ use Rattle.world_views.specs.Sending.{headed, routed_all}
 pub record Whole : Type 0 where
   pub shape : Shape
   pub made : List Member
-  pub bodies : List Host
+  pub bodies : List HostBody
   pub stopped : List Bool
   pub links : Links
   pub stamps : List ℕ
@@ -45,7 +47,7 @@ pub record Whole : Type 0 where
   pub replies : List ApiReply
 
 -- a host of a world; where there is none, one that has done nothing
-abbrev pub body_at : List Host → ℕ → Host
+abbrev pub body_at : List HostBody → ℕ → HostBody
 body_at bodies h = slice_index_or bodies h (fresh_shell (first_layout (record {
   nodes = 0;
   replicas = 0;
@@ -87,17 +89,17 @@ closing_if true w h stamp taken cause lost = closing w h stamp taken cause lost
 closing_if false w h stamp taken cause lost = w
 
 -- the step that a host makes by a signal
-abbrev pub step_made : Whole → Addressed → Step Host → LogStep
+abbrev pub step_made : Whole → Addressed → Step HostBody → LogStep
 step_made w x t =
     record { stamp = next_stamp w.stamps x.to x.signal.stamp; taken = x.signal; marks = t.effects.marks }
 
 -- the host is what the step leads to, and its replies are told
-abbrev pub telling : Whole → Addressed → Step Host → Whole
+abbrev pub telling : Whole → Addressed → Step HostBody → Whole
 telling w x t =
     record w { bodies = slice_set w.bodies x.to (told x.to t); replies = w.replies ++ replies_at x.to t }
 
 -- it stands in the log
-abbrev pub logged : Whole → Addressed → Step Host → Whole
+abbrev pub logged : Whole → Addressed → Step HostBody → Whole
 logged w x t =
     record w {
       stopped = slice_set w.stopped x.to (stops_by t.effects.marks);
@@ -107,7 +109,7 @@ logged w x t =
 
 -- The step of a host is made: its replies are told, what it sends goes on its way, its links are closed if it stops the
 -- host, and it stands in the log.
-abbrev pub entered : Whole → ℕ → Addressed → Step Host → Whole
+abbrev pub entered : Whole → ℕ → Addressed → Step HostBody → Whole
 entered w lost x t =
     logged
     (closing_if (stops_by t.effects.marks) (sending (telling w x t) x.to (step_made w x t).stamp t.effects.sends) x.to
@@ -142,14 +144,14 @@ abbrev pub stopped : Whole → ℕ → StopCause → ℕ → Whole
 stopped w h cause lost = halted w h (body_at w.bodies h).standing.view cause lost
 
 -- what is left of a host that wanted memory, before it stops
-abbrev pub with_body : Whole → ℕ → Host → Whole
+abbrev pub with_body : Whole → ℕ → HostBody → Whole
 with_body w h s = record w { bodies = slice_set w.bodies h s }
 
 -- A host stopped for this cause, whatever was left of it: it still knows which hosts it had cut off, and stands in the
 -- view
 -- that it had before.
 pub record HasFailed (w : Whole) (h : ℕ) (cause : StopCause) (t : Whole) : Type 0 where
-  pub left : Host
+  pub left : HostBody
   pub cut : left.standing.cut ≡ (body_at w.bodies h).standing.cut
   pub view : left.standing.view ≡ (body_at w.bodies h).standing.view
   pub is : t ≡ halted (with_body w h left) h (body_at w.bodies h).standing.view cause 0

@@ -12,7 +12,7 @@ ghost use Rattle.world_views.specs.World.{is_unclosed};
 use crate::hosts::Made;
 use crate::network::Network;
 use crate::sender::Sender;
-use node_views::Host;
+use node_views::HostBody;
 use sig_core::{Body, Boxed, Held, HostId, HostSignal, Mark, NoMemory, Signal, StopCause, View};
 use std::alloc::Global;
 
@@ -53,7 +53,7 @@ pub fn close_all(
     alloc: Global,
     network: &mut Network,
     made: &Made,
-    host: &Host,
+    host: &HostBody,
     by: &Sender,
     cause: StopCause,
 ) -> Result<(), NoMemory>

@@ -1,7 +1,7 @@
 //! What a host that fails in a step keeps: the view in which it stood.
 ghost use Rattle.std.specs.Prelude.{◌≡◌, ◌≤◌, IfOk, MatchOption};
 
-use node_views::Host;
+use node_views::HostBody;
 use sig_core::{Held, NoMemory, View};
 
 /// The view of a host that is to take a signal of the other one, where the step may install that, since
@@ -20,7 +20,7 @@ pub fn view_to_keep(own: &Held<View>, taken: &Held<View>) -> Result<Option<Held<
 }
 
 /// The host stands in the view that was kept, if one was.
-pub fn put_back(host: &mut Host, view: Option<Held<View>>)
+pub fn put_back(host: &mut HostBody, view: Option<Held<View>>)
     ensures seen { MatchOption view (host.new ≡ host.old) (λ v. host.new.standing.view ≡ v) }
     ensures kept { host.new.standing.cut ≡ host.old.standing.cut }
 {

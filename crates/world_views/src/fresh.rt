@@ -7,18 +7,18 @@ ghost use Rattle.node_core.specs.Fresh.{own_rows, with_rows};
 ghost use Rattle.world_core.specs.Hosts.{member_at, part_by};
 ghost use Rattle.world_core.specs.Start.{made};
 ghost use Rattle.world_core.specs.World.{for_each};
-ghost use Rattle.world_views.specs.Hosts.{epoch_before, part_started, started};
+ghost use Rattle.world_views.specs.Hosts.{part_started, started};
 
 use crate::hosts::{Made, PARTS, part_by};
 use frag_map::{Layout, holds};
 use frag_store::Store;
-use gcp_master::MICROS;
-use node_views::Host;
+use node_views::HostBody;
 use sig_core::{Key, Member, NoMemory, Part, Rows, Shape, Value};
 use std::alloc::Global;
 
-/// The hosts as a life of a cluster of this shape begins in this epoch, with these rows, whose keys
-/// are distinct: the shell's, and three of each member, of which those are there.
+/// The hosts as a life of a cluster of this shape begins in this epoch, from the epoch `start`, with
+/// these rows, whose keys are distinct: the shell's, and three of each member, of which those are
+/// there.
 ///
 /// # Errors
 /// `NoMemory`.
@@ -27,20 +27,21 @@ pub fn fresh_bodies(
     shape: Shape,
     there: &Made,
     epoch: u64,
+    start: u64,
     rows: &[(Key, Value)],
-) -> Result<Vec<Host>, NoMemory>
+) -> Result<Vec<HostBody>, NoMemory>
     requires shape { IsShape shape }
-    requires there { there.now ≡ made (record { shape = shape; epoch = epoch; rows = rows.now }) }
-    ensures { IfOk result (λ bodies. bodies.items ≡ for_each (shape.nodes * 3 + 1) (started (record { shape = shape; epoch = epoch; rows = rows.now }))) }
+    requires there { there.now ≡ made (record { shape = shape; epoch = epoch; start_epoch = start; rows = rows.now }) }
+    ensures { IfOk result (λ bodies. bodies.items ≡ for_each (shape.nodes * 3 + 1) (started (record { shape = shape; epoch = epoch; start_epoch = start; rows = rows.now }))) }
 {
     let behind = u32::from(shape.nodes) * PARTS;
     let layout = Layout::first(shape);
     let mut bodies = Vec::with_capacity(alloc, behind as usize + 1)?;
-    bodies.push_reserved(Host::shell(alloc, &layout)?);
+    bodies.push_reserved(HostBody::shell(alloc, &layout)?);
     for before in 0..behind {
         let member = there.member_at(before + 1);
         let part = part_by(before % PARTS);
-        bodies.push_reserved(part_started(alloc, part, member, &layout, epoch, rows)?);
+        bodies.push_reserved(part_started(alloc, part, member, &layout, epoch, start, rows)?);
     }
     Ok(bodies)
 }
@@ -52,29 +53,21 @@ fn part_started(
     member: Member,
     layout: &Layout,
     epoch: u64,
+    start: u64,
     rows: &[(Key, Value)],
-) -> Result<Host, NoMemory>
+) -> Result<HostBody, NoMemory>
     requires shape { IsShape layout.now.shape }
     requires first { layout.now ≡ first_layout layout.now.shape }
-    ensures { IfOk result (λ host. host ≡ part_started (record { shape = layout.now.shape; epoch = epoch; rows = rows.now }) part member) }
+    ensures { IfOk result (λ host. host ≡ part_started (record { shape = layout.now.shape; epoch = epoch; start_epoch = start; rows = rows.now }) part member) }
 {
-    let start = epoch_before(epoch);
     match part {
-        Part::Main => Host::main(alloc, member, layout, epoch),
-        Part::Tc => Host::tc(alloc, member, layout, epoch, start),
+        Part::Main => HostBody::main(alloc, member, layout, epoch),
+        Part::Tc => HostBody::tc(alloc, member, layout, epoch, start),
         Part::Ldm => {
             let own = stored(alloc, &layout.shape(), member.node, start, rows)?;
-            Host::ldm(alloc, member, layout, own, start)
+            HostBody::ldm(alloc, member, layout, own, start)
         }
     }
-}
-
-// The first epoch of the checkpoint number before that of this one: a life that begins in this one
-// starts from it.
-fn epoch_before(epoch: u64) -> u64
-    ensures { result ≡ epoch_before epoch }
-{
-    (epoch / MICROS).saturating_sub(1) * MICROS
 }
 
 // Of these rows those that a node's group has, put one after the other, all of this epoch.

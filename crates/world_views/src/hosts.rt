@@ -1,5 +1,6 @@
 //! Hosts: which one runs what.
-ghost use Rattle.std.specs.Prelude.{◌≡◌, ◌==◌, ◌≤◌, ◌+◌, ◌-◌, ◌*◌, ◌%◌, ◌^◌, ◌<◌, IfOk, IfSome, None, filter, length, position, slice_get};
+ghost use Rattle.std.specs.Prelude.{◌≡◌, ◌==◌, ◌≤◌, ◌+◌, ◌-◌, ◌*◌, ◌%◌, ◌^◌, ◌<◌, IfOk, IfSome, None, filter, length};
+ghost use Rattle.std.specs.Prelude.{position, slice_get};
 ghost use Rattle.sig_core.specs.declared.member.Member.{Member};
 ghost use Rattle.frag_map.specs.Layout.{members};
 ghost use Rattle.frag_map.specs.Replicas.{is_member};

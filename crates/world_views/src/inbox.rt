@@ -1,5 +1,6 @@
 //! The links to one host.
-ghost use Rattle.std.specs.Prelude.{◌≡◌, ◌∷◌, [], false, None, Some, MatchOption, IfNone, IfSome, OnOk, OnErr, IfOk, ◌<◌, ◌^◌, nat_lt, count_by, length, position};
+ghost use Rattle.std.specs.Prelude.{◌≡◌, ◌∷◌, [], false, None, Some, MatchOption, IfNone, IfSome, OnOk, OnErr, IfOk};
+ghost use Rattle.std.specs.Prelude.{◌<◌, ◌^◌, nat_lt, count_by, length, position};
 ghost use Rattle.world_views.specs.Links.{behind, closed_by, is_busy, link_from, new_link, rest_on, with_link, without};
 ghost use Rattle.world_views.specs.Sending.{routed};
 

@@ -8,7 +8,7 @@ ghost use Rattle.world_views.specs.Sending.{is_own_work, routed_all};
 use crate::hosts::Made;
 use crate::network::Network;
 use crate::sender::Sender;
-use node_views::Host;
+use node_views::HostBody;
 use sig_core::{Body, HostId, HostSignal, NoMemory, Outgoing, Outs, Work};
 use std::alloc::Global;
 
@@ -22,7 +22,7 @@ pub fn dispatch(
     alloc: Global,
     network: &mut Network,
     made: &Made,
-    host: &Host,
+    host: &HostBody,
     from: u32,
     stamp: u64,
     outs: &mut Outs,
@@ -41,7 +41,7 @@ fn pass_on(
     alloc: Global,
     network: &mut Network,
     made: &Made,
-    host: &Host,
+    host: &HostBody,
     from: u32,
     stamp: u64,
     sent: Outgoing,
@@ -64,7 +64,7 @@ fn pass_on(
 fn refuse(_sent: Outgoing) {}
 
 // Whether a host doesn't send this to another.
-fn is_kept_back(host: &Host, from: u32, to: u32, body: &Body) -> bool
+fn is_kept_back(host: &HostBody, from: u32, to: u32, body: &Body) -> bool
     ensures { result ≡ (is_cut host.now.standing (record { 0 = to }) || ((to == from) && is_own_work body.now)) }
 {
     host.is_cut(HostId(to)) || (to == from && is_own_work(body))

@@ -6,7 +6,7 @@ ghost use Rattle.api_views.specs.State.{with_api};
 ghost use Rattle.world_views.specs.Machine.{replies_at, told};
 
 use api_views::Client;
-use node_views::{Host, Parts};
+use node_views::{HostBody, Parts};
 use sig_core::{Answer, ApiReply, NoMemory, UAnswer};
 use std::collections::VecDeque;
 
@@ -14,7 +14,7 @@ use std::collections::VecDeque;
 ///
 /// # Errors
 /// `NoMemory`.
-pub fn tell(at: u32, host: &mut Host, replies: &mut VecDeque<ApiReply>) -> Result<(), NoMemory>
+pub fn tell(at: u32, host: &mut HostBody, replies: &mut VecDeque<ApiReply>) -> Result<(), NoMemory>
     ensures host { OnOk result (host.new ≡ told at (stay host.old)) }
     ensures told { OnOk result (replies.new.items ≡ replies.old.items ++ replies_at at (stay host.old)) }
 {

@@ -1,5 +1,6 @@
 //! The world: all hosts of a cluster that may fail, driven by one thread.
-ghost use Rattle.std.specs.Prelude.{◌≡◌, ◌≤◌, ◌||◌, ◌++◌, [], IfOk, MatchOption, None, OnErr, OnOk, false, slice_index_or};
+ghost use Rattle.std.specs.Prelude.{◌≡◌, ◌≤◌, ◌||◌, ◌++◌, [], IfOk, MatchOption, None, OnErr, OnOk, false};
+ghost use Rattle.std.specs.Prelude.{slice_index_or};
 ghost use Rattle.frag_map.specs.Shape.{IsShape};
 ghost use Rattle.node_views.specs.Row.{is_cut};
 ghost use Rattle.world_views.specs.Machine.{own_stop};
@@ -14,7 +15,7 @@ use crate::network::Network;
 use crate::route::dispatch;
 use crate::sender::Sender;
 use crate::telling::tell;
-use node_views::Host;
+use node_views::HostBody;
 use sig_core::{
     ApiReply, ApiReq, Body, Boxed, Held, HostId, HostSignal, Key, Life, LogStep, Mark, NoMemory,
     Outs, Seq, Shape, Signal, StopCause, Value, View, Work,
@@ -32,7 +33,7 @@ pub struct World {
     pub(crate) shape: Shape,
     pub(crate) made: Made,
     /// Host 0, the shell's, and behind it three of each member, in their order.
-    pub(crate) bodies: Vec<Host>,
+    pub(crate) bodies: Vec<HostBody>,
     /// Which hosts have stopped.
     pub(crate) stopped: Vec<bool>,
     pub(crate) network: Network,
@@ -54,11 +55,12 @@ impl World {
     ghost use Rattle.world_views.specs.Machine.{own_signal};
     ghost use Rattle.world_views.specs.Schedule.{HasTaken, is_discarded};
     ghost use Rattle.world_views.specs.Unscheduled.{AreUnscheduled};
-    ghost use Rattle.world_views.specs.World.{HasHandled, IsIdle, IsThere, closing, cutting, entered, has_stopped_in, is_down, is_left_open, new_world, sending, stopped};
+    ghost use Rattle.world_views.specs.World.{HasHandled, IsIdle, IsThere, closing, cutting, entered, has_stopped_in};
+    ghost use Rattle.world_views.specs.World.{is_down, is_left_open, new_world, sending, stopped};
     ghost use Rattle.world_views.specs.WorldOf.{whole_of};
 
-    /// A world in which nothing has happened: a cluster of this shape begins a life in this epoch,
-    /// with these rows, whose keys are distinct.
+    /// A world in which nothing has happened: a cluster of this shape begins a life in this epoch, from
+    /// the epoch `start`, which is below it, with these rows, whose keys are distinct.
     ///
     /// # Errors
     /// `NoMemory`.
@@ -66,14 +68,15 @@ impl World {
         alloc: Global,
         shape: Shape,
         epoch: u64,
+        start: u64,
         rows: &[(Key, Value)],
     ) -> Result<World, NoMemory>
         requires { IsShape shape }
-        ensures { IfOk result (λ w. whole_of w ≡ new_world (record { shape = shape; epoch = epoch; rows = rows.now })) }
+        ensures { IfOk result (λ w. whole_of w ≡ new_world (record { shape = shape; epoch = epoch; start_epoch = start; rows = rows.now })) }
     {
         let made = Made::first(alloc, shape.nodes)?;
         let hosts = made.hosts();
-        let bodies = fresh_bodies(alloc, shape, &made, epoch, rows)?;
+        let bodies = fresh_bodies(alloc, shape, &made, epoch, start, rows)?;
         let network = Network::new(alloc, hosts)?;
         let outs = Outs::new(alloc)?;
         let stamps = Vec::from_elem(alloc, 0, hosts as usize)?;

@@ -12,7 +12,7 @@ use Rattle.sig_core.specs.Rows.{RowsState, no_rows}
 use Rattle.world_core.specs.Hosts as plain_world
 use Rattle.world_core.specs.Hosts.{member_at, part_by}
 use Rattle.world_core.specs.Start.{Start, made}
-use Rattle.world_views.specs.Hosts.{epoch_before, part_started, started}
+use Rattle.world_views.specs.Hosts.{part_started, started}
 use Rattle.calm_laws.specs.Alike.{AreAlike}
 use Rattle.calm_laws.specs.Steps.{HostsBeginAlike}
 
@@ -52,11 +52,11 @@ part_begins start part.Ldm member none = record {
     of_rows : RowsState → LqhState
     of_rows rows = unasked_yet member.node (first_layout start.shape) rows (record { used = 0; reserved = 0 })
 
-    same : of_rows (with_rows no_rows (own_rows start.shape member.node start.rows) (epoch_before start.epoch))
+    same : of_rows (with_rows no_rows (own_rows start.shape member.node start.rows) start.start_epoch)
         ≡ of_rows (with_rows no_rows (own_rows start.shape member.node start.rows) start.epoch)
     same =
         ap of_rows
-        (none_put start member (epoch_before start.epoch) none ∙ sym (none_put start member start.epoch none))
+        (none_put start member start.start_epoch none ∙ sym (none_put start member start.epoch none))
 
 pub begin_alike : HostsBeginAlike
 unfolding started plain_world.started plain.fresh_shell

@@ -8,10 +8,12 @@ use Rattle.node_core.specs.declared.host.Host as plain
 use Rattle.node_views.specs.Blocks.{fence_at, parts_row, settled_at}
 use Rattle.node_views.specs.Fence.{is_fenced}
 use Rattle.node_views.specs.Laws.{is_own}
-use Rattle.node_views.specs.Parts.{main_settled, may_settle, settled_if}
+use Rattle.node_views.specs.Parts.{main_settled}
+use Rattle.qmgr_block.proofs.Settles.{unsettled}
+use Rattle.qmgr_block.specs.Settle.{may_settle}
 use Rattle.node_views.specs.Row.{blocks_row, hushed, is_stop, settle, unless_stopped, with_parts}
 use Rattle.node_views.specs.WellFormed.{is_well_formed}
-use Rattle.node_views.specs.declared.host.Host as host
+use Rattle.node_views.specs.declared.host_body.HostBody as host
 use Rattle.node_views.specs.declared.ldm_part.LdmPart.{LdmPart}
 use Rattle.node_views.specs.declared.parts.Parts.{Parts}
 use Rattle.node_views.specs.declared.parts.Parts.TheVariants.{Main, Tc, Ldm}
@@ -123,7 +125,7 @@ not_barred x own view is =
     and_right (is_fenced x) (nat_lt x.view.number own)
     (ap (λ n. nat_lt n own) view ∙ ap (λ n. nat_lt first_number n) is)
 
-pub ease_row : (start : Start) (h : ℕ) (given : List ApiReply) (s : host.Host) (other : plain.Host) (x : Signal)
+pub ease_row : (start : Start) (h : ℕ) (given : List ApiReply) (s : host.HostBody) (other : plain.Host) (x : Signal)
     → AreAlike start given s other → ComesCalmly start h x → step_by h s x ≡ hushed (blocks_row s x)
 ease_row start h given s other x alike calm =
     ap (step_if s x) (stops_none h x calm.calm) ∙ calm_hosts_leave_it_to_blocks s x (record {
@@ -146,25 +148,25 @@ pub settles_none : (parts : Parts) (x : Signal) → may_settle x.body ≡ false 
 settles_none (Main p) x is = by x.to.block
   where
     by : (to : BlockId) → main_settled p to x ≡ None
-    by block.Qmgr = ap (settled_if p.qmgr x) is
+    by block.Qmgr = unsettled p.qmgr x is
     by to = refl
 settles_none parts x is = refl
 
-pub blocks_alone : (h : ℕ) (s : host.Host) (x : Signal) → is_calm h x ≡ true
+pub blocks_alone : (h : ℕ) (s : host.HostBody) (x : Signal) → is_calm h x ≡ true
     → blocks_row s x ≡ with_parts s (parts_row s.parts x)
 unfolding blocks_row
 blocks_alone h s x calm =
     ap (settle (with_parts s (parts_row s.parts x))) (settles_none s.parts x (none_settling h x calm))
 
 -- where they don't stop the host it sends all that they send
-pub goes_on : (step : Step host.Host) → list_any is_stop step.effects.marks ≡ false → hushed step ≡ step
+pub goes_on : (step : Step host.HostBody) → list_any is_stop step.effects.marks ≡ false → hushed step ≡ step
 goes_on step is =
     ap (λ b. record {
       state = step.state;
       effects = record { sends = unless_stopped step.effects.sends b; marks = step.effects.marks };
     }) is
 
-pub ease_parts : (start : Start) (h : ℕ) (given : List ApiReply) (s : host.Host) (other : plain.Host) (x : Signal)
+pub ease_parts : (start : Start) (h : ℕ) (given : List ApiReply) (s : host.HostBody) (other : plain.Host) (x : Signal)
     → AreAlike start given s other → ComesCalmly start h x
     → list_any is_stop (parts_row s.parts x).effects.marks ≡ false
     → step_by h s x ≡ with_parts s (parts_row s.parts x)

@@ -6,7 +6,7 @@ use Rattle.node_core.specs.declared.host.Host as plain
 use Rattle.node_views.specs.Blocks.{in_main, parts_row}
 use Rattle.node_views.specs.Parts.{in_qmgr, main_row}
 use Rattle.node_views.specs.Row.{is_stop, with_parts}
-use Rattle.node_views.specs.declared.host.Host as host
+use Rattle.node_views.specs.declared.host_body.HostBody as host
 use Rattle.node_views.specs.declared.main_part.MainPart.{MainPart}
 use Rattle.node_views.specs.declared.parts.Parts.{Parts}
 use Rattle.node_views.specs.declared.parts.Parts.TheVariants.{Main}
@@ -44,7 +44,7 @@ module _ (start : Start) (h most : ℕ) (x : Signal) (none : ring start h ≡ re
       ∙ ap (λ (t : Step QmgrState). in_main (in_qmgr p t)) (lone_membership p rests)
   lone_parts parts rests = absurd rests
 
-  pub lone_round : (s : host.Host) (other : plain.Host) → AreAlike start [] s other → ComesCalmly start h x
+  pub lone_round : (s : host.HostBody) (other : plain.Host) → AreAlike start [] s other → ComesCalmly start h x
       → IsRestingPart start h most s.parts → step_by h s x ≡ stay s
   lone_round s other alike comes rests =
       let same : parts_row s.parts x ≡ stay s.parts = lone_parts s.parts rests in

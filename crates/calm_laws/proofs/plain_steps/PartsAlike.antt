@@ -6,7 +6,7 @@ use Rattle.node_core.specs.declared.host.Host as plain
 use Rattle.node_core.specs.Row.{row}
 use Rattle.node_views.specs.Blocks.{parts_row}
 use Rattle.node_views.specs.Row.{is_stop, with_parts}
-use Rattle.node_views.specs.declared.host.Host as host
+use Rattle.node_views.specs.declared.host_body.HostBody as host
 use Rattle.node_views.specs.declared.parts.Parts.{Parts}
 use Rattle.run_theory.specs.Lists.{Each}
 use Rattle.sig_core.specs.declared.signal.Signal.{Signal}
@@ -26,17 +26,17 @@ pub record PartsAlike (start : Start) (h : ℕ) (one : Step Parts) (other : Step
   pub alike : ArePartsAlike start [] one.state other.state
 
 -- so does its host
-pub step_alike : (start : Start) (h : ℕ) (s : host.Host) (other : plain.Host) (x : Signal) → AreAlike start [] s other
+pub step_alike : (start : Start) (h : ℕ) (s : host.HostBody) (other : plain.Host) (x : Signal) → AreAlike start [] s other
     → ComesCalmly start (suc h) x → PartsAlike start h (parts_row s.parts x) (row other x)
     → StepAlike start (suc h) [] s other x
 step_alike start h s other x alike calm parts = record {
-  marks = ap (λ (step : Step host.Host). step.effects.marks) same ∙ parts.marks;
+  marks = ap (λ (step : Step host.HostBody). step.effects.marks) same ∙ parts.marks;
   sends =
-      ap (λ (step : Step host.Host). step.effects.sends) same ∙ parts.sends
+      ap (λ (step : Step host.HostBody). step.effects.sends) same ∙ parts.sends
       ∙ sym (append-nil (row other x).effects.sends);
   plain = parts.plain;
   goes_on = parts.goes_on;
-  alike = subst (λ (step : Step host.Host). AreAlike start [] (told (suc h) step) (row other x).state) (sym same)
+  alike = subst (λ (step : Step host.HostBody). AreAlike start [] (told (suc h) step) (row other x).state) (sym same)
       (record { standing = alike.standing; parts = parts.alike });
 }
   where
@@ -56,12 +56,12 @@ pub record PartsAside (start : Start) (one : Step Parts) (other : plain.Host) : 
   pub alike : ArePartsAlike start [] one.state other
 
 -- so does their host
-pub step_aside : (start : Start) (h : ℕ) (s : host.Host) (other : plain.Host) (x : Signal) → AreAlike start [] s other
+pub step_aside : (start : Start) (h : ℕ) (s : host.HostBody) (other : plain.Host) (x : Signal) → AreAlike start [] s other
     → ComesCalmly start (suc h) x → PartsAside start (parts_row s.parts x) other → StepAside start (suc h) s other x
 step_aside start h s other x alike calm parts = record {
-  marks = ap (λ (step : Step host.Host). step.effects.marks) same ∙ parts.marks;
-  sends = subst (λ (step : Step host.Host). Each IsForViews step.effects.sends) (sym same) parts.sends;
-  alike = subst (λ (step : Step host.Host). AreAlike start [] (told (suc h) step) other) (sym same)
+  marks = ap (λ (step : Step host.HostBody). step.effects.marks) same ∙ parts.marks;
+  sends = subst (λ (step : Step host.HostBody). Each IsForViews step.effects.sends) (sym same) parts.sends;
+  alike = subst (λ (step : Step host.HostBody). AreAlike start [] (told (suc h) step) other) (sym same)
       (record { standing = alike.standing; parts = parts.alike });
 }
   where

@@ -8,7 +8,7 @@ use Rattle.node_core.specs.declared.host.Host as plain
 use Rattle.node_views.specs.Blocks.{in_main, parts_row}
 use Rattle.node_views.specs.Parts.{main_row}
 use Rattle.node_views.specs.Row.{is_stop}
-use Rattle.node_views.specs.declared.host.Host as host
+use Rattle.node_views.specs.declared.host_body.HostBody as host
 use Rattle.node_views.specs.declared.main_part.MainPart.{MainPart}
 use Rattle.node_views.specs.declared.parts.Parts.{Parts}
 use Rattle.node_views.specs.declared.parts.Parts.TheVariants.{Main}
@@ -49,7 +49,7 @@ for_membership start zero x beating calm = absurd (false≢true beating)
 for_membership start (suc h) x beating calm =
     membership_block (part_by (h % 3)) x.to.block beating (has_calm_block (suc h) x calm.calm)
 
-told_node : (h : ℕ) → is_beating h ≡ true → (t : Step host.Host) → told h t ≡ t.state
+told_node : (h : ℕ) → is_beating h ≡ true → (t : Step host.HostBody) → told h t ≡ t.state
 told_node zero beating t = absurd (false≢true beating)
 told_node (suc h) beating t = refl
 
@@ -61,7 +61,7 @@ module _ (start : Start) (h : ℕ) where
     marks : step.effects.marks ≡ []
 
   -- so does a step of the host
-  pub record HostRests (most : ℕ) (sends : List Outgoing) (step : Step host.Host) : Type 0 where
+  pub record HostRests (most : ℕ) (sends : List Outgoing) (step : Step host.HostBody) : Type 0 where
     pub rests : IsRestingPart start h most (told h step).parts
     pub sent : step.effects.sends ≡ sends
     pub marks : step.effects.marks ≡ []
@@ -81,7 +81,7 @@ module _ (start : Start) (h : ℕ) where
       })
   parts_rest was most sends x at stays parts rests = absurd rests
 
-  module _ (was most : ℕ) (sends : List Outgoing) (s : host.Host) (other : plain.Host) (x : Signal)
+  module _ (was most : ℕ) (sends : List Outgoing) (s : host.HostBody) (other : plain.Host) (x : Signal)
       (beating : is_beating h ≡ true) (alike : AreAlike start [] s other) (calm : ComesCalmly start h x)
       (rests : IsRestingPart start h was s.parts)
       (stays : (p : MainPart) → IsResting start h was p → StaysAtRest start h most sends (qmgr_row p.qmgr x)) where
@@ -90,15 +90,15 @@ module _ (start : Start) (h : ℕ) where
         let step = parts_rest was most sends x (for_membership start h x beating calm) stays s.parts rests in
         let eased = ease_parts start h [] s other x alike calm (ap (list_any is_stop) step.marks) in
         record {
-          rests = subst (λ (now : host.Host). IsRestingPart start h most now.parts)
+          rests = subst (λ (now : host.HostBody). IsRestingPart start h most now.parts)
               (sym (told_node h beating (step_by h s x)))
-              (subst (λ (t : Step host.Host). IsRestingPart start h most t.state.parts) (sym eased) step.rests);
-          sent = ap (λ (t : Step host.Host). t.effects.sends) eased ∙ step.sent;
-          marks = ap (λ (t : Step host.Host). t.effects.marks) eased ∙ step.marks;
+              (subst (λ (t : Step host.HostBody). IsRestingPart start h most t.state.parts) (sym eased) step.rests);
+          sent = ap (λ (t : Step host.HostBody). t.effects.sends) eased ∙ step.sent;
+          marks = ap (λ (t : Step host.HostBody). t.effects.marks) eased ∙ step.marks;
         }
 
 -- a round: it has missed one more, and the member behind it gets a heartbeat
-pub round_steps : (start : Start) (h missed : ℕ) (s : host.Host) (other : plain.Host) (x : Signal)
+pub round_steps : (start : Start) (h missed : ℕ) (s : host.HostBody) (other : plain.Host) (x : Signal)
     → is_beating h ≡ true → AreAlike start [] s other → ComesCalmly start h x → IsRestingPart start h missed s.parts
     → missed < 3 → x.body ≡ Host Round
     → HostRests start h (missed + 1) (beats (ring start h)) (step_by h s x)
@@ -115,7 +115,7 @@ round_steps start h missed s other x beating alike calm rests few is =
     })
 
 -- a heartbeat: it has missed no more
-pub heartbeat_rests : (start : Start) (h missed : ℕ) (s : host.Host) (other : plain.Host) (x : Signal)
+pub heartbeat_rests : (start : Start) (h missed : ℕ) (s : host.HostBody) (other : plain.Host) (x : Signal)
     → is_beating h ≡ true → AreAlike start [] s other → ComesCalmly start h x → IsRestingPart start h missed s.parts
     → x.body ≡ Membership Heartbeat
     → HostRests start h missed [] (step_by h s x)
@@ -132,7 +132,7 @@ heartbeat_rests start h missed s other x beating alike calm rests is =
     })
 
 -- and none where it is of the member before it
-pub heartbeat_restores : (start : Start) (h missed : ℕ) (s : host.Host) (other : plain.Host) (x : Signal)
+pub heartbeat_restores : (start : Start) (h missed : ℕ) (s : host.HostBody) (other : plain.Host) (x : Signal)
     (before : Member)
     → is_beating h ≡ true → AreAlike start [] s other → ComesCalmly start h x → IsRestingPart start h missed s.parts
     → (ring start h).before ≡ Some before → same_member x.member before ≡ true → x.body ≡ Membership Heartbeat

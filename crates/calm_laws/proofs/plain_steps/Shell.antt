@@ -21,7 +21,7 @@ use Rattle.node_core.specs.declared.host.Host as plain
 use Rattle.node_core.specs.declared.host.Host.TheVariants as plain_host
 use Rattle.node_core.specs.Row as plain_row
 use Rattle.node_core.specs.Row.{row}
-use Rattle.node_views.specs.declared.host.Host as host
+use Rattle.node_views.specs.declared.host_body.HostBody as host
 use Rattle.node_views.specs.declared.parts.Parts.{Parts}
 use Rattle.node_views.specs.declared.parts.Parts.TheVariants.{Shell, Main, Tc, Ldm}
 use Rattle.node_views.specs.declared.shell_part.ShellPart.{ShellPart}
@@ -45,7 +45,7 @@ for_client _ body fits = absurd cc
 
 module _ (start : Start) (given : List ApiReply) (standing : Standing) (p : ShellPart) (other : ApiState) (x : Signal)
     (shape : IsShape start.shape) (comes : ComesCalmly start 0 x) where
-  abbrev s : host.Host
+  abbrev s : host.HostBody
   s = record { standing = standing; parts = Shell p }
 
   -- the API of its client's side, and what that does
@@ -55,7 +55,7 @@ module _ (start : Start) (given : List ApiReply) (standing : Standing) (p : Shel
   abbrev t : Step ClientState
   t = client_row p.client x
 
-  abbrev mine : Step host.Host
+  abbrev mine : Step host.HostBody
   mine = hushed (with_parts s (in_shell (in_client p t)))
 
   abbrev theirs : Step plain.Host
@@ -106,10 +106,10 @@ module _ (start : Start) (given : List ApiReply) (standing : Standing) (p : Shel
     pub shell_alike : StepAlike start 0 given s (plain_host.Shell other) x
     shell_alike = record {
       marks =
-          ap (λ (step : Step host.Host). step.effects.marks) mine_is
+          ap (λ (step : Step host.HostBody). step.effects.marks) mine_is
           ∙ (client.marks ∙ sym (ap (λ (step : Step plain.Host). step.effects.marks) theirs_is));
       sends =
-          ap (λ (step : Step host.Host). step.effects.sends) mine_is
+          ap (λ (step : Step host.HostBody). step.effects.sends) mine_is
           ∙ (ap (λ (stops : Bool). unless_stopped t.effects.sends stops) goes_on
           ∙ (client.sends
           ∙ sym (ap (λ (step : Step plain.Host). step.effects.sends ++ besides start 0 x.body) theirs_is)));
@@ -117,7 +117,7 @@ module _ (start : Start) (given : List ApiReply) (standing : Standing) (p : Shel
           subst (λ (step : Step plain.Host). Each (IsPlainSend 0) step.effects.sends) (sym theirs_is) client.plain;
       goes_on = ap (λ (step : Step plain.Host). stops_by step.effects.marks) theirs_is ∙ client.goes_on;
       alike =
-          subst₂ (λ (step : Step host.Host) (other_step : Step plain.Host).
+          subst₂ (λ (step : Step host.HostBody) (other_step : Step plain.Host).
           AreAlike start (given ++ plain_replies (replies_at 0 step)) (told 0 step) other_step.state)
           (sym mine_is) (sym theirs_is) behind;
     }

@@ -1,5 +1,6 @@
 -- An epoch is closed by the president of the current view, where each full member has ended it and takeover is over.
-use Rattle.std.proofs.Common.{◌≡◌, ◌≤◌, ◌⊎◌, ℕ, zero, suc, Bool, true, false, List, [], ◌∷◌, refl, sym, ap, subst, ◌∙◌}
+use Rattle.std.proofs.Common.{◌<◌, ◌≡◌, ◌≤◌, ◌⊎◌, ℕ, zero, suc, Bool, true, false, List, [], ◌∷◌, refl, sym, ap, subst}
+use Rattle.std.proofs.Common.{◌∙◌}
 use Rattle.std.proofs.Common.{inl, inr, arith}
 use Rattle.std.proofs.lemmas.Bool.{true≢false}
 use Rattle.frag_map.specs.Layout.{first_layout}
@@ -16,7 +17,7 @@ use Rattle.gcp_master.specs.declared.voices.Voice.{Voice}
 use Rattle.gcp_master.specs.Master.{fresh_master, master_row}
 use Rattle.gcp_master.specs.State.{MasterState}
 use Rattle.gcp_master.specs.Voices as gcp
-use Rattle.node_views.specs.declared.host.Host as node
+use Rattle.node_views.specs.declared.host_body.HostBody as node
 use Rattle.node_views.specs.declared.main_part.MainPart.{MainPart}
 use Rattle.node_views.specs.declared.parts.Parts.{Parts}
 use Rattle.node_views.specs.declared.parts.Parts.TheVariants as part
@@ -72,12 +73,12 @@ first_or member [] = inr (λ is. is)
 first_or member (oldest ∷ members) = is_or member oldest
 
 -- where the shell's replies are told its host stands where it stood
-told_view : (h : ℕ) (t : Step node.Host) → (told h t).standing.view ≡ t.state.standing.view
+told_view : (h : ℕ) (t : Step node.HostBody) → (told h t).standing.view ≡ t.state.standing.view
 told_view zero t = refl
 told_view (suc h) t = refl
 
 module _ (own : EndsAreOwn) (start : Start) (all : ℕ → List HostStep) (e : HostStep) (es : List HostStep)
-    (some : 1 ≤ start.epoch) (moment : IsMoment start all (e ∷ es))
+    (some : start.start_epoch < start.epoch) (moment : IsMoment start all (e ∷ es))
   where
     abbrev old : ℕ → List HostStep
     old = logs_of start es
@@ -97,7 +98,7 @@ module _ (own : EndsAreOwn) (start : Start) (all : ℕ → List HostStep) (e : H
     heard_all : AllHeard start (logs_of start es)
     heard_all = all_heard start all es some less
 
-    abbrev s : node.Host
+    abbrev s : node.HostBody
     s = after start e.host (old e.host)
 
     -- hosts without a master close nothing
@@ -303,7 +304,7 @@ module _ (own : EndsAreOwn) (start : Start) (all : ℕ → List HostStep) (e : H
           by (of_main me there at) = of_main_host me there at
           by (of_tc me there at) =
               let runs : RunsTc start (tc_of start me) (old (tc_of start me)) =
-              runs_tc start (tc_of start me) _ (ap (λ (s : node.Host). s.parts) (tc_started start me there))
+              runs_tc start (tc_of start me) _ (ap (λ (s : node.HostBody). s.parts) (tc_started start me there))
               (old (tc_of start me)) in
               absurd (no_master (part.Tc runs.part) (ap (λ h. (after start h (old h)).parts) at ∙ runs.is) tt)
           by (of_rows me there at) =

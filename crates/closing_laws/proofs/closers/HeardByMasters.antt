@@ -1,5 +1,5 @@
 -- Whom a master has heard to have ended the epoch of its run has ended it.
-use Rattle.std.proofs.Common.{◌≡◌, ◌≤◌, ℕ, List, [], ◌∷◌, sym, ap, subst}
+use Rattle.std.proofs.Common.{◌<◌, ◌≡◌, ◌≤◌, ℕ, List, [], ◌∷◌, sym, ap, subst}
 use Rattle.frag_map.specs.Layout.{first_layout}
 use Rattle.run_theory.proofs.Pasts.{each_append, each_map}
 use Rattle.run_theory.specs.Lists.{IsIn}
@@ -17,7 +17,7 @@ use Rattle.gcp_master.specs.declared.voices.Voice.{Voice}
 use Rattle.gcp_master.specs.Master.{fresh_master, master_row}
 use Rattle.gcp_master.specs.Resume.{in_view}
 use Rattle.gcp_master.specs.State.{MasterState}
-use Rattle.node_views.specs.declared.host.Host as node
+use Rattle.node_views.specs.declared.host_body.HostBody as node
 use Rattle.world_core.specs.Start.{Start, made}
 use Rattle.world_core.specs.Steps.{HostStep}
 use Rattle.view_laws.proofs.follow.Hosts.{main_started}
@@ -164,12 +164,12 @@ heard_first start = record { told = λ i j. tt; masters = first }
         (master_of start (logs_of start []) member).phase
     first member there =
         none (master_of start (logs_of start []) member).voices (master_of start (logs_of start []) member).phase
-        (ap (λ (s : node.Host).
+        (ap (λ (s : node.HostBody).
         (master_in (fresh_master member (first_layout start.shape).view 0) s.parts).voices)
         (main_started start member there))
 
 -- so it is at each moment
-pub all_heard : (start : Start) (all : ℕ → List HostStep) (es : List HostStep) → 1 ≤ start.epoch
+pub all_heard : (start : Start) (all : ℕ → List HostStep) (es : List HostStep) → start.start_epoch < start.epoch
     → IsMoment start all es → AllHeard start (logs_of start es)
 all_heard start all [] some moment = heard_first start
 all_heard start all (e ∷ es) some moment =

@@ -24,7 +24,7 @@ use Rattle.gcp_master.specs.Master.{master_row}
 use Rattle.gcp_master.specs.Resume as master
 use Rattle.gcp_master.specs.State.{MasterState}
 use Rattle.node_views.specs.Blocks.{fence_at}
-use Rattle.node_views.specs.declared.host.Host as hosts
+use Rattle.node_views.specs.declared.host_body.HostBody as hosts
 use Rattle.node_views.specs.declared.main_part.MainPart.{MainPart}
 use Rattle.node_views.specs.declared.parts.Parts.TheVariants as part
 use Rattle.node_views.specs.declared.standing.Standing.{Standing}
@@ -58,7 +58,7 @@ pub data Entering (p : MainPart) (view : View) (x : Signal) (between : MainPart)
       → Entering p view x between seen
 
 -- what a step of the host comes to
-pub data Goes (shape : Shape) (p : MainPart) (view : View) (x : Signal) (step : Step hosts.Host) : Type 0 where
+pub data Goes (shape : Shape) (p : MainPart) (view : View) (x : Signal) (step : Step hosts.HostBody) : Type 0 where
   leaves : (now : MainPart) → step.state.parts ≡ part.Main now → Left p.master now.master
       → AreNoClosings step.effects.marks → Goes shape p view x step
   takes : (between : MainPart) (seen : View) → Entering p view x between seen
@@ -68,7 +68,7 @@ pub data Goes (shape : Shape) (p : MainPart) (view : View) (x : Signal) (step : 
       → step.effects.marks ≡ front ++ (master_row between.master x).effects.marks → Goes shape p view x step
 
 -- where the signal is passed to the part, or is the host's own
-data Passes (p : MainPart) (view : View) (x : Signal) (step : Step hosts.Host) : Type 0 where
+data Passes (p : MainPart) (view : View) (x : Signal) (step : Step hosts.HostBody) : Type 0 where
   rests : (now : MainPart) → step.state.parts ≡ part.Main now → Left p.master now.master
       → AreNoClosings step.effects.marks → Passes p view x step
   acts : (standing : Standing) → standing.view ≡ view
@@ -76,12 +76,12 @@ data Passes (p : MainPart) (view : View) (x : Signal) (step : Step hosts.Host) :
       → step.state.parts ≡ part.Main (main_row p block.GcpMaster x).state → step.state.standing.view ≡ view
       → step.effects.marks ≡ (master_row p.master x).effects.marks → Passes p view x step
 
-abbrev host_of : Standing → MainPart → hosts.Host
+abbrev host_of : Standing → MainPart → hosts.HostBody
 host_of standing p = record { standing = standing; parts = part.Main p }
 
 module _ (x : Signal) where
   module _ (standing : Standing) (p : MainPart) where
-    abbrev s : hosts.Host
+    abbrev s : hosts.HostBody
     s = host_of standing p
 
     -- by the block that the signal is for
@@ -153,11 +153,11 @@ module _ (x : Signal) where
 
     -- behind what was done before
     goes_behind : (p between : MainPart) (view seen : View) → Entering p view x between seen
-        → x.view.number ≤ seen.number → (front : List Mark) → AreNoClosings front → (step now : Step hosts.Host)
+        → x.view.number ≤ seen.number → (front : List Mark) → AreNoClosings front → (step now : Step hosts.HostBody)
         → now.state ≡ step.state → now.effects.marks ≡ front ++ step.effects.marks → Passes between seen x step
         → Goes shape p view x now
     goes_behind p between view seen entering low front none step now state marks (rests q parts left unmarked) =
-        leaves q (ap (λ (h : hosts.Host). h.parts) state ∙ parts)
+        leaves q (ap (λ (h : hosts.HostBody). h.parts) state ∙ parts)
         (left_behind p between view seen entering q.master left)
         (subst AreNoClosings (sym marks) (each_append IsNoClosing front step.effects.marks none unmarked))
     goes_behind p between view seen entering low front none step now state marks
@@ -170,7 +170,7 @@ module _ (x : Signal) where
               subst (λ (v : View). fence_at (part.Main between) x.to.block v.number ≤ x.view.number) view_is
               (not_barred (host_of standing between) x clear fenced);
         })
-        to (ap (λ (h : hosts.Host). h.parts) state ∙ parts) (ap (λ (h : hosts.Host). h.standing.view) state ∙ stood)
+        to (ap (λ (h : hosts.HostBody). h.parts) state ∙ parts) (ap (λ (h : hosts.HostBody). h.standing.view) state ∙ stood)
         front none (marks ∙ ap (λ (own : List Mark). front ++ own) effects)
 
     headed_goes : (standing : Standing) (p : MainPart) → Goes shape p standing.view x
@@ -207,7 +207,7 @@ module _ (x : Signal) where
     counted_goes standing p (Some (suc (suc left))) = headed_goes (killed_after standing (Some (suc left))) p
 
     -- a host that stops marks the same
-    hushed_goes : (p : MainPart) (view : View) (step : Step hosts.Host) → Goes shape p view x step
+    hushed_goes : (p : MainPart) (view : View) (step : Step hosts.HostBody) → Goes shape p view x step
         → Goes shape p view x (hushed step)
     hushed_goes p view step (leaves now parts left marks) = leaves now parts left marks
     hushed_goes p view step (takes between seen entering passed to parts stood front none marks) =

@@ -5,7 +5,7 @@ use Rattle.sig_core.specs.declared.mark.Mark.{Mark}
 use Rattle.sig_core.specs.declared.mark.Mark.TheVariants.{Closed, Durable}
 use Rattle.sig_core.specs.declared.signal.Body.{Body}
 use Rattle.sig_core.specs.declared.signal.Signal.{Signal}
-use Rattle.node_views.specs.declared.host.Host as hosts
+use Rattle.node_views.specs.declared.host_body.HostBody as hosts
 use Rattle.node_views.specs.declared.parts.Parts.{Parts}
 use Rattle.node_views.specs.declared.parts.Parts.TheVariants.{Shell, Main, Tc, Ldm}
 use Rattle.node_views.specs.Words.{host_marks, parts_marks}
@@ -36,7 +36,7 @@ host_closes_none parts none (Closed epoch) is = parts_close_none parts none (Clo
 host_closes_none parts none (Durable epoch) is = parts_close_none parts none (Durable epoch) is
 host_closes_none parts none mark is = refl
 
-pub others_close_none : (x : Signal) (h : ℕ) (s : hosts.Host) → HasNoMaster s.parts
+pub others_close_none : (x : Signal) (h : ℕ) (s : hosts.HostBody) → HasNoMaster s.parts
     → Each IsNoClosing (step_by h s x).effects.marks
 others_close_none x h s none =
     (step_words (λ (body : Body). Unit {0}) IsNoClosing h s x (λ body is. tt) (host_closes_none s.parts none)).1

@@ -18,7 +18,7 @@ use Rattle.dih_node.specs.Orders as dih
 use Rattle.dih_node.specs.State.{DihState}
 use Rattle.gcp_master.specs.declared.phase.Phase.{Phase}
 use Rattle.gcp_master.specs.Master.{master_row}
-use Rattle.node_views.specs.declared.host.Host as node
+use Rattle.node_views.specs.declared.host_body.HostBody as node
 use Rattle.node_views.specs.declared.parts.Parts.TheVariants as part
 use Rattle.node_views.specs.declared.tc_part.TcPart.{TcPart}
 use Rattle.node_views.specs.Parts.{tc_entered, tc_row}
@@ -171,7 +171,7 @@ module _ (start : Start) (all : ℕ → List HostStep) (e : HostStep) (es : List
       runs : RunsTc start e.host (old e.host)
       runs =
           runs_tc start e.host _
-          (ap (λ h. (started start h).parts) at ∙ ap (λ (s : node.Host). s.parts) (tc_started start me there))
+          (ap (λ h. (started start h).parts) at ∙ ap (λ (s : node.HostBody). s.parts) (tc_started start me there))
           (old e.host)
 
       did : TcDoes start.shape runs.part (view_after start e.host (old e.host)) x

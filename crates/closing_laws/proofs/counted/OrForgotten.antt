@@ -18,7 +18,7 @@ use Rattle.sig_core.specs.declared.signal.Signal.{Signal}
 use Rattle.sig_core.specs.declared.signal.epoch.EpochSignal.TheVariants.{DiVerifyEnd}
 use Rattle.dih_node.specs.Dih.{dih_row, fresh_dih}
 use Rattle.sig_core.specs.Step.{Effects}
-use Rattle.node_views.specs.declared.host.Host as hosts
+use Rattle.node_views.specs.declared.host_body.HostBody as hosts
 use Rattle.node_views.specs.declared.parts.Parts.TheVariants as part
 use Rattle.node_views.specs.declared.tc_part.TcPart.{TcPart}
 use Rattle.node_views.specs.Parts.{tc_row}
@@ -116,7 +116,7 @@ module _ (tx : TxId) (x : Signal) where
       record { kept = λ was. inr was; decided = λ marked. absurd (true≢false (sym marked)) }
 
   -- in which part it comes out
-  record Comes (p : TcPart) (parts : hosts.Host) (marks : List Mark) (sound : Type 0) : Type 0 where
+  record Comes (p : TcPart) (parts : hosts.HostBody) (marks : List Mark) (sound : Type 0) : Type 0 where
     now : TcPart
     runs : parts.parts ≡ part.Tc now
     accounts : Accounts p now marks sound
@@ -190,7 +190,7 @@ module _ (start : Start) (all : ℕ → List HostStep) (e : HostStep) (es : List
       is_counted_now is =
           ap (λ one. has tx (dih_in (fresh_dih 0 0 0 0) (after start h one).parts).counted) new_log
           ∙ (ap (λ parts. has tx (dih_in (fresh_dih 0 0 0 0) parts).counted)
-          (ap (λ (s : hosts.Host). s.parts) (told_some h (part_some start Tc me) (step_after start h log e))
+          (ap (λ (s : hosts.HostBody). s.parts) (told_some h (part_some start Tc me) (step_after start h log e))
           ∙ comes.runs)
           ∙ is)
 

@@ -14,7 +14,7 @@ use Rattle.sig_core.specs.declared.outs.Outgoing.{Outgoing}
 use Rattle.dih_node.specs.Dih.{fresh_dih}
 use Rattle.gcp_master.specs.Master.{first_phase, fresh_master}
 use Rattle.gcp_master.specs.Resume.{is_president}
-use Rattle.node_views.specs.declared.host.Host as node
+use Rattle.node_views.specs.declared.host_body.HostBody as node
 use Rattle.world_core.specs.Hosts.{hosts}
 use Rattle.world_core.specs.Start.{Start, made}
 use Rattle.world_core.specs.Steps.{Addressed, HostStep}
@@ -134,8 +134,8 @@ module _ (start : Start) (all : ℕ → List HostStep) (e : HostStep) (es : List
       durables = durables_next;
     }
 
-noted_first : (start : Start) → AllNoted start (logs_of start [])
-noted_first start = record {
+noted_first : (start : Start) → start.start_epoch < start.epoch → AllNoted start (logs_of start [])
+noted_first start some = record {
   said = λ i j. tt;
   epochs = epochs;
   masters = masters;
@@ -145,10 +145,10 @@ noted_first start = record {
     epochs : (member : Member) → IsIn member (made start)
         → HasNoted start (logs_of start []) (epochs_of start (logs_of start []) member)
     epochs member there =
-        subst (λ (s : node.Host). HasNoted start (logs_of start []) (dih_in (fresh_dih 0 0 0 0) s.parts))
+        subst (λ (s : node.HostBody). HasNoted start (logs_of start []) (dih_in (fresh_dih 0 0 0 0) s.parts))
         (sym (tc_started start member there)) (record {
           noted = inl (omega arith);
-          reached = record { gives = omega arith; ordered = omega arith };
+          reached = record { gives = omega (arith, some); ordered = omega (arith, some) };
           least = omega arith;
         })
 
@@ -159,15 +159,15 @@ noted_first start = record {
     masters : (member : Member) → IsIn member (made start)
         → IsGoodPhase start (logs_of start []) (master_of start (logs_of start []) member).phase
     masters member there =
-        subst (λ (s : node.Host). IsGoodPhase start (logs_of start [])
+        subst (λ (s : node.HostBody). IsGoodPhase start (logs_of start [])
         (master_in (fresh_master member (first_layout start.shape).view 0) s.parts).phase)
         (sym (main_started start member there))
         (first start.epoch (is_president member (first_layout start.shape).view))
 
 -- so it is at each moment
-pub all_noted : (start : Start) (all : ℕ → List HostStep) (es : List HostStep) → 1 ≤ start.epoch
+pub all_noted : (start : Start) (all : ℕ → List HostStep) (es : List HostStep) → start.start_epoch < start.epoch
     → IsMoment start all es → AllNoted start (logs_of start es)
-all_noted start all [] some moment = noted_first start
+all_noted start all [] some moment = noted_first start some
 all_noted start all (e ∷ es) some moment =
     let less = moment_less start all e es moment in
     noted_next start all e es moment (epochs_stand start all es some less) (all_reached start all es some less)

@@ -71,7 +71,7 @@ reached_first start all moment = record {
 }
 
 -- so it is at each moment
-pub all_reached : (start : Start) (all : ℕ → List HostStep) (es : List HostStep) → 1 ≤ start.epoch
+pub all_reached : (start : Start) (all : ℕ → List HostStep) (es : List HostStep) → start.start_epoch < start.epoch
     → IsMoment start all es → AllReached start (logs_of start es)
 all_reached start all [] some moment = reached_first start all moment
 all_reached start all (e ∷ es) some moment =

@@ -23,7 +23,7 @@ use Rattle.gcp_master.specs.declared.phase.Phase.{Phase}
 use Rattle.gcp_master.specs.declared.phase.Phase.TheVariants.{Gathering, Closing, Saving, Copying}
 use Rattle.gcp_master.specs.Master.{fresh_master, master_row}
 use Rattle.gcp_master.specs.State.{MasterState}
-use Rattle.node_views.specs.declared.host.Host as node
+use Rattle.node_views.specs.declared.host_body.HostBody as node
 use Rattle.node_views.specs.declared.main_part.MainPart.{MainPart}
 use Rattle.node_views.specs.declared.parts.Parts.{Parts}
 use Rattle.node_views.specs.declared.parts.Parts.TheVariants as part
@@ -81,7 +81,7 @@ use Rattle.closing_laws.proofs.closers.MainSteps as goes
 use Rattle.closing_laws.proofs.durable.LateMasters.{IsGood, LateOrMarked, master_lates}
 
 -- the parts of a host of a node are those of its step
-told_parts : (h : ℕ) → 1 ≤ h → (t : Step node.Host) → (told h t).parts ≡ t.state.parts
+told_parts : (h : ℕ) → 1 ≤ h → (t : Step node.HostBody) → (told h t).parts ≡ t.state.parts
 told_parts zero some t = absurd (omega (arith, some))
 told_parts (suc h) some t = refl
 
@@ -134,7 +134,7 @@ module _ (start : Start) (all : ℕ → List HostStep) (e : HostStep) (es : List
       tc_runs : RunsTc start e.host (old e.host)
       tc_runs =
           runs_tc start e.host _
-          (ap (λ h. (started start h).parts) at ∙ ap (λ (s : node.Host). s.parts) (tc_started start me there))
+          (ap (λ h. (started start h).parts) at ∙ ap (λ (s : node.HostBody). s.parts) (tc_started start me there))
           (old e.host)
 
       tc_did : TcDoes start.shape tc_runs.part (view_after start e.host (old e.host)) x
@@ -266,7 +266,7 @@ module _ (start : Start) (all : ℕ → List HostStep) (e : HostStep) (es : List
       abbrev masters_in : Parts → MasterState
       masters_in parts = master_in (fresh_master me (first_layout start.shape).view 0) parts
 
-      abbrev step : Step node.Host
+      abbrev step : Step node.HostBody
       step = step_after start e.host (old e.host) e
 
       main_runs : RunsMain start (after start e.host (old e.host)).parts

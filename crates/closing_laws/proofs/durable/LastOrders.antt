@@ -8,10 +8,9 @@ use Rattle.dih_node.specs.State.{DihState}
 use Rattle.gcp_master.specs.declared.phase.Phase.{Phase}
 use Rattle.gcp_master.specs.declared.phase.Phase.TheVariants.{Committing, Preparing}
 use Rattle.gcp_master.specs.declared.voices.Voice.{Voice}
-use Rattle.node_views.specs.declared.host.Host as node
+use Rattle.node_views.specs.declared.host_body.HostBody as node
 use Rattle.world_core.specs.Start.{Start}
 use Rattle.world_core.specs.Steps.{HostStep}
-use Rattle.world_views.specs.Hosts.{epoch_before}
 use Rattle.moment_laws.specs.Moments.{IsMoment, current, logs_of}
 use Rattle.moment_laws.specs.Places.{tc_of}
 use Rattle.moment_laws.proofs.MomentHosts.{tc_started}
@@ -184,7 +183,7 @@ pub orders_first : (start : Start) (all : ℕ → List HostStep) → IsMoment st
 orders_first start all moment one other one_in other_in same = before one one_in ∙ sym (before other other_in)
   where
     before : (member : Member) → IsIn member (current start (logs_of start [])).full
-        → (epochs_of start (logs_of start []) member).prepared ≡ epoch_before start.epoch
+        → (epochs_of start (logs_of start []) member).prepared ≡ start.start_epoch
     before member there =
-        ap (λ (s : node.Host). (dih_in (fresh_dih 0 0 0 0) s.parts).prepared)
+        ap (λ (s : node.HostBody). (dih_in (fresh_dih 0 0 0 0) s.parts).prepared)
         (tc_started start member (current_made start all [] moment member there))

@@ -15,7 +15,7 @@ use Rattle.gcp_master.specs.declared.phase.Phase.TheVariants.{Unordered, Committ
 use Rattle.gcp_master.specs.declared.voices.Voice.{Voice}
 use Rattle.gcp_master.specs.Master.{fresh_master, master_row}
 use Rattle.gcp_master.specs.State.{MasterState}
-use Rattle.node_views.specs.declared.host.Host as node
+use Rattle.node_views.specs.declared.host_body.HostBody as node
 use Rattle.node_views.specs.declared.main_part.MainPart.{MainPart}
 use Rattle.node_views.specs.declared.parts.Parts.{Parts}
 use Rattle.node_views.specs.declared.parts.Parts.TheVariants as part
@@ -58,10 +58,10 @@ module _ (start : Start) (all : ℕ → List HostStep) (e : HostStep) (es : List
     abbrev x : Signal
     x = e.step.taken
 
-    abbrev s : node.Host
+    abbrev s : node.HostBody
     s = after start e.host (old e.host)
 
-    abbrev step : Step node.Host
+    abbrev step : Step node.HostBody
     step = step_after start e.host (old e.host) e
 
     -- the master of a member that was made marks this

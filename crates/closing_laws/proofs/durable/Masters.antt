@@ -19,7 +19,7 @@ use Rattle.gcp_master.specs.Known.{last_run}
 use Rattle.gcp_master.specs.Master.{first_phase, fresh_master, master_row}
 use Rattle.gcp_master.specs.Resume.{in_view, is_president}
 use Rattle.gcp_master.specs.State.{MasterState}
-use Rattle.node_views.specs.declared.host.Host as node
+use Rattle.node_views.specs.declared.host_body.HostBody as node
 use Rattle.world_core.specs.Start.{Start, made}
 use Rattle.world_core.specs.Steps.{Addressed, HostStep}
 use Rattle.view_laws.specs.Runs.{view_after}
@@ -270,7 +270,7 @@ pub masters_first : (start : Start) (member : Member) → IsIn member (made star
     → IsRunReached start (logs_of start []) (master_of start (logs_of start []) member).phase
 masters_first start member there =
     subst
-    (λ (s : node.Host). IsRunReached start (logs_of start [])
+    (λ (s : node.HostBody). IsRunReached start (logs_of start [])
     (master_in (fresh_master member (first_layout start.shape).view 0) s.parts).phase)
     (sym (main_started start member there))
     (first start.epoch (is_president member (first_layout start.shape).view))

@@ -21,7 +21,6 @@ use Rattle.qmgr_block.specs.declared.known.Known as membership
 use Rattle.world_core.specs.Hosts.{hosts}
 use Rattle.world_core.specs.Start.{Start, made}
 use Rattle.world_core.specs.Steps.{Addressed, HostStep}
-use Rattle.world_views.specs.Hosts.{epoch_before}
 use Rattle.moment_laws.specs.Moments.{IsMoment, logs_of}
 use Rattle.moment_laws.proofs.MomentSignals.{EachSent}
 use Rattle.outcome_laws.specs.Decided.{IsMarked}
@@ -57,7 +56,7 @@ module _ (start : Start) (logs : ℕ → List HostStep) where
   pub record HasNoted (s : DihState) : Type 0 where
     pub noted : IsNoted start logs s.closed
     pub reached : HasReached s.closed s
-    pub least : epoch_before start.epoch ≤ s.durable
+    pub least : start.start_epoch ≤ s.durable
 
   abbrev pub IsGoodPhase : Phase → Type 0
   IsGoodPhase phase = IsGood (WasClosed start logs) (IsKnownTruly start logs) phase
@@ -73,7 +72,7 @@ module _ (start : Start) (logs : ℕ → List HostStep) where
       noted = subst (IsNoted start logs) (sym notes.closed) was.noted;
       reached =
           subst (λ n. HasReached n now) (sym notes.closed) (reached_stays s.closed s now stays was.reached);
-      least = subst (λ n. epoch_before start.epoch ≤ n) (sym notes.durable) was.least;
+      least = subst (λ n. start.start_epoch ≤ n) (sym notes.durable) was.least;
     }
 
     pub dih_noted : (body : Body) → NotesAt s body now → Moves s body now → Rises body
@@ -86,7 +85,7 @@ module _ (start : Start) (logs : ℕ → List HostStep) where
           subst (λ n. HasReached n now) (sym notes.0)
           (reached_moves _ s now (Epoch (GcpClosed epoch)) rises moves
           (greater_one (λ n. HasReached n s) s.closed epoch was.reached (closed epoch said)));
-      least = subst (λ n. epoch_before start.epoch ≤ n) (sym notes.1) was.least;
+      least = subst (λ n. start.start_epoch ≤ n) (sym notes.1) was.least;
     }
     dih_noted (Epoch (GcpDone epoch)) notes moves rises closed said =
         let up = notes.1 in
@@ -103,7 +102,7 @@ module _ (start : Start) (logs : ℕ → List HostStep) where
       reached =
           subst (λ n. HasReached n now) (sym notes.closed)
           (reached_moves s.closed s now body rises moves was.reached);
-      least = subst (λ n. epoch_before start.epoch ≤ n) (sym notes.durable) was.least;
+      least = subst (λ n. start.start_epoch ≤ n) (sym notes.durable) was.least;
     }
 
   -- and what is told then
@@ -114,7 +113,7 @@ module _ (start : Start) (logs : ℕ → List HostStep) where
       inr (record {
         noted = subst (IsNoted start logs) (sym noted_is) was.noted;
         below = omega (arith, below, noted_is, order_is);
-        least = subst (λ n. epoch_before start.epoch ≤ n) (sym durable_is) was.least;
+        least = subst (λ n. start.start_epoch ≤ n) (sym durable_is) was.least;
       })
   dih_said s was body tells = tt
 

@@ -12,12 +12,11 @@ use Rattle.gcp_master.specs.Known.{nothing_known, resumed}
 use Rattle.gcp_master.specs.Numbers.{is_first}
 use Rattle.world_core.specs.Start.{Start}
 use Rattle.world_core.specs.Steps.{HostStep}
-use Rattle.world_views.specs.Hosts.{epoch_before}
 use Rattle.closing_laws.specs.Closed.{WasClosed}
 
 -- the epoch was closed, or the life began behind it
 abbrev pub IsNoted : Start → (ℕ → List HostStep) → ℕ → Type 0
-IsNoted start logs epoch = (epoch ≤ epoch_before start.epoch) ⊎ WasClosed start logs epoch
+IsNoted start logs epoch = (epoch ≤ start.start_epoch) ⊎ WasClosed start logs epoch
 
 -- the lesser of two is neither greater than the one nor than the other
 lesser_first : (one other : ℕ) → lesser one other ≤ one
@@ -98,7 +97,7 @@ module _ (start : Start) (logs : ℕ → List HostStep) where
   pub record IsToldTruly (told : Told) : Type 0 where
     pub noted : IsNoted start logs told.closed
     pub below : told.closed ≤ told.prepared
-    pub least : epoch_before start.epoch ≤ told.durable
+    pub least : start.start_epoch ≤ told.durable
 
   abbrev MOST : ℕ
   MOST = 2 ^ 64 - 1
@@ -108,15 +107,15 @@ module _ (start : Start) (logs : ℕ → List HostStep) where
   pub record IsKnownTruly (known : Known) : Type 0 where
     pub noted : known.epoch ≤ known.closed → IsNoted start logs known.epoch
     pub closed : known.closed ≤ MOST
-    pub durable : (epoch_before start.epoch ≤ known.durable) ⊎ (known.durable ≡ MOST)
+    pub durable : (start.start_epoch ≤ known.durable) ⊎ (known.durable ≡ MOST)
 
   pub nothing_truly : IsKnownTruly nothing_known
   nothing_truly = record { noted = λ low. inl (omega arith); closed = omega arith; durable = inr refl }
 
-  either_least : (one other : ℕ) → (epoch_before start.epoch ≤ one) ⊎ (one ≡ MOST) → epoch_before start.epoch ≤ other
-      → (epoch_before start.epoch ≤ lesser one other) ⊎ (lesser one other ≡ MOST)
+  either_least : (one other : ℕ) → (start.start_epoch ≤ one) ⊎ (one ≡ MOST) → start.start_epoch ≤ other
+      → (start.start_epoch ≤ lesser one other) ⊎ (lesser one other ≡ MOST)
   either_least one other first second =
-      lesser_one (λ n. (epoch_before start.epoch ≤ n) ⊎ (n ≡ MOST)) one other first (inl second)
+      lesser_one (λ n. (start.start_epoch ≤ n) ⊎ (n ≡ MOST)) one other first (inl second)
 
   -- one more has told
   pub learned_truly : (told : Told) → (told.current ≡ 0) ⊎ IsToldTruly told → (known : Known) → IsKnownTruly known
@@ -161,7 +160,7 @@ module _ (start : Start) (logs : ℕ → List HostStep) where
       goes : ResumesCopying known run
       goes = resumes_copying known run is
 
-      by : (epoch_before start.epoch ≤ known.durable) ⊎ (known.durable ≡ MOST) → IsNoted start logs known.epoch
+      by : (start.start_epoch ≤ known.durable) ⊎ (known.durable ≡ MOST) → IsNoted start logs known.epoch
           → WasClosed start logs run.epoch
       by durable (inr was) = subst (WasClosed start logs) (resumes_copying known run is).run_is was
       by (inl least) (inl before) =

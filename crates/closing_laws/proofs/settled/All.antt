@@ -147,7 +147,8 @@ module _ (start : Start) (large : ℕ → List HostStep) (more : AreOfCluster st
 
     -- a lesser cut, with the event that closes the epoch
     module _ (uncounted : UncountedAreForgotten) (forgotten : ForgottenAreDone) (leaves : OverLeavesNone)
-        (small : ℕ → List HostStep) (some : 1 ≤ start.epoch) (less : AreOfCluster start small) (cut : IsCut small large)
+        (small : ℕ → List HostStep) (some : start.start_epoch < start.epoch) (less : AreOfCluster start small)
+        (cut : IsCut small large)
         (epoch : ℕ) (low : z.epoch ≤ epoch) (newer : List HostStep) (e : HostStep) (older : List HostStep)
         (is : events_of start small ≡ newer ++ e ∷ older) (member : Member)
         (closed : IsClosedBy start e (logs_of start (e ∷ older)) epoch member)
@@ -275,7 +276,8 @@ module _ (closers : ClosersHaveHeardAll) (durable : DurableWereClosed) (uncounte
     (forgotten : ForgottenAreDone) (leaves : OverLeavesNone)
   where
     -- where an epoch was closed
-    closed_stay : (start : Start) (small large : ℕ → List HostStep) → 1 ≤ start.epoch → AreOfCluster start small
+    closed_stay : (start : Start) (small large : ℕ → List HostStep) → start.start_epoch < start.epoch
+        → AreOfCluster start small
         → AreOfCluster start large → IsCut small large → (epoch : ℕ) → WasClosed start small epoch → (z : Entry)
         → IsIn z (history (hosts start) large) → writes z ≡ true → z.epoch ≤ epoch
         → IsIn z (history (hosts start) small)

@@ -35,7 +35,7 @@ use Rattle.sig_core.specs.declared.signal.host.Work.TheVariants.{Held}
 use Rattle.sig_core.specs.declared.signal.membership.MembershipSignal.TheVariants.{FenceReq}
 use Rattle.sig_core.specs.Same.{same_tx}
 use Rattle.sig_core.specs.Step.{Effects, Step}
-use Rattle.node_views.specs.declared.host.Host as node
+use Rattle.node_views.specs.declared.host_body.HostBody as node
 use Rattle.node_views.specs.declared.parts.Parts.{Parts}
 use Rattle.node_views.specs.declared.tc_part.TcPart.{TcPart}
 use Rattle.node_views.specs.Parts.{tc_row}
@@ -194,7 +194,7 @@ module _ (start : Start) (all : ℕ → List HostStep) (me : Member) (there : Is
       → AreDecided log → AreDecided (e ∷ log)
   step_counts log e marks_are decided =
       subst (λ (parts : Parts). Each (IsDecidedIn (e ∷ log)) (dih_in fresh parts).counted)
-      (sym (ap (λ (s : node.Host). s.parts) (told_some h (part_some start Tc me) (step_after start h log e))))
+      (sym (ap (λ (s : node.HostBody). s.parts) (told_some h (part_some start Tc me) (step_after start h log e))))
       (by (tc_goes start h log e run.own run.runs))
     where
       run : IsRun start me there log
@@ -222,7 +222,7 @@ module _ (start : Start) (all : ℕ → List HostStep) (me : Member) (there : Is
       → Each (λ (c : Counted). IsMarked (Decided c.tx c.epoch) (logs_of start es (tc_of start me)))
       (epochs_of start (logs_of start es) me).counted
   counted_are_decided [] moment =
-      subst (λ (s : node.Host). Each (IsDecidedIn []) (dih_in fresh s.parts).counted)
+      subst (λ (s : node.HostBody). Each (IsDecidedIn []) (dih_in fresh s.parts).counted)
       (sym (tc_started start me there)) tt
   counted_are_decided (e ∷ es) moment =
       let log = logs_of start es h in

@@ -63,7 +63,7 @@ decided_past tx log whole past is =
     go (e ∷ newer) =
         or_right (list_any (is_decision tx) e.step.marks) (has_mark (is_decision tx) (newer ++ log)) (go newer)
 
-module _ (start : Start) (all : ℕ → List HostStep) (some : 1 ≤ start.epoch) where
+module _ (start : Start) (all : ℕ → List HostStep) (some : start.start_epoch < start.epoch) where
   abbrev now : List HostStep → Member → ℕ
   now es member = (epochs_of start (logs_of start es) member).current
 

@@ -1,5 +1,6 @@
 -- Whoever has an epoch that is closed, and a full coordinator where it is, was decided by then, and is done.
-use Rattle.std.proofs.Common.{◌≡◌, ◌≤◌, ◌⊎◌, ◌∙◌, ◌++◌, ℕ, Bool, true, false, List, [], ◌∷◌, refl, sym, subst, inl, inr}
+use Rattle.std.proofs.Common.{◌<◌, ◌≡◌, ◌≤◌, ◌⊎◌, ◌∙◌, ◌++◌, ℕ, Bool, true, false, List, [], ◌∷◌, refl, sym, subst, inl}
+use Rattle.std.proofs.Common.{inr}
 use Rattle.std.proofs.Common.{arith}
 use Rattle.std.proofs.lemmas.Bool.{le-leb, true≢false}
 use Rattle.std.specs.Prelude.{None, Some}
@@ -62,7 +63,8 @@ pub record IsDecidedAndDone (start : Start) (logs : ℕ → List HostStep) (tx :
   pub done : IsDone start logs tx
 
 module _ (uncounted : UncountedAreForgotten) (forgotten : ForgottenAreDone) (start : Start) (all : ℕ → List HostStep)
-    (some : 1 ≤ start.epoch) (es end : List HostStep) (at : IsMoment start all es) (last : IsMoment start all end)
+    (some : start.start_epoch < start.epoch) (es end : List HostStep) (at : IsMoment start all es)
+    (last : IsMoment start all end)
     (part : (h : ℕ) → IsPast (logs_of start es h) (logs_of start end h)) (epoch : ℕ)
     (ended : EachFull start (logs_of start es) (HasEnded epoch)) (tx : TxId)
     (led : is_led_by_full start (logs_of start es) tx ≡ true) (given : ℕ)

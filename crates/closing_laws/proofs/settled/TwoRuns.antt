@@ -12,7 +12,7 @@ use Rattle.sig_core.specs.declared.outs.Outgoing.{Outgoing}
 use Rattle.sig_core.specs.declared.signal.Signal.{Signal}
 use Rattle.sig_core.specs.declared.view.View.{View}
 use Rattle.sig_core.specs.Step.{Step}
-use Rattle.node_views.specs.declared.host.Host as node
+use Rattle.node_views.specs.declared.host_body.HostBody as node
 use Rattle.node_views.specs.Blocks.{parts_entered, settled_at}
 use Rattle.node_views.specs.declared.parts.Parts.{Parts}
 use Rattle.world_core.specs.Hosts.{hosts}
@@ -35,7 +35,7 @@ use Rattle.outcome_laws.proofs.order.EventsBefore.{IsUpTo, events_up_to, moment_
 use Rattle.request_laws.proofs.tokens.HostsApart.{ldm_low}
 use Rattle.closing_laws.proofs.settled.Cuts.{log_past}
 
-told_view : (h : ℕ) (t : Step node.Host) → (told h t).standing.view ≡ t.state.standing.view
+told_view : (h : ℕ) (t : Step node.HostBody) → (told h t).standing.view ≡ t.state.standing.view
 told_view zero t = refl
 told_view (suc h) t = refl
 

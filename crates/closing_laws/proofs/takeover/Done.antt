@@ -30,7 +30,7 @@ use Rattle.takeover_block.specs.Gather.{member_count}
 use Rattle.takeover_block.specs.Sends.{told_committed}
 use Rattle.takeover_block.specs.State.{TakeoverState, resting}
 use Rattle.takeover_block.specs.Takeover.{takeover_row}
-use Rattle.node_views.specs.declared.host.Host as node
+use Rattle.node_views.specs.declared.host_body.HostBody as node
 use Rattle.node_views.specs.declared.parts.Parts.TheVariants as part
 use Rattle.node_views.specs.declared.tc_part.TcPart.{TcPart}
 use Rattle.node_views.specs.Parts.{tc_row}
@@ -403,7 +403,7 @@ sees_first : (start : Start) → SeesToAll start (logs_of start [])
 sees_first start = record {
   work = λ member there stands.
       subst (TellsAll (IsOrphan (current start (logs_of start []))) (IsSeenTo start (logs_of start [])))
-      (sym (ap (λ (s : node.Host). takeover_in (resting member.node (first_layout start.shape)) s.parts)
+      (sym (ap (λ (s : node.HostBody). takeover_in (resting member.node (first_layout start.shape)) s.parts)
       (tc_started start member there)))
       (record { attended = tt; first = tt });
   over = λ member there j. tt;

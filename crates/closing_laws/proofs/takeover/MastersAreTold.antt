@@ -1,7 +1,7 @@
 -- A master owes no takeover in the first view, and later where it was told, in its view, that the takeover of its
 -- member is
 -- over.
-use Rattle.std.proofs.Common.{◌≡◌, ◌≤◌, ◌⊎◌, ◌||◌, ◌==◌, ◌&&◌, ℕ, Bool, true, false, List, [], ◌∷◌, refl, sym, ap}
+use Rattle.std.proofs.Common.{◌<◌, ◌≡◌, ◌≤◌, ◌⊎◌, ◌||◌, ◌==◌, ◌&&◌, ℕ, Bool, true, false, List, [], ◌∷◌, refl, sym, ap}
 use Rattle.std.proofs.Common.{subst, ◌∙◌, inl, inr, eq-eqb}
 use Rattle.std.proofs.lemmas.Bool.{true≢false}
 use Rattle.std.specs.Prelude.{if◌then◌else◌, not}
@@ -21,7 +21,7 @@ use Rattle.sig_core.specs.declared.view.View.{View}
 use Rattle.gcp_master.specs.Master.{fresh_master, master_row}
 use Rattle.gcp_master.specs.Resume.{in_view}
 use Rattle.gcp_master.specs.State.{MasterState}
-use Rattle.node_views.specs.declared.host.Host as node
+use Rattle.node_views.specs.declared.host_body.HostBody as node
 use Rattle.node_views.specs.Fence.{is_body_fenced, is_fenced}
 use Rattle.node_views.specs.WellFormed.{is_well_formed}
 use Rattle.world_core.specs.Start.{Start, made}
@@ -55,7 +55,7 @@ IsOverTrue start y = y.signal.body ≡ Takeover TakeoverEnd → IsOfTakeover sta
 -- so it is of all that is sent
 abbrev pub EndsAreOwn : Type 0
 EndsAreOwn =
-    (start : Start) (all : ℕ → List HostStep) (es : List HostStep) → 1 ≤ start.epoch
+    (start : Start) (all : ℕ → List HostStep) (es : List HostStep) → start.start_epoch < start.epoch
     → IsMoment start all es → EachSent start (IsOverTrue start) (logs_of start es)
 
 -- the master was told in the view of this number
@@ -96,7 +96,8 @@ module _ (m : Machine HostStep Addressed) where
       by true b is at = absurd (true≢false is)
 
 module _ (own : EndsAreOwn) (start : Start) (all : ℕ → List HostStep) (e : HostStep) (es : List HostStep)
-    (some : 1 ≤ start.epoch) (moment : IsMoment start all (e ∷ es)) (over : AreOver start (logs_of start es))
+    (some : start.start_epoch < start.epoch) (moment : IsMoment start all (e ∷ es))
+    (over : AreOver start (logs_of start es))
   where
     abbrev old : ℕ → List HostStep
     old = logs_of start es
@@ -228,10 +229,11 @@ module _ (own : EndsAreOwn) (start : Start) (all : ℕ → List HostStep) (e : H
               took at taken_here (in_view was x.view) is (λ none. absurd (owing was x.view none))
 
 -- so it is at each moment
-pub all_over : EndsAreOwn → (start : Start) (all : ℕ → List HostStep) (es : List HostStep) → 1 ≤ start.epoch
+pub all_over : EndsAreOwn → (start : Start) (all : ℕ → List HostStep) (es : List HostStep)
+    → start.start_epoch < start.epoch
     → IsMoment start all es → AreOver start (logs_of start es)
 all_over own start all [] some moment member there none =
-    inl (ap (λ (s : node.Host).
+    inl (ap (λ (s : node.HostBody).
     (master_in (fresh_master member (first_layout start.shape).view 0) s.parts).view)
     (main_started start member there))
 all_over own start all (e ∷ es) some moment member there none =

@@ -25,7 +25,7 @@ use Rattle.tc_views.specs.Views.{install_row}
 use Rattle.tc_views.specs.Words.{is_coordinator_word}
 use Rattle.tc_views.proofs.Walk.{coordinator_words}
 use Rattle.sig_core.specs.declared.mark.Mark.{Mark}
-use Rattle.node_views.specs.declared.host.Host as hosts
+use Rattle.node_views.specs.declared.host_body.HostBody as hosts
 use Rattle.node_views.specs.declared.parts.Parts.{Parts}
 use Rattle.node_views.specs.declared.parts.Parts.TheVariants.{Ldm, Main, Shell, Tc}
 use Rattle.node_views.specs.Words.{parts_words}
@@ -84,7 +84,7 @@ unended_words (Ldm p) none (Takeover TakeoverEnd) is = absurd cc
 unended_words (Tc p) none body is = absurd none
 unended_words parts none body is = refl
 
-pub others_end_none : (x : Signal) (h : ℕ) (s : hosts.Host) → HasNoTc s.parts
+pub others_end_none : (x : Signal) (h : ℕ) (s : hosts.HostBody) → HasNoTc s.parts
     → AreUnended (step_by h s x).effects.sends
 others_end_none x h s none =
     (step_words (λ body. is_over body ≡ false) (λ (mark : Mark). Unit {0}) h s x (unended_words s.parts none)

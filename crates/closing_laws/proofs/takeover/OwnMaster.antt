@@ -1,5 +1,5 @@
 -- The takeover of a member tells the master of that member alone that it is over, and nobody else tells a master so.
-use Rattle.std.proofs.Common.{◌≡◌, ◌≤◌, ◌⊎◌, ◌++◌, ℕ, zero, suc, false, List, [], ◌∷◌, refl, sym, ap, subst}
+use Rattle.std.proofs.Common.{◌<◌, ◌≡◌, ◌≤◌, ◌⊎◌, ◌++◌, ℕ, zero, suc, false, List, [], ◌∷◌, refl, sym, ap, subst}
 use Rattle.std.proofs.Common.{◌∙◌, inl, inr, arith}
 use Rattle.std.proofs.lemmas.Bool.{true≢false}
 use Rattle.run_theory.proofs.Pasts.{each_append, each_in, each_map}
@@ -13,7 +13,7 @@ use Rattle.sig_core.specs.declared.signal.Signal.{Signal}
 use Rattle.sig_core.specs.declared.view.View.{View}
 use Rattle.sig_core.specs.Place.{checkpoints}
 use Rattle.dih_node.specs.Orders as dih
-use Rattle.node_views.specs.declared.host.Host as hosts
+use Rattle.node_views.specs.declared.host_body.HostBody as hosts
 use Rattle.node_views.specs.declared.parts.Parts.{Parts}
 use Rattle.node_views.specs.declared.parts.Parts.TheVariants as part
 use Rattle.node_views.specs.declared.tc_part.TcPart.{TcPart}
@@ -143,7 +143,7 @@ record RunsTakeover (start : Start) (h : ℕ) (node : ℕ) (log : List HostStep)
 runs_takeover : (start : Start) (me : Member) → IsIn me (made start) → (log : List HostStep)
     → RunsTakeover start (tc_of start me) me.node log
 runs_takeover start me there [] =
-    record { own = _; is = ap (λ (s : hosts.Host). s.parts) (tc_started start me there); of_node = refl }
+    record { own = _; is = ap (λ (s : hosts.HostBody). s.parts) (tc_started start me there); of_node = refl }
 runs_takeover start me there (e ∷ log) =
     let was = runs_takeover start me there log in
     let some = part_some start parts.Tc me in
@@ -233,7 +233,7 @@ module _ (start : Start) (all : ℕ → List HostStep) (e : HostStep) (es : List
         (each_sent start e.host (old e.host) e)))
 
 -- so it is at each moment
-pub ends_own : (start : Start) (all : ℕ → List HostStep) (es : List HostStep) → 1 ≤ start.epoch
+pub ends_own : (start : Start) (all : ℕ → List HostStep) (es : List HostStep) → start.start_epoch < start.epoch
     → IsMoment start all es → EachSent start (IsOverTrue start) (logs_of start es)
 ends_own start all [] some moment = λ i j. tt
 ends_own start all (e ∷ es) some moment =

@@ -25,7 +25,7 @@ use Rattle.takeover_block.specs.Rule.{is_at_work}
 use Rattle.takeover_block.specs.State.{TakeoverState, resting}
 use Rattle.takeover_block.specs.Takeover.{takeover_row}
 use Rattle.node_views.specs.Blocks.{fence_at}
-use Rattle.node_views.specs.declared.host.Host as node
+use Rattle.node_views.specs.declared.host_body.HostBody as node
 use Rattle.node_views.specs.declared.parts.Parts.TheVariants as part
 use Rattle.node_views.specs.declared.tc_part.TcPart.{TcPart}
 use Rattle.node_views.specs.Parts.{tc_row}
@@ -388,7 +388,7 @@ overs_first start = record {
     rests : (member : Member) → IsIn member (made start)
         → is_at_work (takeover_at start (logs_of start []) member).stage ≡ false
     rests member there =
-        ap (λ (s : node.Host). is_at_work (takeover_in (resting member.node (first_layout start.shape)) s.parts).stage)
+        ap (λ (s : node.HostBody). is_at_work (takeover_in (resting member.node (first_layout start.shape)) s.parts).stage)
         (tc_started start member there)
 
 overs_stand : (start : Start) (all : ℕ → List HostStep) (es : List HostStep) → IsMoment start all es

@@ -1,5 +1,6 @@
 -- A wish for a transaction with a name: it begins where its coordinator isn't full, and else is refused.
-use Rattle.std.proofs.Common.{◌≡◌, ◌⊎◌, ◌≤◌, ℕ, zero, suc, Bool, true, false, List, [], ◌∷◌, ◌++◌, length, refl, sym, ap, ◌∙◌, subst, inl, inr, arith}
+use Rattle.std.proofs.Common.{◌≡◌, ◌⊎◌, ◌≤◌, ℕ, zero, suc, Bool, true, false, List, [], ◌∷◌, ◌++◌, length, refl, sym}
+use Rattle.std.proofs.Common.{ap, ◌∙◌, subst, inl, inr, arith}
 use Rattle.std.proofs.Math.Seq.{drop-append_seam}
 use Rattle.std.specs.Prelude.{drop, Option, None, Some}
 use Rattle.std.specs.List.{list_any}
@@ -33,7 +34,8 @@ use Rattle.world_core.specs.Steps.{Addressed, HostStep}
 use Rattle.host_laws.proofs.hosts.BlocksAlong.{replies_are, tc_number}
 use Rattle.answer_laws.proofs.Begins.{within}
 use Rattle.host_laws.specs.OpenedAfter.{opened_after}
-use Rattle.command_laws.proofs.begins.Rows.{IsFree, asking, begin_is, begun_named, begun_opened, begun_replies, begun_sends, entry, is_free, refused_is, refused_left}
+use Rattle.command_laws.proofs.begins.Rows.{IsFree, asking, begin_is, begun_named, begun_opened, begun_replies}
+use Rattle.command_laws.proofs.begins.Rows.{begun_sends, entry, is_free, refused_is, refused_left}
 use Rattle.command_laws.proofs.hosts.BlocksTake.{api_takes_it, tc_takes_it}
 use Rattle.command_laws.proofs.hosts.BlockSteps.{api_seen, tc_seen}
 use Rattle.command_laws.proofs.ends.Committed.{calm_at}

@@ -1,5 +1,6 @@
 -- A transaction that was asked for with an operation is beginning until it has begun, and performs that, or is refused.
-use Rattle.std.proofs.Common.{◌≡◌, ◌⊎◌, ◌≤◌, ℕ, zero, suc, Bool, true, false, List, [], ◌∷◌, ◌++◌, refl, sym, ap, ◌∙◌, subst, inl, inr, arith}
+use Rattle.std.proofs.Common.{◌≡◌, ◌⊎◌, ◌≤◌, ℕ, zero, suc, Bool, true, false, List, [], ◌∷◌, ◌++◌, refl, sym, ap, ◌∙◌}
+use Rattle.std.proofs.Common.{subst, inl, inr, arith}
 use Rattle.std.specs.Prelude.{◌&&◌, Option, None, Some}
 use Rattle.run_theory.specs.Lists.{Each, IsIn}
 use Rattle.sig_core.proofs.Keys.{same_tx-self}
@@ -24,7 +25,8 @@ use Rattle.api_block.specs.declared.opened.Doing.{Doing}
 use Rattle.api_block.specs.declared.opened.Doing.TheVariants.{Beginning, Operating}
 use Rattle.api_block.specs.declared.opened.OpenTransaction.{OpenTransaction}
 use Rattle.api_block.specs.Members.{least_node}
-use Rattle.api_block.specs.Opened.{asked_for, begins, begins_at, begun_operating, behind, is_beginning, is_tx, same_name}
+use Rattle.api_block.specs.Opened.{asked_for, begins, begins_at, begun_operating, behind, is_beginning, is_tx}
+use Rattle.api_block.specs.Opened.{same_name}
 use Rattle.api_block.specs.Operate.{begun_by, begun_row, lone_by, lone_row}
 use Rattle.api_block.specs.State.{ApiState}
 use Rattle.node_core.specs.Blocks.{api_of, has_api}
@@ -45,7 +47,8 @@ use Rattle.host_laws.proofs.coordinator.Lives.{is_start, start_of}
 use Rattle.host_laws.proofs.api.Wishes.{is_api, sends_of}
 use Rattle.run_theory.specs.Counts.{one_if, tally}
 use Rattle.host_laws.specs.OpenedAfter.{opened_in}
-use Rattle.command_laws.proofs.hosts.ApiChanges.{ApiChange, IsOneOf, answers, api_changes, commits, ends, refuses, rests, starts, waits}
+use Rattle.command_laws.proofs.hosts.ApiChanges.{ApiChange, IsOneOf, answers, api_changes, commits, ends, refuses}
+use Rattle.command_laws.proofs.hosts.ApiChanges.{rests, starts, waits}
 use Rattle.command_laws.proofs.operations.EarlySteps.{is_wish_to}
 use Rattle.command_laws.proofs.hosts.Entries.{HasOne, IsApart, NoneBegins, here_or_apart}
 use Rattle.host_laws.proofs.hosts.BlocksAlong.{replies_are}

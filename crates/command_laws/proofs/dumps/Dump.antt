@@ -1,5 +1,6 @@
 -- A request for the rows of a node, where no dump is under way: the rows that it had are told, and then none is.
-use Rattle.std.proofs.Common.{◌≡◌, ◌⊎◌, ◌≤◌, ℕ, zero, suc, Bool, true, false, List, [], ◌∷◌, ◌++◌, length, refl, sym, ap, ◌∙◌, subst, inl, inr, append_assoc, arith}
+use Rattle.std.proofs.Common.{◌≡◌, ◌⊎◌, ◌≤◌, ℕ, zero, suc, Bool, true, false, List, [], ◌∷◌, ◌++◌, length, refl, sym}
+use Rattle.std.proofs.Common.{ap, ◌∙◌, subst, inl, inr, append_assoc, arith}
 use Rattle.std.proofs.lemmas.List.{append-nil}
 use Rattle.std.proofs.Math.Seq.{drop-append_seam}
 use Rattle.std.specs.Prelude.{drop, is_some, Option, None, Some}
@@ -45,7 +46,8 @@ use Rattle.command_laws.proofs.quiet.First.{IsFirst, first_step, request_first, 
 use Rattle.command_laws.proofs.dumps.GatheredRows.{KeyedRow, gathered_from, gathered_rising, gathered_there}
 use Rattle.command_laws.proofs.lone.Answered.{shell_view}
 use Rattle.command_laws.proofs.quiet.OneAtATime.{IsNext, Leads, is_done}
-use Rattle.command_laws.proofs.dumps.PlacedRows.{listed_distinct, listed_row, part_listed, row_listed, rows_at, rows_from}
+use Rattle.command_laws.proofs.dumps.PlacedRows.{listed_distinct, listed_row, part_listed, row_listed, rows_at}
+use Rattle.command_laws.proofs.dumps.PlacedRows.{rows_from}
 use Rattle.command_laws.specs.Dumped.{DumpComesTo, IsDumped}
 use Rattle.command_laws.specs.TurnedDown.{no_member_at}
 use Rattle.command_laws.specs.Served.{IsServedBetween}

@@ -1,5 +1,6 @@
 -- An abort of a transaction that takes commands ends in its being aborted at the client's request.
-use Rattle.std.proofs.Common.{◌≡◌, ◌⊎◌, ◌<◌, ◌≤◌, ◌+◌, ℕ, zero, suc, Bool, true, false, List, [], ◌∷◌, ◌++◌, refl, sym, ap, ◌∙◌, subst, inl, inr, arith}
+use Rattle.std.proofs.Common.{◌≡◌, ◌⊎◌, ◌<◌, ◌≤◌, ◌+◌, ℕ, zero, suc, Bool, true, false, List, [], ◌∷◌, ◌++◌, refl, sym}
+use Rattle.std.proofs.Common.{ap, ◌∙◌, subst, inl, inr, arith}
 use Rattle.std.specs.Prelude.{if◌then◌else◌, Some}
 use Rattle.run_theory.proofs.Pasts.{each_map}
 use Rattle.run_theory.specs.Cuts.{IsCut}
@@ -16,7 +17,8 @@ use Rattle.sig_core.specs.declared.reply.ApiReply.TheVariants.{Ended}
 use Rattle.sig_core.specs.declared.request.ApiReq.TheVariants.{Abort}
 use Rattle.sig_core.specs.declared.signal.Body.{Body}
 use Rattle.sig_core.specs.declared.signal.Body.TheVariants.{Client}
-use Rattle.sig_core.specs.declared.signal.client.ClientSignal.TheVariants.{TcCommitConf, TcKeyReq, TcCommitReq, TcRollbackRep}
+use Rattle.sig_core.specs.declared.signal.client.ClientSignal.TheVariants.{TcCommitConf, TcKeyReq, TcCommitReq}
+use Rattle.sig_core.specs.declared.signal.client.ClientSignal.TheVariants.{TcRollbackRep}
 use Rattle.sig_core.specs.Same.{same_tx}
 use Rattle.api_block.specs.declared.opened.Doing.TheVariants.{Ready}
 use Rattle.api_block.specs.declared.opened.OpenTransaction.{OpenTransaction}
@@ -35,7 +37,8 @@ use Rattle.host_laws.proofs.api.Wishes.{is_tc, sends_of}
 use Rattle.answer_laws.specs.Answered.{EachIsAnswered, IsOpenAt}
 use Rattle.host_laws.specs.OpenedAfter.{opened_after, opened_in}
 use Rattle.command_laws.proofs.ends.AbortFirst.{IsAbortAsked, abort_first}
-use Rattle.command_laws.proofs.ends.AbortSteps.{IsLooseNow, LooseOption, is_more_to, is_roll_to, is_wrong, more_of, host_run, rolled, wrong_of}
+use Rattle.command_laws.proofs.ends.AbortSteps.{IsLooseNow, LooseOption, is_more_to, is_roll_to, is_wrong, more_of}
+use Rattle.command_laws.proofs.ends.AbortSteps.{host_run, rolled, wrong_of}
 use Rattle.command_laws.proofs.ends.AbortTurns.{is_loose, is_requested}
 use Rattle.command_laws.proofs.hosts.ApiChanges.{outcome_in}
 use Rattle.command_laws.proofs.ends.Committed.{cut_at_first, sent_append}

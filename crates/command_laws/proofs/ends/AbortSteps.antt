@@ -1,5 +1,6 @@
 -- A step of a host, where neither an operation nor a commit of the transaction is asked for.
-use Rattle.std.proofs.Common.{◌≡◌, ◌<◌, ◌≤◌, ◌+◌, ℕ, Bool, true, false, List, [], ◌∷◌, ◌++◌, refl, sym, ap, ◌∙◌, subst, arith}
+use Rattle.std.proofs.Common.{◌≡◌, ◌<◌, ◌≤◌, ◌+◌, ℕ, Bool, true, false, List, [], ◌∷◌, ◌++◌, refl, sym, ap, ◌∙◌, subst}
+use Rattle.std.proofs.Common.{arith}
 use Rattle.std.specs.Prelude.{◌&&◌, if◌then◌else◌, Option, None, Some}
 use Rattle.run_theory.specs.Lists.{Each}
 use Rattle.sig_core.proofs.Keys.{same_tx-self}
@@ -10,7 +11,8 @@ use Rattle.sig_core.specs.declared.place.BlockId.TheVariants as block
 use Rattle.sig_core.specs.declared.place.Place.{Place}
 use Rattle.sig_core.specs.declared.signal.Body.{Body}
 use Rattle.sig_core.specs.declared.signal.Body.TheVariants.{Client}
-use Rattle.sig_core.specs.declared.signal.client.ClientSignal.TheVariants.{TcCommitConf, TcKeyReq, TcCommitReq, TcRollbackReq, TcRollbackRep}
+use Rattle.sig_core.specs.declared.signal.client.ClientSignal.TheVariants.{TcCommitConf, TcKeyReq, TcCommitReq}
+use Rattle.sig_core.specs.declared.signal.client.ClientSignal.TheVariants.{TcRollbackReq, TcRollbackRep}
 use Rattle.sig_core.specs.declared.signal.Signal.{Signal}
 use Rattle.sig_core.specs.Same.{same_tx}
 use Rattle.sig_core.specs.Step.{Step}
@@ -32,7 +34,8 @@ use Rattle.host_laws.proofs.coordinator.Steps.{left_of_turn}
 use Rattle.tc_block.proofs.TurnRows.{tx_in, is_turn, turn_row}
 use Rattle.host_laws.proofs.api.Wishes.{is_tc, sends_of}
 use Rattle.host_laws.specs.Live.{of_live}
-use Rattle.command_laws.proofs.ends.AbortTurns.{StaysLoose, is_loose, is_mild, is_more, is_requested, is_roll, loose_turn}
+use Rattle.command_laws.proofs.ends.AbortTurns.{StaysLoose, is_loose, is_mild, is_more, is_requested, is_roll}
+use Rattle.command_laws.proofs.ends.AbortTurns.{loose_turn}
 use Rattle.command_laws.proofs.quiet.Homes.{lives_home, sound_at}
 use Rattle.command_laws.proofs.hosts.HostSends.{IsOfTc, is_other_kind}
 use Rattle.command_laws.proofs.hosts.BlockSteps.{tc_host}

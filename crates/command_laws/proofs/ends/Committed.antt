@@ -1,5 +1,6 @@
 -- A commit of a transaction that takes commands ends in its being committed.
-use Rattle.std.proofs.Common.{◌≡◌, ◌⊎◌, ◌+◌, ℕ, zero, suc, Bool, true, false, List, [], ◌∷◌, ◌++◌, refl, sym, ap, ◌∙◌, subst, inl, inr, append_assoc, arith, ◌<◌}
+use Rattle.std.proofs.Common.{◌≡◌, ◌⊎◌, ◌+◌, ℕ, zero, suc, Bool, true, false, List, [], ◌∷◌, ◌++◌, refl, sym, ap, ◌∙◌}
+use Rattle.std.proofs.Common.{subst, inl, inr, append_assoc, arith, ◌<◌}
 use Rattle.std.specs.Prelude.{Option, None, Some}
 use Rattle.run_theory.proofs.Pasts.{each_before, each_from, each_map}
 use Rattle.run_theory.specs.Cuts.{IsCut}

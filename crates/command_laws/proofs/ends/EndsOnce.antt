@@ -1,5 +1,6 @@
 -- Of a transaction with a name that was asked for its commit or its abort just one reply has that name: its end.
-use Rattle.std.proofs.Common.{◌≡◌, ◌≤◌, ◌+◌, ℕ, Bool, true, false, List, [], ◌∷◌, ◌++◌, refl, sym, ap, ◌∙◌, subst, arith}
+use Rattle.std.proofs.Common.{◌≡◌, ◌≤◌, ◌+◌, ℕ, Bool, true, false, List, [], ◌∷◌, ◌++◌, refl, sym, ap, ◌∙◌, subst}
+use Rattle.std.proofs.Common.{arith}
 use Rattle.std.proofs.lemmas.Bool.{false≢true}
 use Rattle.std.proofs.Math.Seq.{drop-append_seam}
 use Rattle.std.specs.Prelude.{drop, length, None, Some}
@@ -40,7 +41,8 @@ use Rattle.run_theory.proofs.Tally.{only_one, tally_append, tally_between, tally
 use Rattle.run_theory.specs.Counts.{one_if, tally}
 use Rattle.host_laws.specs.OpenedAfter.{opened_after}
 use Rattle.command_laws.proofs.ends.AbortFirst.{abort_found}
-use Rattle.command_laws.proofs.hosts.ApiChanges.{ApiChange, BecomesIn, GoesOnAs, IsOneOf, alone, answers, api_changes, commits, ends, idle, is_row_reply, refuses, rests, starts, told, waits}
+use Rattle.command_laws.proofs.hosts.ApiChanges.{ApiChange, BecomesIn, GoesOnAs, IsOneOf, alone, answers, api_changes}
+use Rattle.command_laws.proofs.hosts.ApiChanges.{commits, ends, idle, is_row_reply, refuses, rests, starts, told, waits}
 use Rattle.command_laws.proofs.hosts.BlockSteps.{api_host}
 use Rattle.command_laws.proofs.ends.CommitFirst.{commit_found}
 use Rattle.command_laws.proofs.hosts.Entries.{IsNamed, named_found}

@@ -26,7 +26,8 @@ use Rattle.host_laws.proofs.api.Begins.{each_at, each_changed, each_less}
 use Rattle.host_laws.proofs.hosts.SendKinds.{none_of}
 use Rattle.host_laws.proofs.coordinator.Lives.{apart}
 use Rattle.host_laws.proofs.coordinator.Steps.{is_said, turn_said}
-use Rattle.tc_block.proofs.TurnRows.{begins, misses, rests, takes, tc_step, TcStep, turn_row, tx_in, passes, refuses, left_step}
+use Rattle.tc_block.proofs.TurnRows.{begins, misses, rests, takes, tc_step, TcStep, turn_row, tx_in, passes, refuses}
+use Rattle.tc_block.proofs.TurnRows.{left_step}
 use Rattle.host_laws.proofs.api.Wishes.{is_tc, sends_of}
 use Rattle.command_laws.proofs.ends.Firm.{firm_turn, is_firm, is_no_abort, is_push}
 use Rattle.command_laws.proofs.hosts.HostSends.{IsOfTc, is_other_kind}

@@ -14,7 +14,8 @@ use Rattle.sig_core.specs.Step.{Effects, Step, nothing, stay}
 use Rattle.api_block.specs.Api.{api_row, api_table, request_row}
 use Rattle.api_block.specs.State.{ApiState}
 use Rattle.lqh_block.specs.Lqh.{lqh_table}
-use Rattle.node_core.proofs.HostCases.{BlockCase, api_takes, block_case, dih_takes, none_takes, rows_take, runs, tc_takes}
+use Rattle.node_core.proofs.HostCases.{BlockCase, api_takes, block_case, dih_takes, none_takes, rows_take, runs}
+use Rattle.node_core.proofs.HostCases.{tc_takes}
 use Rattle.node_core.specs.Blocks.{api_of, dih_of, has_api, has_tc, lqh_of, tc_of}
 use Rattle.node_core.specs.declared.host.Host.{Host}
 use Rattle.node_core.specs.Dih.{dih_table}

@@ -8,7 +8,8 @@ use Rattle.api_block.specs.Api.{api_row}
 use Rattle.api_block.specs.State.{ApiState}
 use Rattle.lqh_block.specs.Lqh.{lqh_row}
 use Rattle.lqh_block.specs.State.{LqhState}
-use Rattle.node_core.proofs.HostCases.{BlockCase, api_takes, block_case, dih_takes, none_takes, rows_take, runs, tc_takes}
+use Rattle.node_core.proofs.HostCases.{BlockCase, api_takes, block_case, dih_takes, none_takes, rows_take, runs}
+use Rattle.node_core.proofs.HostCases.{tc_takes}
 use Rattle.node_core.specs.Blocks.{api_of, has_api, has_lqh, has_tc, lqh_of, tc_of}
 use Rattle.node_core.specs.declared.host.Host.{Host}
 use Rattle.node_core.specs.Row.{row}

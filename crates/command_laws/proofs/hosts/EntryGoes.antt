@@ -36,7 +36,8 @@ use Rattle.host_laws.proofs.api.Begins.{in_middle}
 use Rattle.host_laws.proofs.rows.Operations.{left_of}
 use Rattle.host_laws.proofs.coordinator.Keys.{answer_of}
 use Rattle.host_laws.specs.OpenedAfter.{opened_in}
-use Rattle.command_laws.proofs.hosts.ApiChanges.{ApiChange, IsOneOf, answers, api_changes, commits, ends, outcome_in, refuses, rests, starts, waits}
+use Rattle.command_laws.proofs.hosts.ApiChanges.{ApiChange, IsOneOf, answers, api_changes, commits, ends, outcome_in}
+use Rattle.command_laws.proofs.hosts.ApiChanges.{refuses, rests, starts, waits}
 use Rattle.command_laws.proofs.hosts.Entries.{HasOne, IsApart, here_or_apart, same_number}
 use Rattle.host_laws.proofs.hosts.BlocksAlong.{replies_are}
 use Rattle.command_laws.proofs.hosts.BlockSteps.{api_host, api_seen}

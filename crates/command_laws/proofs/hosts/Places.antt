@@ -1,5 +1,6 @@
 -- An item of a list with what stands before and behind it.
-use Rattle.std.proofs.Common.{◌≡◌, ℕ, zero, suc, Bool, true, false, List, [], ◌∷◌, ◌++◌, length, refl, sym, ap, ◌∙◌, arith}
+use Rattle.std.proofs.Common.{◌≡◌, ℕ, zero, suc, Bool, true, false, List, [], ◌∷◌, ◌++◌, length, refl, sym, ap, ◌∙◌}
+use Rattle.std.proofs.Common.{arith}
 use Rattle.std.specs.Prelude.{Option, None, Some, position, slice_get, slice_set}
 use Rattle.run_theory.specs.Counts.{one_if, tally}
 use Rattle.sig_core.proofs.Firsts.{place_by, position-cons}

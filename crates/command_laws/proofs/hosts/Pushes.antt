@@ -6,7 +6,8 @@ use Rattle.sig_core.specs.declared.outs.Outgoing.{Outgoing}
 use Rattle.sig_core.specs.declared.place.Place.{Place}
 use Rattle.sig_core.specs.declared.signal.Body.{Body}
 use Rattle.sig_core.specs.declared.signal.Body.TheVariants.{Client}
-use Rattle.sig_core.specs.declared.signal.client.ClientSignal.TheVariants.{TcBeginReq, TcKeyReq, TcCommitReq, TcRollbackReq, TcWaitReq}
+use Rattle.sig_core.specs.declared.signal.client.ClientSignal.TheVariants.{TcBeginReq, TcKeyReq, TcCommitReq}
+use Rattle.sig_core.specs.declared.signal.client.ClientSignal.TheVariants.{TcRollbackReq, TcWaitReq}
 use Rattle.sig_core.specs.declared.signal.Signal.{Signal}
 use Rattle.sig_core.specs.Step.{Step}
 use Rattle.api_block.specs.Api.{api_row}
@@ -34,7 +35,8 @@ use Rattle.host_laws.proofs.hosts.SendKinds.{are_of, is_dih_kind, is_lqh_kind, i
 use Rattle.host_laws.proofs.coordinator.Sends.{tc_only}
 use Rattle.host_laws.proofs.api.Wishes.{is_tc, sends_of}
 use Rattle.host_laws.specs.OpenedAfter.{opened_in}
-use Rattle.command_laws.proofs.hosts.ApiChanges.{ApiChange, answers, api_changes, commits, ends, is_news_kind, refuses, rests, starts, waits}
+use Rattle.command_laws.proofs.hosts.ApiChanges.{ApiChange, answers, api_changes, commits, ends, is_news_kind, refuses}
+use Rattle.command_laws.proofs.hosts.ApiChanges.{rests, starts, waits}
 use Rattle.command_laws.proofs.hosts.Entries.{NoneBegins}
 use Rattle.command_laws.proofs.ends.FirmHosts.{is_push_to, push_of}
 use Rattle.command_laws.proofs.hosts.HostKinds.{node_runs_none}

@@ -17,7 +17,8 @@ use Rattle.tc_block.specs.Tc.{tc_table}
 use Rattle.run_theory.specs.Counts.{tally}
 use Rattle.host_laws.proofs.hosts.SendKinds.{none_of}
 use Rattle.host_laws.proofs.coordinator.Lives.{IsOwn, is_keyed}
-use Rattle.host_laws.proofs.coordinator.Steps.{TxStep, born, elsewhere, is_apart, left_of_turn, next_grows, turned, tx_step}
+use Rattle.host_laws.proofs.coordinator.Steps.{TxStep, born, elsewhere, is_apart, left_of_turn, next_grows, turned}
+use Rattle.host_laws.proofs.coordinator.Steps.{tx_step}
 use Rattle.tc_block.proofs.TurnRows.{tx_in, is_turn, turn_row}
 use Rattle.host_laws.proofs.api.Wishes.{sends_of}
 use Rattle.host_laws.specs.Live.{of_live}

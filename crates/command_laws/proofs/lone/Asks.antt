@@ -1,6 +1,7 @@
 -- What the shell's host asks coordinators for in steps that aren't requests, and which of its replies answer operations
 -- alone.
-use Rattle.std.proofs.Common.{◌≡◌, ◌⊎◌, ◌≤◌, ℕ, Bool, true, false, List, [], ◌∷◌, ◌++◌, refl, sym, ap, ◌∙◌, subst, inl, inr, arith}
+use Rattle.std.proofs.Common.{◌≡◌, ◌⊎◌, ◌≤◌, ℕ, Bool, true, false, List, [], ◌∷◌, ◌++◌, refl, sym, ap, ◌∙◌, subst, inl}
+use Rattle.std.proofs.Common.{inr, arith}
 use Rattle.std.specs.Prelude.{◌&&◌, Option, None, Some}
 use Rattle.run_theory.proofs.Pasts.{each_map}
 use Rattle.run_theory.specs.Lists.{Each, IsIn}
@@ -16,7 +17,8 @@ use Rattle.sig_core.specs.declared.reply.Refusal.TheVariants.{NoMember, TooManyO
 use Rattle.sig_core.specs.declared.request.ApiReq.TheVariants as request
 use Rattle.sig_core.specs.declared.signal.Body.{Body}
 use Rattle.sig_core.specs.declared.signal.Body.TheVariants.{Client}
-use Rattle.sig_core.specs.declared.signal.client.ClientSignal.TheVariants.{TcBeginConf, TcKeyConf, TcKeyReq, TcRollbackReq}
+use Rattle.sig_core.specs.declared.signal.client.ClientSignal.TheVariants.{TcBeginConf, TcKeyConf, TcKeyReq}
+use Rattle.sig_core.specs.declared.signal.client.ClientSignal.TheVariants.{TcRollbackReq}
 use Rattle.sig_core.specs.declared.signal.Signal.{Signal}
 use Rattle.sig_core.specs.Step.{Step}
 use Rattle.api_block.specs.Api.{api_row, request_row}
@@ -45,7 +47,8 @@ use Rattle.host_laws.proofs.coordinator.Lives.{is_start, start_of}
 use Rattle.host_laws.proofs.coordinator.Moves.{same_tx-is}
 use Rattle.host_laws.proofs.api.Wishes.{is_api, is_tc, sends_of}
 use Rattle.host_laws.specs.OpenedAfter.{opened_in}
-use Rattle.command_laws.proofs.hosts.ApiChanges.{ApiChange, GoesOnAs, alone, answers, api_changes, commits, ends, idle, is_news_kind, is_row_reply, refuses, rests, starts, told, waits}
+use Rattle.command_laws.proofs.hosts.ApiChanges.{ApiChange, GoesOnAs, alone, answers, api_changes, commits, ends, idle}
+use Rattle.command_laws.proofs.hosts.ApiChanges.{is_news_kind, is_row_reply, refuses, rests, starts, told, waits}
 use Rattle.command_laws.proofs.hosts.Entries.{HasOne}
 use Rattle.host_laws.proofs.hosts.BlocksAlong.{replies_are}
 use Rattle.command_laws.proofs.hosts.BlockSteps.{api_host}

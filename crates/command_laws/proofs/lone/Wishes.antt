@@ -22,7 +22,8 @@ use Rattle.world_core.specs.Start.{Start}
 use Rattle.world_core.specs.Steps.{HostStep}
 use Rattle.host_laws.proofs.hosts.SendKinds.{none_of}
 use Rattle.host_laws.proofs.api.Wishes.{sends_of}
-use Rattle.command_laws.proofs.hosts.ApiChanges.{ApiChange, GoesOnAs, alone, answers, api_changes, commits, ends, idle, is_news_kind, refuses, rests, starts, told, waits}
+use Rattle.command_laws.proofs.hosts.ApiChanges.{ApiChange, GoesOnAs, alone, answers, api_changes, commits, ends, idle}
+use Rattle.command_laws.proofs.hosts.ApiChanges.{is_news_kind, refuses, rests, starts, told, waits}
 use Rattle.command_laws.proofs.operations.EarlySteps.{is_wish_to}
 use Rattle.command_laws.proofs.hosts.EntryGoes.{HasAnswered, IsAnswering}
 use Rattle.host_laws.proofs.hosts.BlocksAlong.{replies_are}

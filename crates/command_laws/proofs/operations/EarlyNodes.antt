@@ -21,8 +21,11 @@ use Rattle.host_laws.proofs.rows.Sends.{lqh_kinds}
 use Rattle.host_laws.proofs.hosts.SendKinds.{is_dih_kind, is_lqh_kind, none_of}
 use Rattle.host_laws.proofs.api.Wishes.{is_tc, sends_of}
 use Rattle.host_laws.specs.Live.{of_live}
-use Rattle.command_laws.proofs.operations.EarlySteps.{GoesPast, IsOpenNow, IsPastNow, Leaves, StaysClean, bad_tc, clean_goes, fair_loss, is_bad, is_loss, is_wish_to, no_loss, past_goes, tc_no_ref, wish_of}
-use Rattle.command_laws.proofs.hosts.HostSends.{IsNotOfApi, api_silent, not_of_api, not_of_dih, not_of_lqh, or_first, or_second}
+use Rattle.command_laws.proofs.operations.EarlySteps.{GoesPast, IsOpenNow, IsPastNow, Leaves, StaysClean, bad_tc}
+use Rattle.command_laws.proofs.operations.EarlySteps.{clean_goes, fair_loss, is_bad, is_loss, is_wish_to, no_loss}
+use Rattle.command_laws.proofs.operations.EarlySteps.{past_goes, tc_no_ref, wish_of}
+use Rattle.command_laws.proofs.hosts.HostSends.{IsNotOfApi, api_silent, not_of_api, not_of_dih, not_of_lqh, or_first}
+use Rattle.command_laws.proofs.hosts.HostSends.{or_second}
 use Rattle.command_laws.proofs.hosts.BlockSteps.{tc_host}
 use Rattle.command_laws.proofs.ends.FairRows.{is_fair, lqh_fair}
 use Rattle.command_laws.proofs.hosts.TcPath.{IsSound, tc_goes}

@@ -1,6 +1,7 @@
 -- Where no commit or abort of an open transaction is wished for, nobody reports its commit, or its abort but for want
 -- of room or of time.
-use Rattle.std.proofs.Common.{◌≡◌, ◌⊎◌, ◌<◌, ◌≤◌, ℕ, Bool, true, false, List, [], ◌∷◌, ◌++◌, ◌==◌, if◌then◌else◌, refl, sym, ap, ◌∙◌, subst, inl, inr, append_assoc, arith}
+use Rattle.std.proofs.Common.{◌≡◌, ◌⊎◌, ◌<◌, ◌≤◌, ℕ, Bool, true, false, List, [], ◌∷◌, ◌++◌, ◌==◌, if◌then◌else◌, refl}
+use Rattle.std.proofs.Common.{sym, ap, ◌∙◌, subst, inl, inr, append_assoc, arith}
 use Rattle.std.proofs.lemmas.Bool.{cases_lt}
 use Rattle.std.proofs.lemmas.List.{append_cancel_right}
 use Rattle.std.specs.Prelude.{Some, not}
@@ -40,7 +41,8 @@ use Rattle.host_laws.proofs.api.Wishes.{sends_of}
 use Rattle.answer_laws.specs.Answered.{AreQuiet}
 use Rattle.host_laws.specs.Live.{of_live}
 use Rattle.command_laws.proofs.operations.EarlyNodes.{host_clean, host_past}
-use Rattle.command_laws.proofs.operations.EarlySteps.{IsOpenNow, IsPastNow, Leaves, StaysClean, is_bad, is_loss, is_wish_to}
+use Rattle.command_laws.proofs.operations.EarlySteps.{IsOpenNow, IsPastNow, Leaves, StaysClean, is_bad, is_loss}
+use Rattle.command_laws.proofs.operations.EarlySteps.{is_wish_to}
 use Rattle.command_laws.proofs.quiet.Homes.{lives_home, sound_at}
 use Rattle.command_laws.proofs.ends.FairRows.{is_fair}
 use Rattle.command_laws.proofs.quiet.Since.{link_sent, sent_since}

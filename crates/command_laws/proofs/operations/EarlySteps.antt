@@ -1,5 +1,6 @@
 -- A step of a node, where no commit or abort of the transaction is wished for.
-use Rattle.std.proofs.Common.{◌≡◌, ◌⊎◌, ◌<◌, ◌+◌, Bool, true, false, List, [], ◌∷◌, refl, sym, ap, ◌∙◌, subst, inl, inr, arith}
+use Rattle.std.proofs.Common.{◌≡◌, ◌⊎◌, ◌<◌, ◌+◌, Bool, true, false, List, [], ◌∷◌, refl, sym, ap, ◌∙◌, subst, inl, inr}
+use Rattle.std.proofs.Common.{arith}
 use Rattle.std.specs.Prelude.{◌&&◌, if◌then◌else◌, Option, None, Some, not, ◌||◌}
 use Rattle.sig_core.proofs.Keys.{same_tx-self}
 use Rattle.sig_core.specs.declared.member.TxId.{TxId}
@@ -8,7 +9,8 @@ use Rattle.sig_core.specs.declared.place.Place.{Place}
 use Rattle.sig_core.specs.declared.signal.Body.{Body}
 use Rattle.sig_core.specs.declared.signal.Body.TheVariants.{Client, Chain}
 use Rattle.sig_core.specs.declared.signal.chain.ChainSignal.TheVariants.{Abort, LqhKeyRef}
-use Rattle.sig_core.specs.declared.signal.client.ClientSignal.TheVariants.{TcCommitConf, TcCommitReq, TcRollbackRep, TcRollbackReq}
+use Rattle.sig_core.specs.declared.signal.client.ClientSignal.TheVariants.{TcCommitConf, TcCommitReq, TcRollbackRep}
+use Rattle.sig_core.specs.declared.signal.client.ClientSignal.TheVariants.{TcRollbackReq}
 use Rattle.sig_core.specs.Same.{same_tx}
 use Rattle.sig_core.specs.Step.{Step}
 use Rattle.tc_block.specs.declared.phase.Phase.TheVariants.{Open}
@@ -22,7 +24,8 @@ use Rattle.host_laws.proofs.hosts.SendKinds.{are_of, is_dih_kind, is_tc_kind, no
 use Rattle.host_laws.proofs.coordinator.Sends.{tc_only}
 use Rattle.host_laws.proofs.api.Wishes.{is_tc, sends_of}
 use Rattle.host_laws.specs.Live.{of_live}
-use Rattle.command_laws.proofs.operations.EarlyTurns.{EarlyTurn, IsLeaving, is_no_end, is_past, is_wish, open_turn, past_turn}
+use Rattle.command_laws.proofs.operations.EarlyTurns.{EarlyTurn, IsLeaving, is_no_end, is_past, is_wish, open_turn}
+use Rattle.command_laws.proofs.operations.EarlyTurns.{past_turn}
 use Rattle.command_laws.proofs.hosts.HostSends.{IsOfTc, is_other_kind}
 use Rattle.command_laws.proofs.ends.FairRows.{is_fair}
 use Rattle.command_laws.proofs.hosts.TcPath.{IsSound, TcGoes, aside, begins, is_told, takes, told_of}

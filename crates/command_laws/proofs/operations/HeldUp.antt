@@ -1,6 +1,7 @@
 -- At quiet an operation that was sent is unanswered at its coordinator, and held up at one of the nodes that it is sent
 -- along.
-use Rattle.std.proofs.Common.{◌≡◌, ◌≢◌, ◌⊎◌, ◌<◌, ◌≤◌, ◌+◌, ℕ, zero, suc, Bool, true, false, List, [], ◌∷◌, length, refl, sym, ap, ◌∙◌, subst, inl, inr, arith}
+use Rattle.std.proofs.Common.{◌≡◌, ◌≢◌, ◌⊎◌, ◌<◌, ◌≤◌, ◌+◌, ℕ, zero, suc, Bool, true, false, List, [], ◌∷◌, length}
+use Rattle.std.proofs.Common.{refl, sym, ap, ◌∙◌, subst, inl, inr, arith}
 use Rattle.std.proofs.lemmas.Bool.{cases_eq}
 use Rattle.std.specs.Prelude.{if◌then◌else◌, Option, None, Some, is_some, not}
 use Rattle.run_theory.proofs.Merging.{logs_merged, merged_run}
@@ -42,7 +43,8 @@ use Rattle.answer_laws.proofs.Ops.{operations_wait}
 use Rattle.answer_laws.proofs.Queued.{operations_queue}
 use Rattle.answer_laws.proofs.Serves.{each_served}
 use Rattle.answer_laws.proofs.Verified.{no_epoch}
-use Rattle.answer_laws.specs.Answered.{AreQuiet, IsLiveAs, IsQueuedAt, IsKeptByCoordinator, IsWaitingAt, Waits, WaitsForLock}
+use Rattle.answer_laws.specs.Answered.{AreQuiet, IsLiveAs, IsQueuedAt, IsKeptByCoordinator, IsWaitingAt, Waits}
+use Rattle.answer_laws.specs.Answered.{WaitsForLock}
 use Rattle.host_laws.specs.OpenedAfter.{opened_after}
 use Rattle.run_laws.proofs.tokens.OneAtATime.{one_at_a_time}
 use Rattle.run_laws.proofs.routes.Routes.{signals_are_routed}

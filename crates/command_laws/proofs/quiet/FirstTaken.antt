@@ -19,7 +19,9 @@ use Rattle.world_core.specs.Machine.{addressed, machine, sent_count, step_after}
 use Rattle.world_core.specs.Start.{Start}
 use Rattle.world_core.specs.Steps.{Addressed, HostStep}
 use Rattle.command_laws.proofs.quiet.First.{IsFirst, with_first}
-use Rattle.command_laws.proofs.quiet.OneAtATime.{IsNext, IsUnderWay, asked_all, cut_first, goes_under_way, longer, low_here, next_first, next_here, past_here, plain_here, source_here, takes_it}
+use Rattle.command_laws.proofs.quiet.OneAtATime.{IsNext, IsUnderWay, asked_all, cut_first, goes_under_way, longer}
+use Rattle.command_laws.proofs.quiet.OneAtATime.{low_here, next_first, next_here, past_here, plain_here, source_here}
+use Rattle.command_laws.proofs.quiet.OneAtATime.{takes_it}
 use Rattle.command_laws.specs.Served.{IsServedBetween}
 
 module _ (start : Start) (was now : ℕ → List HostStep) (asked : ApiReq) (served : IsServedBetween start was now asked)

@@ -2,7 +2,8 @@
 -- at
 -- a place of the key's chain; not at the first, and at a later one not behind another, since that one would be aborted
 -- too and wait further on.
-use Rattle.std.proofs.Common.{◌≡◌, ◌≢◌, ◌⊎◌, ◌<◌, ◌≤◌, ◌+◌, ◌-◌, ℕ, zero, suc, Bool, true, false, List, [], ◌∷◌, length, refl, sym}
+use Rattle.std.proofs.Common.{◌≡◌, ◌≢◌, ◌⊎◌, ◌<◌, ◌≤◌, ◌+◌, ◌-◌, ℕ, zero, suc, Bool, true, false, List, [], ◌∷◌, length}
+use Rattle.std.proofs.Common.{refl, sym}
 use Rattle.std.proofs.Common.{ap, ◌∙◌, subst, inl, inr, arith}
 use Rattle.std.proofs.lemmas.Bool.{cases_eq, false≢true, true≢false}
 use Rattle.std.specs.List.{list_any}

@@ -1,11 +1,14 @@
 -- A command at which one signal at a time is under way: what a host does at it follows from the signal before, and
 -- where
 -- none follows the command is done.
-use Rattle.std.proofs.Common.{◌≡◌, ◌≢◌, ◌⊎◌, ◌+◌, ◌<◌, ◌≤◌, ◌==◌, ℕ, zero, suc, Bool, true, false, List, [], ◌∷◌, ◌++◌, if◌then◌else◌, length, refl, sym, ap, ◌∙◌, subst, inl, inr, length-append, eq-eqb, ne_eqb, arith}
+use Rattle.std.proofs.Common.{◌≡◌, ◌≢◌, ◌⊎◌, ◌+◌, ◌<◌, ◌≤◌, ◌==◌, ℕ, zero, suc, Bool, true, false, List, [], ◌∷◌, ◌++◌}
+use Rattle.std.proofs.Common.{if◌then◌else◌, length, refl, sym, ap, ◌∙◌, subst, inl, inr, length-append, eq-eqb, ne_eqb}
+use Rattle.std.proofs.Common.{arith}
 use Rattle.std.proofs.lemmas.Bool.{cases_eq, cases_lt}
 use Rattle.run_theory.proofs.Growth.{along_cuts}
 use Rattle.run_theory.proofs.Pasts.{past_cases, past_self, past_trans}
-use Rattle.run_theory.proofs.Runs.{if_false, if_true, log_of-other, log_of-own, log_of-past, taken-asked, taken-other, taken-step}
+use Rattle.run_theory.proofs.Runs.{if_false, if_true, log_of-other, log_of-own, log_of-past, taken-asked, taken-other}
+use Rattle.run_theory.proofs.Runs.{taken-step}
 use Rattle.run_theory.specs.Cuts.{IsCut}
 use Rattle.run_theory.specs.Links.{put, sent, taken}
 use Rattle.run_theory.specs.Lists.{IsPast}

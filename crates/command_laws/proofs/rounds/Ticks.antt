@@ -46,7 +46,8 @@ use Rattle.host_laws.proofs.hosts.LinkCounts.{few_sends, signals, steps, steps_f
 use Rattle.run_theory.proofs.Tally.{tally_append}
 use Rattle.host_laws.proofs.api.Wishes.{sends_of}
 use Rattle.run_theory.specs.Counts.{one_if}
-use Rattle.command_laws.proofs.hosts.ApiChanges.{ApiChange, alone, answers, api_changes, commits, ends, idle, is_row_reply}
+use Rattle.command_laws.proofs.hosts.ApiChanges.{ApiChange, alone, answers, api_changes, commits, ends, idle}
+use Rattle.command_laws.proofs.hosts.ApiChanges.{is_row_reply}
 use Rattle.command_laws.proofs.hosts.ApiChanges.{refuses, rests, starts, told, waits}
 use Rattle.command_laws.proofs.hosts.BlockSteps.{api_host, api_seen}
 use Rattle.command_laws.proofs.ends.Committed.{cut_at_first}

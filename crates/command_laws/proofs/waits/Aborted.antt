@@ -2,7 +2,8 @@
 -- being aborted at the client's request then, and is neither answered nor ended otherwise; and where nothing is under
 -- way
 -- no transaction that is being aborted has an operation unanswered, so it has ended.
-use Rattle.std.proofs.Common.{◌≡◌, ◌≢◌, ◌⊎◌, ◌<◌, ℕ, zero, suc, true, false, List, [], ◌∷◌, ◌++◌, refl, sym, ap, ◌∙◌, subst, inl, inr, append_assoc}
+use Rattle.std.proofs.Common.{◌≡◌, ◌≢◌, ◌⊎◌, ◌<◌, ℕ, zero, suc, true, false, List, [], ◌∷◌, ◌++◌, refl, sym, ap, ◌∙◌}
+use Rattle.std.proofs.Common.{subst, inl, inr, append_assoc}
 use Rattle.std.proofs.lemmas.Bool.{cases_eq, false≢true, true≢false}
 use Rattle.std.proofs.lemmas.List.{append_cancel_right}
 use Rattle.std.specs.Prelude.{Option, None, Some}
@@ -18,7 +19,8 @@ use Rattle.sig_core.specs.declared.request.ApiReq.{ApiReq}
 use Rattle.sig_core.specs.declared.request.ApiReq.TheVariants.{Abort}
 use Rattle.sig_core.specs.declared.signal.Body.{Body}
 use Rattle.sig_core.specs.declared.signal.Body.TheVariants.{Client}
-use Rattle.sig_core.specs.declared.signal.client.ClientSignal.TheVariants.{TcCommitConf, TcKeyConf, TcRollbackReq, TcRollbackRep}
+use Rattle.sig_core.specs.declared.signal.client.ClientSignal.TheVariants.{TcCommitConf, TcKeyConf, TcRollbackReq}
+use Rattle.sig_core.specs.declared.signal.client.ClientSignal.TheVariants.{TcRollbackRep}
 use Rattle.sig_core.specs.Place.{coordinator_of}
 use Rattle.sig_core.specs.Step.{Step, sending, to_place}
 use Rattle.api_block.specs.Api.{request_row}
@@ -59,7 +61,8 @@ use Rattle.command_laws.proofs.quiet.FirstTaken.{IsTaken, first_taken}
 use Rattle.command_laws.proofs.operations.HeldUp.{each_held_up}
 use Rattle.command_laws.proofs.quiet.Homes.{sound_at}
 use Rattle.command_laws.proofs.quiet.NoAbortWaits.{no_abort_waits}
-use Rattle.command_laws.proofs.ends.RolledSteps.{IsRolledNow, RolledOption, WishedOption, is_stray, rolled_since, stray_none, stray_of, wished_after}
+use Rattle.command_laws.proofs.ends.RolledSteps.{IsRolledNow, RolledOption, WishedOption, is_stray, rolled_since}
+use Rattle.command_laws.proofs.ends.RolledSteps.{stray_none, stray_of, wished_after}
 use Rattle.command_laws.proofs.ends.RolledTurns.{IsWished, is_wished}
 use Rattle.command_laws.proofs.quiet.Since.{none_taken, sent_since}
 use Rattle.command_laws.proofs.operations.TellsSince.{OnTc, away_since}

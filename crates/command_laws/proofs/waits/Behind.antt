@@ -1,5 +1,6 @@
 -- The transaction that the API is told of holds the lock for which its own one waits.
-use Rattle.std.proofs.Common.{◌≡◌, ◌⊎◌, ◌<◌, ◌≤◌, ℕ, zero, suc, Bool, true, false, List, [], ◌∷◌, ◌++◌, refl, sym, ap, subst, ◌∙◌, inl, inr, append_assoc, arith}
+use Rattle.std.proofs.Common.{◌≡◌, ◌⊎◌, ◌<◌, ◌≤◌, ℕ, zero, suc, Bool, true, false, List, [], ◌∷◌, ◌++◌, refl, sym, ap}
+use Rattle.std.proofs.Common.{subst, ◌∙◌, inl, inr, append_assoc, arith}
 use Rattle.std.proofs.lemmas.Bool.{cases_lt}
 use Rattle.std.specs.Prelude.{◌&&◌, ◌||◌, IfSome, Some}
 use Rattle.run_theory.proofs.Pasts.{each_after, each_in}
@@ -37,7 +38,8 @@ use Rattle.command_laws.proofs.hosts.HostSends.{not_of_api, shell_silent}
 use Rattle.command_laws.proofs.rounds.NoneClosed.{none_closed}
 use Rattle.command_laws.proofs.quiet.Since.{front_nil, sent_since}
 use Rattle.command_laws.proofs.waits.Rows.{is_telling_who, is_wait_of, tells_who, host_waits}
-use Rattle.command_laws.proofs.waits.Sources.{FoundAt, SentBy, came_from, finds_who, is_finding_who, no_find_api, telling_tc, host_found, host_told, sent_by}
+use Rattle.command_laws.proofs.waits.Sources.{FoundAt, SentBy, came_from, finds_who, is_finding_who, no_find_api}
+use Rattle.command_laws.proofs.waits.Sources.{telling_tc, host_found, host_told, sent_by}
 use Rattle.command_laws.specs.Served.{IsBehind, IsBehindAt}
 
 -- the first other holder holds the lock

@@ -1,5 +1,6 @@
 -- The two questions about a command that left something unanswered tell for whom that waits.
-use Rattle.std.proofs.Common.{◌≡◌, ◌<◌, ◌≤◌, ◌+◌, ℕ, zero, suc, Bool, true, false, List, [], ◌∷◌, ◌++◌, length, refl, sym, ap, ◌∙◌, subst, inl, inr, append_assoc, arith}
+use Rattle.std.proofs.Common.{◌≡◌, ◌<◌, ◌≤◌, ◌+◌, ℕ, zero, suc, Bool, true, false, List, [], ◌∷◌, ◌++◌, length, refl}
+use Rattle.std.proofs.Common.{sym, ap, ◌∙◌, subst, inl, inr, append_assoc, arith}
 use Rattle.std.specs.Prelude.{Option, None, Some, drop, is_some, option_to_list, slice_get}
 use Rattle.run_theory.proofs.Orders.{each_log}
 use Rattle.run_theory.proofs.Pasts.{past_self}
@@ -48,11 +49,13 @@ use Rattle.command_laws.proofs.hosts.BlockSteps.{api_seen}
 use Rattle.command_laws.proofs.quiet.Since.{sent_since_to, arrives}
 use Rattle.command_laws.proofs.operations.TellsSince.{OnTc}
 use Rattle.command_laws.proofs.hosts.Told.{told_since}
-use Rattle.command_laws.proofs.waits.Api.{IsAboutOne, IsAsking, IsOwn, TellsHolder, own_found, pending_first, waits_first}
+use Rattle.command_laws.proofs.waits.Api.{IsAboutOne, IsAsking, IsOwn, TellsHolder, own_found, pending_first}
+use Rattle.command_laws.proofs.waits.Api.{waits_first}
 use Rattle.command_laws.proofs.waits.Rows.{is_found, is_passed, is_probe, is_telling_who, is_wait_of, is_want}
 use Rattle.command_laws.proofs.waits.Run.{AllHold, all_hold}
 use Rattle.command_laws.proofs.waits.Behind.{IsBehindThere, behind_there}
-use Rattle.command_laws.specs.Served.{name_of_tx, EachIsHeldUp, HoldersAreTold, IsHeldUp, IsHeldUpAt, IsServedBetween, IsToldHolder, own_in}
+use Rattle.command_laws.specs.Served.{name_of_tx, EachIsHeldUp, HoldersAreTold, IsHeldUp, IsHeldUpAt, IsServedBetween}
+use Rattle.command_laws.specs.Served.{IsToldHolder, own_in}
 
 pub sent_to_append : (start : Start) (test : Place → Body → Bool) (h j : ℕ) (xs ys log : List HostStep)
     → sent_since_to start test h j (xs ++ ys) log

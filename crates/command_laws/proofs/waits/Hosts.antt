@@ -1,5 +1,6 @@
 -- Each host along steps that take questions of what one transaction waits for, and answers to them.
-use Rattle.std.proofs.Common.{◌≡◌, ◌⊎◌, ◌≤◌, ◌+◌, ℕ, suc, Bool, true, false, List, [], ◌∷◌, ◌++◌, refl, sym, ap, ◌∙◌, subst, inl, inr, arith}
+use Rattle.std.proofs.Common.{◌≡◌, ◌⊎◌, ◌≤◌, ◌+◌, ℕ, suc, Bool, true, false, List, [], ◌∷◌, ◌++◌, refl, sym, ap, ◌∙◌}
+use Rattle.std.proofs.Common.{subst, inl, inr, arith}
 use Rattle.std.specs.Prelude.{Option, None, Some, is_some}
 use Rattle.run_theory.specs.Lists.{IsIn}
 use Rattle.sig_core.specs.declared.member.Member.{Member}
@@ -28,7 +29,8 @@ use Rattle.command_laws.proofs.hosts.BlockSteps.{api_seen}
 use Rattle.command_laws.proofs.quiet.Since.{sent_since, sent_since_to}
 use Rattle.command_laws.proofs.operations.TellsSince.{OnTc}
 use Rattle.command_laws.proofs.waits.Api.{IsAboutOne, StaysAbout, about_waits}
-use Rattle.command_laws.proofs.waits.Rows.{is_found, is_other, is_passed, is_probe, is_telling_who, is_wait_of, is_want, host_finds, host_passes, host_waits, host_wants}
+use Rattle.command_laws.proofs.waits.Rows.{is_found, is_other, is_passed, is_probe, is_telling_who, is_wait_of, is_want}
+use Rattle.command_laws.proofs.waits.Rows.{host_finds, host_passes, host_waits, host_wants}
 use Rattle.command_laws.specs.Served.{IsHeldUpAt}
 
 module _ (start : Start) (was : ℕ → List HostStep) (tx : TxId) (u : Transaction) (asked : Asked) (member : Member)

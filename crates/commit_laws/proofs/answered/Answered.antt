@@ -1,6 +1,7 @@
 -- Where a coordinator confirms a commit to its client, or completes a key, each key that the transaction wrote has been
 -- committed in the view in which its host stands.
-use Rattle.std.proofs.Common.{◌≡◌, ◌≤◌, ◌⊎◌, ◌==◌, ◌&&◌, ◌∙◌, ℕ, Bool, true, false, List, [], ◌∷◌, inl, inr, refl, sym, ap, arith, subst}
+use Rattle.std.proofs.Common.{◌≡◌, ◌≤◌, ◌⊎◌, ◌==◌, ◌&&◌, ◌∙◌, ℕ, Bool, true, false, List, [], ◌∷◌, inl, inr, refl, sym}
+use Rattle.std.proofs.Common.{ap, arith, subst}
 use Rattle.std.proofs.lemmas.Bool.{eq-eqb, eqb-true, true≢false}
 use Rattle.std.specs.Prelude.{Some}
 use Rattle.run_theory.specs.Lists.{Each, IsIn}
@@ -74,7 +75,8 @@ use Rattle.commit_laws.proofs.drive.Kinds.{comes, committing, goes}
 use Rattle.commit_laws.proofs.drive.Lists.{any, mine, onward}
 use Rattle.commit_laws.proofs.drive.Own.{IsDriven, between_entry, driven, known, number_at, sent_in, taken_in}
 use Rattle.commit_laws.proofs.drive.States.{Counts, Knows, Untouched, is_counted}
-use Rattle.commit_laws.proofs.commits.EndTurns.{EndStep, HasEpoch, LeadsOn, before, by_going, by_key, by_now, completing, end_step, is_end, unwritten}
+use Rattle.commit_laws.proofs.commits.EndTurns.{EndStep, HasEpoch, LeadsOn, before, by_going, by_key, by_now}
+use Rattle.commit_laws.proofs.commits.EndTurns.{completing, end_step, is_end, unwritten}
 use Rattle.commit_laws.proofs.forth.Coordinator.{coordinator_installs_speak}
 use Rattle.commit_laws.proofs.forth.Epochs.{dih_installs_speak, dih_speaks}
 use Rattle.commit_laws.proofs.forth.Speaks.{Anyone, AreSpoken, Speaks}

@@ -1,6 +1,7 @@
 -- Signals of distinct keys are counted: where each key has one at most, and there are as many as keys, each key has
 -- one.
-use Rattle.std.proofs.Common.{◌≡◌, ◌≤◌, ◌+◌, ◌||◌, ◌&&◌, ◌==◌, ℕ, Bool, true, false, if◌then◌else◌, List, [], ◌∷◌, length, refl, ap, arith}
+use Rattle.std.proofs.Common.{◌≡◌, ◌≤◌, ◌+◌, ◌||◌, ◌&&◌, ◌==◌, ℕ, Bool, true, false, if◌then◌else◌, List, [], ◌∷◌}
+use Rattle.std.proofs.Common.{length, refl, ap, arith}
 use Rattle.std.specs.List.{list_any}
 use Rattle.std.specs.Prelude.{not}
 use Rattle.run_theory.specs.Lists.{Each}

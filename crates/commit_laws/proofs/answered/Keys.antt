@@ -1,6 +1,7 @@
 -- Where a coordinator completes a transaction that it has driven in its view, each key that the transaction touched was
 -- committed in that view.
-use Rattle.std.proofs.Common.{◌≡◌, ◌≤◌, ◌&&◌, ◌==◌, inl, inr, ◌∙◌, ℕ, Bool, true, false, List, [], ◌∷◌, refl, sym, ap, arith, subst}
+use Rattle.std.proofs.Common.{◌≡◌, ◌≤◌, ◌&&◌, ◌==◌, inl, inr, ◌∙◌, ℕ, Bool, true, false, List, [], ◌∷◌, refl, sym, ap}
+use Rattle.std.proofs.Common.{arith, subst}
 use Rattle.std.proofs.lemmas.Bool.{and_parts, or_left, or_right, true≢false}
 use Rattle.std.specs.Prelude.{Some, not}
 use Rattle.run_theory.specs.Lists.{Each, IsIn}
@@ -46,7 +47,8 @@ use Rattle.commit_laws.proofs.drive.Led.{owners_own}
 use Rattle.commit_laws.proofs.drive.Lists.{commits_of, completions_of, mine, only, taken_less}
 use Rattle.commit_laws.proofs.drive.Moments.{told_few}
 use Rattle.commit_laws.proofs.drive.Own.{coordinators_drive_once, driven, number_at, sent_in, taken_in}
-use Rattle.commit_laws.proofs.drive.States.{Drives, DrivesLeft, Sending, Untouched, commits, completes, given_up, undecided, waits}
+use Rattle.commit_laws.proofs.drive.States.{Drives, DrivesLeft, Sending, Untouched, commits, completes, given_up}
+use Rattle.commit_laws.proofs.drive.States.{undecided, waits}
 use Rattle.commit_laws.proofs.drive.Tasks.{listed}
 use Rattle.commit_laws.proofs.commits.WholeTurns.{IsOfKeys, keys_in, phase_keys}
 

@@ -1,6 +1,7 @@
 -- How far a takeover is with the transaction that it is at: while it commits it, no more answers are missing than it
 -- awaits; while it completes it, each of its keys was committed in its view.
-use Rattle.std.proofs.Common.{◌≡◌, ◌≢◌, ◌≤◌, ◌+◌, ◌-◌, ◌&&◌, ◌∙◌, ℕ, Bool, true, false, None, Some, Option, List, [], ◌∷◌, length, nat_lt, refl, sym, ap, arith, subst, ltb-false}
+use Rattle.std.proofs.Common.{◌≡◌, ◌≢◌, ◌≤◌, ◌+◌, ◌-◌, ◌&&◌, ◌∙◌, ℕ, Bool, true, false, None, Some, Option, List, []}
+use Rattle.std.proofs.Common.{◌∷◌, length, nat_lt, refl, sym, ap, arith, subst, ltb-false}
 use Rattle.std.proofs.lemmas.Bool.{true≢false}
 use Rattle.std.specs.Prelude.{remove, slice_get}
 use Rattle.run_theory.specs.Lists.{Each, IsIn}
@@ -28,7 +29,7 @@ use Rattle.takeover_block.specs.State.{TakeoverState, resting, with_gathered}
 use Rattle.takeover_block.specs.Takeover.{takeover_row}
 use Rattle.takeover_block.proofs.EachTakeover.{takeover_each}
 use Rattle.takeover_block.proofs.LawLemmas.{first_found}
-use Rattle.node_views.specs.declared.host.Host as hosts_of
+use Rattle.node_views.specs.declared.host_body.HostBody as hosts_of
 use Rattle.node_views.specs.declared.parts.Parts.TheVariants as part
 use Rattle.node_views.specs.declared.tc_part.TcPart.{TcPart}
 use Rattle.node_views.specs.Fence.{is_body_fenced}
@@ -342,7 +343,7 @@ module _ (start : Start) (all : ℕ → List HostStep) (member : Member) (there 
   heard_always [] moment =
       subst (HasHeard start (logs_of start []) (view_after start home []).number [])
       (sym
-      (ap (λ (s : hosts_of.Host). takeover_in (resting member.node (first_layout start.shape)) s.parts)
+      (ap (λ (s : hosts_of.HostBody). takeover_in (resting member.node (first_layout start.shape)) s.parts)
       (tc_started start member there)))
       tt
   heard_always (e ∷ es) moment =

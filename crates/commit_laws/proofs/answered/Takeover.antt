@@ -1,6 +1,7 @@
 -- A takeover completes keys, and tells the client's side of a commit, when each key that the transaction wrote was
 -- committed in its view, or the client's side knows of the commit.
-use Rattle.std.proofs.Common.{◌≡◌, ◌⊎◌, ◌+◌, ◌||◌, ◌∙◌, ℕ, Bool, true, false, None, Some, Option, List, [], ◌∷◌, drop, inl, inr, length, map, nat_lt, refl, sym, ap, subst, take, ◌≤◌, arith}
+use Rattle.std.proofs.Common.{◌≡◌, ◌⊎◌, ◌+◌, ◌||◌, ◌∙◌, ℕ, Bool, true, false, None, Some, Option, List, [], ◌∷◌, drop}
+use Rattle.std.proofs.Common.{inl, inr, length, map, nat_lt, refl, sym, ap, subst, take, ◌≤◌, arith}
 use Rattle.std.proofs.lemmas.Bool.{true≢false}
 use Rattle.std.specs.List.{flat_map}
 use Rattle.std.specs.Prelude.{remove, slice_get}
@@ -30,7 +31,8 @@ use Rattle.takeover_block.specs.declared.stage.Stage.TheVariants.{Aborting, Comm
 use Rattle.takeover_block.specs.Gathered.{first_of}
 use Rattle.takeover_block.specs.Keys.{has_key}
 use Rattle.takeover_block.specs.Rule.{entering, finishing, is_at_work, ruling, ruling_by, way_by, way_of}
-use Rattle.takeover_block.specs.Sends.{abort_at, ask_effects, ask_of, asks_of, front_sends, key_sends, key_sends_along, stage_effects, stage_sends}
+use Rattle.takeover_block.specs.Sends.{abort_at, ask_effects, ask_of, asks_of, front_sends, key_sends, key_sends_along}
+use Rattle.takeover_block.specs.Sends.{stage_effects, stage_sends}
 use Rattle.takeover_block.specs.State.{TakeoverState, with_gathered}
 use Rattle.takeover_block.specs.Takeover.{takeover_row}
 use Rattle.takeover_block.proofs.EachTakeover.{takeover_each}
@@ -56,7 +58,8 @@ use Rattle.commit_laws.specs.Fates.{aborts, commits, fate}
 use Rattle.commit_laws.specs.Takeovers.{FirstIs, HasAllKeys, IsRuled, IsWhole, TakeoverStands, takeover_at}
 use Rattle.commit_laws.specs.Together.{Follows}
 use Rattle.commit_laws.specs.Traces.{is_known}
-use Rattle.commit_laws.proofs.answered.Rulings.{HeardAt, IsHeard, Remains, first_was, heard_always, last_word, remained, taken_by, was_between}
+use Rattle.commit_laws.proofs.answered.Rulings.{HeardAt, IsHeard, Remains, first_was, heard_always, last_word, remained}
+use Rattle.commit_laws.proofs.answered.Rulings.{taken_by, was_between}
 use Rattle.commit_laws.proofs.answered.Stays.{committed_stays}
 use Rattle.commit_laws.proofs.forth.DecidedStay.{unknown_before, written_before}
 use Rattle.commit_laws.proofs.drive.Foreign.{step}

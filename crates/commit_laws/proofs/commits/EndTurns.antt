@@ -1,6 +1,7 @@
 -- A coordinator confirms a commit to its client, or completes a key, behind the last word that a key is committed, or
 -- where it goes on with that; or else nothing was written, and the transaction has its epoch.
-use Rattle.std.proofs.Common.{◌≡◌, ◌⊎◌, ◌==◌, ◌+◌, ◌∙◌, ℕ, Bool, true, false, List, [], ◌∷◌, arith, drop, inl, inr, length, nat_lt, refl, sym, ap, subst, take}
+use Rattle.std.proofs.Common.{◌≡◌, ◌⊎◌, ◌==◌, ◌+◌, ◌∙◌, ℕ, Bool, true, false, List, [], ◌∷◌, arith, drop, inl, inr}
+use Rattle.std.proofs.Common.{length, nat_lt, refl, sym, ap, subst, take}
 use Rattle.std.proofs.lemmas.Bool.{eqb-true, true≢false}
 use Rattle.std.specs.List.{flat_map}
 use Rattle.std.specs.Prelude.{None, Some}
@@ -30,7 +31,8 @@ use Rattle.tc_block.specs.Complete.{written_count}
 use Rattle.tc_block.specs.Part.{part_effects, rest_if}
 use Rattle.tc_block.specs.Phases.{is_decided}
 use Rattle.tc_block.specs.Resume.{anew_if, resume_row}
-use Rattle.tc_block.specs.Sends.{abort_of, aborts_of, entering, front_sends, go_on_if, key_sends, phase_sends, wait_of, waits_of}
+use Rattle.tc_block.specs.Sends.{abort_of, aborts_of, entering, front_sends, go_on_if, key_sends, phase_sends, wait_of}
+use Rattle.tc_block.specs.Sends.{waits_of}
 use Rattle.tc_block.specs.Turn.{Turn, asking, going}
 use Rattle.tc_block.specs.declared.phase.Phase.{Phase}
 use Rattle.tc_block.specs.declared.phase.Phase.TheVariants.{Aborting, Committing, Completing, Open, Verifying}
@@ -47,7 +49,8 @@ use Rattle.outcome_laws.proofs.coordinators.Steps as walk
 use Rattle.outcome_laws.proofs.coordinators.Steps.{ResumeForms}
 use Rattle.request_laws.specs.Ways.{entry_of}
 use Rattle.request_laws.proofs.phases.TurnSends.{AreSpared, IsSpared}
-use Rattle.request_laws.proofs.phases.Steps.{Walks, begins, coordinator_walks, is_about, is_held_back, left_of, passes, resumes, stays, turns}
+use Rattle.request_laws.proofs.phases.Steps.{Walks, begins, coordinator_walks, is_about, is_held_back, left_of, passes}
+use Rattle.request_laws.proofs.phases.Steps.{resumes, stays, turns}
 
 -- the signal confirms a commit to the client, or completes a key
 abbrev pub is_end : Body → Bool

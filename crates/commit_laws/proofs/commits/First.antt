@@ -10,12 +10,11 @@ use Rattle.sig_core.specs.declared.rows.PendingRecord.{PendingRecord}
 use Rattle.sig_core.specs.Rows.{is_on, no_rows}
 use Rattle.lqh_block.specs.Commit.{is_marker}
 use Rattle.node_core.specs.Fresh.{own_rows}
-use Rattle.node_views.specs.declared.host.Host as node
+use Rattle.node_views.specs.declared.host_body.HostBody as node
 use Rattle.key_laws.specs.Records.{found, without_epoch}
 use Rattle.key_laws.specs.Replica.{at_key}
 use Rattle.world_core.specs.Start.{Start, made}
 use Rattle.world_core.specs.Steps.{HostStep}
-use Rattle.world_views.specs.Hosts.{epoch_before}
 use Rattle.moment_laws.specs.Moments.{IsMoment, logs_of}
 use Rattle.moment_laws.proofs.MomentHosts.{ldm_started}
 use Rattle.request_laws.specs.Blocks.{no_replica, rows_in}
@@ -31,14 +30,14 @@ module _ (start : Start) where
   module _ (member : Member) (there : IsIn member (made start)) (key : List ℕ) (tx : TxId) where
     no_record : record_at start none member key tx ≡ None
     no_record =
-        ap (λ (s : node.Host). found tx (at_key key (rows_in (no_replica start member) s.parts).lqh).cell.pending)
+        ap (λ (s : node.HostBody). found tx (at_key key (rows_in (no_replica start member) s.parts).lqh).cell.pending)
         (ldm_started start member there)
         ∙ ap (λ (xs : List PendingRecord). found tx (map without_epoch (filter (is_on key) xs)))
-        (none_put no_rows (own_rows start.shape member.node start.rows) (epoch_before start.epoch) refl)
+        (none_put no_rows (own_rows start.shape member.node start.rows) start.start_epoch refl)
 
     no_marker : has_marker_at start none member key tx ≡ false
     no_marker =
-        ap (λ (s : node.Host). list_any (is_marker tx key)
+        ap (λ (s : node.HostBody). list_any (is_marker tx key)
         (rows_in (no_replica start member) s.parts).lqh.markers) (ldm_started start member there)
 
     not_there : (r : PendingRecord) → record_at start none member key tx ≡ Some r → ⊥

@@ -1,6 +1,7 @@
 -- Behind a commit that rows take, the key is committed at their place of its chain and at those behind; at the first
 -- place it is so at all replicas, and was applied.
-use Rattle.std.proofs.Common.{◌≡◌, ◌<◌, ◌≤◌, ◌⊎◌, ◌||◌, ◌∙◌, ℕ, Bool, true, false, List, ◌∷◌, eq-or-lt_of_le, refl, sym, ap, subst, arith, inl, inr}
+use Rattle.std.proofs.Common.{◌≡◌, ◌<◌, ◌≤◌, ◌⊎◌, ◌||◌, ◌∙◌, ℕ, Bool, true, false, List, ◌∷◌, eq-or-lt_of_le, refl, sym}
+use Rattle.std.proofs.Common.{ap, subst, arith, inl, inr}
 use Rattle.std.proofs.lemmas.Bool.{or_left, or_right}
 use Rattle.std.specs.Prelude.{Option, None, Some}
 use Rattle.std.specs.List.{slice_get}
@@ -28,7 +29,8 @@ use Rattle.commit_laws.specs.Commits.{ComesFromTheEnd, HasWritten, HoldsImage, I
 use Rattle.commit_laws.specs.Forth.{ForthIsKnownAlways}
 use Rattle.commit_laws.specs.Markers.{CommitsAreRemembered}
 use Rattle.commit_laws.specs.Together.{AllStand}
-use Rattle.commit_laws.specs.Traces.{AreCommitted, IsApplied, IsCommittedAtAll, IsReplicaOf, has_marker_at, is_committed_at, is_committed_by, is_known, record_at}
+use Rattle.commit_laws.specs.Traces.{AreCommitted, IsApplied, IsCommittedAtAll, IsReplicaOf, has_marker_at}
+use Rattle.commit_laws.specs.Traces.{is_committed_at, is_committed_by, is_known, record_at}
 use Rattle.commit_laws.specs.Whole.{CommitsGoWhole}
 use Rattle.commit_laws.proofs.markers.AppliedMarks.{applied_marked, marks_of_commit}
 use Rattle.commit_laws.proofs.commits.Places.{commit_place, commit_record, in_at, place_of}

@@ -39,7 +39,8 @@ use Rattle.request_laws.proofs.routes.PartSteps.{TcStep, own_tc, takeover_is}
 use Rattle.commit_laws.specs.Takeovers.{takeover_at}
 use Rattle.commit_laws.proofs.forth.Epochs.{dih_installs_speak, dih_speaks}
 use Rattle.commit_laws.proofs.forth.Speaks.{AreSpoken, Speaks}
-use Rattle.commit_laws.proofs.commits.OwnersCoordinator.{coordinator_installs_words, coordinator_words, AreWords, IsWord}
+use Rattle.commit_laws.proofs.commits.OwnersCoordinator.{coordinator_installs_words, coordinator_words, AreWords}
+use Rattle.commit_laws.proofs.commits.OwnersCoordinator.{IsWord}
 use Rattle.commit_laws.proofs.commits.Owners.{IsAtCommit, IsOwnersWord, OwnersSayCommits}
 use Rattle.commit_laws.proofs.hosts.PartEach.{part_each}
 use Rattle.commit_laws.proofs.commits.OwnersTakeover.{IsBusy, IsTold, takeover_told}

@@ -35,10 +35,12 @@ use Rattle.commit_laws.specs.Commits.{IsDone}
 use Rattle.commit_laws.specs.Forth.{ForthIsKnownAlways, IsForth}
 use Rattle.commit_laws.specs.Going.{is_decided, is_forth}
 use Rattle.commit_laws.specs.Markers.{CommitsAreRemembered, IsRemembered}
-use Rattle.commit_laws.specs.Traces.{AreCommitted, IsCommittedAtAll, has_marker_at, is_committed_at, is_committed_by, is_known, record_at, rows_at}
+use Rattle.commit_laws.specs.Traces.{AreCommitted, IsCommittedAtAll, has_marker_at, is_committed_at, is_committed_by}
+use Rattle.commit_laws.specs.Traces.{is_known, record_at, rows_at}
 use Rattle.commit_laws.proofs.fates.Committed.{IsCalm, forth_calm}
 use Rattle.commit_laws.proofs.forth.DecidedStay.{applied_more, written_before}
-use Rattle.commit_laws.proofs.records.KeyGoes.{IsAcknowledged, KeyGoes, RecordGoes, is_aborted, is_committed, is_completed, key_goes, record_stays}
+use Rattle.commit_laws.proofs.records.KeyGoes.{IsAcknowledged, KeyGoes, RecordGoes, is_aborted, is_committed}
+use Rattle.commit_laws.proofs.records.KeyGoes.{is_completed, key_goes, record_stays}
 use Rattle.commit_laws.proofs.records.Moves.{now_by}
 use Rattle.commit_laws.proofs.records.Replicas.{replica_before, replica_made}
 

@@ -1,5 +1,6 @@
 -- An event keeps what stands of commits.
-use Rattle.std.proofs.Common.{◌≡◌, ◌≢◌, ◌≤◌, ◌<◌, ◌⊎◌, ◌==◌, ◌||◌, ◌∙◌, ℕ, zero, suc, Bool, true, false, length, List, [], ◌∷◌, refl, sym, ap, subst, arith, inl, inr}
+use Rattle.std.proofs.Common.{◌≡◌, ◌≢◌, ◌≤◌, ◌<◌, ◌⊎◌, ◌==◌, ◌||◌, ◌∙◌, ℕ, zero, suc, Bool, true, false, length, List}
+use Rattle.std.proofs.Common.{[], ◌∷◌, refl, sym, ap, subst, arith, inl, inr}
 use Rattle.std.proofs.lemmas.Bool.{cases_eq, true≢false}
 use Rattle.std.specs.Prelude.{Option, None, Some}
 use Rattle.std.specs.List.{list_any, slice_get}
@@ -55,7 +56,8 @@ use Rattle.commit_laws.specs.Markers.{CommitsAreRemembered}
 use Rattle.commit_laws.specs.Settled.{IsSettledWith}
 use Rattle.commit_laws.specs.Takeovers.{FirstIs, IsRuled, takeover_at}
 use Rattle.commit_laws.specs.Together.{FatesMove, Follows}
-use Rattle.commit_laws.specs.Traces.{has_marker_at, has_sent, is_acknowledgement, is_committed_at, is_committed_by, is_known, record_at, rows_at}
+use Rattle.commit_laws.specs.Traces.{has_marker_at, has_sent, is_acknowledgement, is_committed_at, is_committed_by}
+use Rattle.commit_laws.specs.Traces.{is_known, record_at, rows_at}
 use Rattle.commit_laws.specs.Whole.{CommitsGoWhole}
 use Rattle.commit_laws.proofs.commits.Places.{commit_place}
 use Rattle.commit_laws.proofs.commits.Now.{applied_now, at_all_first, from_here}

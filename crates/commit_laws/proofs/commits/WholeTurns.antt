@@ -1,6 +1,7 @@
 -- A commit that a coordinator sends is of a transaction that it has behind that, in commit, and of a key with its
 -- chain.
-use Rattle.std.proofs.Common.{◌≡◌, ◌⊎◌, ◌+◌, ◌∙◌, ℕ, Bool, true, false, List, [], ◌∷◌, drop, inl, inr, length, nat_lt, refl, sym, ap, subst, take}
+use Rattle.std.proofs.Common.{◌≡◌, ◌⊎◌, ◌+◌, ◌∙◌, ℕ, Bool, true, false, List, [], ◌∷◌, drop, inl, inr, length, nat_lt}
+use Rattle.std.proofs.Common.{refl, sym, ap, subst, take}
 use Rattle.std.proofs.lemmas.Bool.{true≢false}
 use Rattle.std.specs.Prelude.{Option, Some}
 use Rattle.std.specs.List.{flat_map}
@@ -37,7 +38,8 @@ use Rattle.outcome_laws.specs.Counts.{IsCoordinatorOf}
 use Rattle.outcome_laws.proofs.order.BeforeInLists.{in_either}
 use Rattle.request_laws.specs.Ways.{entry_of}
 use Rattle.request_laws.proofs.phases.TurnSends.{IsSpared}
-use Rattle.request_laws.proofs.phases.Steps.{Walks, begins, coordinator_walks, is_about, left_of, passes, resumes, stays, turns}
+use Rattle.request_laws.proofs.phases.Steps.{Walks, begins, coordinator_walks, is_about, left_of, passes, resumes}
+use Rattle.request_laws.proofs.phases.Steps.{stays, turns}
 use Rattle.commit_laws.proofs.drive.Turns.{DriveTurn, Redrives, drives, drives_key, resumes_drive, turns_drive}
 use Rattle.commit_laws.proofs.drive.Turns as drive
 

@@ -1,5 +1,6 @@
 -- Whatever a coordinator takes, it leads on with the commits of each of its transactions as it should.
-use Rattle.std.proofs.Common.{◌≡◌, ◌≤◌, ◌<◌, ◌+◌, ◌⊎◌, ◌==◌, ◌&&◌, ◌++◌, ◌∙◌, ℕ, Bool, true, false, List, [], ◌∷◌, inl, inr, length, nat_lt, refl, sym, ap, arith, subst}
+use Rattle.std.proofs.Common.{◌≡◌, ◌≤◌, ◌<◌, ◌+◌, ◌⊎◌, ◌==◌, ◌&&◌, ◌++◌, ◌∙◌, ℕ, Bool, true, false, List, [], ◌∷◌, inl}
+use Rattle.std.proofs.Common.{inr, length, nat_lt, refl, sym, ap, arith, subst}
 use Rattle.std.proofs.lemmas.Bool.{leb-false, leb-true, true≢false}
 use Rattle.std.specs.Prelude.{nat_le, Option, None, Some}
 use Rattle.std.specs.List.{count_by}
@@ -35,10 +36,12 @@ use Rattle.outcome_laws.specs.Counts.{IsCoordinatorOf, coordinator_member, count
 use Rattle.outcome_laws.proofs.coordinators.Lists.{count_both, count_more, keys_once, none_counted}
 use Rattle.request_laws.specs.Ways.{entry_of}
 use Rattle.request_laws.proofs.phases.TurnSends.{IsSpared}
-use Rattle.request_laws.proofs.phases.Steps.{AreAway, Walks, begins, coordinator_walks, is_about, is_held_back, left_of, passes, resumes, stays, turns}
+use Rattle.request_laws.proofs.phases.Steps.{AreAway, Walks, begins, coordinator_walks, is_about, is_held_back, left_of}
+use Rattle.request_laws.proofs.phases.Steps.{passes, resumes, stays, turns}
 use Rattle.commit_laws.proofs.drive.Kinds.{Drive, committing, completing, goes}
 use Rattle.commit_laws.proofs.drive.Lists.{mine, only, onward}
-use Rattle.commit_laws.proofs.drive.States.{Counts, Drives, DrivesLeft, Knows, Moves, Untouched, given_up, still_drives, still_once, still_untouched, undecided, waits}
+use Rattle.commit_laws.proofs.drive.States.{Counts, Drives, DrivesLeft, Knows, Moves, Untouched, given_up, still_drives}
+use Rattle.commit_laws.proofs.drive.States.{still_once, still_untouched, undecided, waits}
 use Rattle.commit_laws.proofs.drive.Steps.{redrive_drives, turn_drives}
 use Rattle.commit_laws.proofs.drive.Tasks.{decided_now, installed_listed, is_listed, listed, resumed_listed, row_listed}
 use Rattle.commit_laws.proofs.drive.Turns.{DriveTurn, Redrives, is_redrive, resumes_drive, turns_drive}

@@ -1,6 +1,7 @@
 -- What hosts send of commits and completions at an event of a moment: a host of rows no more than it takes, and a host
 -- that coordinates none that tells of an end.
-use Rattle.std.proofs.Common.{◌≡◌, ◌≤◌, ◌⊎◌, ◌==◌, ◌&&◌, ◌++◌, ◌∙◌, ℕ, Bool, true, false, List, [], ◌∷◌, refl, sym, ap, subst, arith, inl, inr, ⊎_elim}
+use Rattle.std.proofs.Common.{◌≡◌, ◌≤◌, ◌⊎◌, ◌==◌, ◌&&◌, ◌++◌, ◌∙◌, ℕ, Bool, true, false, List, [], ◌∷◌, refl, sym, ap}
+use Rattle.std.proofs.Common.{subst, arith, inl, inr, ⊎_elim}
 use Rattle.std.proofs.lemmas.Bool.{eq-eqb, eqb-true, true≢false}
 use Rattle.std.specs.List.{count_by}
 use Rattle.run_theory.specs.Links.{sent_by}
@@ -54,7 +55,8 @@ use Rattle.request_laws.proofs.routes.Hosts.{IsBeside, beside_sends}
 use Rattle.request_laws.proofs.routes.PartSteps.{LdmStep, ldm_step, tc_step}
 use Rattle.request_laws.proofs.tokens.RowHosts.{sent_few, test_taken}
 use Rattle.request_laws.proofs.tokens.FirstInView.{sent_now, taken_now}
-use Rattle.commit_laws.proofs.drive.Kinds.{Drive, Keys, comes, committing, completing, either, either_aside, goes, numbered}
+use Rattle.commit_laws.proofs.drive.Kinds.{Drive, Keys, comes, committing, completing, either, either_aside, goes}
+use Rattle.commit_laws.proofs.drive.Kinds.{numbered}
 use Rattle.commit_laws.proofs.drive.Rows.{rows_pass}
 
 -- a signal that passes is of a kind that fences stop, and no host asks itself for one

@@ -1,5 +1,6 @@
 -- At each moment, in each view, no more keys were committed than their owners sent commits of, and no more completed.
-use Rattle.std.proofs.Common.{◌≡◌, ◌≢◌, ◌≤◌, ◌+◌, ◌==◌, ◌&&◌, ◌||◌, ◌∙◌, ℕ, Bool, true, false, List, [], ◌∷◌, refl, sym, ap, subst, arith, inl, inr}
+use Rattle.std.proofs.Common.{◌≡◌, ◌≢◌, ◌≤◌, ◌+◌, ◌==◌, ◌&&◌, ◌||◌, ◌∙◌, ℕ, Bool, true, false, List, [], ◌∷◌, refl, sym}
+use Rattle.std.proofs.Common.{ap, subst, arith, inl, inr}
 use Rattle.std.proofs.lemmas.Bool.{and_parts, eqb-true, true≢false}
 use Rattle.std.specs.List.{count_by}
 use Rattle.run_theory.specs.Links.{sent_by}
@@ -28,7 +29,8 @@ use Rattle.request_laws.proofs.routes.BesideRows.{is_of_rows}
 use Rattle.request_laws.proofs.routes.Hosts.{PartHost, coordinates, is_beside, keeps_rows, part_host}
 use Rattle.request_laws.proofs.tokens.RowHosts.{sent_few}
 use Rattle.request_laws.proofs.tokens.SumsOverHosts.{takes_few}
-use Rattle.request_laws.proofs.tokens.FirstInView.{all_sent_more, all_taken_more, node_of, sent_now, taken_now, total_of_one}
+use Rattle.request_laws.proofs.tokens.FirstInView.{all_sent_more, all_taken_more, node_of, sent_now, taken_now}
+use Rattle.request_laws.proofs.tokens.FirstInView.{total_of_one}
 use Rattle.commit_laws.specs.Once.{owners_sent}
 use Rattle.commit_laws.proofs.drive.Hosts.{beside_none, coordinator_tells_none, other_none, rows_few}
 use Rattle.commit_laws.proofs.drive.Kinds.{Drive, Keys, comes, either, either_aside, either_parts, goes, numbered}

@@ -1,7 +1,8 @@
 -- In each view each key of a transaction is committed once at most, and completed once at most, where takeovers commit
 -- and
 -- complete each once.
-use Rattle.std.proofs.Common.{◌≡◌, ◌≤◌, ◌⊎◌, ◌==◌, ◌&&◌, ◌∙◌, ℕ, Bool, true, false, List, [], ◌∷◌, inl, inr, refl, sym, ap, arith, subst, nat_eq}
+use Rattle.std.proofs.Common.{◌≡◌, ◌≤◌, ◌⊎◌, ◌==◌, ◌&&◌, ◌∙◌, ℕ, Bool, true, false, List, [], ◌∷◌, inl, inr, refl, sym}
+use Rattle.std.proofs.Common.{ap, arith, subst, nat_eq}
 use Rattle.std.proofs.lemmas.Bool.{and_parts, eqb-true}
 use Rattle.std.specs.List.{count_by}
 use Rattle.run_theory.specs.Links.{sent_by}
@@ -32,7 +33,8 @@ use Rattle.request_laws.specs.Tokens.{all_sent, sent_along}
 use Rattle.request_laws.proofs.routes.Headers.{own_installed}
 use Rattle.request_laws.proofs.routes.PartsOfTheFirst.{first_part}
 use Rattle.request_laws.proofs.tokens.FirstInView.{total_of_same, total_of_zero}
-use Rattle.commit_laws.specs.Once.{KeysAreDrivenOnce, commits, completes, has_committed, has_completed, in_number, owners_sent}
+use Rattle.commit_laws.specs.Once.{KeysAreDrivenOnce, commits, completes, has_committed, has_completed, in_number}
+use Rattle.commit_laws.specs.Once.{owners_sent}
 use Rattle.commit_laws.proofs.drive.Foreign.{IsLedIn, unseen_none}
 use Rattle.commit_laws.proofs.drive.Kinds.{Drive, comes, committing, completing, goes, numbered}
 use Rattle.commit_laws.proofs.drive.Led.{owners_own}

@@ -1,5 +1,6 @@
 -- A coordinator commits each key of a transaction once at most in each view, and completes it once at most.
-use Rattle.std.proofs.Common.{◌≡◌, ◌≢◌, ◌≤◌, ◌<◌, ◌+◌, ◌==◌, ◌&&◌, ◌||◌, ◌∙◌, ℕ, Bool, true, false, None, Some, Option, List, [], ◌∷◌, refl, sym, ap, arith, subst}
+use Rattle.std.proofs.Common.{◌≡◌, ◌≢◌, ◌≤◌, ◌<◌, ◌+◌, ◌==◌, ◌&&◌, ◌||◌, ◌∙◌, ℕ, Bool, true, false, None, Some, Option}
+use Rattle.std.proofs.Common.{List, [], ◌∷◌, refl, sym, ap, arith, subst}
 use Rattle.std.proofs.lemmas.Bool.{and_parts, eq-eqb, eqb-true, ltb-false, true≢false}
 use Rattle.std.specs.Prelude.{if◌then◌else◌, not}
 use Rattle.run_theory.specs.Lists.{IsIn, IsPast}
@@ -60,14 +61,17 @@ use Rattle.request_laws.proofs.routes.PartsOfTheFirst.{member_full}
 use Rattle.request_laws.proofs.tokens.RowHosts.{sent_few}
 use Rattle.request_laws.proofs.tokens.SumsOverHosts.{takes_before}
 use Rattle.request_laws.proofs.tokens.FirstInView.{sent_low_none}
-use Rattle.commit_laws.proofs.drive.Coordinators.{Stands, installed_stands, moves_less, row_stands, still_stands, untouched_stands}
-use Rattle.commit_laws.proofs.drive.Foreign.{IsLedIn, between_laid, between_number, between_of, entering, installed, rest_off, sends_keys, sends_onward, step, unseen_none}
+use Rattle.commit_laws.proofs.drive.Coordinators.{Stands, installed_stands, moves_less, row_stands, still_stands}
+use Rattle.commit_laws.proofs.drive.Coordinators.{untouched_stands}
+use Rattle.commit_laws.proofs.drive.Foreign.{IsLedIn, between_laid, between_number, between_of, entering, installed}
+use Rattle.commit_laws.proofs.drive.Foreign.{rest_off, sends_keys, sends_onward, step, unseen_none}
 use Rattle.commit_laws.proofs.drive.Kinds.{Drive, comes, committing, completing, goes, numbered}
 use Rattle.commit_laws.proofs.drive.Led.{onward_own, owners_own}
 use Rattle.commit_laws.proofs.drive.Lists.{any, mine, only, onward}
 use Rattle.commit_laws.proofs.drive.Moments.{told_few}
 use Rattle.commit_laws.proofs.drive.Parts.{AreOff}
-use Rattle.commit_laws.proofs.drive.States.{AreOnce, Counts, DrivesLeft, Knows, Moves, Untouched, drives_once, is_counted}
+use Rattle.commit_laws.proofs.drive.States.{AreOnce, Counts, DrivesLeft, Knows, Moves, Untouched, drives_once}
+use Rattle.commit_laws.proofs.drive.States.{is_counted}
 use Rattle.commit_laws.proofs.drive.Tasks.{listed}
 
 module _ (start : Start) (member : Member) (tx : TxId) (k : ℕ) where

@@ -1,5 +1,6 @@
 -- Rows pass on one commit for one, and one completion: to the place in front, or to the owner of the transaction.
-use Rattle.std.proofs.Common.{◌≡◌, ◌≤◌, ◌||◌, ◌==◌, ℕ, Bool, true, false, List, [], ◌∷◌, map, nat_lt, refl, sym, ap, arith, ◌∙◌}
+use Rattle.std.proofs.Common.{◌≡◌, ◌≤◌, ◌||◌, ◌==◌, ℕ, Bool, true, false, List, [], ◌∷◌, map, nat_lt, refl, sym, ap}
+use Rattle.std.proofs.Common.{arith, ◌∙◌}
 use Rattle.std.specs.Prelude.{◌-◌, Option, None, Some}
 use Rattle.std.proofs.lemmas.Bool.{true≢false}
 use Rattle.run_theory.specs.Lists.{Each}
@@ -35,7 +36,8 @@ use Rattle.lqh_views.specs.Address.{addressed}
 use Rattle.lqh_views.specs.declared.report.Report.{Report}
 use Rattle.lqh_views.specs.Epochs.{epoch_table}
 use Rattle.lqh_views.specs.Replica.{is_stale, passed, replica_by, replica_row, serve_if}
-use Rattle.lqh_views.specs.Report.{go_on_by, report_row, is_orphaned_marker, is_orphaned_record, last_before, marker_by, record_by, reporting, telling, told_record_if}
+use Rattle.lqh_views.specs.Report.{go_on_by, report_row, is_orphaned_marker, is_orphaned_record, last_before, marker_by}
+use Rattle.lqh_views.specs.Report.{record_by, reporting, telling, told_record_if}
 use Rattle.lqh_views.specs.State.{ReplicaState}
 use Rattle.lqh_views.proofs.AddressLemmas.{same-body}
 use Rattle.outcome_laws.specs.Counts.{count_sent, one_if}

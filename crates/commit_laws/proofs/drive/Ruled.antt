@@ -1,7 +1,8 @@
 -- The takeover of a member commits each key of a transaction that is left in a view once at most there, and only when
 -- it
 -- was ordered; where it is ordered once.
-use Rattle.std.proofs.Common.{◌≡◌, ◌≢◌, ◌≤◌, ◌+◌, ◌⊎◌, ◌++◌, ◌∙◌, ℕ, zero, suc, Bool, true, false, List, [], ◌∷◌, inl, inr, refl, sym, ap, arith, subst}
+use Rattle.std.proofs.Common.{◌≡◌, ◌≢◌, ◌≤◌, ◌+◌, ◌⊎◌, ◌++◌, ◌∙◌, ℕ, zero, suc, Bool, true, false, List, [], ◌∷◌, inl}
+use Rattle.std.proofs.Common.{inr, refl, sym, ap, arith, subst}
 use Rattle.std.proofs.lemmas.Bool.{cases_eq, true≢false}
 use Rattle.run_theory.specs.Lists.{IsIn, IsPast}
 use Rattle.commit_laws.proofs.hosts.PartEach.{between_so}
@@ -22,7 +23,7 @@ use Rattle.takeover_block.specs.declared.stage.Stage.TheVariants.{Resting}
 use Rattle.takeover_block.specs.State.{TakeoverState, resting}
 use Rattle.takeover_block.specs.Takeover.{takeover_row}
 use Rattle.dih_node.specs.Dih.{dih_row}
-use Rattle.node_views.specs.declared.host.Host as hosts_of
+use Rattle.node_views.specs.declared.host_body.HostBody as hosts_of
 use Rattle.node_views.specs.declared.parts.Parts.TheVariants as part
 use Rattle.node_views.specs.declared.tc_part.TcPart.{TcPart}
 use Rattle.node_views.specs.Fence.{is_body_fenced}
@@ -99,7 +100,7 @@ ruled_first start me there tx key number k = record {
   now = λ same.
       subst (StandsRuled start me tx key number k [])
       (sym
-      (ap (λ (s : hosts_of.Host). takeover_in (resting me.node (first_layout start.shape)) s.parts)
+      (ap (λ (s : hosts_of.HostBody). takeover_in (resting me.node (first_layout start.shape)) s.parts)
       (tc_started start me there)))
       (record { fit = none_fit; rules = awaits refl (λ drive. refl); idle = λ none. refl });
 }

@@ -1,5 +1,6 @@
 -- The lists of commits and completions of a takeover: each names a key once, since each key was gathered once.
-use Rattle.std.proofs.Common.{◌≡◌, ◌≤◌, ◌+◌, ◌&&◌, ◌||◌, ◌++◌, ◌∙◌, ℕ, Bool, true, false, List, [], ◌∷◌, refl, sym, ap, arith}
+use Rattle.std.proofs.Common.{◌≡◌, ◌≤◌, ◌+◌, ◌&&◌, ◌||◌, ◌++◌, ◌∙◌, ℕ, Bool, true, false, List, [], ◌∷◌, refl, sym, ap}
+use Rattle.std.proofs.Common.{arith}
 use Rattle.std.proofs.lemmas.Bool.{true≢false}
 use Rattle.std.specs.List.{flat_map}
 use Rattle.run_theory.specs.Lists.{Each}
@@ -11,7 +12,8 @@ use Rattle.takeover_block.specs.declared.gathered.Gathered.{Gathered}
 use Rattle.takeover_block.specs.declared.stage.Stage.{Stage}
 use Rattle.takeover_block.specs.declared.stage.Stage.TheVariants.{Aborting, Committing, Completing, Gathering, Resting}
 use Rattle.takeover_block.specs.Keys.{has_key, with_key, with_key_if}
-use Rattle.takeover_block.specs.Sends.{abort_at, commit_along, complete_along, front_sends, key_sends, key_sends_along, stage_sends}
+use Rattle.takeover_block.specs.Sends.{abort_at, commit_along, complete_along, front_sends, key_sends, key_sends_along}
+use Rattle.takeover_block.specs.Sends.{stage_sends}
 use Rattle.outcome_laws.specs.Counts.{count_sent, one_if}
 use Rattle.outcome_laws.proofs.coordinators.Lists.{count_both, count_more, none_counted}
 use Rattle.run_theory.proofs.EachSent.{each_mapped}

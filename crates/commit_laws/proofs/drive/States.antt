@@ -1,7 +1,8 @@
 -- How far a coordinator has come with the commits of a transaction in one view, by what it has sent and taken in it;
 -- and
 -- that each turn leads on.
-use Rattle.std.proofs.Common.{◌≡◌, ◌≤◌, ◌+◌, ◌==◌, ◌&&◌, ◌∙◌, ℕ, Bool, true, false, List, [], length, nat_lt, refl, sym, ap, arith, subst, take}
+use Rattle.std.proofs.Common.{◌≡◌, ◌≤◌, ◌+◌, ◌==◌, ◌&&◌, ◌∙◌, ℕ, Bool, true, false, List, [], length, nat_lt, refl, sym}
+use Rattle.std.proofs.Common.{ap, arith, subst, take}
 use Rattle.std.proofs.lemmas.Bool.{eqb-true, true≢false}
 use Rattle.std.specs.List.{count_by}
 use Rattle.std.specs.Prelude.{Option, None, Some}
@@ -23,7 +24,8 @@ use Rattle.outcome_laws.specs.Counts.{count_sent, one_if}
 use Rattle.outcome_laws.proofs.coordinators.Lists.{none_counted}
 use Rattle.run_theory.proofs.Pasts.{each_map}
 use Rattle.commit_laws.proofs.drive.Kinds.{Drive, comes, committing, completing, goes}
-use Rattle.commit_laws.proofs.drive.Lists.{any, commits_of, completions_of, mine, once_in_commits, only, onward, part_keys, portion_more, taken_less}
+use Rattle.commit_laws.proofs.drive.Lists.{any, commits_of, completions_of, mine, once_in_commits, only, onward}
+use Rattle.commit_laws.proofs.drive.Lists.{part_keys, portion_more, taken_less}
 use Rattle.commit_laws.proofs.drive.Turns.{DriveNoKey, DriveNone, drives, drives_key, none_no_key}
 
 -- how many signals there are that pass a test

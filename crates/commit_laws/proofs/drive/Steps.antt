@@ -1,7 +1,8 @@
 -- Each turn of a coordinator's transaction leads on with its commits as it should, and so does what an installation
 -- left
 -- to do.
-use Rattle.std.proofs.Common.{◌≡◌, ◌≤◌, ◌+◌, ◌==◌, ◌&&◌, ◌∙◌, ℕ, suc, Bool, true, false, List, [], ◌∷◌, length, map, nat_lt, refl, sym, ap, arith, subst}
+use Rattle.std.proofs.Common.{◌≡◌, ◌≤◌, ◌+◌, ◌==◌, ◌&&◌, ◌∙◌, ℕ, suc, Bool, true, false, List, [], ◌∷◌, length, map}
+use Rattle.std.proofs.Common.{nat_lt, refl, sym, ap, arith, subst}
 use Rattle.std.proofs.lemmas.Bool.{eq-eqb, ltb-false, ltb-true, true≢false}
 use Rattle.std.specs.Prelude.{◌-◌, if◌then◌else◌, Option, None, Some}
 use Rattle.sig_core.specs.declared.member.TxId.{TxId}
@@ -30,9 +31,15 @@ use Rattle.run_laws.specs.Keyed.{AreApart}
 use Rattle.outcome_laws.specs.Counts.{count_sent, one_if}
 use Rattle.request_laws.proofs.phases.Steps.{left_of}
 use Rattle.commit_laws.proofs.drive.Kinds.{Drive, comes, committing, completing, goes}
-use Rattle.commit_laws.proofs.drive.Lists.{any, commits_length, commits_of, commits_plain, commits_same, completions_of, completions_plain, completions_same, mine, only, onward, part_onward, taken_few, taken_less}
-use Rattle.commit_laws.proofs.drive.States.{AreOnce, Counts, Drives, DrivesLeft, Knows, Moves, Sending, Untouched, begins_sending, commits, completes, drives_once, given_up, goes_on_sending, is_counted, still_drives, still_none, still_once, still_sending, still_untouched, undecided, waits}
-use Rattle.commit_laws.proofs.drive.Turns.{aborting_part, DriveNoKey, DriveNone, DriveTurn, Redrives, begins, counts, counts_last, counts_on, ends, goes_on, loosens, rests}
+use Rattle.commit_laws.proofs.drive.Lists.{any, commits_length, commits_of, commits_plain, commits_same, completions_of}
+use Rattle.commit_laws.proofs.drive.Lists.{completions_plain, completions_same, mine, only, onward, part_onward}
+use Rattle.commit_laws.proofs.drive.Lists.{taken_few, taken_less}
+use Rattle.commit_laws.proofs.drive.States.{AreOnce, Counts, Drives, DrivesLeft, Knows, Moves, Sending, Untouched}
+use Rattle.commit_laws.proofs.drive.States.{begins_sending, commits, completes, drives_once, given_up, goes_on_sending}
+use Rattle.commit_laws.proofs.drive.States.{is_counted, still_drives, still_none, still_once, still_sending}
+use Rattle.commit_laws.proofs.drive.States.{still_untouched, undecided, waits}
+use Rattle.commit_laws.proofs.drive.Turns.{aborting_part, DriveNoKey, DriveNone, DriveTurn, Redrives, begins, counts}
+use Rattle.commit_laws.proofs.drive.Turns.{counts_last, counts_on, ends, goes_on, loosens, rests}
 
 -- one of two numbers is as the other
 own_one : (tx : TxId) (b : Bool) → (same_tx tx tx && b) ≡ b

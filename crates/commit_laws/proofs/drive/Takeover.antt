@@ -1,5 +1,6 @@
 -- Each step of a takeover leads on with the commits of a transaction on a key as it should.
-use Rattle.std.proofs.Common.{◌≡◌, ◌≤◌, ◌<◌, ◌+◌, ◌⊎◌, ◌==◌, ◌&&◌, ◌++◌, ◌∙◌, ℕ, Bool, true, false, None, Some, Option, List, [], ◌∷◌, drop, inl, inr, length, map, nat_lt, refl, sym, ap, arith, subst, take}
+use Rattle.std.proofs.Common.{◌≡◌, ◌≤◌, ◌<◌, ◌+◌, ◌⊎◌, ◌==◌, ◌&&◌, ◌++◌, ◌∙◌, ℕ, Bool, true, false, None, Some, Option}
+use Rattle.std.proofs.Common.{List, [], ◌∷◌, drop, inl, inr, length, map, nat_lt, refl, sym, ap, arith, subst, take}
 use Rattle.std.proofs.lemmas.Bool.{and_parts, eqb-true, ltb-true, or_left, or_right, true≢false}
 use Rattle.std.specs.List.{flat_map}
 use Rattle.std.specs.Prelude.{◌-◌, remove, slice_get}
@@ -26,8 +27,10 @@ use Rattle.takeover_block.specs.declared.stage.Stage.TheVariants.{Aborting, Comm
 use Rattle.takeover_block.specs.Gather.{asking, member_count}
 use Rattle.takeover_block.specs.declared.sends.TheConstants.{SENDS}
 use Rattle.takeover_block.proofs.LawLemmas.{first_found}
-use Rattle.takeover_block.specs.Rule.{sending_on, entering, finishing, is_at_work, is_left, ruling, ruling_by, way_by, way_of}
-use Rattle.takeover_block.specs.Sends.{ask_effects, ask_of, asks_of, front_sends, key_sends, left_if, stage_effects, stage_left, stage_sends, told_aborted, told_over}
+use Rattle.takeover_block.specs.Rule.{sending_on, entering, finishing, is_at_work, is_left, ruling, ruling_by, way_by}
+use Rattle.takeover_block.specs.Rule.{way_of}
+use Rattle.takeover_block.specs.Sends.{ask_effects, ask_of, asks_of, front_sends, key_sends, left_if, stage_effects}
+use Rattle.takeover_block.specs.Sends.{stage_left, stage_sends, told_aborted, told_over}
 use Rattle.takeover_block.specs.State.{TakeoverState, with_gathered}
 use Rattle.takeover_block.specs.Takeover.{takeover_row}
 use Rattle.takeover_block.proofs.EachTakeover.{takeover_each}
@@ -35,7 +38,8 @@ use Rattle.outcome_laws.specs.Counts.{one_if}
 use Rattle.outcome_laws.proofs.coordinators.Lists.{count_both, count_more, none_counted}
 use Rattle.commit_laws.proofs.drive.Kinds.{Drive, committing, completing, goes}
 use Rattle.commit_laws.proofs.drive.Lists.{mine, only, portion_more, taken_less}
-use Rattle.commit_laws.proofs.drive.Rulings.{IsAt, IsSentTo, Rules, Works, awaits, counted, has_tx, rests, works, works_once}
+use Rattle.commit_laws.proofs.drive.Rulings.{IsAt, IsSentTo, Rules, Works, awaits, counted, has_tx, rests, works}
+use Rattle.commit_laws.proofs.drive.Rulings.{works_once}
 use Rattle.commit_laws.proofs.drive.Stages.{KeysApart, front_none, is_way, key_count, stage_none}
 
 module _ (tx : TxId) (key : List ℕ) where

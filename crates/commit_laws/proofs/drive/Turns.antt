@@ -1,5 +1,6 @@
 -- What a coordinator's transaction does about its commits and completions, turn by turn.
-use Rattle.std.proofs.Common.{◌≡◌, ◌⊎◌, ◌==◌, ◌+◌, ℕ, Bool, true, false, List, [], ◌∷◌, arith, drop, inl, inr, length, nat_lt, refl, sym, ap, take, ◌∙◌}
+use Rattle.std.proofs.Common.{◌≡◌, ◌⊎◌, ◌==◌, ◌+◌, ℕ, Bool, true, false, List, [], ◌∷◌, arith, drop, inl, inr, length}
+use Rattle.std.proofs.Common.{nat_lt, refl, sym, ap, take, ◌∙◌}
 use Rattle.std.proofs.lemmas.Bool.{and_parts, eqb-true, true≢false}
 use Rattle.std.specs.Prelude.{◌-◌, None}
 use Rattle.run_theory.proofs.EachSent.{each_drop, each_flat, each_mapped, each_take}
@@ -37,7 +38,8 @@ use Rattle.tc_block.specs.Phases.{is_aborting, is_decided}
 use Rattle.tc_block.specs.Resume.{anew_if, redriven, resume_by, resume_row}
 use Rattle.tc_block.specs.declared.task.Verdict.{Verdict}
 use Rattle.tc_block.specs.declared.task.Verdict.TheVariants.{AbortAnew, Fail, Redrive}
-use Rattle.tc_block.specs.Sends.{abort_of, aborts_of, entering, go_on_if, key_sends, front_sends, phase_sends, wait_of, waits_of}
+use Rattle.tc_block.specs.Sends.{abort_of, aborts_of, entering, go_on_if, key_sends, front_sends, phase_sends, wait_of}
+use Rattle.tc_block.specs.Sends.{waits_of}
 use Rattle.tc_block.specs.Turn.{Turn, asking, at_phase, ending, going}
 use Rattle.tc_block.proofs.EachTurn.{AbortForms, TurnFormsAt, ready_is}
 use Rattle.outcome_laws.proofs.coordinators.Steps.{ResumeForms, resumes}

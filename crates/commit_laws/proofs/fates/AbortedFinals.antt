@@ -32,10 +32,12 @@ use Rattle.commit_laws.proofs.fates.Committed.{IsCalm, decided_calm}
 use Rattle.commit_laws.proofs.forth.DecidedStay.{decided_more, forth_decided, ops_same}
 use Rattle.commit_laws.proofs.fates.Cases.{not_both}
 use Rattle.commit_laws.proofs.views.AtEvents.{led_was}
-use Rattle.commit_laws.proofs.fates.FinalsForth.{HasFinalEntry, IsFinalBy, by_report, by_write, final_by, finals_are_forth}
+use Rattle.commit_laws.proofs.fates.FinalsForth.{HasFinalEntry, IsFinalBy, by_report, by_write, final_by}
+use Rattle.commit_laws.proofs.fates.FinalsForth.{finals_are_forth}
 use Rattle.commit_laws.proofs.forth.All.{forth_is_known}
 use Rattle.commit_laws.proofs.fates.Decided.{DecidesNow, decides_now, rows_same}
-use Rattle.commit_laws.proofs.records.KeyGoes.{RecordGoes, is_aborted, is_committed, is_completed, key_goes, record_stays}
+use Rattle.commit_laws.proofs.records.KeyGoes.{RecordGoes, is_aborted, is_committed, is_completed, key_goes}
+use Rattle.commit_laws.proofs.records.KeyGoes.{record_stays}
 use Rattle.commit_laws.proofs.led.Applied.{HasEntryOf, any_filtered, entry_of_decided}
 use Rattle.commit_laws.proofs.led.Entries.{entries_final}
 use Rattle.commit_laws.proofs.led.Owed.{finals_are_decided_now, finals_are_spared, finals_go_forward}

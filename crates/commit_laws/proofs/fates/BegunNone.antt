@@ -14,12 +14,11 @@ use Rattle.sig_core.specs.Same.{same_tx}
 use Rattle.sig_core.proofs.TxLemmas.{same_tx-is}
 use Rattle.tc_block.specs.Operate.{fresh}
 use Rattle.node_core.specs.Fresh.{own_rows}
-use Rattle.node_views.specs.declared.host.Host as node
+use Rattle.node_views.specs.declared.host_body.HostBody as node
 use Rattle.key_laws.specs.Records.{found, without_epoch}
 use Rattle.key_laws.specs.Replica.{at_key}
 use Rattle.world_core.specs.Start.{Start, made}
 use Rattle.world_core.specs.Steps.{HostStep}
-use Rattle.world_views.specs.Hosts.{epoch_before}
 use Rattle.world_views.specs.Machine.{machine}
 use Rattle.moment_laws.specs.Moments.{IsMoment, logs_of}
 use Rattle.moment_laws.specs.Places.{ldm_of, tc_of}
@@ -42,7 +41,7 @@ pub first_none : (start : Start) (member : Member) (key : List ℕ) (tx : TxId)
     → found tx (at_key key (first_rows start member).lqh).cell.pending ≡ None
 first_none start member key tx =
     ap (λ (xs : List PendingRecord). found tx (map without_epoch (filter (is_on key) xs)))
-    (none_put no_rows (own_rows start.shape member.node start.rows) (epoch_before start.epoch) refl)
+    (none_put no_rows (own_rows start.shape member.node start.rows) start.start_epoch refl)
 
 module _ (start : Start) (all : ℕ → List HostStep) (tx : TxId) (there : IsIn (coordinator_member tx) (made start))
   where
@@ -71,7 +70,7 @@ module _ (start : Start) (all : ℕ → List HostStep) (tx : TxId) (there : IsIn
     pub unborn_none : (es : List HostStep) → IsMoment start all es → IsUnborn start tx there (logs_of start es h)
         → (m : Member) → IsIn m (made start) → (key : List ℕ) → record_at start (logs_of start es) m key tx ≡ None
     unborn_none [] moment unborn m among key =
-        ap (λ (s : node.Host). found tx (at_key key (rows_in (no_replica start m) s.parts).lqh).cell.pending)
+        ap (λ (s : node.HostBody). found tx (at_key key (rows_in (no_replica start m) s.parts).lqh).cell.pending)
         (ldm_started start m among) ∙ first_none start m key tx
     unborn_none (e ∷ es) moment unborn m among key =
         by (unborn_none es (moment_less start all e es moment) before m among key)

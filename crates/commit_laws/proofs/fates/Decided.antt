@@ -1,6 +1,7 @@
 -- Transactions that are decided and don't abort: nothing more is asked for them; they were so before, unless they are
 -- decided by the event, and then each key is settled.
-use Rattle.std.proofs.Common.{◌≡◌, ◌≢◌, ◌≤◌, ◌⊎◌, ◌||◌, ◌&&◌, ◌∙◌, ℕ, Bool, true, false, List, ◌∷◌, refl, sym, ap, subst, arith, inl, inr}
+use Rattle.std.proofs.Common.{◌≡◌, ◌≢◌, ◌≤◌, ◌⊎◌, ◌||◌, ◌&&◌, ◌∙◌, ℕ, Bool, true, false, List, ◌∷◌, refl, sym, ap}
+use Rattle.std.proofs.Common.{subst, arith, inl, inr}
 use Rattle.std.proofs.lemmas.Bool.{and_parts, or_cases, true≢false}
 use Rattle.std.specs.Prelude.{not}
 use Rattle.std.specs.List.{list_any}
@@ -37,7 +38,8 @@ use Rattle.commit_laws.specs.Forth.{ForthIsKnownAlways, IsForth}
 use Rattle.commit_laws.specs.Going.{is_back, is_decided, is_forth, is_lost, own_coordinator}
 use Rattle.commit_laws.specs.Settled.{IsDecidedNow}
 use Rattle.commit_laws.specs.Together.{FatesMove}
-use Rattle.commit_laws.specs.Traces.{has_sent, has_trace, is_acknowledgement, is_committed_of, is_known, is_marker_of, leave_trace, members_now, rows_at}
+use Rattle.commit_laws.specs.Traces.{has_sent, has_trace, is_acknowledgement, is_committed_of, is_known, is_marker_of}
+use Rattle.commit_laws.specs.Traces.{leave_trace, members_now, rows_at}
 use Rattle.commit_laws.proofs.fates.Committed.{IsCalm, decided_calm, decided_made, decision_in, forth_calm}
 use Rattle.commit_laws.proofs.forth.DecidedStay.{forth_decided}
 use Rattle.commit_laws.proofs.fates.LostStays.{lost_stay}

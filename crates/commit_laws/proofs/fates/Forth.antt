@@ -22,7 +22,8 @@ use Rattle.commit_laws.specs.Forth.{ForthIsKnown, IsForth}
 use Rattle.commit_laws.specs.Going.{is_decided, is_forth, is_lost}
 use Rattle.commit_laws.specs.Takeovers.{IsOrphan}
 use Rattle.commit_laws.specs.Together.{FatesMove}
-use Rattle.commit_laws.specs.Traces.{has_trace, is_committed_of, is_known, is_marker_of, leave_trace, members_now, rows_at}
+use Rattle.commit_laws.specs.Traces.{has_trace, is_committed_of, is_known, is_marker_of, leave_trace, members_now}
+use Rattle.commit_laws.specs.Traces.{rows_at}
 use Rattle.commit_laws.proofs.forth.DecidedStay.{forth_decided, unknown_before, written_before, written_more}
 use Rattle.commit_laws.proofs.fates.Cases.{commits_by, gone_either}
 use Rattle.commit_laws.proofs.forth.All.{forth_is_known}

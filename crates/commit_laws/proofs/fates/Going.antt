@@ -1,7 +1,8 @@
 -- What is so of a transaction that goes on: it went no way, nobody aborts it; and where no part of its operation on
 -- a key is at
 -- rows, what these do on the key isn't of it.
-use Rattle.std.proofs.Common.{◌≡◌, ◌⊎◌, ◌==◌, ◌∙◌, ℕ, Bool, true, false, cond, filter, List, [], ◌∷◌, refl, sym, ap, subst, inl, inr}
+use Rattle.std.proofs.Common.{◌≡◌, ◌⊎◌, ◌==◌, ◌∙◌, ℕ, Bool, true, false, cond, filter, List, [], ◌∷◌, refl, sym, ap}
+use Rattle.std.proofs.Common.{subst, inl, inr}
 use Rattle.std.proofs.lemmas.Bool.{true≢false}
 use Rattle.std.specs.Prelude.{if◌then◌else◌, is_some, Option, None, Some}
 use Rattle.run_theory.specs.Lists.{Each, IsIn}
@@ -29,7 +30,9 @@ use Rattle.lqh_block.specs.Operate.{is_granted}
 use Rattle.lqh_block.specs.State.{storage_of}
 use Rattle.lqh_block.specs.Views.{was_begun_by}
 use Rattle.lqh_views.specs.State.{ReplicaState}
-use Rattle.key_laws.specs.Replica.{Event, Replica, aborts as gives_up, asks, asks_for, at_key, commits as makes_so, completes as ends, event_at, expires, expires_if, if_on, is_let_in, is_refused, rests, serves, serves_if}
+use Rattle.key_laws.specs.Replica.{Event, Replica, aborts as gives_up, asks, asks_for, at_key, commits as makes_so}
+use Rattle.key_laws.specs.Replica.{completes as ends, event_at, expires, expires_if, if_on, is_let_in, is_refused}
+use Rattle.key_laws.specs.Replica.{rests, serves, serves_if}
 use Rattle.key_laws.proofs.Waiting.{each-first_item}
 use Rattle.host_laws.proofs.coordinator.OfLive.{each_found}
 use Rattle.run_laws.proofs.circle.OthersStay.{is_of, of_first}

@@ -1,5 +1,6 @@
 -- Whom a step of a coordinator leaves doomed.
-use Rattle.std.proofs.Common.{◌≡◌, ◌⊎◌, ◌∙◌, ◌||◌, ◌&&◌, ◌++◌, ◌==◌, nat_lt, ℕ, Bool, true, false, cond, position, List, [], ◌∷◌, refl, sym, ap, subst, inl, inr}
+use Rattle.std.proofs.Common.{◌≡◌, ◌⊎◌, ◌∙◌, ◌||◌, ◌&&◌, ◌++◌, ◌==◌, nat_lt, ℕ, Bool, true, false, cond, position, List}
+use Rattle.std.proofs.Common.{[], ◌∷◌, refl, sym, ap, subst, inl, inr}
 use Rattle.std.proofs.lemmas.Bool.{true≢false}
 use Rattle.std.specs.List.{list_any}
 use Rattle.std.specs.Map.{keys_of}

@@ -1,5 +1,6 @@
 -- Whoever is lost at its coordinator is so for ever.
-use Rattle.std.proofs.Common.{◌≡◌, ◌≢◌, ◌⊎◌, ◌∙◌, ◌++◌, ◌||◌, ◌&&◌, ℕ, Bool, true, false, not, List, [], ◌∷◌, refl, sym, ap, subst, inl, inr}
+use Rattle.std.proofs.Common.{◌≡◌, ◌≢◌, ◌⊎◌, ◌∙◌, ◌++◌, ◌||◌, ◌&&◌, ℕ, Bool, true, false, not, List, [], ◌∷◌, refl, sym}
+use Rattle.std.proofs.Common.{ap, subst, inl, inr}
 use Rattle.std.proofs.lemmas.Bool.{and_parts, true≢false, or_right}
 use Rattle.std.specs.Prelude.{if◌then◌else◌, Option, None, Some}
 use Rattle.run_theory.specs.Lists.{IsIn}
@@ -28,7 +29,7 @@ use Rattle.tc_block.specs.Turn.{Turn}
 use Rattle.tc_views.specs.Coordinator.{fresh_coordinator}
 use Rattle.tc_views.specs.State.{CoordinatorState}
 use Rattle.tc_views.specs.Views.{install_row}
-use Rattle.node_views.specs.declared.host.Host as hosts
+use Rattle.node_views.specs.declared.host_body.HostBody as hosts
 use Rattle.node_views.specs.declared.parts.Parts.TheVariants as part
 use Rattle.node_views.specs.declared.tc_part.TcPart.{TcPart}
 use Rattle.node_views.specs.Parts.{tc_row}
@@ -43,7 +44,8 @@ use Rattle.outcome_laws.specs.Counts.{IsCoordinatorOf, coordinator_member}
 use Rattle.outcome_laws.proofs.coordinators.Lists.{keys_once}
 use Rattle.request_laws.specs.Blocks.{coordinator_after, coordinator_in}
 use Rattle.request_laws.specs.Ways.{entry_of, has_gone_back, has_gone_forth, is_at, is_sent, tells_abort, tells_commit}
-use Rattle.request_laws.proofs.phases.AlongLogs.{IsRun, coordinator_comes, coordinator_first, coordinator_is, runs_tc, told_some}
+use Rattle.request_laws.proofs.phases.AlongLogs.{IsRun, coordinator_comes, coordinator_first, coordinator_is, runs_tc}
+use Rattle.request_laws.proofs.phases.AlongLogs.{told_some}
 use Rattle.request_laws.proofs.phases.GoneWays.{gone_nowhere, gone_same, gone_stays, gone_told}
 use Rattle.request_laws.proofs.phases.HostSteps as goes
 use Rattle.request_laws.proofs.phases.HostSteps.{Goes, IsEntered, tc_goes}
@@ -53,7 +55,8 @@ use Rattle.request_laws.proofs.phases.TurnSends.{AreSpared, IsSpared}
 use Rattle.request_laws.proofs.phases.Turns as turns
 use Rattle.request_laws.proofs.phases.Turns.{Changes, IsStill}
 use Rattle.request_laws.proofs.phases.Steps.{left_of}
-use Rattle.request_laws.proofs.phases.OneWay.{WaySays, goes_one_way, sent_before, sent_behind, at_decided, at_aborting, is_decided_as, aborting_not_decided}
+use Rattle.request_laws.proofs.phases.OneWay.{WaySays, goes_one_way, sent_before, sent_behind, at_decided, at_aborting}
+use Rattle.request_laws.proofs.phases.OneWay.{is_decided_as, aborting_not_decided}
 use Rattle.commit_laws.specs.Lost.{LostStay}
 use Rattle.commit_laws.proofs.fates.LostDoomed.{Dooms, IsPromise, IsThere, IsUndecidedThere, row_dooms, takes_no_epoch}
 
@@ -168,7 +171,7 @@ module _ (start : Start) (member : Member) (there : IsIn member (made start)) (t
     -- the coordinator behind the event is that of the part that the step leaves
     now_is : (p : TcPart) → (step_after start h log e).state.parts ≡ part.Tc p → c (e ∷ log) ≡ p.coordinator
     now_is p is =
-        ap (λ (s : hosts.Host). coordinator_in (fresh_coordinator member.node member.start (first_layout start.shape))
+        ap (λ (s : hosts.HostBody). coordinator_in (fresh_coordinator member.node member.start (first_layout start.shape))
         s.parts)
         (told_some h (part_some start Tc member) (step_after start h log e))
         ∙ ap (coordinator_in (fresh_coordinator member.node member.start (first_layout start.shape))) is

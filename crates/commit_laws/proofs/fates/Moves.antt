@@ -1,5 +1,6 @@
 -- How an event moves what becomes of a transaction.
-use Rattle.std.proofs.Common.{◌≡◌, ◌⊎◌, ◌∙◌, ◌||◌, ◌&&◌, ◌≤◌, ◌++◌, ℕ, Bool, true, false, not, List, ◌∷◌, refl, sym, ap, subst, inl, inr, arith}
+use Rattle.std.proofs.Common.{◌≡◌, ◌⊎◌, ◌∙◌, ◌||◌, ◌&&◌, ◌≤◌, ◌++◌, ℕ, Bool, true, false, not, List, ◌∷◌, refl, sym, ap}
+use Rattle.std.proofs.Common.{subst, inl, inr, arith}
 use Rattle.std.proofs.lemmas.Bool.{and_parts, eqb-true, true≢false, or_cases}
 use Rattle.std.specs.List.{list_any}
 use Rattle.std.specs.Prelude.{nat_eq}
@@ -31,8 +32,10 @@ use Rattle.commit_laws.specs.Forth.{IsForth}
 use Rattle.commit_laws.specs.Going.{is_forth, is_lost}
 use Rattle.commit_laws.specs.Speaks.{SaysCommit}
 use Rattle.commit_laws.specs.Together.{EventsMoveFates, Follows, KnownCommit}
-use Rattle.commit_laws.specs.Traces.{has_trace, is_committed_of, is_known, is_marker_of, leave_trace, members_now, rows_at}
-use Rattle.commit_laws.proofs.fates.Cases.{forth_commits, known_commits, lost_aborts, none_aborts, not_both, trace_commits}
+use Rattle.commit_laws.specs.Traces.{has_trace, is_committed_of, is_known, is_marker_of, leave_trace, members_now}
+use Rattle.commit_laws.specs.Traces.{rows_at}
+use Rattle.commit_laws.proofs.fates.Cases.{forth_commits, known_commits, lost_aborts, none_aborts, not_both}
+use Rattle.commit_laws.proofs.fates.Cases.{trace_commits}
 use Rattle.commit_laws.proofs.fates.Rows.{TakesCommit, trace_comes}
 use Rattle.commit_laws.proofs.views.AtEvents.{IsSome, any_of, led_was, member_was, members_made, some_of}
 use Rattle.commit_laws.proofs.forth.All.{forth_is_known}

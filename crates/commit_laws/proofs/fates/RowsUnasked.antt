@@ -31,7 +31,8 @@ use Rattle.request_laws.proofs.routes.All.{signals_are_routed}
 use Rattle.request_laws.proofs.routes.BesideRows.{is_of_rows}
 use Rattle.request_laws.proofs.routes.Headers.{chain_fenced, header_is, told_of}
 use Rattle.commit_laws.specs.Traces.{record_at, rows_at}
-use Rattle.commit_laws.proofs.records.KeyGoes.{KeyGoes, RecordGoes, idle_goes, is_aborted, is_committed, is_completed, record_stays}
+use Rattle.commit_laws.proofs.records.KeyGoes.{KeyGoes, RecordGoes, idle_goes, is_aborted, is_committed, is_completed}
+use Rattle.commit_laws.proofs.records.KeyGoes.{record_stays}
 use Rattle.commit_laws.proofs.records.Moves.{IsIdle, now_by}
 use Rattle.commit_laws.proofs.hosts.RowsTurn.{IsBetween, IsTakenAt, as_was, entered}
 

@@ -41,7 +41,8 @@ use Rattle.commit_laws.specs.Together.{FatesMove, Follows}
 use Rattle.commit_laws.proofs.fates.SpokenAside.{beside_speaks}
 use Rattle.commit_laws.proofs.fates.SpokenHost.{TakeoverGoes, tc_speaks}
 use Rattle.commit_laws.proofs.fates.SpokenRows.{Hears, rows_speak}
-use Rattle.commit_laws.proofs.fates.SpokenWords.{AreSpoken, IsSpoken, Speaks, abort_said, aborts_grow, both_said, commit_said, commits_grow, speaks_so}
+use Rattle.commit_laws.proofs.fates.SpokenWords.{AreSpoken, IsSpoken, Speaks, abort_said, aborts_grow, both_said}
+use Rattle.commit_laws.proofs.fates.SpokenWords.{commit_said, commits_grow, speaks_so}
 
 -- a signal of the current view, of a kind that fences stop, is taken only where that was the current view before
 module _ (start : Start) (all : ℕ → List HostStep) (e : HostStep) (es : List HostStep)

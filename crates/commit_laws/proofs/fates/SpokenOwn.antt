@@ -22,7 +22,8 @@ use Rattle.moment_laws.specs.Moments.{IsMoment, current, logs_of}
 use Rattle.moment_laws.specs.Places.{tc_of}
 use Rattle.outcome_laws.specs.Counts.{coordinator_member}
 use Rattle.request_laws.specs.Blocks.{coordinator_after}
-use Rattle.request_laws.specs.Ways.{entry_of, has_gone, has_gone_back, has_gone_forth, is_at, is_sent, tells_abort, tells_commit}
+use Rattle.request_laws.specs.Ways.{entry_of, has_gone, has_gone_back, has_gone_forth, is_at, is_sent, tells_abort}
+use Rattle.request_laws.specs.Ways.{tells_commit}
 use Rattle.request_laws.proofs.phases.GoneWays.{gone_here, gone_stays, gone_told}
 use Rattle.request_laws.proofs.phases.OneWay.{at_aborting, at_decided, goes_one_way}
 use Rattle.request_laws.proofs.orphans.ReportsOfOrphans.{coordinated}

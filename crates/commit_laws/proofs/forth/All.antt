@@ -1,6 +1,7 @@
 -- At each moment whoever knows that a transaction is committed knows of one that has gone forth; and the client's side
 -- has acknowledged each commit that rows are told to be acknowledged.
-use Rattle.std.proofs.Common.{◌≡◌, ◌≢◌, ◌⊎◌, ◌∙◌, ◌||◌, ◌%◌, ℕ, zero, suc, Bool, true, false, List, [], ◌∷◌, refl, sym, ap, subst, arith, inl, inr}
+use Rattle.std.proofs.Common.{◌≡◌, ◌≢◌, ◌⊎◌, ◌∙◌, ◌||◌, ◌%◌, ℕ, zero, suc, Bool, true, false, List, [], ◌∷◌, refl, sym}
+use Rattle.std.proofs.Common.{ap, subst, arith, inl, inr}
 use Rattle.std.proofs.lemmas.Bool.{true≢false}
 use Rattle.run_theory.proofs.Pasts.{each_from, each_in, each_map}
 use Rattle.run_theory.proofs.Runs.{log_of-other, log_of-own}
@@ -24,7 +25,7 @@ use Rattle.sig_core.proofs.TxLemmas.{same_tx-is}
 use Rattle.frag_map.specs.Layout.{first_layout}
 use Rattle.takeover_block.specs.State.{resting}
 use Rattle.node_core.specs.Fresh.{own_rows, with_rows}
-use Rattle.node_views.specs.declared.host.Host as node
+use Rattle.node_views.specs.declared.host_body.HostBody as node
 use Rattle.node_views.specs.declared.parts.Parts.{Parts}
 use Rattle.node_views.specs.declared.parts.Parts.TheVariants.{Ldm, Main, Shell, Tc}
 use Rattle.node_views.specs.Replies.{giving}
@@ -32,7 +33,7 @@ use Rattle.node_views.specs.WellFormed.{is_well_formed}
 use Rattle.world_core.specs.Hosts.{member_at, part_by}
 use Rattle.world_core.specs.Start.{Start, made}
 use Rattle.world_core.specs.Steps.{Addressed, HostStep}
-use Rattle.world_views.specs.Hosts.{epoch_before, part_started, started}
+use Rattle.world_views.specs.Hosts.{part_started, started}
 use Rattle.world_views.specs.Machine.{IsOwnWork, after, machine, signals_of, step_after, step_by, told}
 use Rattle.world_views.proofs.FreshBodies.{none_pending}
 use Rattle.view_laws.specs.Order.{is_sound, sound_machine}
@@ -57,7 +58,8 @@ use Rattle.commit_laws.specs.Traces.{has_sent, is_acknowledgement, is_known}
 use Rattle.commit_laws.proofs.forth.Gone.{PartsKnow, SaysForth, tc_forth}
 use Rattle.commit_laws.proofs.forth.Grows.{forth_grows, known_grows}
 use Rattle.commit_laws.proofs.forth.Parts.{Fits, SpeakIn, step_speaks, told_fit}
-use Rattle.commit_laws.proofs.forth.Speaks.{Anyone, AreSpoken, Of, Speaks, rows_grow, speaks_grow, takeover_grows, tells_forth}
+use Rattle.commit_laws.proofs.forth.Speaks.{Anyone, AreSpoken, Of, Speaks, rows_grow, speaks_grow, takeover_grows}
+use Rattle.commit_laws.proofs.forth.Speaks.{tells_forth}
 use Rattle.commit_laws.proofs.hosts.SomePasses.{passed, passing}
 
 -- a signal of the hosts themselves
@@ -109,7 +111,7 @@ never_tc start h (e ∷ log) none =
     (step_keeps HasNoTc (AreSo (λ tx to. ⊥) (λ tx. ⊥)) (so_effects (λ tx to. ⊥) (λ tx. ⊥)) e.step.taken h
     (after start h log) (λ sound. others_so (λ tx to. ⊥) (λ tx. ⊥) e.step.taken) (never_tc start h log none)).0
   where
-    by : (k : ℕ) (t : Step node.Host) → HasNoTc t.state.parts → HasNoTc (told k t).parts
+    by : (k : ℕ) (t : Step node.HostBody) → HasNoTc t.state.parts → HasNoTc (told k t).parts
     by zero t none = given_none t.state.parts none
     by (suc k) t none = none
 
@@ -166,9 +168,9 @@ module _ (start : Start) where
           by (suc zero) = record { gathered = tt; first = tt }
           by (suc (suc left)) =
               let member = member_at (made start) (suc k) in
-              let rows = with_rows no_rows (own_rows start.shape member.node start.rows) (epoch_before start.epoch) in
+              let rows = with_rows no_rows (own_rows start.shape member.node start.rows) start.start_epoch in
               let none : rows.pending ≡ [] =
-              none_pending no_rows (own_rows start.shape member.node start.rows) (epoch_before start.epoch) in
+              none_pending no_rows (own_rows start.shape member.node start.rows) start.start_epoch in
               record {
                 records = subst (Each (λ (r : PendingRecord). IsDecidedIf (Of F) Anyone r r.committed)) (sym none) tt;
                 markers = tt;
@@ -192,7 +194,7 @@ module _ (start : Start) where
       abbrev x : Signal
       x = e.step.taken
 
-      abbrev s : node.Host
+      abbrev s : node.HostBody
       s = after start e.host (old e.host)
 
       abbrev sends : List Outgoing

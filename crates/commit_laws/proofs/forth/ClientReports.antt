@@ -1,7 +1,8 @@
 -- What the client's side does where it is told of a commit: it drops that, if the sender isn't in the view that it
 -- sees,
 -- and else acknowledges it, and reports it if the transaction is open.
-use Rattle.std.proofs.Common.{◌≡◌, ◌≤◌, ◌⊎◌, ◌∙◌, ◌||◌, ◌++◌, ◌-◌, ℕ, Bool, true, false, length, List, [], ◌∷◌, inl, inr, take, refl, ap, arith}
+use Rattle.std.proofs.Common.{◌≡◌, ◌≤◌, ◌⊎◌, ◌∙◌, ◌||◌, ◌++◌, ◌-◌, ℕ, Bool, true, false, length, List, [], ◌∷◌, inl}
+use Rattle.std.proofs.Common.{inr, take, refl, ap, arith}
 use Rattle.std.specs.List.{count_by}
 use Rattle.run_theory.specs.Counts.{one_if as tallied, tally}
 use Rattle.run_theory.specs.Lists.{IsIn}

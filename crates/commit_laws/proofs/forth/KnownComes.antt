@@ -1,6 +1,7 @@
 -- Whoever comes to be known to the client's side commits: a takeover tells of a commit that left traces, and
 -- coordinators are heard that are full members of the current view alone.
-use Rattle.std.proofs.Common.{◌≡◌, ◌≢◌, ◌⊎◌, ◌<◌, ◌||◌, ◌∙◌, ℕ, true, false, length, List, [], ◌∷◌, refl, sym, subst, arith, inl, inr}
+use Rattle.std.proofs.Common.{◌≡◌, ◌≢◌, ◌⊎◌, ◌<◌, ◌||◌, ◌∙◌, ℕ, true, false, length, List, [], ◌∷◌, refl, sym, subst}
+use Rattle.std.proofs.Common.{arith, inl, inr}
 use Rattle.std.proofs.lemmas.Bool.{or_cases, true≢false}
 use Rattle.std.specs.Prelude.{Option, None, Some}
 use Rattle.run_theory.specs.Lists.{IsIn}
@@ -32,7 +33,8 @@ use Rattle.commit_laws.specs.Fates.{commits, fate, is_led_by_full}
 use Rattle.commit_laws.specs.Forth.{IsForth, TellsForth}
 use Rattle.commit_laws.specs.Going.{is_forth, is_lost}
 use Rattle.commit_laws.specs.Together.{Follows, KnownCommit}
-use Rattle.commit_laws.specs.Traces.{IsCommittedAtAll, IsReplicaOf, has_marker_at, has_trace, is_acknowledgement, is_committed_by, is_known, members_now, record_at}
+use Rattle.commit_laws.specs.Traces.{IsCommittedAtAll, IsReplicaOf, has_marker_at, has_trace, is_acknowledgement}
+use Rattle.commit_laws.specs.Traces.{is_committed_by, is_known, members_now, record_at}
 use Rattle.commit_laws.proofs.commits.Step.{not_closing}
 use Rattle.commit_laws.proofs.gathering.EndsTold.{AreEnds, IsEnd, beside_ends}
 use Rattle.commit_laws.proofs.fates.Cases.{forth_commits}

@@ -21,7 +21,7 @@ use Rattle.sig_core.proofs.TxLemmas.{same_tx-is}
 use Rattle.api_views.specs.Client.{client_row}
 use Rattle.arbiter_block.specs.Arbiter.{arbiter_row}
 use Rattle.node_views.specs.Blocks.{parts_entered, parts_row}
-use Rattle.node_views.specs.declared.host.Host as hosts
+use Rattle.node_views.specs.declared.host_body.HostBody as hosts
 use Rattle.node_views.specs.declared.parts.Parts.{Parts}
 use Rattle.node_views.specs.declared.parts.Parts.TheVariants.{Ldm, Main, Shell, Tc}
 use Rattle.node_views.specs.Parts.{shell_row}
@@ -105,14 +105,14 @@ module _ (x : Signal) (Well : Type 0) where
   entered_owed (Tc p) view shell = absurd shell
   entered_owed (Ldm p) view shell = absurd shell
 
-  pub shell_steps : (s : hosts.Host) → (is_well_formed s.standing.shape x ≡ true → Well) → IsShell s.parts
+  pub shell_steps : (s : hosts.HostBody) → (is_well_formed s.standing.shape x ≡ true → Well) → IsShell s.parts
       → IsShell (step_by 0 s x).state.parts × AreOwed (step_by 0 s x).effects
   shell_steps s well shell =
       step_keeps IsShell AreOwed owed_effects x 0 s
       (λ sound. record { row = row_owed (well sound); enters = entered_owed }) shell
 
 module _ (start : Start) where
-  given_shell : (t : Step hosts.Host) → IsShell t.state.parts → IsShell (told 0 t).parts
+  given_shell : (t : Step hosts.HostBody) → IsShell t.state.parts → IsShell (told 0 t).parts
   given_shell t = by t.state.parts
     where
       by : (parts : Parts) → IsShell parts → IsShell (giving parts [])

@@ -17,7 +17,7 @@ use Rattle.arbiter_block.specs.Arbiter.{arbiter_row}
 use Rattle.gcp_master.specs.Master.{master_row}
 use Rattle.qmgr_block.specs.Qmgr.{qmgr_installed, qmgr_row}
 use Rattle.node_views.specs.Blocks.{parts_entered, parts_row}
-use Rattle.node_views.specs.declared.host.Host as hosts
+use Rattle.node_views.specs.declared.host_body.HostBody as hosts
 use Rattle.node_views.specs.declared.ldm_part.LdmPart.{LdmPart}
 use Rattle.node_views.specs.declared.main_part.MainPart.{MainPart}
 use Rattle.node_views.specs.declared.parts.Parts.{Parts}
@@ -125,7 +125,7 @@ module _ (F A : TxId → Type 0) where
     kept = record { row = row_speaks; enters = entered_speaks }
 
   -- so it is of a step of such a host
-  pub step_speaks : (h : ℕ) (s : hosts.Host) (x : Signal)
+  pub step_speaks : (h : ℕ) (s : hosts.HostBody) (x : Signal)
       → (is_well_formed s.standing.shape x ≡ true → Speaks F A x.body) → Fits s.parts
       → Fits (step_by h s x).state.parts × SpeakIn (step_by h s x).effects
   step_speaks h s x spoken fits = step_keeps Fits SpeakIn of_effects x h s (λ sound. kept x (spoken sound)) fits
@@ -137,6 +137,6 @@ module _ (F A : TxId → Type 0) where
   given_fit (Tc p) fits = absurd fits
   given_fit (Ldm p) fits = fits
 
-  pub told_fit : (h : ℕ) (t : Step hosts.Host) → Fits t.state.parts → Fits (told h t).parts
+  pub told_fit : (h : ℕ) (t : Step hosts.HostBody) → Fits t.state.parts → Fits (told h t).parts
   told_fit zero t fits = given_fit t.state.parts fits
   told_fit (suc h) t fits = fits

@@ -25,7 +25,8 @@ use Rattle.outcome_laws.proofs.coordinators.BeginsAndAsks.{coordinator_of_instal
 use Rattle.request_laws.specs.Ways.{entry_of, is_at, is_sent, tells_commit}
 use Rattle.request_laws.proofs.phases.Steps.{install_leaves}
 use Rattle.request_laws.proofs.phases.OneWay.{sent_behind}
-use Rattle.commit_laws.proofs.forth.Coordinator.{GoesForth, ShowsForth, before_it, behind_it, coordinator_installs_speak, coordinator_speaks, tells_it}
+use Rattle.commit_laws.proofs.forth.Coordinator.{GoesForth, ShowsForth, before_it, behind_it}
+use Rattle.commit_laws.proofs.forth.Coordinator.{coordinator_installs_speak, coordinator_speaks, tells_it}
 use Rattle.commit_laws.proofs.forth.Epochs.{dih_installs_speak, dih_speaks}
 use Rattle.commit_laws.proofs.forth.Speaks.{Anyone, AreSpoken, Of, Speaks}
 use Rattle.commit_laws.proofs.forth.Takeover.{takeover_learns, takeover_speaks}

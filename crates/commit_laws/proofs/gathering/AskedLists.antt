@@ -1,5 +1,6 @@
 -- A takeover's list of asks for reports: the rows of each node are asked once, and eight of them at once.
-use Rattle.std.proofs.Common.{◌≡◌, ◌≢◌, ◌≤◌, ◌⊎◌, ◌+◌, ◌==◌, ◌&&◌, ◌∙◌, ℕ, Bool, true, false, not, List, [], ◌∷◌, drop, inl, inr, length, map, nat_lt, refl, sym, ap, arith, take}
+use Rattle.std.proofs.Common.{◌≡◌, ◌≢◌, ◌≤◌, ◌⊎◌, ◌+◌, ◌==◌, ◌&&◌, ◌∙◌, ℕ, Bool, true, false, not, List, [], ◌∷◌, drop}
+use Rattle.std.proofs.Common.{inl, inr, length, map, nat_lt, refl, sym, ap, arith, take}
 use Rattle.std.proofs.lemmas.Bool.{eqb-true, true≢false}
 use Rattle.std.proofs.lemmas.Bool.Decides.{nat_tests}
 use Rattle.std.specs.List.{count_by, flat_map}
@@ -23,7 +24,8 @@ use Rattle.takeover_block.specs.declared.gathered.Gathered.{Gathered}
 use Rattle.takeover_block.specs.declared.stage.Stage.{Stage}
 use Rattle.takeover_block.specs.declared.stage.Stage.TheVariants.{Aborting, Committing, Completing, Gathering, Resting}
 use Rattle.takeover_block.specs.Rule.{entering, finishing, ruling, ruling_by, way_by, way_of}
-use Rattle.takeover_block.specs.Sends.{abort_at, ask_effects, ask_left, ask_of, asks_of, front_sends, key_sends, key_sends_along, left_if, stage_effects, stage_sends}
+use Rattle.takeover_block.specs.Sends.{abort_at, ask_effects, ask_left, ask_of, asks_of, front_sends, key_sends}
+use Rattle.takeover_block.specs.Sends.{key_sends_along, left_if, stage_effects, stage_sends}
 use Rattle.takeover_block.specs.State.{TakeoverState, with_gathered}
 use Rattle.takeover_block.proofs.EachTakeover.{is_gathering}
 use Rattle.view_laws.specs.Sets.{AreApart, IsApart}

@@ -1,6 +1,7 @@
 -- In a view the takeover of a member asks the rows of each node once for each order at most, and while it gathers it
 -- awaits an end of each member but for those that it took: an event of its host keeps this.
-use Rattle.std.proofs.Common.{◌≡◌, ◌≢◌, ◌≤◌, ◌+◌, ◌⊎◌, ◌++◌, ◌∙◌, ℕ, Bool, true, false, List, [], ◌∷◌, inl, inr, refl, sym, ap, arith, subst}
+use Rattle.std.proofs.Common.{◌≡◌, ◌≢◌, ◌≤◌, ◌+◌, ◌⊎◌, ◌++◌, ◌∙◌, ℕ, Bool, true, false, List, [], ◌∷◌, inl, inr, refl}
+use Rattle.std.proofs.Common.{sym, ap, arith, subst}
 use Rattle.std.proofs.lemmas.Bool.{cases_eq, true≢false}
 use Rattle.run_theory.specs.Lists.{IsIn}
 use Rattle.commit_laws.proofs.hosts.PartEach.{between_so}
@@ -26,7 +27,7 @@ use Rattle.takeover_block.specs.Takeover.{takeover_row}
 use Rattle.takeover_block.proofs.EachTakeover.{is_gathering}
 use Rattle.dih_node.specs.Dih.{dih_row}
 use Rattle.tc_views.specs.Coordinator.{coordinator_row}
-use Rattle.node_views.specs.declared.host.Host as hosts_of
+use Rattle.node_views.specs.declared.host_body.HostBody as hosts_of
 use Rattle.node_views.specs.declared.parts.Parts.TheVariants as part
 use Rattle.node_views.specs.declared.tc_part.TcPart.{TcPart}
 use Rattle.node_views.specs.Fence.{is_body_fenced}
@@ -62,7 +63,8 @@ use Rattle.commit_laws.proofs.gathering.AskedTakeover.{Stands, off_stands, takes
 use Rattle.commit_laws.proofs.drive.Idle.{idle_stays}
 use Rattle.commit_laws.proofs.drive.Kinds.{numbered}
 use Rattle.commit_laws.proofs.drive.Ruled.{OrdersAreOnce, is_order}
-use Rattle.commit_laws.proofs.gathering.Words.{aside_none, asked_in, asks_at, coordinator_none, none_asks, tc_enters_none}
+use Rattle.commit_laws.proofs.gathering.Words.{aside_none, asked_in, asks_at, coordinator_none, none_asks}
+use Rattle.commit_laws.proofs.gathering.Words.{tc_enters_none}
 use Rattle.commit_laws.proofs.orders.Sent.{sent_few}
 
 module _ (start : Start) (me : Member) (node number k : ℕ) where
@@ -93,7 +95,7 @@ asked_first start me there node number k = record {
   now = λ same.
       subst (StandsAsked start me node number k [])
       (sym
-      (ap (λ (s : hosts_of.Host). takeover_in (resting me.node (first_layout start.shape)) s.parts)
+      (ap (λ (s : hosts_of.HostBody). takeover_in (resting me.node (first_layout start.shape)) s.parts)
       (tc_started start me there)))
       (record { stands = off_stands node _ 0 0 refl; idle = λ none. refl });
 }

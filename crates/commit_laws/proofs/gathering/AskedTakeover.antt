@@ -1,7 +1,8 @@
 -- While a takeover gathers it has asked no more than the first ones of its list, and awaits an end of each member but
 -- for
 -- those that were taken: each of its steps keeps this.
-use Rattle.std.proofs.Common.{◌≡◌, ◌≤◌, ◌⊎◌, ◌+◌, ◌==◌, ◌&&◌, ◌∙◌, ℕ, true, false, List, [], inl, inr, nat_lt, refl, sym, ap, arith, take}
+use Rattle.std.proofs.Common.{◌≡◌, ◌≤◌, ◌⊎◌, ◌+◌, ◌==◌, ◌&&◌, ◌∙◌, ℕ, true, false, List, [], inl, inr, nat_lt, refl}
+use Rattle.std.proofs.Common.{sym, ap, arith, take}
 use Rattle.std.proofs.lemmas.Bool.{and_parts, eqb-true, ltb-true, true≢false}
 use Rattle.std.specs.Prelude.{◌-◌}
 use Rattle.sig_core.specs.declared.outs.Outgoing.{Outgoing}
@@ -20,7 +21,8 @@ use Rattle.takeover_block.specs.Sends.{ask_effects, ask_left, asks_of}
 use Rattle.takeover_block.specs.State.{TakeoverState}
 use Rattle.takeover_block.specs.Takeover.{takeover_row}
 use Rattle.takeover_block.proofs.EachTakeover.{is_gathering, takeover_each}
-use Rattle.commit_laws.proofs.gathering.AskedLists.{Leaves, counted, enters_leaves, finishes_leave, left_so, none_counted, part_few, rules_leave, stage_asks_none}
+use Rattle.commit_laws.proofs.gathering.AskedLists.{Leaves, counted, enters_leaves, finishes_leave, left_so}
+use Rattle.commit_laws.proofs.gathering.AskedLists.{none_counted, part_few, rules_leave, stage_asks_none}
 
 module _ (node : ℕ) where
   -- of the first ones of the list as many were sent, and what is left begins behind these

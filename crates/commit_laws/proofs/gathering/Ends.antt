@@ -1,5 +1,6 @@
 -- At each moment, in each view, the rows of a member ended a report once at most, and only those of a full one did.
-use Rattle.std.proofs.Common.{◌≡◌, ◌≢◌, ◌≤◌, ◌<◌, ◌+◌, ◌⊎◌, ◌==◌, ◌&&◌, ◌∙◌, ℕ, Bool, true, false, List, [], ◌∷◌, eq-eqb, inl, inr, refl, sym, ap, arith, subst}
+use Rattle.std.proofs.Common.{◌≡◌, ◌≢◌, ◌≤◌, ◌<◌, ◌+◌, ◌⊎◌, ◌==◌, ◌&&◌, ◌∙◌, ℕ, Bool, true, false, List, [], ◌∷◌}
+use Rattle.std.proofs.Common.{eq-eqb, inl, inr, refl, sym, ap, arith, subst}
 use Rattle.std.proofs.lemmas.Bool.{cases_eq, true≢false}
 use Rattle.std.proofs.lemmas.Bool.Decides.{nat_tests}
 use Rattle.std.specs.Prelude.{if◌then◌else◌}
@@ -19,7 +20,7 @@ use Rattle.sig_core.specs.declared.view.View.{View}
 use Rattle.lqh_views.specs.Replica.{replica_row}
 use Rattle.lqh_views.specs.State.{ReplicaState}
 use Rattle.lqh_views.specs.WholeReports.{asks, ends}
-use Rattle.node_views.specs.declared.host.Host as hosts_of
+use Rattle.node_views.specs.declared.host_body.HostBody as hosts_of
 use Rattle.node_views.specs.Fence.{is_body_fenced}
 use Rattle.world_core.specs.Hosts.{hosts}
 use Rattle.world_core.specs.Start.{Start, made}
@@ -55,7 +56,8 @@ use Rattle.commit_laws.proofs.drive.Moments.{along_other, along_own}
 use Rattle.commit_laws.proofs.gathering.EndsReport.{rows_end, under_way}
 use Rattle.commit_laws.proofs.gathering.Words.{asked_in}
 use Rattle.commit_laws.proofs.orders.Unseen.{unseen_none}
-use Rattle.commit_laws.proofs.hosts.RowsTurn.{IsBetween, IsTakenAt, RowsTurn, as_was, enter_now, entered, rest_now, rows_turn, take_now}
+use Rattle.commit_laws.proofs.hosts.RowsTurn.{IsBetween, IsTakenAt, RowsTurn, as_was, enter_now, entered, rest_now}
+use Rattle.commit_laws.proofs.hosts.RowsTurn.{rows_turn, take_now}
 
 plain_ask : (body : Body) → asks body ≡ true
     → (is_own_work body ≡ false) × ((y : Signal) → is_body_fenced y body ≡ true)
@@ -106,7 +108,7 @@ module _ (start : Start) (all : ℕ → List HostStep) (member : Member) (there 
       where
         none : under_way (rows_at start (logs_of start []) member) ≡ 0
         none =
-            ap (λ (s : hosts_of.Host). under_way (rows_in (no_replica start member) s.parts))
+            ap (λ (s : hosts_of.HostBody). under_way (rows_in (no_replica start member) s.parts))
             (ldm_started start member there)
 
     module _ (e : HostStep) (es : List HostStep) (moment : IsMoment start all (e ∷ es)) (before : Few es) where

@@ -1,6 +1,7 @@
 -- In front of each end that the rows of a full member sent to a takeover they told of each record and marker of orphans
 -- that they have when the last member ends: these neither came nor changed since the report began, so it told of each.
-use Rattle.std.proofs.Common.{◌≡◌, ◌∙◌, ◌&&◌, ◌||◌, ◌++◌, ℕ, Bool, true, false, cond, filter, map, List, [], ◌∷◌, refl, sym, ap, subst}
+use Rattle.std.proofs.Common.{◌≡◌, ◌∙◌, ◌&&◌, ◌||◌, ◌++◌, ℕ, Bool, true, false, cond, filter, map, List, [], ◌∷◌, refl}
+use Rattle.std.proofs.Common.{sym, ap, subst}
 use Rattle.std.specs.Prelude.{if◌then◌else◌, is_some, Some}
 use Rattle.std.specs.List.{list_any}
 use Rattle.run_theory.specs.Links.{sent}

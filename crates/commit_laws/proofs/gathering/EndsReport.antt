@@ -11,7 +11,8 @@ use Rattle.sig_core.specs.Step.{Step}
 use Rattle.lqh_block.specs.declared.request.Marker.{Marker}
 use Rattle.lqh_views.specs.declared.report.Report.{Report}
 use Rattle.lqh_views.specs.Replica.{replica_by, replica_row}
-use Rattle.lqh_views.specs.Report.{is_orphaned_marker, is_orphaned_record, last_before, marker_by, record_by, reporting, telling, told_record_if}
+use Rattle.lqh_views.specs.Report.{is_orphaned_marker, is_orphaned_record, last_before, marker_by, record_by, reporting}
+use Rattle.lqh_views.specs.Report.{telling, told_record_if}
 use Rattle.lqh_views.specs.State.{ReplicaState}
 use Rattle.lqh_views.specs.WholeReports.{asks, ends, whole}
 use Rattle.lqh_views.proofs.ReportSteps.{GoesOn, Rests, step_kind}

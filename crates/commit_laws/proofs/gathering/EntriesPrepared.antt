@@ -26,7 +26,7 @@ use Rattle.takeover_block.specs.State.{TakeoverState, resting, with_gathered}
 use Rattle.takeover_block.specs.Takeover.{takeover_row}
 use Rattle.takeover_block.proofs.EachTakeover.{is_gathering, takeover_each}
 use Rattle.takeover_block.proofs.NotedLemmas.{IsMore, IsNew, noted_is}
-use Rattle.node_views.specs.declared.host.Host as hosts_of
+use Rattle.node_views.specs.declared.host_body.HostBody as hosts_of
 use Rattle.node_views.specs.declared.parts.Parts.TheVariants as part
 use Rattle.node_views.specs.declared.tc_part.TcPart.{TcPart}
 use Rattle.node_views.specs.Parts.{tc_row}
@@ -51,7 +51,8 @@ use Rattle.commit_laws.specs.Gathering.{EndsGathering, IsPreparedSomewhere}
 use Rattle.commit_laws.specs.Ruling.{NoneRuled}
 use Rattle.commit_laws.specs.Takeovers.{IsOrphan, takeover_at}
 use Rattle.commit_laws.proofs.gathering.Alone.{none_ruled}
-use Rattle.commit_laws.proofs.gathering.PreparedTold.{IsPreparedIf, TellsPrepared, none_before, prepared_stays, prepared_told}
+use Rattle.commit_laws.proofs.gathering.PreparedTold.{IsPreparedIf, TellsPrepared, none_before, prepared_stays}
+use Rattle.commit_laws.proofs.gathering.PreparedTold.{prepared_told}
 use Rattle.commit_laws.proofs.fates.SpokenEvents.{fenced_keeps}
 use Rattle.commit_laws.proofs.takeover.Reports.{Fated}
 use Rattle.commit_laws.proofs.orders.Together.{orders_once}
@@ -278,7 +279,7 @@ module _ (start : Start) (all : ℕ → List HostStep) (tx : TxId) (member : Mem
     are_prepared : (es : List HostStep) → IsMoment start all es → ArePrepared es
     are_prepared [] moment = λ none orphan stands.
         subst (SayAt tx (IsPreparedSomewhere start (logs_of start []) tx))
-        (sym (ap (λ (s : hosts_of.Host). takeover_in (resting member.node (first_layout start.shape)) s.parts)
+        (sym (ap (λ (s : hosts_of.HostBody). takeover_in (resting member.node (first_layout start.shape)) s.parts)
         (tc_started start member there)))
         (λ gathering. absurd (true≢false (sym gathering)))
     are_prepared (e ∷ es) moment = λ none orphan stands.

@@ -28,7 +28,8 @@ use Rattle.commit_laws.specs.Going.{is_forth, is_lost}
 use Rattle.commit_laws.specs.Reported.{GatheringsList, IsListed, IsSaid, aborted, known}
 use Rattle.commit_laws.specs.Takeovers.{IsOrphan, takeover_at}
 use Rattle.commit_laws.specs.Telling.{AllHaveEnded, EndsComeBehind, OrdersComeFirst, TellingsAreGathered}
-use Rattle.commit_laws.specs.Traces.{has_marker_at, has_trace, is_committed_of, is_known, is_marker_of, leave_trace, members_now, rows_at}
+use Rattle.commit_laws.specs.Traces.{has_marker_at, has_trace, is_committed_of, is_known, is_marker_of, leave_trace}
+use Rattle.commit_laws.specs.Traces.{members_now, rows_at}
 use Rattle.commit_laws.proofs.fates.Cases.{none_aborts}
 use Rattle.commit_laws.proofs.gathering.Whole.{fronted, tells}
 use Rattle.commit_laws.proofs.markers.All.{commits_are_remembered}

@@ -21,7 +21,8 @@ use Rattle.request_laws.proofs.routes.Headers.{chain_fenced, told_of}
 use Rattle.commit_laws.specs.Ruling.{EndsOf, NoneRuled}
 use Rattle.commit_laws.specs.Takeovers.{IsOrphan}
 use Rattle.commit_laws.specs.Traces.{has_marker_at, record_at}
-use Rattle.commit_laws.proofs.records.KeyGoes.{IsMarkedNow, RecordGoes, is_aborted, is_committed, is_completed, record_stays}
+use Rattle.commit_laws.proofs.records.KeyGoes.{IsMarkedNow, RecordGoes, is_aborted, is_committed, is_completed}
+use Rattle.commit_laws.proofs.records.KeyGoes.{record_stays}
 use Rattle.commit_laws.proofs.gathering.OrphanRows.{orphan_goes}
 use Rattle.commit_laws.proofs.gathering.OrphansUnended.{orphans_go_on}
 use Rattle.commit_laws.proofs.fates.SpokenEvents.{fenced_keeps}

@@ -17,7 +17,8 @@ use Rattle.sig_core.specs.declared.place.BlockId.TheVariants as block
 use Rattle.sig_core.specs.declared.place.Place.{Place}
 use Rattle.sig_core.specs.declared.signal.Body.{Body}
 use Rattle.sig_core.specs.declared.signal.Body.TheVariants.{Chain}
-use Rattle.sig_core.specs.declared.signal.chain.ChainSignal.TheVariants.{Abort, Aborted, Commit, Committed, Complete, Completed}
+use Rattle.sig_core.specs.declared.signal.chain.ChainSignal.TheVariants.{Abort, Aborted, Commit, Committed, Complete}
+use Rattle.sig_core.specs.declared.signal.chain.ChainSignal.TheVariants.{Completed}
 use Rattle.sig_core.specs.declared.signal.Signal.{Signal}
 use Rattle.sig_core.specs.declared.view.View.{View}
 use Rattle.frag_map.specs.Layout.{first_layout}
@@ -25,7 +26,7 @@ use Rattle.dih_node.specs.Orders as dih
 use Rattle.takeover_block.specs.Rule.{is_at_work}
 use Rattle.takeover_block.specs.State.{TakeoverState, resting}
 use Rattle.tc_views.specs.Views.{install_row}
-use Rattle.node_views.specs.declared.host.Host as hosts
+use Rattle.node_views.specs.declared.host_body.HostBody as hosts
 use Rattle.node_views.specs.declared.tc_part.TcPart.{TcPart}
 use Rattle.node_views.specs.Parts.{ldm_row, tc_row}
 use Rattle.world_core.specs.Start.{Start, made}
@@ -71,7 +72,7 @@ module _ (start : Start) where
   -- takeovers rest at the start
   first_rests : AllRest start (λ h. [])
   first_rests member there same =
-      ap (λ (s : hosts.Host). is_at_work (takeover_in (resting member.node (first_layout start.shape)) s.parts).stage)
+      ap (λ (s : hosts.HostBody). is_at_work (takeover_in (resting member.node (first_layout start.shape)) s.parts).stage)
       (tc_started start member there)
 
   now_rest : (es : List HostStep) → NoneRuled start es → AllRest start (logs_of start es)

@@ -20,11 +20,14 @@ use Rattle.lqh_block.specs.Commit.{is_marker}
 use Rattle.lqh_block.specs.declared.request.Marker.{Marker}
 use Rattle.lqh_views.specs.declared.report.Report.{Report}
 use Rattle.lqh_views.specs.Replica.{installed, replica_by, replica_row}
-use Rattle.lqh_views.specs.Report.{is_orphaned, is_orphaned_marker, is_orphaned_record, last_before, marker_by, record_by, reporting, told, told_record_if}
+use Rattle.lqh_views.specs.Report.{is_orphaned, is_orphaned_marker, is_orphaned_record, last_before, marker_by}
+use Rattle.lqh_views.specs.Report.{record_by, reporting, told, told_record_if}
 use Rattle.lqh_views.specs.State.{ReplicaState}
-use Rattle.lqh_views.specs.WholeReports.{IsMarkerTold, IsRecordTold, asks, before_end, before_if, ends, has_marker, has_record, the_end, whole}
+use Rattle.lqh_views.specs.WholeReports.{IsMarkerTold, IsRecordTold, asks, before_end, before_if, ends, has_marker}
+use Rattle.lqh_views.specs.WholeReports.{has_record, the_end, whole}
 use Rattle.lqh_views.proofs.Below.{none_past}
-use Rattle.lqh_views.proofs.ReportSteps.{GoesOn, IsLeft, IsNoEnd, MarkerLeft, NoEnd, RecordLeft, Rests, step_kind, tells_marker, tells_record}
+use Rattle.lqh_views.proofs.ReportSteps.{GoesOn, IsLeft, IsNoEnd, MarkerLeft, NoEnd, RecordLeft, Rests, step_kind}
+use Rattle.lqh_views.proofs.ReportSteps.{tells_marker, tells_record}
 
 -- a step of a report goes on with one for the same takeover, or ends it
 pub record GoesBeyond (r : Report) (step : Step ReplicaState) : Type 0 where

@@ -1,6 +1,7 @@
 -- On each link from rows, the ends of the current view stand behind what was told of an entry that the rows have, and a
 -- report that is under way hasn't gone past it, or told of it.
-use Rattle.std.proofs.Common.{◌≡◌, ◌≢◌, ◌≤◌, ◌<◌, ◌⊎◌, ◌∙◌, ℕ, Bool, true, false, not, List, [], ◌∷◌, inl, inr, refl, sym, ap, subst, arith}
+use Rattle.std.proofs.Common.{◌≡◌, ◌≢◌, ◌≤◌, ◌<◌, ◌⊎◌, ◌∙◌, ℕ, Bool, true, false, not, List, [], ◌∷◌, inl, inr, refl}
+use Rattle.std.proofs.Common.{sym, ap, subst, arith}
 use Rattle.std.proofs.lemmas.Bool.{cases_eq, true≢false}
 use Rattle.run_theory.specs.Links.{sent}
 use Rattle.run_theory.specs.Lists.{Each, IsIn}
@@ -26,7 +27,7 @@ use Rattle.lqh_views.specs.Report.{is_orphaned}
 use Rattle.lqh_views.specs.State.{ReplicaState}
 use Rattle.lqh_views.specs.WholeReports.{ends, the_end}
 use Rattle.lqh_views.proofs.ReportSteps.{NoEnd}
-use Rattle.node_views.specs.declared.host.Host as node
+use Rattle.node_views.specs.declared.host_body.HostBody as node
 use Rattle.node_views.specs.WellFormed.{is_tx}
 use Rattle.world_core.specs.Start.{Start, made}
 use Rattle.world_core.specs.Steps.{Addressed, HostStep}
@@ -49,8 +50,10 @@ use Rattle.commit_laws.specs.Takeovers.{IsOrphan}
 use Rattle.commit_laws.specs.Traces.{rows_at}
 use Rattle.commit_laws.proofs.links.Puts.{quiet_same, stopped_same}
 use Rattle.commit_laws.proofs.links.TakeoverTold.{AreBehind, HasTold, IsShut, stay_behind, told_comes}
-use Rattle.commit_laws.proofs.gathering.ReportTells.{IsEntry, IsOpen, Reports, Tells, open_more, reports_end, reports_on, row_reports}
-use Rattle.commit_laws.proofs.hosts.RowsTurn.{IsBetween, IsQuiet, IsTakenAt, RowsTurn, as_was, enter_now, entered, rest_now, rows_turn, take_now}
+use Rattle.commit_laws.proofs.gathering.ReportTells.{IsEntry, IsOpen, Reports, Tells, open_more, reports_end}
+use Rattle.commit_laws.proofs.gathering.ReportTells.{reports_on, row_reports}
+use Rattle.commit_laws.proofs.hosts.RowsTurn.{IsBetween, IsQuiet, IsTakenAt, RowsTurn, as_was, enter_now, entered}
+use Rattle.commit_laws.proofs.hosts.RowsTurn.{rest_now, rows_turn, take_now}
 
 module _ (start : Start) (all : ℕ → List HostStep) (one : Member) (there : IsIn one (made start)) (view : View)
     (tx : TxId) (orphan : IsOrphan view tx) (node_is : is_tx start.shape tx ≡ true) (key : List ℕ) (Marked : Type 0)
@@ -319,7 +322,7 @@ module _ (start : Start) (all : ℕ → List HostStep) (one : Member) (there : I
     first_behind = record {
       ends_behind = λ j. tt;
       stays_open = λ same.
-          inr (inl (ap (λ (s : node.Host). (rows_in (no_replica start one) s.parts).report)
+          inr (inl (ap (λ (s : node.HostBody). (rows_in (no_replica start one) s.parts).report)
           (ldm_started start one there)));
     }
 

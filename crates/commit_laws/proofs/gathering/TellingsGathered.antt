@@ -19,7 +19,7 @@ use Rattle.takeover_block.specs.Keys.{has_key}
 use Rattle.takeover_block.specs.Laws.{AreInOrder}
 use Rattle.takeover_block.specs.State.{resting}
 use Rattle.takeover_block.proofs.EachTakeover.{is_gathering}
-use Rattle.node_views.specs.declared.host.Host as hosts_of
+use Rattle.node_views.specs.declared.host_body.HostBody as hosts_of
 use Rattle.node_views.specs.declared.tc_part.TcPart.{TcPart}
 use Rattle.node_views.specs.Parts.{tc_row}
 use Rattle.world_core.specs.Start.{Start, made}
@@ -85,7 +85,7 @@ module _ (start : Start) (member : Member) (there : IsIn member (made start)) wh
   pub gathered_fit : (log : List HostStep) → AreFit (takeover_after start member log).gathered
   gathered_fit [] =
       subst (λ s. AreFit s.gathered)
-      (sym (ap (λ (s : hosts_of.Host). takeover_in (resting member.node (first_layout start.shape)) s.parts)
+      (sym (ap (λ (s : hosts_of.HostBody). takeover_in (resting member.node (first_layout start.shape)) s.parts)
       (tc_started start member there)))
       none_fit
   gathered_fit (e ∷ log) = gathered_step log e (gathered_fit log)

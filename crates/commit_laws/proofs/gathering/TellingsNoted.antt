@@ -1,5 +1,6 @@
 -- What a takeover was told in the current view is noted while it gathers.
-use Rattle.std.proofs.Common.{◌≡◌, ◌≢◌, ◌≤◌, ◌&&◌, ◌||◌, ◌==◌, ◌∙◌, ℕ, Bool, true, false, List, [], ◌∷◌, inl, inr, refl, sym, ap, subst, arith}
+use Rattle.std.proofs.Common.{◌≡◌, ◌≢◌, ◌≤◌, ◌&&◌, ◌||◌, ◌==◌, ◌∙◌, ℕ, Bool, true, false, List, [], ◌∷◌, inl, inr, refl}
+use Rattle.std.proofs.Common.{sym, ap, subst, arith}
 use Rattle.std.proofs.lemmas.Bool.{true≢false}
 use Rattle.std.specs.Prelude.{if◌then◌else◌, not, None}
 use Rattle.run_theory.specs.Links.{is_from, taken}
@@ -21,7 +22,7 @@ use Rattle.sig_core.specs.declared.view.View.{View}
 use Rattle.sig_core.specs.Step.{Step}
 use Rattle.takeover_block.specs.Gathered.{told_epoch}
 use Rattle.takeover_block.specs.State.{TakeoverState}
-use Rattle.node_views.specs.declared.host.Host as hosts
+use Rattle.node_views.specs.declared.host_body.HostBody as hosts
 use Rattle.node_views.specs.declared.parts.Parts.TheVariants as part
 use Rattle.node_views.specs.declared.tc_part.TcPart.{TcPart}
 use Rattle.node_views.specs.Parts.{tc_row}
@@ -103,7 +104,7 @@ module _ (first : OrdersComeFirst) (placed : TellingsAreForTakeovers) (start : S
         (record { told = tells.told; epoch = tells.epoch; body = tells.body; number = tells.number ∙ number })
 
     module _ (at : e.host ≡ tc_of start member) where
-      abbrev step : Step hosts.Host
+      abbrev step : Step hosts.HostBody
       step = step_after start (tc_of start member) log e
 
       abbrev own : TcStep start (tc_of start member) log e
@@ -205,7 +206,7 @@ module _ (first : OrdersComeFirst) (placed : TellingsAreForTakeovers) (start : S
               now_is : (q : TcPart) → step.state.parts ≡ part.Tc q → takeover_after start member (e ∷ log) ≡ q.takeover
               now_is q parts =
                   takeover_is start member h (e ∷ log) refl q
-                  (ap (λ (s : hosts.Host). s.parts) (told_some h (part_some start kinds.Tc member) step) ∙ parts)
+                  (ap (λ (s : hosts.HostBody). s.parts) (told_some h (part_some start kinds.Tc member) step) ∙ parts)
 
               takes_it : (q : TcPart) → Noted (tc_row q block.Takeover x).state.takeover
               takes_it q = telling_noted q.takeover x tx key tells.told tells.epoch body_is

@@ -26,7 +26,8 @@ use Rattle.tc_views.specs.State.{CoordinatorState, go_on_if, go_on_with}
 use Rattle.outcome_laws.specs.Counts.{IsCoordinatorOf}
 use Rattle.request_laws.specs.Ways.{entry_of}
 use Rattle.request_laws.proofs.phases.Events.{in_either}
-use Rattle.request_laws.proofs.phases.Steps.{Walks, begins, coordinator_walks, is_about, left_of, passes, resumes, stays}
+use Rattle.request_laws.proofs.phases.Steps.{Walks, begins, coordinator_walks, is_about, left_of, passes, resumes}
+use Rattle.request_laws.proofs.phases.Steps.{stays}
 use Rattle.request_laws.proofs.phases.Steps.{turns}
 
 -- a coordinator sends it beside the turns of its transactions

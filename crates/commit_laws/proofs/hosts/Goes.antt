@@ -1,7 +1,8 @@
 -- What a step comes to of a host that settles on no view: it stops; or the view of the signal is installed, or none,
 -- and
 -- behind that its blocks take the signal, or leave it alone. What is sent is told exactly.
-use Rattle.std.proofs.Common.{◌≡◌, ◌≤◌, ◌⊎◌, ◌||◌, ◌&&◌, ◌++◌, ◌∙◌, ℕ, zero, suc, Bool, true, false, nat_lt, List, [], ◌∷◌, refl, sym, ap, subst, inl, inr, arith}
+use Rattle.std.proofs.Common.{◌≡◌, ◌≤◌, ◌⊎◌, ◌||◌, ◌&&◌, ◌++◌, ◌∙◌, ℕ, zero, suc, Bool, true, false, nat_lt, List, []}
+use Rattle.std.proofs.Common.{◌∷◌, refl, sym, ap, subst, inl, inr, arith}
 use Rattle.std.proofs.lemmas.Bool.{and_parts, ltb-true, true≢false}
 use Rattle.std.proofs.lemmas.Bool.Decides.{nat_tests}
 use Rattle.std.proofs.lemmas.List.{append-nil}
@@ -21,10 +22,13 @@ use Rattle.sig_core.specs.declared.view.View.{View}
 use Rattle.sig_core.specs.Step.{Effects, Step, joined}
 use Rattle.api_views.specs.Members.{same_member}
 use Rattle.node_views.specs.Blocks.{fence_at, parts_entered, parts_row, settled_at}
-use Rattle.node_views.specs.declared.host.Host as hosts
+use Rattle.node_views.specs.declared.host_body.HostBody as hosts
 use Rattle.node_views.specs.declared.parts.Parts.{Parts}
 use Rattle.node_views.specs.Fence.{is_fenced}
-use Rattle.node_views.specs.Row.{behind, blocks_row, closed_if, counted_row, cut_if, entered, entering_if, headed_if, headed_row, host_row, host_table, hushed, is_barred, is_cut, is_excluded, is_stop, kill_row, killed_after, marks_only, passed_if, passed_row, settle, standing_at, taken_if, unless_stopped, with_parts}
+use Rattle.node_views.specs.Row.{behind, blocks_row, closed_if, counted_row, cut_if, entered, entering_if, headed_if}
+use Rattle.node_views.specs.Row.{headed_row, host_row, host_table, hushed, is_barred, is_cut, is_excluded, is_stop}
+use Rattle.node_views.specs.Row.{kill_row, killed_after, marks_only, passed_if, passed_row, settle, standing_at}
+use Rattle.node_views.specs.Row.{taken_if, unless_stopped, with_parts}
 use Rattle.node_views.specs.WellFormed.{is_first, is_well_formed}
 use Rattle.world_core.specs.Start.{Start}
 use Rattle.world_core.specs.Steps.{HostStep}
@@ -44,7 +48,7 @@ is_for_host body = false
 abbrev pub IsOff : Shape → Signal → Type 0
 IsOff shape x = (is_well_formed shape x ≡ false) ⊎ ((is_fenced x ≡ true) ⊎ (is_for_host x.body ≡ true))
 
-pub data HostGoes (shape : Shape) (parts : Parts) (view : View) (x : Signal) (step : Step hosts.Host) : Type 0 where
+pub data HostGoes (shape : Shape) (parts : Parts) (view : View) (x : Signal) (step : Step hosts.HostBody) : Type 0 where
   halts : list_any is_stop step.effects.marks ≡ true → HostGoes shape parts view x step
   leaves : IsOff shape x → (between : Parts) (seen : View) (front : List Outgoing)
       → Enters parts view x between seen front → step.state.parts ≡ between → step.state.standing.view ≡ seen
@@ -64,14 +68,14 @@ any_behind p (x ∷ xs) ys is = by (p x) (any_behind p xs ys is)
 
 module _ (x : Signal) where
   -- where the signal is passed to the blocks, or is the host's own
-  data Passes (s : hosts.Host) (step : Step hosts.Host) : Type 0 where
+  data Passes (s : hosts.HostBody) (step : Step hosts.HostBody) : Type 0 where
     ends : list_any is_stop step.effects.marks ≡ true → Passes s step
     rests : (is_fenced x ≡ true) ⊎ (is_for_host x.body ≡ true) → step.state.parts ≡ s.parts
         → step.state.standing.view ≡ s.standing.view → step.effects.sends ≡ [] → Passes s step
     acts : step.state.parts ≡ (parts_row s.parts x).state → step.state.standing.view ≡ s.standing.view
         → step.effects.sends ≡ (parts_row s.parts x).effects.sends → Passes s step
 
-  module _ (s : hosts.Host) (unsettled : settled_at s.parts x ≡ None) where
+  module _ (s : hosts.HostBody) (unsettled : settled_at s.parts x ≡ None) where
     blocks_pass : Passes s (blocks_row s x)
     unfolding blocks_row
     blocks_pass =
@@ -98,12 +102,12 @@ module _ (x : Signal) where
     table_passes body is = blocks_pass
 
   -- and behind a fence
-  data IsBehindFence (s : hosts.Host) (step : Step hosts.Host) : Type 0 where
+  data IsBehindFence (s : hosts.HostBody) (step : Step hosts.HostBody) : Type 0 where
     barred : is_fenced x ≡ true → step.state.parts ≡ s.parts → step.state.standing.view ≡ s.standing.view
         → step.effects.sends ≡ [] → IsBehindFence s step
     free : is_barred s x ≡ false → Passes s step → IsBehindFence s step
 
-  row_passes : (s : hosts.Host) → settled_at s.parts x ≡ None → IsBehindFence s (passed_row s x)
+  row_passes : (s : hosts.HostBody) → settled_at s.parts x ≡ None → IsBehindFence s (passed_row s x)
   unfolding passed_row
   row_passes s unsettled = by (is_barred s x) refl
     where
@@ -113,7 +117,7 @@ module _ (x : Signal) where
 
   module _ (shape : Shape) (sound : is_well_formed shape x ≡ true) where
     -- it may be passed to the blocks
-    passes : (s : hosts.Host) → x.view.number ≤ s.standing.view.number → is_barred s x ≡ false
+    passes : (s : hosts.HostBody) → x.view.number ≤ s.standing.view.number → is_barred s x ≡ false
         → IsPassed shape s.parts s.standing.view x
     passes s low unbarred = record { sound = sound; low = low; fresh = fresh }
       where
@@ -128,9 +132,9 @@ module _ (x : Signal) where
             grind (arith, nat_tests, off)
 
     -- with what is sent and marked in front
-    behind_goes : (parts : Parts) (view : View) (s : hosts.Host) (front : Effects)
+    behind_goes : (parts : Parts) (view : View) (s : hosts.HostBody) (front : Effects)
         → Enters parts view x s.parts s.standing.view front.sends → x.view.number ≤ s.standing.view.number
-        → (step : Step hosts.Host) → IsBehindFence s step → HostGoes shape parts view x (behind front step)
+        → (step : Step hosts.HostBody) → IsBehindFence s step → HostGoes shape parts view x (behind front step)
     behind_goes parts view s front entering low step (barred is same stands none) =
         leaves (inr (inl is)) s.parts s.standing.view front.sends entering same stands
         (ap (λ (sends : List Outgoing). front.sends ++ sends) none ∙ append-nil front.sends)
@@ -145,7 +149,7 @@ module _ (x : Signal) where
             takes s.parts s.standing.view front.sends entering (passes s low unbarred) same stands
             (ap (λ (more : List Outgoing). front.sends ++ more) sends)
 
-    plain_goes : (s : hosts.Host) → x.view.number ≤ s.standing.view.number → (step : Step hosts.Host)
+    plain_goes : (s : hosts.HostBody) → x.view.number ≤ s.standing.view.number → (step : Step hosts.HostBody)
         → IsBehindFence s step → HostGoes shape s.parts s.standing.view x step
     plain_goes s low step (barred is same stands none) =
         leaves (inr (inl is)) s.parts s.standing.view [] (stays refl refl refl) same stands none
@@ -158,7 +162,7 @@ module _ (x : Signal) where
         by (acts same stands sends) =
             takes s.parts s.standing.view [] (stays refl refl refl) (passes s low unbarred) same stands sends
 
-    module _ (s : hosts.Host) (unsettled : settled_at s.parts x ≡ None)
+    module _ (s : hosts.HostBody) (unsettled : settled_at s.parts x ≡ None)
         (then_unsettled : settled_at (parts_entered s.parts x.view).state x ≡ None)
       where
         headed_goes : HostGoes shape s.parts s.standing.view x (headed_row s x)
@@ -181,7 +185,7 @@ module _ (x : Signal) where
             by false older =
                 plain_goes s (grind (arith, nat_tests, older)) (passed_row s x) (row_passes s unsettled)
 
-    counted_goes : (s : hosts.Host) → settled_at s.parts x ≡ None
+    counted_goes : (s : hosts.HostBody) → settled_at s.parts x ≡ None
         → settled_at (parts_entered s.parts x.view).state x ≡ None
         → (left : Option ℕ) → HostGoes shape s.parts s.standing.view x (counted_row s x left)
     counted_goes s unsettled then_unsettled None = headed_goes s unsettled then_unsettled
@@ -190,11 +194,11 @@ module _ (x : Signal) where
     counted_goes s unsettled then_unsettled (Some (suc (suc left))) =
         headed_goes (standing_at s (killed_after s.standing (Some (suc left)))) unsettled then_unsettled
 
-  hushed_goes : (shape : Shape) (parts : Parts) (view : View) (step : Step hosts.Host)
+  hushed_goes : (shape : Shape) (parts : Parts) (view : View) (step : Step hosts.HostBody)
       → HostGoes shape parts view x step → HostGoes shape parts view x (hushed step)
   hushed_goes shape parts view step goes = by (list_any is_stop step.effects.marks) refl
     where
-      as_hushed : Bool → Step hosts.Host
+      as_hushed : Bool → Step hosts.HostBody
       as_hushed b = record {
         state = step.state;
         effects = record { sends = unless_stopped step.effects.sends b; marks = step.effects.marks };
@@ -204,7 +208,7 @@ module _ (x : Signal) where
       by true is = halts is
       by false is = goes
 
-  step_goes : (h : ℕ) (s : hosts.Host) → settled_at s.parts x ≡ None
+  step_goes : (h : ℕ) (s : hosts.HostBody) → settled_at s.parts x ≡ None
       → settled_at (parts_entered s.parts x.view).state x ≡ None
       → HostGoes s.standing.shape s.parts s.standing.view x (step_by h s x)
   unfolding host_row

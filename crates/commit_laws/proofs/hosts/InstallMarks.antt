@@ -24,11 +24,13 @@ use Rattle.sig_core.specs.Step.{Effects, Step}
 use Rattle.api_views.specs.Members.{same_member}
 use Rattle.gcp_master.specs.Master.{master_row}
 use Rattle.node_views.specs.Blocks.{parts_entered, parts_row, settled_at}
-use Rattle.node_views.specs.declared.host.Host as hosts
+use Rattle.node_views.specs.declared.host_body.HostBody as hosts
 use Rattle.node_views.specs.declared.main_part.MainPart.{MainPart}
 use Rattle.node_views.specs.declared.parts.Parts.{Parts}
 use Rattle.node_views.specs.declared.parts.Parts.TheVariants.{Ldm, Main, Shell, Tc}
-use Rattle.node_views.specs.Parts.{main_row, main_settled, may_settle, qmgr_settled, settled, settled_if}
+use Rattle.node_views.specs.Parts.{main_row, main_settled}
+use Rattle.qmgr_block.proofs.Settles.{marked_settles}
+use Rattle.qmgr_block.specs.Settle.{may_settle, qmgr_settles}
 use Rattle.node_views.specs.Row.{blocks_row, closed_if, counted_row, cut_if, entered, entering_if, headed_if}
 use Rattle.node_views.specs.Row.{headed_row, host_row, host_table, is_barred, is_cut, is_excluded, killed_after}
 use Rattle.node_views.specs.Row.{passed_if, passed_row, settle, standing_at, taken_if, with_parts}
@@ -103,8 +105,8 @@ module _ (q : QmgrState) (x : Signal) where
   marks_of = (qmgr_row q x).effects.marks
 
   settles_so : may_settle x.body ≡ true → (view : View) → marks_of ≡ Installed view ∷ []
-      → qmgr_settled q x ≡ Some view
-  settles_so may view is = ap (settled_if q x) may ∙ ap settled is
+      → qmgr_settles q x ≡ Some view
+  settles_so = marked_settles q x
 
   all_marks : (p : Proposal) (free : Bool) (view : View)
       → IsIn (Installed view) (confirmed_all q.known p free).effects.marks
@@ -123,7 +125,7 @@ module _ (q : QmgrState) (x : Signal) where
       true≢false (each_in (λ (mark : Mark). is_settling mark ≡ false) (Installed view) marks_of none there)
 
   does_so : (view : View) → Does q x.member x.body (qmgr_row q x).state.known (qmgr_row q x).effects
-      → IsIn (Installed view) marks_of → qmgr_settled q x ≡ Some view
+      → IsIn (Installed view) marks_of → qmgr_settles q x ≡ Some view
   does_so view (does_rest rests) there = absurd (unsettled view rests.marks there)
   does_so view (does_propose one) there = absurd (unsettled view one.marks there)
   does_so view (does_hear h) there =
@@ -143,7 +145,7 @@ module _ (q : QmgrState) (x : Signal) where
       (refl, tt))
       there)
 
-  membership_settles : (view : View) → IsIn (Installed view) marks_of → qmgr_settled q x ≡ Some view
+  membership_settles : (view : View) → IsIn (Installed view) marks_of → qmgr_settles q x ≡ Some view
   membership_settles view there =
       does_so view (table_does q x.member x.from.0 x.view.number x.body) there
 
@@ -182,7 +184,7 @@ parts_settle (Tc p) x = others_settle (Tc p) tt x refl
 parts_settle (Ldm p) x = others_settle (Ldm p) tt x refl
 
 -- A step marks the views that these events install.
-pub record Tells (t : Step hosts.Host) (events : List Event) : Type 0 where
+pub record Tells (t : Step hosts.HostBody) (events : List Event) : Type 0 where
   pub forth : (view : View) → IsIn (Installed view) t.effects.marks → IsIn (installs view) events
   pub back : (view : View) → IsIn (installs view) events → IsIn (Installed view) t.effects.marks
 
@@ -192,13 +194,13 @@ module _ (mine : BlockId → Bool) (x : Signal) where
   none_taken true view (inr none) = none
   none_taken false view none = none
 
-  nothing : (t : Step hosts.Host) → Each InstallsNone t.effects.marks → Tells t []
+  nothing : (t : Step hosts.HostBody) → Each InstallsNone t.effects.marks → Tells t []
   nothing t none = record {
     forth = λ view there. absurd (none_installed t.effects.marks none view there);
     back = λ view there. absurd there;
   }
 
-  settle_tells : (s : hosts.Host) (o : Option View) → settled_at s.parts x ≡ o
+  settle_tells : (s : hosts.HostBody) (o : Option View) → settled_at s.parts x ≡ o
       → Tells (settle (with_parts s (parts_row s.parts x)) o) (installing mine o ++ taking mine x (mine x.to.block))
   unfolding entered
   settle_tells s None is = record {
@@ -238,20 +240,20 @@ module _ (mine : BlockId → Bool) (x : Signal) where
           ((parts_settle s.parts x).back view (is ∙ ap Some (sym (one_event set view same))))
       back view (inr none) = absurd (none_taken (mine x.to.block) view none)
 
-  blocks_tell : (s : hosts.Host) → Tells (blocks_row s x) (block_events mine s x)
+  blocks_tell : (s : hosts.HostBody) → Tells (blocks_row s x) (block_events mine s x)
   unfolding blocks_row
   blocks_tell s = settle_tells s (settled_at s.parts x) refl
 
-  cut_tells : (s : hosts.Host) (first : HostId) (cut : Bool) → Tells (cut_if s first cut) []
+  cut_tells : (s : hosts.HostBody) (first : HostId) (cut : Bool) → Tells (cut_if s first cut) []
   cut_tells s first true = nothing _ tt
   cut_tells s first false = nothing _ (refl, (refl, (refl, tt)))
 
-  closed_tells : (s : hosts.Host) (own : Bool)
+  closed_tells : (s : hosts.HostBody) (own : Bool)
       → Tells (closed_if s x own) (if not own then block_events mine s x else [])
   closed_tells s true = nothing _ (refl, tt)
   closed_tells s false = blocks_tell s
 
-  table_tells : (s : hosts.Host) (body : Body)
+  table_tells : (s : hosts.HostBody) (body : Body)
       → Tells (host_table s x body) (if not (is_handled s x body) then block_events mine s x else [])
   table_tells s (Host (Kill zero)) = nothing _ (refl, tt)
   table_tells s (Host (Kill (suc left))) = nothing _ tt
@@ -259,22 +261,22 @@ module _ (mine : BlockId → Bool) (x : Signal) where
   table_tells s (Host (Closed cause)) = closed_tells s (same_member s.standing.member x.member)
   table_tells s _ = blocks_tell s
 
-  passed_if_tells : (s : hosts.Host) (barred : Bool)
+  passed_if_tells : (s : hosts.HostBody) (barred : Bool)
       → Tells (passed_if s x barred) (if not (barred || is_handled s x x.body) then block_events mine s x else [])
   passed_if_tells s true = nothing _ tt
   passed_if_tells s false = table_tells s x.body
 
-  passed_tells : (s : hosts.Host) → Tells (passed_row s x) (passed_events mine s x)
+  passed_tells : (s : hosts.HostBody) → Tells (passed_row s x) (passed_events mine s x)
   unfolding passed_row
   passed_tells s = passed_if_tells s (is_barred s x)
 
-  entering_tells : (s : hosts.Host) (excluded : Bool)
+  entering_tells : (s : hosts.HostBody) (excluded : Bool)
       → Tells (entering_if s x excluded) (if excluded then [] else entering_events mine s x)
   unfolding entered
   entering_tells s true = nothing _ (refl, tt)
   entering_tells s false = record { forth = forth; back = back }
     where
-      inside : hosts.Host
+      inside : hosts.HostBody
       inside = (entered s x.view).state
 
       behind : Tells (passed_row inside x) (passed_events mine inside x)
@@ -310,7 +312,7 @@ module _ (mine : BlockId → Bool) (x : Signal) where
           by (inr (inl same)) = inl (ap Installed (one_event x.view view same))
           by (inr (inr none)) = absurd none
 
-  headed_if_tells : (s : hosts.Host) (newer : Bool)
+  headed_if_tells : (s : hosts.HostBody) (newer : Bool)
       → Tells (headed_if s x newer)
       (if newer
       then (if is_excluded s.standing x.view then [] else entering_events mine s x)
@@ -318,29 +320,29 @@ module _ (mine : BlockId → Bool) (x : Signal) where
   headed_if_tells s true = entering_tells s (is_excluded s.standing x.view)
   headed_if_tells s false = passed_tells s
 
-  headed_tells : (s : hosts.Host) → Tells (headed_row s x) (headed_events mine s x)
+  headed_tells : (s : hosts.HostBody) → Tells (headed_row s x) (headed_events mine s x)
   unfolding headed_row
   headed_tells s = headed_if_tells s (nat_lt s.standing.view.number x.view.number)
 
-  counted_tells : (s : hosts.Host) (left : Option ℕ) → Tells (counted_row s x left) (counted_events mine s x left)
+  counted_tells : (s : hosts.HostBody) (left : Option ℕ) → Tells (counted_row s x left) (counted_events mine s x left)
   counted_tells s None = headed_tells s
   counted_tells s (Some zero) = nothing _ (refl, tt)
   counted_tells s (Some (suc zero)) = nothing _ (refl, tt)
   counted_tells s (Some (suc (suc left))) =
       headed_tells (standing_at s (killed_after s.standing (Some (suc left))))
 
-  taken_tells : (s : hosts.Host) (sound : Bool) → Tells (taken_if s x sound) (sound_events mine s x sound)
+  taken_tells : (s : hosts.HostBody) (sound : Bool) → Tells (taken_if s x sound) (sound_events mine s x sound)
   taken_tells s true =
       let tells = counted_tells s s.standing.left in record { forth = tells.forth; back = tells.back }
   taken_tells s false = nothing _ tt
 
-  row_tells : (s : hosts.Host) → Tells (host_row s x) (sound_events mine s x (is_well_formed s.standing.shape x))
+  row_tells : (s : hosts.HostBody) → Tells (host_row s x) (sound_events mine s x (is_well_formed s.standing.shape x))
   unfolding host_row
   row_tells s = taken_tells s (is_well_formed s.standing.shape x)
 
-  by_tells : (s : hosts.Host) (cause : Option StopCause) → Tells (step_if s x cause) (events_by mine s x cause)
+  by_tells : (s : hosts.HostBody) (cause : Option StopCause) → Tells (step_if s x cause) (events_by mine s x cause)
   by_tells s (Some cause) = nothing _ (refl, tt)
   by_tells s None = row_tells s
 
-  pub step_tells : (h : ℕ) (s : hosts.Host) → Tells (step_by h s x) (events_at mine h s x)
+  pub step_tells : (h : ℕ) (s : hosts.HostBody) → Tells (step_by h s x) (events_at mine h s x)
   step_tells h s = by_tells s (own_stop h x)

@@ -16,7 +16,7 @@ use Rattle.sig_core.specs.declared.signal.Signal.{Signal}
 use Rattle.sig_core.specs.declared.view.Shape.{Shape}
 use Rattle.sig_core.specs.declared.view.View.{View}
 use Rattle.node_views.specs.Blocks.{parts_entered, parts_row, settled_at}
-use Rattle.node_views.specs.declared.host.Host as hosts
+use Rattle.node_views.specs.declared.host_body.HostBody as hosts
 use Rattle.node_views.specs.declared.parts.Parts.{Parts}
 use Rattle.node_views.specs.Row.{entered}
 use Rattle.world_core.specs.Start.{Start}
@@ -52,7 +52,7 @@ pub data IsFrom (shape : Shape) (parts : Parts) (view : View) (x : Signal) (mark
 abbrev AnySend : Outgoing → Type 0
 AnySend sent = Unit {0}
 
-module _ (x : Signal) (s : hosts.Host) where
+module _ (x : Signal) (s : hosts.HostBody) where
   abbrev Is : Mark → Type 0
   Is mark = IsFrom s.standing.shape s.parts s.standing.view x mark
 

@@ -1,6 +1,7 @@
 -- What a step of a host that runs rows comes to, with its marks: a view is installed, or none is; and behind that the
 -- rows take the signal, and what they mark is marked; or they leave it alone, and none is marked to be applied.
-use Rattle.std.proofs.Common.{◌≡◌, ◌⊎◌, ◌||◌, ◌++◌, ◌∙◌, ℕ, Bool, true, false, nat_lt, List, [], ◌∷◌, refl, sym, ap, subst, arith, inl, inr, append_assoc}
+use Rattle.std.proofs.Common.{◌≡◌, ◌⊎◌, ◌||◌, ◌++◌, ◌∙◌, ℕ, Bool, true, false, nat_lt, List, [], ◌∷◌, refl, sym, ap}
+use Rattle.std.proofs.Common.{subst, arith, inl, inr, append_assoc}
 use Rattle.std.proofs.lemmas.Bool.{ltb-false, ltb-true, true≢false}
 use Rattle.std.specs.List.{list_any}
 use Rattle.run_theory.specs.Lists.{Each}
@@ -17,7 +18,7 @@ use Rattle.sig_core.specs.declared.signal.Signal.{Signal}
 use Rattle.sig_core.specs.declared.view.Shape.{Shape}
 use Rattle.sig_core.specs.declared.view.View.{View}
 use Rattle.sig_core.specs.Step.{Effects, Step}
-use Rattle.node_views.specs.declared.host.Host as hosts
+use Rattle.node_views.specs.declared.host_body.HostBody as hosts
 use Rattle.node_views.specs.declared.ldm_part.LdmPart.{LdmPart}
 use Rattle.node_views.specs.declared.parts.Parts.TheVariants as part
 use Rattle.node_views.specs.declared.standing.Standing.{Standing}
@@ -75,7 +76,7 @@ any_front test (m ∷ marks) more is = by (test m) is (any_front test marks more
     by false is rest = rest is
 
 module _ (x : Signal) (standing : Standing) (p : LdmPart) where
-  abbrev s : hosts.Host
+  abbrev s : hosts.HostBody
   s = record { standing = standing; parts = part.Ldm p }
 
   abbrev Says : Saying
@@ -176,6 +177,6 @@ module _ (start : Start) (h : ℕ) (log : List HostStep) (e : HostStep) (p : Ldm
         (step_by h (record { standing = standing; parts = parts }) e.step.taken))
         (sym runs) (step_goes e.step.taken standing p h))
       where
-        GoesBy : Shape → LdmPart → View → Signal → Step hosts.Host → Type 0
+        GoesBy : Shape → LdmPart → View → Signal → Step hosts.HostBody → Type 0
         GoesBy shape p view x step =
             Goes shape p view x step.state.parts step.state.standing.view step.effects.sends step.effects.marks

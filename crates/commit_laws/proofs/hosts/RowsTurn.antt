@@ -19,7 +19,7 @@ use Rattle.sig_core.specs.declared.view.View.{View}
 use Rattle.sig_core.specs.Step.{Step}
 use Rattle.lqh_views.specs.Replica.{installed, replica_row}
 use Rattle.lqh_views.specs.State.{ReplicaState}
-use Rattle.node_views.specs.declared.host.Host as hosts
+use Rattle.node_views.specs.declared.host_body.HostBody as hosts
 use Rattle.node_views.specs.declared.ldm_part.LdmPart.{LdmPart}
 use Rattle.node_views.specs.declared.parts.Parts.TheVariants as part
 use Rattle.node_views.specs.Parts.{ldm_row}
@@ -40,7 +40,8 @@ use Rattle.request_laws.specs.Blocks.{rows_after}
 use Rattle.request_laws.proofs.phases.AlongLogs.{told_some}
 use Rattle.request_laws.proofs.routes.PartSteps.{LdmStep, own_ldm, rows_are}
 use Rattle.commit_laws.specs.Traces.{rows_at}
-use Rattle.commit_laws.proofs.hosts.RowsGo.{AreUnapplied, Entering, Goes, StopsSilent, ldm_goes, leaves, takes, is_row_mark}
+use Rattle.commit_laws.proofs.hosts.RowsGo.{AreUnapplied, Entering, Goes, StopsSilent, ldm_goes, leaves, takes}
+use Rattle.commit_laws.proofs.hosts.RowsGo.{is_row_mark}
 
 module _ (start : Start) (all : ℕ → List HostStep) (e : HostStep) (es : List HostStep)
     (moment : IsMoment start all (e ∷ es)) (member : Member) (there : IsIn member (made start))
@@ -110,7 +111,7 @@ module _ (start : Start) (all : ℕ → List HostStep) (e : HostStep) (es : List
       abbrev log : List HostStep
       log = old h
 
-      abbrev step : Step hosts.Host
+      abbrev step : Step hosts.HostBody
       step = step_after start h log e
 
       abbrev own : LdmStep start h log e
@@ -132,10 +133,10 @@ module _ (start : Start) (all : ℕ → List HostStep) (e : HostStep) (es : List
       now_is : (later : LdmPart) → step.state.parts ≡ part.Ldm later → rows_at start new member ≡ later.replica
       now_is later is =
           ap (rows_after start member) (log_of-own (machine start) e es h at)
-          ∙ rows_are start member h (e ∷ log) refl later (ap (λ (s : hosts.Host). s.parts) behind_is ∙ is)
+          ∙ rows_are start member h (e ∷ log) refl later (ap (λ (s : hosts.HostBody). s.parts) behind_is ∙ is)
 
       view_is : (seen : View) → step.state.standing.view ≡ seen → view_after start h (e ∷ log) ≡ seen
-      view_is seen is = ap (λ (s : hosts.Host). s.standing.view) behind_is ∙ is
+      view_is seen is = ap (λ (s : hosts.HostBody). s.standing.view) behind_is ∙ is
 
       marks_of : e.step.marks ≡ step.effects.marks
       marks_of =

@@ -12,7 +12,7 @@ use Rattle.sig_core.specs.declared.view.View.{View}
 use Rattle.sig_core.specs.Step.{Step}
 use Rattle.api_block.specs.declared.opened.OpenTransaction.{OpenTransaction}
 use Rattle.api_views.specs.Members.{noted}
-use Rattle.node_views.specs.declared.host.Host as hosts
+use Rattle.node_views.specs.declared.host_body.HostBody as hosts
 use Rattle.node_views.specs.declared.parts.Parts.{Parts}
 use Rattle.node_views.specs.declared.parts.Parts.TheVariants.{Shell}
 use Rattle.node_views.specs.declared.shell_part.ShellPart.{ShellPart}
@@ -36,7 +36,7 @@ pub record IsSameBut (p q : ShellPart) : Type 0 where
   pub opened : q.client.api.opened ≡ p.client.api.opened
   pub taken : q.client.taken_over ≡ p.client.taken_over
 
-pub data ShellGoes (start : Start) (p : ShellPart) (x : Signal) (step : Step hosts.Host) : Type 0 where
+pub data ShellGoes (start : Start) (p : ShellPart) (x : Signal) (step : Step hosts.HostBody) : Type 0 where
   ends : list_any is_stop step.effects.marks ≡ true → ShellGoes start p x step
   rests : IsOff start.shape x → (q : ShellPart) → IsSameBut p q → step.state.parts ≡ Shell q
       → step.effects.sends ≡ [] → ShellGoes start p x step
@@ -48,7 +48,7 @@ module _ (start : Start) (log : List HostStep) (e : HostStep) where
   abbrev x : Signal
   x = e.step.taken
 
-  abbrev step : Step hosts.Host
+  abbrev step : Step hosts.HostBody
   step = step_after start 0 log e
 
   abbrev stood : View

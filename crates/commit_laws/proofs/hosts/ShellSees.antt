@@ -18,7 +18,8 @@ use Rattle.world_core.specs.Steps.{HostStep}
 use Rattle.world_views.specs.Hosts.{started}
 use Rattle.world_views.specs.Machine.{after, step_after}
 use Rattle.view_laws.specs.Runs.{view_after}
-use Rattle.moment_laws.specs.PartSteps.{PartEnters, PartTakes, ShellDoes, handles, ignores, installs, remains, shell_kind}
+use Rattle.moment_laws.specs.PartSteps.{PartEnters, PartTakes, ShellDoes, handles, ignores, installs, remains}
+use Rattle.moment_laws.specs.PartSteps.{shell_kind}
 use Rattle.moment_laws.proofs.PartKinds.{shell_after}
 use Rattle.commit_laws.proofs.hosts.ShellViews.{client_notes}
 

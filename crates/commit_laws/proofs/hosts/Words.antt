@@ -7,7 +7,7 @@ use Rattle.sig_core.specs.declared.signal.Body.{Body}
 use Rattle.sig_core.specs.declared.signal.Signal.{Signal}
 use Rattle.sig_core.specs.declared.view.View.{View}
 use Rattle.node_views.specs.Blocks.{parts_entered, parts_row}
-use Rattle.node_views.specs.declared.host.Host as hosts
+use Rattle.node_views.specs.declared.host_body.HostBody as hosts
 use Rattle.node_views.specs.declared.parts.Parts.{Parts}
 use Rattle.node_views.specs.declared.parts.Parts.TheVariants.{Ldm, Main, Shell, Tc}
 use Rattle.node_views.specs.Replies.{giving}
@@ -71,7 +71,7 @@ module _ (shell main tc ldm : Type 0) where
     settles = λ view at. entered_stays (parts_row parts x).state view (row_stays x parts is);
   }
 
-  step_stays : (h : ℕ) (s : hosts.Host) (x : Signal) → Is s.parts → Is (told h (step_by h s x)).parts
+  step_stays : (h : ℕ) (s : hosts.HostBody) (x : Signal) → Is s.parts → Is (told h (step_by h s x)).parts
   step_stays h s x is =
       next_comes (λ view parts sends. Is parts) x h s (record {
         stays = is;

@@ -12,13 +12,12 @@ use Rattle.sig_core.specs.declared.member.Member.{Member}
 use Rattle.sig_core.specs.declared.view.View.{View}
 use Rattle.serial_model.specs.Legal.{rows_of}
 use Rattle.node_core.specs.Fresh.{fresh_part}
-use Rattle.node_views.specs.declared.host.Host as node
+use Rattle.node_views.specs.declared.host_body.HostBody as node
 use Rattle.key_laws.specs.Replica.{Replica, at_key}
 use Rattle.host_laws.proofs.rows.Replicas.{keys_begin_at_rest}
 use Rattle.world_core.specs.Hosts.{hosts}
 use Rattle.world_core.specs.Start.{Start}
 use Rattle.world_core.specs.Steps.{HostStep}
-use Rattle.world_views.specs.Hosts.{epoch_before}
 use Rattle.view_laws.proofs.runs.Step.{started_view}
 use Rattle.moment_laws.proofs.MomentHosts.{ldm_started}
 use Rattle.moment_laws.proofs.MomentViews.{IsSome, current_is}
@@ -63,19 +62,19 @@ module _ (start : Start) (member : Member) (key : List ℕ) (held : holds start.
   unfolding fresh_part
   row_is =
       ap (λ (r : Replica). r.cell.row)
-      (keys_begin_at_rest member (first_layout start.shape) (epoch_before start.epoch) start.rows key held)
+      (keys_begin_at_rest member (first_layout start.shape) start.start_epoch start.rows key held)
 
   pending_is : (at_key key (first_rows start member).lqh).cell.pending ≡ []
   unfolding fresh_part
   pending_is =
       ap (λ (r : Replica). r.cell.pending)
-      (keys_begin_at_rest member (first_layout start.shape) (epoch_before start.epoch) start.rows key held)
+      (keys_begin_at_rest member (first_layout start.shape) start.start_epoch start.rows key held)
 
   holders_are : (at_key key (first_rows start member).lqh).lock.holders ≡ []
   unfolding fresh_part
   holders_are =
       ap (λ (r : Replica). r.lock.holders)
-      (keys_begin_at_rest member (first_layout start.shape) (epoch_before start.epoch) start.rows key held)
+      (keys_begin_at_rest member (first_layout start.shape) start.start_epoch start.rows key held)
 
 pub replicas_begin_at_rest : ReplicasBeginAtRest
 replicas_begin_at_rest start all moment key member is = record {
@@ -89,5 +88,5 @@ replicas_begin_at_rest start all moment key member is = record {
 
     begun : replica_at start (logs_of start []) member key ≡ at_key key (first_rows start member).lqh
     begun =
-        ap (λ (s : node.Host). at_key key (rows_in (no_replica start member) s.parts).lqh)
+        ap (λ (s : node.HostBody). at_key key (rows_in (no_replica start member) s.parts).lqh)
         (ldm_started start member (replica_made start all [] moment key member is))

@@ -1,5 +1,6 @@
 -- What right logs have of transactions.
-use Rattle.commit_laws.specs.Cuts.{AbortsTakeNone, CommitsTakeEffect, HistoriesAreLegal, RecordsAgree, RestingRowsFollow}
+use Rattle.commit_laws.specs.Cuts.{AbortsTakeNone, CommitsTakeEffect, HistoriesAreLegal, RecordsAgree}
+use Rattle.commit_laws.specs.Cuts.{RestingRowsFollow}
 use Rattle.commit_laws.specs.Reported.{GatheringsList}
 use Rattle.commit_laws.proofs.reported.AbortsEffectless.{aborts_take_none}
 use Rattle.commit_laws.proofs.settled.All.{all_stand}

@@ -1,5 +1,6 @@
 -- Fair events leave a key tidy, and led to what it was led to; so does the installation of a view.
-use Rattle.std.proofs.Common.{◌≡◌, ◌||◌, ◌&&◌, cond, ℕ, Bool, true, false, List, [], ◌∷◌, filter, refl, sym, ap, ◌∙◌, inl, inr}
+use Rattle.std.proofs.Common.{◌≡◌, ◌||◌, ◌&&◌, cond, ℕ, Bool, true, false, List, [], ◌∷◌, filter, refl, sym, ap, ◌∙◌}
+use Rattle.std.proofs.Common.{inl, inr}
 use Rattle.std.proofs.lemmas.Bool.{not-true, or_left, or_right, true≢false}
 use Rattle.std.specs.Prelude.{if◌then◌else◌, is_some, Option, None, Some}
 use Rattle.run_theory.specs.Lists.{Each}
@@ -36,7 +37,8 @@ use Rattle.key_laws.specs.BackupEvents.{backup_of}
 use Rattle.key_laws.specs.LockLaws.{is_attended}
 use Rattle.key_laws.specs.Primary.{HoldOn, IsOwned}
 use Rattle.key_laws.specs.Records.{found, seen_by}
-use Rattle.key_laws.specs.Replica.{Cell, Replica, aborts, ages, asked_by, asks, commits, completes, expires, expiring, is_let_in, key_after, operated, rests, served_by, serves, worked}
+use Rattle.key_laws.specs.Replica.{Cell, Replica, aborts, ages, asked_by, asks, commits, completes, expires, expiring}
+use Rattle.key_laws.specs.Replica.{is_let_in, key_after, operated, rests, served_by, serves, worked}
 use Rattle.key_laws.proofs.LockHolding.{expiries_hold_on, grants_hold, releases_hold_on, requests_hold_on}
 use Rattle.key_laws.proofs.LockWaiting.{attended_hold}
 use Rattle.key_laws.proofs.Waiting.{each-first_item}

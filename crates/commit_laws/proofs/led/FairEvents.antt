@@ -1,5 +1,6 @@
 -- What comes to a key at its replicas is fair to it.
-use Rattle.std.proofs.Common.{◌≡◌, ◌≢◌, ◌⊎◌, ◌||◌, ◌==◌, ◌≤◌, ◌∙◌, ℕ, Bool, true, false, List, [], ◌∷◌, filter, map, refl, sym, ap, subst, inl, inr, arith}
+use Rattle.std.proofs.Common.{◌≡◌, ◌≢◌, ◌⊎◌, ◌||◌, ◌==◌, ◌≤◌, ◌∙◌, ℕ, Bool, true, false, List, [], ◌∷◌, filter, map}
+use Rattle.std.proofs.Common.{refl, sym, ap, subst, inl, inr, arith}
 use Rattle.std.proofs.lemmas.Bool.{and_left, and_right, eq-eqb, true≢false}
 use Rattle.std.specs.Prelude.{if◌then◌else◌, Option, None, Some}
 use Rattle.run_theory.proofs.Pasts.{each_from, each_map, past_less}
@@ -29,7 +30,8 @@ use Rattle.lqh_views.specs.State.{ReplicaState}
 use Rattle.key_laws.specs.Backup.{kept_of}
 use Rattle.key_laws.specs.Primary.{HasPrepared}
 use Rattle.key_laws.specs.Records.{found, without_epoch}
-use Rattle.key_laws.specs.Replica.{Cell, Event, Replica, aborts, asks, asks_for, at_key, commits, completes, event_at, expires, expires_if, if_on, is_refused, rests, serves, serves_if}
+use Rattle.key_laws.specs.Replica.{Cell, Event, Replica, aborts, asks, asks_for, at_key, commits, completes, event_at}
+use Rattle.key_laws.specs.Replica.{expires, expires_if, if_on, is_refused, rests, serves, serves_if}
 use Rattle.key_laws.proofs.RecordLemmas.{each_found}
 use Rattle.node_views.specs.declared.parts.Parts.TheVariants as part
 use Rattle.world_core.specs.Marks.{has_mark}
@@ -55,7 +57,8 @@ use Rattle.commit_laws.specs.Going.{is_back, is_decided, is_forth}
 use Rattle.commit_laws.specs.Led.{IsFairTo, IsUnkept}
 use Rattle.commit_laws.specs.Owed.{AbortedAreNotFinal, AppliedAreFinal, FinalsGoForward, IsAlong}
 use Rattle.commit_laws.specs.Together.{AllStand, AllStandAlways}
-use Rattle.commit_laws.specs.Traces.{IsCommittedAtAll, IsReplicaOf, has_marker_at, is_committed_by, is_known, record_at, replica_at, rows_at}
+use Rattle.commit_laws.specs.Traces.{IsCommittedAtAll, IsReplicaOf, has_marker_at, is_committed_by, is_known, record_at}
+use Rattle.commit_laws.specs.Traces.{replica_at, rows_at}
 use Rattle.commit_laws.specs.Values.{decided_at, is_final}
 use Rattle.commit_laws.proofs.fates.Committed.{calm_stops, decided_calm, decided_made, forth_calm, token_alone}
 use Rattle.commit_laws.proofs.commits.Places.{cell_before}

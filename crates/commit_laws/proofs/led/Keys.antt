@@ -23,7 +23,8 @@ use Rattle.commit_laws.specs.Led.{IsTidy}
 use Rattle.commit_laws.specs.Owed.{HasPrimary}
 use Rattle.commit_laws.specs.Settled.{HasImageIf, IsSettledWith, row_behind}
 use Rattle.commit_laws.specs.Traces.{IsReplicaOf, record_at, replica_at}
-use Rattle.commit_laws.proofs.led.Decisions.{AreKeptWhoLetGo, decision_leads, more_tidy, row_is_value, unkept_decision_leads}
+use Rattle.commit_laws.proofs.led.Decisions.{AreKeptWhoLetGo, decision_leads, more_tidy, row_is_value}
+use Rattle.commit_laws.proofs.led.Decisions.{unkept_decision_leads}
 use Rattle.commit_laws.proofs.led.Histories.{end_last, right_last}
 
 module _ (start : Start) (final : TxId → Bool) (first : Option (List ℕ)) (key : List ℕ) (logs : ℕ → List HostStep) where

@@ -1,5 +1,6 @@
 -- What becomes of the row and the records of a key that is tidy at a replica.
-use Rattle.std.proofs.Common.{◌≡◌, ◌⊎◌, ℕ, Bool, true, false, not, ◌&&◌, ◌||◌, List, [], ◌∷◌, refl, sym, ap, ◌∙◌, subst, inl, inr}
+use Rattle.std.proofs.Common.{◌≡◌, ◌⊎◌, ℕ, Bool, true, false, not, ◌&&◌, ◌||◌, List, [], ◌∷◌, refl, sym, ap, ◌∙◌, subst}
+use Rattle.std.proofs.Common.{inl, inr}
 use Rattle.std.specs.Prelude.{if◌then◌else◌, Option, None, Some}
 use Rattle.std.specs.List.{list_any}
 use Rattle.std.proofs.lemmas.Bool.{and_left, and_right, or_from, or_parts, or_right, true≢false}
@@ -16,10 +17,14 @@ use Rattle.sig_core.specs.Same.{same_tx}
 use Rattle.key_laws.specs.Backup.{Backup, IsLedUnlessSpoilt, is_spoilt, kept_of}
 use Rattle.key_laws.specs.Primary.{HasPrepared, HoldOn, IsOwned}
 use Rattle.key_laws.specs.PrimaryLaws.{nobody_gone}
-use Rattle.key_laws.specs.Records.{AreOnce, as_committed, committed, committed_row, edited, found, if_committed, kept_row, put_back, stored, unless_committed}
+use Rattle.key_laws.specs.Records.{AreOnce, as_committed, committed, committed_row, edited, found, if_committed}
+use Rattle.key_laws.specs.Records.{kept_row, put_back, stored, unless_committed}
 use Rattle.key_laws.proofs.Holding.{holds_so, only_holder}
 use Rattle.key_laws.proofs.PrimaryValue.{all_committed}
-use Rattle.key_laws.proofs.RecordLemmas.{OnlyOf, committed_keeps, each-edited, each-stored, each_apart, each_both, each_found, if_keeps, if_same, kept_row-aborted, kept_row-committed, kept_row-completed, kept_row-one, kept_row-stored, none_first, once-edited, once-stored, unless_keeps, unless_same}
+use Rattle.key_laws.proofs.RecordLemmas.{OnlyOf, committed_keeps, each-edited, each-stored, each_apart, each_both}
+use Rattle.key_laws.proofs.RecordLemmas.{each_found, if_keeps, if_same, kept_row-aborted, kept_row-committed}
+use Rattle.key_laws.proofs.RecordLemmas.{kept_row-completed, kept_row-one, kept_row-stored, none_first, once-edited}
+use Rattle.key_laws.proofs.RecordLemmas.{once-stored, unless_keeps, unless_same}
 use Rattle.commit_laws.specs.Led.{IsTidy, IsUnkept, Leads}
 
 -- what is committed is decided

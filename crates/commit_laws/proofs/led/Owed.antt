@@ -25,7 +25,8 @@ use Rattle.request_laws.proofs.phases.Stands.{coordinators_stand}
 use Rattle.request_laws.specs.Ways.{has_gone_back, tells_abort}
 use Rattle.commit_laws.specs.Fates.{is_led_by_full}
 use Rattle.commit_laws.specs.Going.{is_back, is_decided, is_forth, is_lost}
-use Rattle.commit_laws.specs.Owed.{AbortedAreNotFinal, DecidersGoOn, FinalsAreDecidedNow, FinalsAreForth, FinalsGoForward, IsAlong}
+use Rattle.commit_laws.specs.Owed.{AbortedAreNotFinal, DecidersGoOn, FinalsAreDecidedNow, FinalsAreForth}
+use Rattle.commit_laws.specs.Owed.{FinalsGoForward, IsAlong}
 use Rattle.commit_laws.specs.Settled.{IsDecidedNow}
 use Rattle.commit_laws.specs.Together.{AllStandAlways}
 use Rattle.commit_laws.specs.Transit.{MomentsHaveTransit}

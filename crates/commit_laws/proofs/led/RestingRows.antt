@@ -1,5 +1,6 @@
 -- At rest a live replica of a key has no record of it, and so has the row that the history leaves.
-use Rattle.std.proofs.Common.{◌≡◌, ◌≢◌, ◌||◌, ◌++◌, ◌<◌, ◌+◌, ◌-◌, ◌*◌, ◌∙◌, ℕ, zero, suc, Bool, true, false, length, List, [], ◌∷◌, refl, sym, ap, subst, arith, inl, inr}
+use Rattle.std.proofs.Common.{◌≡◌, ◌≢◌, ◌||◌, ◌++◌, ◌<◌, ◌+◌, ◌-◌, ◌*◌, ◌∙◌, ℕ, zero, suc, Bool, true, false, length}
+use Rattle.std.proofs.Common.{List, [], ◌∷◌, refl, sym, ap, subst, arith, inl, inr}
 use Rattle.std.proofs.Math.Path.{fun_ext}
 use Rattle.std.proofs.lemmas.Bool.{or_from, true≢false}
 use Rattle.std.specs.List.{list_any}
@@ -57,7 +58,8 @@ use Rattle.request_laws.specs.Routed.{layout_in}
 use Rattle.commit_laws.specs.Commits.{ComesWhenDone}
 use Rattle.commit_laws.specs.Cuts.{RestingRowsFollow}
 use Rattle.commit_laws.specs.Together.{AllStand, AllStandAlways}
-use Rattle.commit_laws.specs.Traces.{IsCommittedAtAll, IsReplicaOf, has_marker_at, is_committed_by, is_known, record_at, replica_at}
+use Rattle.commit_laws.specs.Traces.{IsCommittedAtAll, IsReplicaOf, has_marker_at, is_committed_by, is_known, record_at}
+use Rattle.commit_laws.specs.Traces.{replica_at}
 use Rattle.commit_laws.proofs.commits.Places.{cell_before, chain_event, on_self, well}
 use Rattle.commit_laws.proofs.forth.All.{forth_is_known}
 use Rattle.commit_laws.proofs.views.Greatest.{greatest_current}
@@ -67,7 +69,8 @@ use Rattle.commit_laws.proofs.hosts.RowsGo.{AreUnapplied, is_row_mark, any_front
 use Rattle.commit_laws.proofs.led.Begins.{replicas_begin_at_rest}
 use Rattle.commit_laws.proofs.records.Moves.{found_own, now_by}
 use Rattle.commit_laws.proofs.records.Once.{rows_once}
-use Rattle.commit_laws.proofs.records.Replicas.{chain_full, chained, in_turns, replica_before, replica_made, self, turn_in}
+use Rattle.commit_laws.proofs.records.Replicas.{chain_full, chained, in_turns, replica_before, replica_made, self}
+use Rattle.commit_laws.proofs.records.Replicas.{turn_in}
 use Rattle.commit_laws.proofs.hosts.RowsTurn.{IsBetween, IsTakenAt, RowsGo, enter, rest, rows_go, take}
 use Rattle.commit_laws.proofs.commits.RowsPrepare.{Ends, completes_it, done_ends, gives_up, record_marked}
 use Rattle.commit_laws.proofs.links.TakenChains.{IsKeptForth, chain_told, complete_kept}

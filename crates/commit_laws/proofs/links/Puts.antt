@@ -1,6 +1,7 @@
 -- What a host sends in a step comes to a link one signal behind the other, but for what it keeps back, what isn't well
 -- formed, and what is for others.
-use Rattle.std.proofs.Common.{◌≡◌, ◌==◌, ℕ, Bool, true, false, cond, filter, if◌then◌else◌, List, [], ◌∷◌, refl, sym, ap, subst, ◌∙◌}
+use Rattle.std.proofs.Common.{◌≡◌, ◌==◌, ℕ, Bool, true, false, cond, filter, if◌then◌else◌, List, [], ◌∷◌, refl, sym}
+use Rattle.std.proofs.Common.{ap, subst, ◌∙◌}
 use Rattle.std.proofs.lemmas.Bool.{eq-eqb, eqb-true, true≢false}
 use Rattle.run_theory.specs.Links.{put, sent}
 use Rattle.run_theory.proofs.Links.{sent_by_stop}

@@ -14,7 +14,7 @@ use Rattle.sig_core.specs.declared.signal.Signal.{Signal}
 use Rattle.sig_core.specs.declared.signal.takeover.TakeoverSignal.{TakeoverSignal}
 use Rattle.sig_core.specs.declared.view.View.{View}
 use Rattle.sig_core.specs.Step.{Step}
-use Rattle.node_views.specs.declared.host.Host as hosts
+use Rattle.node_views.specs.declared.host_body.HostBody as hosts
 use Rattle.node_views.specs.declared.parts.Parts.{Parts}
 use Rattle.node_views.specs.declared.parts.Parts.TheVariants as part
 use Rattle.node_views.specs.declared.standing.Standing.{Standing}
@@ -22,7 +22,9 @@ use Rattle.node_views.specs.declared.tc_part.TcPart.{TcPart}
 use Rattle.node_views.specs.Blocks.{fence_at}
 use Rattle.node_views.specs.Fence.{is_fenced}
 use Rattle.node_views.specs.Parts.{tc_entered, tc_row}
-use Rattle.node_views.specs.Row.{blocks_row, counted_row, entered, entering_if, headed_if, headed_row, host_row, host_table, in_view, is_barred, is_excluded, is_stop, hushed, killed_after, passed_if, passed_row, taken_if}
+use Rattle.node_views.specs.Row.{blocks_row, counted_row, entered, entering_if, headed_if, headed_row, host_row}
+use Rattle.node_views.specs.Row.{host_table, in_view, is_barred, is_excluded, is_stop, hushed, killed_after, passed_if}
+use Rattle.node_views.specs.Row.{passed_row, taken_if}
 use Rattle.node_views.specs.WellFormed.{is_well_formed}
 use Rattle.world_core.specs.Start.{Start}
 use Rattle.world_core.specs.Steps.{HostStep}
@@ -32,20 +34,20 @@ use Rattle.view_laws.specs.Runs.{view_after}
 use Rattle.moment_laws.specs.PartSteps.{PartEnters, installs, remains, tc_kind}
 
 -- what a step comes to: the host stops, or a view is installed or none, and behind that the part takes the signal
-pub data Hears (p : TcPart) (view : View) (x : Signal) (step : Step hosts.Host) : Type 0 where
+pub data Hears (p : TcPart) (view : View) (x : Signal) (step : Step hosts.HostBody) : Type 0 where
   stops : list_any is_stop step.effects.marks ≡ true → Hears p view x step
   heard : (between : TcPart) (seen : View) (front : List Outgoing)
       → PartEnters tc_kind p view x between seen front
       → step.state.parts ≡ part.Tc (tc_row between x.to.block x).state → step.state.standing.view ≡ seen
       → Hears p view x step
 
-abbrev host_of : Standing → TcPart → hosts.Host
+abbrev host_of : Standing → TcPart → hosts.HostBody
 host_of standing p = record { standing = standing; parts = part.Tc p }
 
 module _ (x : Signal) (signal : TakeoverSignal) (body_is : x.body ≡ Takeover signal) (to : x.to.block ≡ block.Takeover)
   where
     -- the part takes it
-    record Takes (standing : Standing) (p : TcPart) (step : Step hosts.Host) : Type 0 where
+    record Takes (standing : Standing) (p : TcPart) (step : Step hosts.HostBody) : Type 0 where
       parts : step.state.parts ≡ part.Tc (tc_row p x.to.block x).state
       stood : step.state.standing.view ≡ standing.view
 
@@ -108,7 +110,7 @@ module _ (x : Signal) (signal : TakeoverSignal) (body_is : x.body ≡ Takeover s
       unfolding host_row
       step_hears h standing high sound = stopped (own_stop h x)
         where
-          hushed_hears : (step : Step hosts.Host) → Hears p standing.view x step → Hears p standing.view x (hushed step)
+          hushed_hears : (step : Step hosts.HostBody) → Hears p standing.view x step → Hears p standing.view x (hushed step)
           hushed_hears step (stops is) = stops is
           hushed_hears step (heard between seen front entering parts stood) =
               heard between seen front entering parts stood

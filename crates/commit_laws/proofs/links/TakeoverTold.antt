@@ -1,6 +1,7 @@
 -- What a step of a host tells a takeover of a transaction comes to the link to that, unless the host has cut it off, or
 -- nothing that it sends is well formed; and no end comes there in front of it.
-use Rattle.std.proofs.Common.{◌≡◌, ◌⊎◌, ◌==◌, ◌&&◌, ◌∙◌, ℕ, Bool, true, false, List, [], ◌∷◌, inl, inr, refl, sym, ap, subst}
+use Rattle.std.proofs.Common.{◌≡◌, ◌⊎◌, ◌==◌, ◌&&◌, ◌∙◌, ℕ, Bool, true, false, List, [], ◌∷◌, inl, inr, refl, sym, ap}
+use Rattle.std.proofs.Common.{subst}
 use Rattle.std.proofs.lemmas.Bool.{and_parts, or_cases, or_parts, true≢false}
 use Rattle.std.specs.Prelude.{None}
 use Rattle.run_theory.specs.Links.{sent}

@@ -1,10 +1,12 @@
 -- What is in transit was sent, and of each kind of signals but closings it is what was sent and wasn't taken.
-use Rattle.std.proofs.Common.{◌≡◌, ◌+◌, ◌||◌, ◌++◌, ℕ, Bool, true, false, List, [], ◌∷◌, refl, sym, ap, ◌∙◌, subst, inl, inr, arith}
+use Rattle.std.proofs.Common.{◌≡◌, ◌+◌, ◌||◌, ◌++◌, ℕ, Bool, true, false, List, [], ◌∷◌, refl, sym, ap, ◌∙◌, subst, inl}
+use Rattle.std.proofs.Common.{inr, arith}
 use Rattle.std.proofs.lemmas.Bool.{eq-eqb}
 use Rattle.std.specs.List.{count_by}
 use Rattle.std.specs.Prelude.{◌==◌, if◌then◌else◌}
 use Rattle.run_theory.proofs.Links.{put_past, sent_more}
-use Rattle.run_theory.proofs.Pasts.{each_after, each_append, each_before, each_from, each_in, each_past, in_past, past_self, past_trans}
+use Rattle.run_theory.proofs.Pasts.{each_after, each_append, each_before, each_from, each_in, each_past, in_past}
+use Rattle.run_theory.proofs.Pasts.{past_self, past_trans}
 use Rattle.run_theory.proofs.Runs.{log_of-own, log_of-past}
 use Rattle.run_theory.proofs.Tally.{tally_between, tally_in}
 use Rattle.run_theory.specs.Counts.{tally}

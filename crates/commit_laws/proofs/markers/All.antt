@@ -19,11 +19,10 @@ use Rattle.lqh_block.specs.Commit.{is_marker}
 use Rattle.lqh_block.specs.declared.request.Marker.{Marker}
 use Rattle.lqh_views.proofs.ListsKept.{both}
 use Rattle.node_core.specs.Fresh.{own_rows, with_rows}
-use Rattle.node_views.specs.declared.host.Host as node
+use Rattle.node_views.specs.declared.host_body.HostBody as node
 use Rattle.node_views.specs.WellFormed.{is_well_formed}
 use Rattle.world_core.specs.Start.{Start, made}
 use Rattle.world_core.specs.Steps.{HostStep}
-use Rattle.world_views.specs.Hosts.{epoch_before}
 use Rattle.world_views.specs.Machine.{IsOwnWork, machine}
 use Rattle.world_views.proofs.FreshBodies.{none_pending}
 use Rattle.moment_laws.specs.Moments.{IsMoment, logs_of}
@@ -141,12 +140,12 @@ module _ (start : Start) (all : ℕ → List HostStep) (e : HostStep) (es : List
 first_remembers : (start : Start) (member : Member) → IsIn member (made start)
     → Remember (λ tx. is_known start (λ h. []) tx) (rows_at start (λ h. []) member).lqh
 first_remembers start member there =
-    subst (λ (s : node.Host). Remember (λ tx. false) (rows_in (no_replica start member) s.parts).lqh)
+    subst (λ (s : node.HostBody). Remember (λ tx. false) (rows_in (no_replica start member) s.parts).lqh)
     (sym (ldm_started start member there))
     (subst (Each (Remembers (λ tx. false) [])) (sym none) tt)
   where
-    none : (with_rows no_rows (own_rows start.shape member.node start.rows) (epoch_before start.epoch)).pending ≡ []
-    none = none_pending no_rows (own_rows start.shape member.node start.rows) (epoch_before start.epoch)
+    none : (with_rows no_rows (own_rows start.shape member.node start.rows) start.start_epoch).pending ≡ []
+    none = none_pending no_rows (own_rows start.shape member.node start.rows) start.start_epoch
 
 pub commits_are_remembered : CommitsAreRemembered
 commits_are_remembered start all [] moment member there = first_remembers start member there

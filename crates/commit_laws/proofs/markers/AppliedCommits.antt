@@ -15,7 +15,8 @@ use Rattle.commit_laws.specs.Fates.{commits, fate, is_led_by_full}
 use Rattle.commit_laws.specs.Going.{is_forth, is_lost}
 use Rattle.commit_laws.specs.Owed.{HasPrimary}
 use Rattle.commit_laws.specs.Together.{AllStandAlways}
-use Rattle.commit_laws.specs.Traces.{IsApplied, has_marker_at, has_trace, is_committed_at, is_committed_by, is_known, members_now, record_at}
+use Rattle.commit_laws.specs.Traces.{IsApplied, has_marker_at, has_trace, is_committed_at, is_committed_by, is_known}
+use Rattle.commit_laws.specs.Traces.{members_now, record_at}
 use Rattle.commit_laws.proofs.fates.Cases.{known_commits}
 use Rattle.commit_laws.proofs.views.AtEvents.{full_only}
 use Rattle.commit_laws.proofs.forth.All.{forth_is_known}

@@ -17,7 +17,8 @@ use Rattle.lqh_block.specs.declared.request.Marker.{Marker}
 use Rattle.lqh_views.specs.declared.report.Report as reports
 use Rattle.lqh_views.specs.Epochs.{epoch_table}
 use Rattle.lqh_views.specs.Replica.{is_stale, passed, replica_by, replica_row, serve_if}
-use Rattle.lqh_views.specs.Report.{go_on_by, is_orphaned_marker, is_orphaned_record, last_before, marker_by, record_by, reporting}
+use Rattle.lqh_views.specs.Report.{go_on_by, is_orphaned_marker, is_orphaned_record, last_before, marker_by, record_by}
+use Rattle.lqh_views.specs.Report.{reporting}
 use Rattle.lqh_views.specs.State.{ReplicaState}
 use Rattle.commit_laws.proofs.markers.Lists.{AreKept, Remember, all_stay, lists_kept}
 

@@ -1,6 +1,7 @@
 -- At an event: what is committed, or remembered of a commit, is of a key that its transaction wrote; and a marker comes
 -- to stand alone when all is done.
-use Rattle.std.proofs.Common.{◌≡◌, ◌≢◌, ◌⊎◌, ◌||◌, ◌&&◌, ◌∙◌, ℕ, Bool, true, false, List, [], ◌∷◌, refl, sym, ap, subst, inl, inr}
+use Rattle.std.proofs.Common.{◌≡◌, ◌≢◌, ◌⊎◌, ◌||◌, ◌&&◌, ◌∙◌, ℕ, Bool, true, false, List, [], ◌∷◌, refl, sym, ap, subst}
+use Rattle.std.proofs.Common.{inl, inr}
 use Rattle.std.proofs.lemmas.Bool.{and_parts, cases_eq, or_left, or_right, true≢false}
 use Rattle.std.specs.Prelude.{if◌then◌else◌, Option, None, Some}
 use Rattle.std.specs.List.{list_any}
@@ -33,11 +34,14 @@ use Rattle.commit_laws.specs.Forth.{ForthIsKnownAlways}
 use Rattle.commit_laws.specs.Going.{is_forth, is_lost}
 use Rattle.commit_laws.specs.Markers.{CommitsAreRemembered}
 use Rattle.commit_laws.specs.Together.{AllStand}
-use Rattle.commit_laws.specs.Traces.{has_marker_at, has_trace, is_committed_of, is_known, is_marker_of, leave_trace, members_now, record_at, rows_at}
+use Rattle.commit_laws.specs.Traces.{has_marker_at, has_trace, is_committed_of, is_known, is_marker_of, leave_trace}
+use Rattle.commit_laws.specs.Traces.{members_now, record_at, rows_at}
 use Rattle.commit_laws.proofs.fates.Committed.{IsCalm, forth_calm, forth_made}
-use Rattle.commit_laws.proofs.commits.Remain.{AcknowledgedAreKnown, done_stays, marker_forth, record_forth, record_there}
+use Rattle.commit_laws.proofs.commits.Remain.{AcknowledgedAreKnown, done_stays, marker_forth, record_forth}
+use Rattle.commit_laws.proofs.commits.Remain.{record_there}
 use Rattle.commit_laws.proofs.forth.DecidedStay.{forth_decided, written_more}
-use Rattle.commit_laws.proofs.records.KeyGoes.{IsMarkedNow, KeyGoes, RecordGoes, TakesNow, is_aborted, is_committed, is_completed, key_goes, record_stays}
+use Rattle.commit_laws.proofs.records.KeyGoes.{IsMarkedNow, KeyGoes, RecordGoes, TakesNow, is_aborted, is_committed}
+use Rattle.commit_laws.proofs.records.KeyGoes.{is_completed, key_goes, record_stays}
 use Rattle.commit_laws.proofs.hosts.SomePasses.{passed, passing}
 use Rattle.commit_laws.proofs.records.Moves.{now_by}
 use Rattle.commit_laws.proofs.records.Replicas.{member_before, member_made}

@@ -31,7 +31,9 @@ use Rattle.qmgr_block.specs.Qmgr.{qmgr_row, qmgr_table}
 use Rattle.qmgr_block.specs.Sets.{members_of}
 use Rattle.qmgr_block.specs.State.{QmgrState}
 use Rattle.node_views.specs.declared.main_part.MainPart.{MainPart}
-use Rattle.node_views.specs.Parts.{main_entered, main_row, main_settled, may_settle, settled_if}
+use Rattle.node_views.specs.Parts.{main_entered, main_row, main_settled}
+use Rattle.qmgr_block.proofs.Settles.{settles_may}
+use Rattle.qmgr_block.specs.Settle.{may_settle}
 use Rattle.outcome_laws.specs.Counts.{one_if}
 use Rattle.view_laws.proofs.memberships.AlongEvents.{steps}
 use Rattle.view_laws.proofs.memberships.Steps.{row_installs}
@@ -183,12 +185,8 @@ module _ (p : MainPart) (x : Signal) where
       off (Host signal) may = absurd cc
       off body may = refl
 
-      may : (b : Bool) → may_settle x.body ≡ b → settled_if p.qmgr x b ≡ Some view → may_settle x.body ≡ true
-      may true is some = is
-      may false is none = absurd cc
-
       by : (b : BlockId) → main_settled p b x ≡ Some view → count_orders last (main_row p b x).effects.sends ≡ 0
-      by block.Qmgr is = quiet (off x.body (may (may_settle x.body) refl is))
+      by block.Qmgr is = quiet (off x.body (settles_may p.qmgr x view is))
       by _ is = absurd cc
 
   -- and where it enters one, no more than the signal to begin with the orders

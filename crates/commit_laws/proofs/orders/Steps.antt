@@ -1,7 +1,8 @@
 -- At an event of a membership's host it sends as many orders, and signals to go on to them, as it takes of these, and
 -- one
 -- more where it comes to a greater view.
-use Rattle.std.proofs.Common.{◌≡◌, ◌≤◌, ◌<◌, ◌+◌, ◌++◌, ◌⊎◌, ◌∙◌, ℕ, true, false, ◌&&◌, ◌||◌, ◌==◌, Bool, List, [], ◌∷◌, inl, inr, length, nat_lt, refl, sym, ap, subst, arith}
+use Rattle.std.proofs.Common.{◌≡◌, ◌≤◌, ◌<◌, ◌+◌, ◌++◌, ◌⊎◌, ◌∙◌, ℕ, true, false, ◌&&◌, ◌||◌, ◌==◌, Bool, List, [], ◌∷◌}
+use Rattle.std.proofs.Common.{inl, inr, length, nat_lt, refl, sym, ap, subst, arith}
 use Rattle.std.proofs.lemmas.Bool.Decides.{nat_tests}
 use Rattle.std.proofs.lemmas.Bool.{true≢false}
 use Rattle.std.specs.Prelude.{if◌then◌else◌, not, Some}
@@ -45,7 +46,8 @@ use Rattle.moment_laws.proofs.PartSteps.{after_do}
 use Rattle.outcome_laws.specs.Counts.{one_if}
 use Rattle.outcome_laws.proofs.coordinators.Lists.{count_both}
 use Rattle.commit_laws.proofs.orders.Counts.{count_orders, is_counted}
-use Rattle.commit_laws.proofs.orders.Main.{enters_counts, enters_none, goes_from, installing_is, main_counts, main_me, settles_none, younger_none}
+use Rattle.commit_laws.proofs.orders.Main.{enters_counts, enters_none, goes_from, installing_is, main_counts, main_me}
+use Rattle.commit_laws.proofs.orders.Main.{settles_none, younger_none}
 
 -- the parts of a membership's host, whose membership has this view
 pub record RunsMain (member : Member) (parts : Parts) (view : View) : Type 0 where

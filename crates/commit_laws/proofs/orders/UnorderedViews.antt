@@ -28,7 +28,7 @@ use Rattle.lqh_views.specs.State.{ReplicaState}
 use Rattle.takeover_block.specs.declared.stage.Stage.TheVariants.{Resting}
 use Rattle.takeover_block.specs.State.{TakeoverState, resting}
 use Rattle.takeover_block.specs.Takeover.{takeover_row}
-use Rattle.node_views.specs.declared.host.Host as hosts
+use Rattle.node_views.specs.declared.host_body.HostBody as hosts
 use Rattle.node_views.specs.declared.parts.Parts.TheVariants as part
 use Rattle.node_views.specs.declared.tc_part.TcPart.{TcPart}
 use Rattle.node_views.specs.Parts.{tc_row}
@@ -58,8 +58,11 @@ use Rattle.commit_laws.proofs.drive.Idle.{idle_stays}
 use Rattle.commit_laws.proofs.drive.Kinds.{numbered}
 use Rattle.commit_laws.proofs.drive.Ruled.{is_order}
 use Rattle.commit_laws.proofs.gathering.Alone.{plain}
-use Rattle.commit_laws.proofs.hosts.RowsTurn.{IsBetween, RowsTurn, as_was, enter_now, entered, rest_now, rows_turn, take_now}
-use Rattle.commit_laws.proofs.orders.UnorderedHosts.{AreNoReports, IsNoReport, beside_no_reports, coordinator_no_reports, enters_no_reports, epochs_no_reports, is_of_reports}
+use Rattle.commit_laws.proofs.hosts.RowsTurn.{IsBetween, RowsTurn, as_was, enter_now, entered, rest_now, rows_turn}
+use Rattle.commit_laws.proofs.hosts.RowsTurn.{take_now}
+use Rattle.commit_laws.proofs.orders.UnorderedHosts.{AreNoReports, IsNoReport, beside_no_reports}
+use Rattle.commit_laws.proofs.orders.UnorderedHosts.{coordinator_no_reports, enters_no_reports, epochs_no_reports}
+use Rattle.commit_laws.proofs.orders.UnorderedHosts.{is_of_reports}
 use Rattle.commit_laws.proofs.orders.UnorderedRows.{TellsNothing, tells_nothing}
 
 module _ (start : Start) (number : ℕ) where
@@ -79,10 +82,10 @@ module _ (start : Start) (number : ℕ) where
   unordered_first = record {
     sent = λ i j. tt;
     rests = λ member there stands.
-        ap (λ (s : hosts.Host). (takeover_in (resting member.node (first_layout start.shape)) s.parts).stage)
+        ap (λ (s : hosts.HostBody). (takeover_in (resting member.node (first_layout start.shape)) s.parts).stage)
         (tc_started start member there);
     reports = λ member there stands.
-        ap (λ (s : hosts.Host). (rows_in (no_replica start member) s.parts).report) (ldm_started start member there);
+        ap (λ (s : hosts.HostBody). (rows_in (no_replica start member) s.parts).report) (ldm_started start member there);
   }
 
 module _ (start : Start) (all : ℕ → List HostStep) (e : HostStep) (es : List HostStep)

@@ -34,7 +34,8 @@ use Rattle.commit_laws.specs.Together.{Follows}
 use Rattle.commit_laws.specs.Traces.{replica_at, rows_at}
 use Rattle.commit_laws.specs.Transit.{AreInTransit, Takes}
 use Rattle.commit_laws.proofs.records.KeyStays.{worker_of}
-use Rattle.commit_laws.proofs.records.MemberKeeps.{KeepsFor, KeepsTo, between_keeps, event_keeps, keeps_both, keeps_self}
+use Rattle.commit_laws.proofs.records.MemberKeeps.{KeepsFor, KeepsTo, between_keeps, event_keeps, keeps_both}
+use Rattle.commit_laws.proofs.records.MemberKeeps.{keeps_self}
 use Rattle.commit_laws.proofs.parts.Events.{aside_tokens, aside_waits}
 use Rattle.commit_laws.proofs.parts.Own.{bodies_sent, sent_now}
 use Rattle.commit_laws.proofs.parts.Request.{each_if}

@@ -8,7 +8,7 @@ use Rattle.sig_core.specs.declared.member.Member.{Member}
 use Rattle.sig_core.specs.declared.member.TxId.{TxId}
 use Rattle.sig_core.specs.declared.outs.Outgoing.{Outgoing}
 use Rattle.tc_block.specs.declared.transaction.Transaction.{Transaction}
-use Rattle.node_views.specs.declared.host.Host as node
+use Rattle.node_views.specs.declared.host_body.HostBody as node
 use Rattle.world_core.specs.Start.{Start, made}
 use Rattle.world_core.specs.Steps.{Addressed, HostStep}
 use Rattle.world_views.specs.Hosts.{started}
@@ -22,7 +22,8 @@ use Rattle.request_laws.specs.Blocks.{coordinator_after}
 use Rattle.request_laws.specs.Drives.{asked_in}
 use Rattle.request_laws.specs.Tokens.{is_token}
 use Rattle.request_laws.specs.Ways.{entry_of}
-use Rattle.request_laws.proofs.routes.Hosts.{IsBeside, PartHost, beside_sends, coordinates, is_beside, keeps_rows, part_host}
+use Rattle.request_laws.proofs.routes.Hosts.{IsBeside, PartHost, beside_sends, coordinates, is_beside, keeps_rows}
+use Rattle.request_laws.proofs.routes.Hosts.{part_host}
 use Rattle.request_laws.proofs.tokens.CoordinatorEvents.{foreign_none}
 use Rattle.request_laws.proofs.tokens.OtherBlocks.{aside_none}
 use Rattle.request_laws.proofs.tokens.HostsApart.{ldm_no_tc}
@@ -90,7 +91,7 @@ module _ (start : Start) (all : ℕ → List HostStep) (e : HostStep) (es : List
 
     beside_rows : IsBeside (started start e.host).parts → (m : Member) → IsIn m (made start) → e.host ≢ ldm_of start m
     beside_rows beside m among is =
-        subst (λ (host : node.Host). IsBeside host.parts) (ldm_started start m among)
+        subst (λ (host : node.HostBody). IsBeside host.parts) (ldm_started start m among)
         (subst (λ h. IsBeside (started start h).parts) is beside)
 
     -- rows of a member are to be seen to apart

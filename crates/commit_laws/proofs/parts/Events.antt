@@ -12,7 +12,8 @@ use Rattle.sig_core.specs.Firsts.{drop_first, first}
 use Rattle.sig_core.specs.Same.{same_tx}
 use Rattle.lqh_block.specs.declared.request.Request.{Request}
 use Rattle.lqh_block.specs.Work.{work_mode}
-use Rattle.key_laws.specs.Replica.{Event, Replica, aborts, ages, asked_by, asks, commits, completes, expires, is_by, is_let_in, key_after, rests, served_by, serves}
+use Rattle.key_laws.specs.Replica.{Event, Replica, aborts, ages, asked_by, asks, commits, completes, expires, is_by}
+use Rattle.key_laws.specs.Replica.{is_let_in, key_after, rests, served_by, serves}
 use Rattle.key_laws.proofs.Waiting.{each-drop_first}
 use Rattle.run_laws.proofs.tokens.Signals.{Token, asked_tokens, event_tokens, if_by, performed_token, served_tokens}
 use Rattle.run_laws.proofs.tokens.Signals as token

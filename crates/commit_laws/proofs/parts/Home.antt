@@ -1,5 +1,6 @@
 -- The parts of a transaction's operations behind an event of its coordinator's host in the current view.
-use Rattle.std.proofs.Common.{◌≡◌, ◌≤◌, ◌⊎◌, ◌&&◌, ◌==◌, ◌||◌, ◌+◌, ◌++◌, ◌∙◌, ℕ, Bool, true, false, List, [], ◌∷◌, eq-eqb, refl, sym, ap, subst, inl, inr, arith}
+use Rattle.std.proofs.Common.{◌≡◌, ◌≤◌, ◌⊎◌, ◌&&◌, ◌==◌, ◌||◌, ◌+◌, ◌++◌, ◌∙◌, ℕ, Bool, true, false, List, [], ◌∷◌}
+use Rattle.std.proofs.Common.{eq-eqb, refl, sym, ap, subst, inl, inr, arith}
 use Rattle.std.proofs.lemmas.Bool.{and_parts, eqb-true, true≢false}
 use Rattle.std.specs.List.{list_any}
 use Rattle.std.specs.Prelude.{if◌then◌else◌, is_some, None, Some}
@@ -68,7 +69,8 @@ use Rattle.commit_laws.specs.Transit.{AreInTransit, Takes, is_closing}
 use Rattle.commit_laws.proofs.fates.Committed.{none_passes}
 use Rattle.commit_laws.proofs.fates.Going.{hale_made}
 use Rattle.commit_laws.proofs.parts.Hosts.{EntryGoes, Sends, begun, entry_goes, kept, moved}
-use Rattle.commit_laws.proofs.parts.Own.{PartsOf, bodies_sent, goes_on_so, hale_was, members_still, no_request, sent_now}
+use Rattle.commit_laws.proofs.parts.Own.{PartsOf, bodies_sent, goes_on_so, hale_was, members_still, no_request}
+use Rattle.commit_laws.proofs.parts.Own.{sent_now}
 use Rattle.commit_laws.proofs.parts.Rests.{link_gave, rests_stay}
 use Rattle.commit_laws.proofs.parts.Turns.{asks, gets, request_of, rests}
 use Rattle.commit_laws.proofs.parts.Quiet.{IsIdle, idle_told, idle_waits, no_part, unasked_idle}

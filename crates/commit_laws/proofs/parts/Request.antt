@@ -1,5 +1,6 @@
 -- The parts of a transaction's operations behind an event at which rows take a request of it, in the current view.
-use Rattle.std.proofs.Common.{◌≡◌, ◌≢◌, ◌⊎◌, ◌&&◌, ◌==◌, ◌||◌, ◌∙◌, ℕ, Bool, true, false, cond, filter, List, [], ◌∷◌, eq-eqb, refl, sym, ap, subst, inl, inr}
+use Rattle.std.proofs.Common.{◌≡◌, ◌≢◌, ◌⊎◌, ◌&&◌, ◌==◌, ◌||◌, ◌∙◌, ℕ, Bool, true, false, cond, filter, List, [], ◌∷◌}
+use Rattle.std.proofs.Common.{eq-eqb, refl, sym, ap, subst, inl, inr}
 use Rattle.std.proofs.lemmas.Bool.{true≢false}
 use Rattle.std.specs.List.{slice_get}
 use Rattle.std.specs.Prelude.{if◌then◌else◌, Some}
@@ -27,7 +28,8 @@ use Rattle.lqh_block.specs.State.{storage_of}
 use Rattle.lqh_block.specs.Work.{work_mode}
 use Rattle.lqh_views.specs.Replica.{installed}
 use Rattle.lqh_views.specs.State.{ReplicaState}
-use Rattle.key_laws.specs.Replica.{Replica, asked_by, asks, asks_for, at_key, event_at, if_on, is_refused, key_after, rests}
+use Rattle.key_laws.specs.Replica.{Replica, asked_by, asks, asks_for, at_key, event_at, if_on, is_refused, key_after}
+use Rattle.key_laws.specs.Replica.{rests}
 use Rattle.key_laws.proofs.LockHolding.{requests_hold_on}
 use Rattle.run_laws.specs.Routes.{IsWorkAt}
 use Rattle.run_laws.specs.Transit.{joined}

@@ -25,7 +25,8 @@ use Rattle.lqh_block.specs.Operate.{is_granted}
 use Rattle.lqh_block.specs.State.{storage_of}
 use Rattle.lqh_views.specs.Replica.{installed, is_stale}
 use Rattle.lqh_views.specs.State.{ReplicaState}
-use Rattle.key_laws.specs.Replica.{Event, aborts as gives_up, asks, at_key, commits as makes_so, completes as ends, event_at, expires, expires_if, if_on, is_refused, rests, serves, serves_if}
+use Rattle.key_laws.specs.Replica.{Event, aborts as gives_up, asks, at_key, commits as makes_so, completes as ends}
+use Rattle.key_laws.specs.Replica.{event_at, expires, expires_if, if_on, is_refused, rests, serves, serves_if}
 use Rattle.key_laws.proofs.KeyAfter.{first_here}
 use Rattle.run_laws.proofs.circle.OthersStay.{is_of, of_first}
 use Rattle.world_core.specs.Start.{Start, made}

@@ -1,6 +1,7 @@
 -- The parts of a transaction's operations behind an event at which rows perform a request of it that waited, in the
 -- current view.
-use Rattle.std.proofs.Common.{◌≡◌, ◌≢◌, ◌⊎◌, ◌≤◌, ◌+◌, ◌==◌, ◌∙◌, ℕ, Bool, true, false, List, ◌∷◌, eq-eqb, refl, sym, ap, subst, arith}
+use Rattle.std.proofs.Common.{◌≡◌, ◌≢◌, ◌⊎◌, ◌≤◌, ◌+◌, ◌==◌, ◌∙◌, ℕ, Bool, true, false, List, ◌∷◌, eq-eqb, refl, sym}
+use Rattle.std.proofs.Common.{ap, subst, arith}
 use Rattle.std.proofs.lemmas.Bool.{true≢false}
 use Rattle.std.specs.List.{count_by, slice_get}
 use Rattle.std.specs.Prelude.{if◌then◌else◌, Option, None, Some}
@@ -30,7 +31,8 @@ use Rattle.lqh_block.specs.Operate.{is_granted}
 use Rattle.lqh_block.specs.State.{storage_of}
 use Rattle.lqh_views.specs.Replica.{installed, is_stale}
 use Rattle.lqh_views.specs.State.{ReplicaState}
-use Rattle.key_laws.specs.Replica.{Replica, asks_for, at_key, event_at, if_on, is_let_in, is_refused, key_after, rests, served_by, serves, serves_if}
+use Rattle.key_laws.specs.Replica.{Replica, asks_for, at_key, event_at, if_on, is_let_in, is_refused, key_after, rests}
+use Rattle.key_laws.specs.Replica.{served_by, serves, serves_if}
 use Rattle.key_laws.proofs.KeyAfter.{first_here}
 use Rattle.key_laws.proofs.Waiting.{each-first_item}
 use Rattle.run_laws.proofs.transit.Weighing.{joined_each}

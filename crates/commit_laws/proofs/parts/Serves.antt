@@ -26,7 +26,8 @@ use Rattle.lqh_block.specs.State.{storage_of}
 use Rattle.lqh_block.specs.Work.{work_mode}
 use Rattle.lqh_views.specs.Replica.{installed}
 use Rattle.lqh_views.specs.State.{ReplicaState}
-use Rattle.key_laws.specs.Replica.{Replica, at_key, event_at, if_on, is_let_in, is_refused, rests, served_by, serves, serves_if, worked}
+use Rattle.key_laws.specs.Replica.{Replica, at_key, event_at, if_on, is_let_in, is_refused, rests, served_by, serves}
+use Rattle.key_laws.specs.Replica.{serves_if, worked}
 use Rattle.key_laws.proofs.KeyAfter.{first_here}
 use Rattle.key_laws.proofs.LockWaiting.{attended_hold}
 use Rattle.key_laws.proofs.Waiting.{each-first_item}

@@ -12,7 +12,7 @@ use Rattle.sig_core.specs.declared.view.View.{View}
 use Rattle.sig_core.specs.Same.{same_tx}
 use Rattle.sig_core.proofs.TxLemmas.{same_tx-is}
 use Rattle.frag_map.specs.Replicas.{is_member}
-use Rattle.node_views.specs.declared.host.Host as node
+use Rattle.node_views.specs.declared.host_body.HostBody as node
 use Rattle.key_laws.specs.Records.{as_committed, committed, found, if_committed, unless_committed}
 use Rattle.key_laws.specs.Replica.{at_key}
 use Rattle.world_core.specs.Start.{Start, made}
@@ -120,7 +120,7 @@ module _ (start : Start) (all : ℕ → List HostStep) (e : HostStep) (es : List
 pub first_record : (start : Start) (member : Member) → IsIn member (made start) → (key : List ℕ) (tx : TxId)
     → record_at start (logs_of start []) member key tx ≡ None
 first_record start member there key tx =
-    ap (λ (s : node.Host). found tx (at_key key (rows_in (no_replica start member) s.parts).lqh).cell.pending)
+    ap (λ (s : node.HostBody). found tx (at_key key (rows_in (no_replica start member) s.parts).lqh).cell.pending)
     (ldm_started start member there) ∙ first_none start member key tx
 
 -- whoever has a record has a coordinator that was made

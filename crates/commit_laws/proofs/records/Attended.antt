@@ -23,9 +23,10 @@ use Rattle.lqh_block.specs.Operate.{is_granted}
 use Rattle.lqh_block.specs.State.{storage_of}
 use Rattle.lqh_views.specs.Replica.{is_stale, replica_row}
 use Rattle.lqh_views.specs.State.{ReplicaState}
-use Rattle.node_views.specs.declared.host.Host as node
+use Rattle.node_views.specs.declared.host_body.HostBody as node
 use Rattle.key_laws.specs.PrimaryEvents.{NoneOf}
-use Rattle.key_laws.specs.Replica.{Event, Replica, aborts, asks, asks_for, at_key, commits, completes, event_at, expires, expires_if, if_on, is_refused, rests, serves, serves_if}
+use Rattle.key_laws.specs.Replica.{Event, Replica, aborts, asks, asks_for, at_key, commits, completes, event_at}
+use Rattle.key_laws.specs.Replica.{expires, expires_if, if_on, is_refused, rests, serves, serves_if}
 use Rattle.host_laws.specs.ReplicaLaws.{IsWell}
 use Rattle.world_core.specs.Start.{Start, made}
 use Rattle.world_core.specs.Steps.{Addressed, HostStep}
@@ -184,7 +185,7 @@ module _ (forth : ForthIsKnownAlways) (start : Start) (all : ℕ → List HostSt
   pub rows_attended : (es : List HostStep) → IsMoment start all es → (member : Member) → IsIn member (made start)
       → (key : List ℕ) → AreAttended (replica_at start (logs_of start es) member key)
   rows_attended [] moment member there key =
-      subst (λ (s : node.Host). AreAttended (at_key key (rows_in (no_replica start member) s.parts).lqh))
+      subst (λ (s : node.HostBody). AreAttended (at_key key (rows_in (no_replica start member) s.parts).lqh))
       (sym (ldm_started start member there)) (record { attended = tt; alone = tt })
   rows_attended (e ∷ es) moment member there key =
       by (rows_go start all e es moment member there)

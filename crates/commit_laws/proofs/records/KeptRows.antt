@@ -35,7 +35,8 @@ use Rattle.commit_laws.proofs.commits.Remain.{AcknowledgedAreKnown, acknowledged
 use Rattle.commit_laws.proofs.forth.DecidedStay.{ops_same, unknown_before, written_before, written_more}
 use Rattle.commit_laws.proofs.records.Images.{image_is}
 use Rattle.commit_laws.proofs.fates.Decided.{DecidesNow, decides_now, kept_before, kept_calm, rows_same}
-use Rattle.commit_laws.proofs.records.KeyGoes.{IsAcknowledged, KeyGoes, RecordGoes, TakesNow, is_aborted, is_committed, is_completed, key_goes, record_stays}
+use Rattle.commit_laws.proofs.records.KeyGoes.{IsAcknowledged, KeyGoes, RecordGoes, TakesNow, is_aborted, is_committed}
+use Rattle.commit_laws.proofs.records.KeyGoes.{is_completed, key_goes, record_stays}
 use Rattle.commit_laws.proofs.hosts.SomePasses.{passed}
 use Rattle.commit_laws.proofs.records.Moves.{now_by}
 use Rattle.commit_laws.proofs.records.Replicas.{full_in, replica_before, replica_made, self}

@@ -29,7 +29,8 @@ use Rattle.request_laws.proofs.replicas.KeyEvents.{installations_keep_well}
 use Rattle.commit_laws.specs.Traces.{has_marker_at, record_at, rows_at}
 use Rattle.commit_laws.proofs.fates.Committed.{IsCalm, calm_idle}
 use Rattle.commit_laws.proofs.markers.Moves.{CommitsPrepared, MarkerMoves, marker_moves}
-use Rattle.commit_laws.proofs.records.Moves.{IsIdle, RecordMoves, aborts, commits, completes, now_by, record_moves, stays}
+use Rattle.commit_laws.proofs.records.Moves.{IsIdle, RecordMoves, aborts, commits, completes, now_by, record_moves}
+use Rattle.commit_laws.proofs.records.Moves.{stays}
 use Rattle.commit_laws.proofs.records.Once.{rows_once, rows_well}
 use Rattle.commit_laws.proofs.hosts.RowsTurn.{IsBetween, IsTakenAt, RowsGo, as_was, enter, entered, rest, rows_go, take}
 

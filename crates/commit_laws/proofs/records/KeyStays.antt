@@ -26,7 +26,8 @@ use Rattle.lqh_block.specs.Work.{work_mode}
 use Rattle.key_laws.specs.Primary.{HasPrepared, HoldOn}
 use Rattle.key_laws.specs.PrimaryLaws.{nobody_gone}
 use Rattle.key_laws.specs.Records.{committed_row, found, seen_by}
-use Rattle.key_laws.specs.Replica.{Cell, Event, Replica, aborts, ages, asked_by, asks, commits, completes, expires, is_let_in, key_after, operated, rests, served_by, serves, storing, worked}
+use Rattle.key_laws.specs.Replica.{Cell, Event, Replica, aborts, ages, asked_by, asks, commits, completes, expires}
+use Rattle.key_laws.specs.Replica.{is_let_in, key_after, operated, rests, served_by, serves, storing, worked}
 use Rattle.key_laws.proofs.Holding.{only_holder}
 use Rattle.key_laws.proofs.LockHolding.{expiries_hold_on, releases_hold_on, requests_hold_on}
 use Rattle.run_laws.proofs.circle.OthersStay.{is_of, of_first, others_stay}

@@ -27,8 +27,10 @@ use Rattle.row_locks.proofs.OrderlyLemmas.{grown_old_orderly}
 use Rattle.lqh_block.specs.declared.request.Request.{Request}
 use Rattle.lqh_block.specs.Work.{op_mode, work_mode}
 use Rattle.key_laws.specs.LockLaws.{is_attended}
-use Rattle.key_laws.specs.Records.{AreOnce, as_committed, committed, edited, found, if_committed, seen_by, unless_committed}
-use Rattle.key_laws.specs.Replica.{Cell, Event, Replica, aborts, ages, asked_by, asks, commits, completes, expires, is_let_in, key_after, operated, rests, served_by, serves, storing, worked}
+use Rattle.key_laws.specs.Records.{AreOnce, as_committed, committed, edited, found, if_committed, seen_by}
+use Rattle.key_laws.specs.Records.{unless_committed}
+use Rattle.key_laws.specs.Replica.{Cell, Event, Replica, aborts, ages, asked_by, asks, commits, completes, expires}
+use Rattle.key_laws.specs.Replica.{is_let_in, key_after, operated, rests, served_by, serves, storing, worked}
 use Rattle.key_laws.proofs.LockHolding.{expiries_hold_on, grants_hold, releases_hold_on, requests_hold_on}
 use Rattle.key_laws.proofs.LockWaiting.{attended_hold}
 use Rattle.key_laws.proofs.RecordLemmas.{KeepsTx, committed_keeps, found-edited, found-stored, if_keeps, unless_keeps}

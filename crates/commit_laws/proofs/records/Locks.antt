@@ -1,6 +1,7 @@
 -- At an event: who has something prepared at a member of the current view holds the lock of its key, and whoever lets
 -- go of it, being committed there, is committed at all replicas.
-use Rattle.std.proofs.Common.{◌≡◌, ◌⊎◌, ◌==◌, ◌&&◌, ◌||◌, ◌∙◌, ℕ, Bool, true, false, cond, filter, List, [], ◌∷◌, refl, sym, ap, subst, inl, inr}
+use Rattle.std.proofs.Common.{◌≡◌, ◌⊎◌, ◌==◌, ◌&&◌, ◌||◌, ◌∙◌, ℕ, Bool, true, false, cond, filter, List, [], ◌∷◌, refl}
+use Rattle.std.proofs.Common.{sym, ap, subst, inl, inr}
 use Rattle.std.proofs.lemmas.Bool.{eqb-true, or_left, or_right, true≢false}
 use Rattle.std.specs.Prelude.{if◌then◌else◌, is_some, Option, None, Some}
 use Rattle.run_theory.specs.Lists.{IsIn}
@@ -34,7 +35,8 @@ use Rattle.lqh_block.specs.Views.{goes_on_holding, is_coordinated}
 use Rattle.lqh_views.specs.Replica.{installed}
 use Rattle.lqh_views.specs.State.{ReplicaState}
 use Rattle.key_laws.specs.Records.{AreOnce, as_committed, found, if_committed, unless_committed}
-use Rattle.key_laws.specs.Replica.{Cell, Event, Replica, aborts, asks, at_key, commits, completes, event_at, expires, expires_if, if_on, is_refused, key_after, rests, serves, serves_if}
+use Rattle.key_laws.specs.Replica.{Cell, Event, Replica, aborts, asks, at_key, commits, completes, event_at, expires}
+use Rattle.key_laws.specs.Replica.{expires_if, if_on, is_refused, key_after, rests, serves, serves_if}
 use Rattle.key_laws.proofs.EpochLemmas.{state_found}
 use Rattle.host_laws.specs.ReplicaLaws.{IsWell}
 use Rattle.world_core.specs.Start.{Start, made}
@@ -50,15 +52,18 @@ use Rattle.commit_laws.specs.Forth.{ForthIsKnownAlways}
 use Rattle.commit_laws.specs.Going.{is_forth}
 use Rattle.commit_laws.specs.Markers.{CommitsAreRemembered}
 use Rattle.commit_laws.specs.Together.{AllStand}
-use Rattle.commit_laws.specs.Traces.{IsCommittedAtAll, has_marker_at, is_committed_at, is_committed_by, is_known, members_now, record_at, replica_at, rows_at}
+use Rattle.commit_laws.specs.Traces.{IsCommittedAtAll, has_marker_at, is_committed_at, is_committed_by, is_known}
+use Rattle.commit_laws.specs.Traces.{members_now, record_at, replica_at, rows_at}
 use Rattle.commit_laws.specs.Whole.{CommitsGoWhole}
 use Rattle.commit_laws.proofs.commits.Places.{as_before, cell_before, complete_place, well}
 use Rattle.commit_laws.proofs.commits.Now.{at_all_first}
 use Rattle.commit_laws.proofs.commits.Remain.{AcknowledgedAreKnown, at_all_stays}
 use Rattle.commit_laws.proofs.forth.DecidedStay.{forth_decided, written_before}
 use Rattle.commit_laws.proofs.fates.Committed.{forth_calm}
-use Rattle.commit_laws.proofs.records.KeyGoes.{RecordGoes, TakesNow, is_aborted, is_committed, is_completed, key_goes, record_stays}
-use Rattle.commit_laws.proofs.records.LockKeeps.{HasPrepared, IsFair, IsHeld, hold_after, holds, lets_go, prepared_after}
+use Rattle.commit_laws.proofs.records.KeyGoes.{RecordGoes, TakesNow, is_aborted, is_committed, is_completed, key_goes}
+use Rattle.commit_laws.proofs.records.KeyGoes.{record_stays}
+use Rattle.commit_laws.proofs.records.LockKeeps.{HasPrepared, IsFair, IsHeld, hold_after, holds, lets_go}
+use Rattle.commit_laws.proofs.records.LockKeeps.{prepared_after}
 use Rattle.commit_laws.proofs.records.Moves.{now_by}
 use Rattle.commit_laws.proofs.records.Once.{rows_once, rows_well}
 use Rattle.commit_laws.proofs.records.Replicas.{member_before, member_made}

@@ -1,7 +1,8 @@
 -- What a member of the current view keeps of a transaction on a key at an event that isn't of it there: its record,
 -- its hold
 -- on the lock, and the row, if it holds the lock.
-use Rattle.std.proofs.Common.{◌≡◌, ◌⊎◌, ◌||◌, ◌&&◌, ◌∙◌, ℕ, Bool, true, false, cond, List, [], ◌∷◌, filter, refl, sym, ap, subst, inl, inr}
+use Rattle.std.proofs.Common.{◌≡◌, ◌⊎◌, ◌||◌, ◌&&◌, ◌∙◌, ℕ, Bool, true, false, cond, List, [], ◌∷◌, filter, refl, sym}
+use Rattle.std.proofs.Common.{ap, subst, inl, inr}
 use Rattle.std.proofs.lemmas.Bool.{or_left, or_right, true≢false}
 use Rattle.std.specs.Prelude.{is_some}
 use Rattle.run_theory.specs.Lists.{IsIn}
@@ -32,7 +33,8 @@ use Rattle.world_core.specs.Steps.{HostStep}
 use Rattle.moment_laws.specs.Moments.{IsMoment, current, logs_of}
 use Rattle.moment_laws.specs.Places.{ldm_of}
 use Rattle.request_laws.specs.Replicas.{event_under}
-use Rattle.request_laws.proofs.replicas.KeyEvents.{installations_are_events, installations_keep_well, signals_are_events}
+use Rattle.request_laws.proofs.replicas.KeyEvents.{installations_are_events, installations_keep_well}
+use Rattle.request_laws.proofs.replicas.KeyEvents.{signals_are_events}
 use Rattle.commit_laws.specs.Fates.{is_led_by_full}
 use Rattle.commit_laws.specs.Traces.{replica_at, rows_at}
 use Rattle.commit_laws.proofs.records.KeyStays.{AreHeld, holds_stay, record_stays, row_stays, worker_of}

@@ -25,7 +25,9 @@ use Rattle.lqh_block.specs.State.{LqhState, storage_of}
 use Rattle.lqh_views.specs.Replica.{replica_row}
 use Rattle.lqh_views.specs.State.{ReplicaState}
 use Rattle.key_laws.specs.Records.{AreOnce, as_committed, edited, found, if_committed, put_back, unless_committed}
-use Rattle.key_laws.specs.Replica.{Event, Replica, aborts as gives_up, ages, asks, asks_for, at_key, commits as makes_so, completes as ends, event_at, expired_by, expires, expires_if, if_on, is_let_in, is_refused, key_after, rests, serves, serves_if}
+use Rattle.key_laws.specs.Replica.{Event, Replica, aborts as gives_up, ages, asks, asks_for, at_key}
+use Rattle.key_laws.specs.Replica.{commits as makes_so, completes as ends, event_at, expired_by, expires, expires_if}
+use Rattle.key_laws.specs.Replica.{if_on, is_let_in, is_refused, key_after, rests, serves, serves_if}
 use Rattle.key_laws.proofs.RecordLemmas.{KeepsTx, committed_keeps, if_keeps, unless_keeps}
 use Rattle.key_laws.proofs.Waiting.{each-first_item}
 use Rattle.host_laws.specs.ReplicaLaws.{IsWell}

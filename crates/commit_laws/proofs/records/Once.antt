@@ -24,12 +24,12 @@ use Rattle.lqh_views.specs.Replica.{installed, replica_row}
 use Rattle.lqh_views.specs.State.{ReplicaState}
 use Rattle.node_core.specs.Fresh.{own_rows, with_rows}
 use Rattle.key_laws.specs.Records.{AreOnce, as_committed, found, if_committed, seen_by, unless_committed, without_epoch}
-use Rattle.key_laws.specs.Replica.{Cell, Event, Replica, aborts, ages, asked_by, asks, at_key, commits, completes, expires, is_let_in, key_after, operated, rests, served_by, serves, storing, worked}
+use Rattle.key_laws.specs.Replica.{Cell, Event, Replica, aborts, ages, asked_by, asks, at_key, commits, completes}
+use Rattle.key_laws.specs.Replica.{expires, is_let_in, key_after, operated, rests, served_by, serves, storing, worked}
 use Rattle.key_laws.proofs.RecordLemmas.{committed_keeps, if_keeps, once-edited, once-stored, unless_keeps}
 use Rattle.host_laws.specs.ReplicaLaws.{IsWell}
 use Rattle.world_core.specs.Start.{Start, made}
 use Rattle.world_core.specs.Steps.{HostStep}
-use Rattle.world_views.specs.Hosts.{epoch_before}
 use Rattle.request_laws.specs.Blocks.{rows_after}
 use Rattle.request_laws.specs.Replicas.{event_under}
 use Rattle.request_laws.proofs.replicas.KeyEvents.{installations_keep_well, signals_are_events, signals_keep_well}
@@ -102,7 +102,7 @@ first_so start member = record {
   well = first_well start member;
   once = λ key.
       subst (λ (xs : List PendingRecord). AreOnce (map without_epoch (filter (is_on key) xs)))
-      (sym (none_put no_rows (own_rows start.shape member.node start.rows) (epoch_before start.epoch) refl)) tt;
+      (sym (none_put no_rows (own_rows start.shape member.node start.rows) start.start_epoch refl)) tt;
 }
 
 module _ (start : Start) (member : Member) (there : IsIn member (made start)) (log : List HostStep) where

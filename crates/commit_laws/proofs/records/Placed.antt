@@ -1,6 +1,7 @@
 -- A full member of the current view that has a record on a key is one of the key's replicas: records come by requests,
 -- which go along chains; and a full member that was in a chain in one view is in it in each in which it is full.
-use Rattle.std.proofs.Common.{◌≡◌, ◌⊎◌, ◌∙◌, ◌<◌, ℕ, zero, suc, Bool, true, false, cond, filter, length, map, List, [], ◌∷◌, inl, inr, refl, sym, ap, subst, arith}
+use Rattle.std.proofs.Common.{◌≡◌, ◌⊎◌, ◌∙◌, ◌<◌, ℕ, zero, suc, Bool, true, false, cond, filter, length, map, List, []}
+use Rattle.std.proofs.Common.{◌∷◌, inl, inr, refl, sym, ap, subst, arith}
 use Rattle.std.specs.Prelude.{if◌then◌else◌, Option, None, Some}
 use Rattle.run_theory.specs.Lists.{Each, IsIn}
 use Rattle.run_theory.proofs.Pasts.{each_append, each_in, each_map}
@@ -35,13 +36,13 @@ use Rattle.lqh_views.specs.Replica.{is_stale, replica_row}
 use Rattle.lqh_views.specs.State.{ReplicaState}
 use Rattle.key_laws.proofs.Waiting.{each-first_item}
 use Rattle.key_laws.specs.Records.{as_committed, edited, found, if_committed, unless_committed, without_epoch}
-use Rattle.key_laws.specs.Replica.{Event, Replica, aborts, ages, asks, at_key, commits, completes, event_at, expires, expires_if, if_on, is_refused, key_after, rests, serves, serves_if}
+use Rattle.key_laws.specs.Replica.{Event, Replica, aborts, ages, asks, at_key, commits, completes, event_at, expires}
+use Rattle.key_laws.specs.Replica.{expires_if, if_on, is_refused, key_after, rests, serves, serves_if}
 use Rattle.host_laws.specs.ReplicaLaws.{IsWell}
 use Rattle.node_core.specs.Fresh.{own_rows}
-use Rattle.node_views.specs.declared.host.Host as hosts
+use Rattle.node_views.specs.declared.host_body.HostBody as hosts
 use Rattle.world_core.specs.Start.{Start, made}
 use Rattle.world_core.specs.Steps.{HostStep}
-use Rattle.world_views.specs.Hosts.{epoch_before}
 use Rattle.view_laws.specs.Runs.{WasInstalled, view_after}
 use Rattle.moment_laws.specs.Moments.{IsMoment, current, logs_of}
 use Rattle.moment_laws.specs.Places.{ldm_of}
@@ -326,10 +327,10 @@ module _ (start : Start) where
   none_first : (member : Member) → IsIn member (made start) → (key : List ℕ)
       → (replica_at start (logs_of start []) member key).cell.pending ≡ []
   none_first member there key =
-      ap (λ (s : hosts.Host). (at_key key (rows_in (no_replica start member) s.parts).lqh).cell.pending)
+      ap (λ (s : hosts.HostBody). (at_key key (rows_in (no_replica start member) s.parts).lqh).cell.pending)
       (ldm_started start member there)
       ∙ ap (λ (xs : List PendingRecord). map without_epoch (filter (is_on key) xs))
-      (none_put no_rows (own_rows start.shape member.node start.rows) (epoch_before start.epoch) refl)
+      (none_put no_rows (own_rows start.shape member.node start.rows) start.start_epoch refl)
 
   always_placed : (all : ℕ → List HostStep) (es : List HostStep) → IsMoment start all es → (member : Member)
       → IsIn member (made start) → ArePlaced (logs_of start es) member

@@ -20,7 +20,8 @@ use Rattle.sig_core.specs.declared.view.View.{View}
 use Rattle.lqh_block.specs.declared.request.Marker.{Marker}
 use Rattle.lqh_views.specs.Address.{addressed, owned_if}
 use Rattle.lqh_views.specs.Epochs.{epoch_table}
-use Rattle.lqh_views.specs.Report.{go_on_by, is_orphaned_marker, is_orphaned_record, last_before, marker_by, record_by, reporting, telling, told_record_if}
+use Rattle.lqh_views.specs.Report.{go_on_by, is_orphaned_marker, is_orphaned_record, last_before, marker_by, record_by}
+use Rattle.lqh_views.specs.Report.{reporting, telling, told_record_if}
 use Rattle.lqh_views.specs.declared.report.Report.{Report}
 use Rattle.lqh_views.specs.Replica.{is_stale, passed, replica_by, replica_row, serve_if}
 use Rattle.lqh_views.specs.State.{ReplicaState}

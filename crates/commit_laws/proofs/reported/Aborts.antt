@@ -32,7 +32,7 @@ use Rattle.api_views.specs.Client.{client_row}
 use Rattle.api_views.specs.Members.{noted}
 use Rattle.arbiter_block.specs.Arbiter.{arbiter_row}
 use Rattle.takeover_block.specs.State.{resting}
-use Rattle.node_views.specs.declared.host.Host as hosts_of
+use Rattle.node_views.specs.declared.host_body.HostBody as hosts_of
 use Rattle.node_views.specs.declared.parts.Parts.{Parts}
 use Rattle.node_views.specs.declared.parts.Parts.TheVariants.{Shell}
 use Rattle.node_views.specs.declared.shell_part.ShellPart.{ShellPart}
@@ -62,7 +62,8 @@ use Rattle.commit_laws.proofs.fates.Moves.{fates_move}
 use Rattle.commit_laws.proofs.views.AtEvents.{any_of}
 use Rattle.commit_laws.proofs.forth.KnownComes.{known_commit}
 use Rattle.commit_laws.proofs.led.Entries.{any_counts}
-use Rattle.commit_laws.proofs.reported.Client.{AbortReason, HasAbortReason, by_down, by_failing, by_rollback, by_view, client_is_good, noted_opened, noted_taken}
+use Rattle.commit_laws.proofs.reported.Client.{AbortReason, HasAbortReason, by_down, by_failing, by_rollback, by_view}
+use Rattle.commit_laws.proofs.reported.Client.{client_is_good, noted_opened, noted_taken}
 use Rattle.commit_laws.proofs.reported.Rulings.{TellsAll}
 use Rattle.commit_laws.proofs.reported.Takeovers.{TakeoverTells, completes_next, tells_next}
 use Rattle.commit_laws.proofs.reported.Told.{ClientStands, client_next}
@@ -81,7 +82,7 @@ unfolding started
 said_first start = record {
   tells = λ member there stands runs can.
       subst (TellsAll _ _)
-      (sym (ap (λ (s : hosts_of.Host). takeover_in (resting member.node (first_layout start.shape)) s.parts)
+      (sym (ap (λ (s : hosts_of.HostBody). takeover_in (resting member.node (first_layout start.shape)) s.parts)
       (tc_started start member there)))
       (record { attended = tt; first = tt });
   last = λ i y newer older is body tx orphan. absurd (none y newer older is);

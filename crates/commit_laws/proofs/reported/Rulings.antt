@@ -1,5 +1,6 @@
 -- A takeover tells of each commit that it is at work on before it is complete.
-use Rattle.std.proofs.Common.{◌≡◌, ◌⊎◌, ◌==◌, ◌-◌, ◌+◌, ◌∙◌, ℕ, Bool, true, false, List, [], ◌∷◌, drop, inl, inr, length, map, nat_lt, refl, ap, sym, subst, take}
+use Rattle.std.proofs.Common.{◌≡◌, ◌⊎◌, ◌==◌, ◌-◌, ◌+◌, ◌∙◌, ℕ, Bool, true, false, List, [], ◌∷◌, drop, inl, inr}
+use Rattle.std.proofs.Common.{length, map, nat_lt, refl, ap, sym, subst, take}
 use Rattle.std.specs.List.{flat_map}
 use Rattle.std.specs.Prelude.{Option, None, Some, remove, slice_get}
 use Rattle.run_theory.specs.Lists.{Each, IsIn}
@@ -26,7 +27,8 @@ use Rattle.takeover_block.specs.declared.stage.Stage.{Stage}
 use Rattle.takeover_block.specs.declared.stage.Stage.TheVariants.{Aborting, Committing, Completing, Gathering, Resting}
 use Rattle.takeover_block.specs.Gather.{member_count}
 use Rattle.takeover_block.specs.Rule.{entering, finishing, ruling, ruling_by, way_by, way_of}
-use Rattle.takeover_block.specs.Sends.{abort_at, ask_effects, ask_of, asks_of, front_sends, key_sends, key_sends_along, stage_effects, stage_sends, told_committed}
+use Rattle.takeover_block.specs.Sends.{abort_at, ask_effects, ask_of, asks_of, front_sends, key_sends, key_sends_along}
+use Rattle.takeover_block.specs.Sends.{stage_effects, stage_sends, told_committed}
 use Rattle.takeover_block.specs.State.{TakeoverState, with_gathered}
 use Rattle.takeover_block.specs.Takeover.{takeover_row}
 use Rattle.takeover_block.proofs.EachTakeover.{takeover_each}

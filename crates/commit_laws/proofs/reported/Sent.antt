@@ -1,7 +1,8 @@
 -- What a host sends to the client's side goes on its link, unless it stops, or has cut that off; and what is sent later
 -- is
 -- in front of what was sent before.
-use Rattle.std.proofs.Common.{◌≡◌, ◌==◌, ◌||◌, ◌&&◌, ◌++◌, ◌∙◌, ℕ, zero, suc, Bool, true, false, filter, List, [], ◌∷◌, refl, sym, ap, subst, inl, inr}
+use Rattle.std.proofs.Common.{◌≡◌, ◌==◌, ◌||◌, ◌&&◌, ◌++◌, ◌∙◌, ℕ, zero, suc, Bool, true, false, filter, List, [], ◌∷◌}
+use Rattle.std.proofs.Common.{refl, sym, ap, subst, inl, inr}
 use Rattle.std.proofs.lemmas.Bool.{true≢false}
 use Rattle.std.specs.Prelude.{if◌then◌else◌, Option, None, Some}
 use Rattle.run_theory.specs.Links.{put, sent, sent_by}
@@ -25,8 +26,10 @@ use Rattle.world_core.specs.Start.{Start, made}
 use Rattle.world_core.specs.Steps.{Addressed, HostStep}
 use Rattle.world_views.specs.declared.sender.Sender.{Sender}
 use Rattle.world_views.specs.Hosts.{reached}
-use Rattle.world_views.specs.Machine.{after, own_stop, routed_after, sender, sent_count, signals_of, step_by, step_if, step_after, stops_by, told}
-use Rattle.world_views.specs.Sending.{Routed, addressed, all_addressed, is_kept_back, is_own_work, routed, routed_all, routed_if}
+use Rattle.world_views.specs.Machine.{after, own_stop, routed_after, sender, sent_count, signals_of, step_by, step_if}
+use Rattle.world_views.specs.Machine.{step_after, stops_by, told}
+use Rattle.world_views.specs.Sending.{Routed, addressed, all_addressed, is_kept_back, is_own_work, routed, routed_all}
+use Rattle.world_views.specs.Sending.{routed_if}
 use Rattle.view_laws.proofs.follow.Senders.{IsSentBy, each_sent}
 use Rattle.view_laws.specs.Order.{is_sound, sound_machine}
 use Rattle.view_laws.specs.Runs.{view_after}

@@ -1,5 +1,6 @@
 -- A takeover that is complete in a view has told the client's side of each commit of which only members know.
-use Rattle.std.proofs.Common.{◌≡◌, ◌≢◌, ◌⊎◌, ◌∙◌, ◌≤◌, ◌<◌, ◌==◌, ◌+◌, ◌++◌, ℕ, Bool, true, false, append-nil, nat_lt, length, List, [], ◌∷◌, inl, inr, refl, sym, ap, subst, arith}
+use Rattle.std.proofs.Common.{◌≡◌, ◌≢◌, ◌⊎◌, ◌∙◌, ◌≤◌, ◌<◌, ◌==◌, ◌+◌, ◌++◌, ℕ, Bool, true, false, append-nil, nat_lt}
+use Rattle.std.proofs.Common.{length, List, [], ◌∷◌, inl, inr, refl, sym, ap, subst, arith}
 use Rattle.std.proofs.lemmas.Bool.{eqb-true, true≢false}
 use Rattle.std.proofs.lemmas.Bool.Decides.{nat_tests}
 use Rattle.std.specs.Prelude.{if◌then◌else◌, Option, None, Some, slice_get}
@@ -34,7 +35,7 @@ use Rattle.takeover_block.specs.declared.stage.Stage.TheVariants.{Aborting, Comm
 use Rattle.takeover_block.specs.Gather.{member_count}
 use Rattle.takeover_block.specs.Sends.{told_committed}
 use Rattle.takeover_block.specs.State.{TakeoverState}
-use Rattle.node_views.specs.declared.host.Host as hosts
+use Rattle.node_views.specs.declared.host_body.HostBody as hosts
 use Rattle.node_views.specs.declared.parts.Parts.{Parts}
 use Rattle.node_views.specs.declared.parts.Parts.TheVariants as part
 use Rattle.node_views.specs.declared.tc_part.TcPart.{TcPart}
@@ -68,7 +69,8 @@ use Rattle.request_laws.proofs.routes.PartSteps.{takeover_is}
 use Rattle.commit_laws.specs.Fates.{Fate, aborts, commits, fate, fate_if, is_led_by_full, undetermined}
 use Rattle.commit_laws.specs.Gathering.{EndsGathering}
 use Rattle.commit_laws.specs.Going.{is_forth, is_lost}
-use Rattle.commit_laws.specs.Reported.{AreAttended, CompletesLast, GatheringsList, IsListed, IsSaid, aborted, known, told}
+use Rattle.commit_laws.specs.Reported.{AreAttended, CompletesLast, GatheringsList, IsListed, IsSaid, aborted, known}
+use Rattle.commit_laws.specs.Reported.{told}
 use Rattle.commit_laws.specs.Takeovers.{IsOrphan, takeover_at}
 use Rattle.commit_laws.specs.Together.{FatesMove, Follows}
 use Rattle.commit_laws.specs.Traces.{has_trace, is_known}
@@ -79,7 +81,8 @@ use Rattle.commit_laws.proofs.fates.Forth.{fate_decided}
 use Rattle.commit_laws.proofs.views.AtEvents.{some_of}
 use Rattle.commit_laws.proofs.hosts.Goes.{HostGoes, halts, host_goes, leaves, takes}
 use Rattle.commit_laws.proofs.reported.Rulings.{AreLast, IsLast, SaidBy, TellsAll, goes_on_telling, tells_more}
-use Rattle.commit_laws.proofs.reported.Sent.{CanTell, IsNew, IsPutAt, can_before, comes_now, goes_on_link, new_sent, put_at, was_there}
+use Rattle.commit_laws.proofs.reported.Sent.{CanTell, IsNew, IsPutAt, can_before, comes_now, goes_on_link, new_sent}
+use Rattle.commit_laws.proofs.reported.Sent.{put_at, was_there}
 use Rattle.commit_laws.proofs.fates.SpokenHost.{StandsStill}
 use Rattle.commit_laws.proofs.fates.SpokenTakeover.{IsAbortingAt}
 use Rattle.commit_laws.proofs.takeover.GoesOn.{stands_on}
@@ -194,7 +197,7 @@ module _ (list : GatheringsList) (start : Start) (all : ℕ → List HostStep) (
       abbrev view : View
       view = view_after start (tc_of start member) (e ∷ log)
 
-      abbrev step : Step hosts.Host
+      abbrev step : Step hosts.HostBody
       step = step_after start (tc_of start member) log e
 
       -- who has no coordinator now, and what was said before the event is sent
@@ -419,7 +422,7 @@ module _ (list : GatheringsList) (start : Start) (all : ℕ → List HostStep) (
               where
                 next_view : step.state.standing.view ≡ view
                 next_view =
-                    ap (λ (s : hosts.Host). s.standing.view) (sym (told_some h (part_some start kinds.Tc member) step))
+                    ap (λ (s : hosts.HostBody). s.standing.view) (sym (told_some h (part_some start kinds.Tc member) step))
 
                 by : HostGoes start.shape (part.Tc own.own) stood x step → Behind
                 by (halts is) = absurd (true≢false (sym (ap stops_by marks ∙ is) ∙ runs))
@@ -446,7 +449,7 @@ module _ (list : GatheringsList) (start : Start) (all : ℕ → List HostStep) (
                 let b = behind runs in
                 subst (TellsAll O (λ tx. IsSaid start new tx (sent n h 0 (e ∷ log))))
                 (sym (takeover_is start member h (e ∷ log) refl b.now
-                (ap (λ (s : hosts.Host). s.parts) (told_some h (part_some start kinds.Tc member) step) ∙ b.parts)))
+                (ap (λ (s : hosts.HostBody). s.parts) (told_some h (part_some start kinds.Tc member) step) ∙ b.parts)))
                 (tells_more O (SaidBy O S step.effects.sends) (λ tx. IsSaid start new tx (sent n h 0 (e ∷ log))) on
                 b.now.takeover b.tells)
               where
@@ -477,7 +480,7 @@ module _ (list : GatheringsList) (start : Start) (all : ℕ → List HostStep) (
           where
             next_view : step.state.standing.view ≡ view
             next_view =
-                ap (λ (s : hosts.Host). s.standing.view) (sym (told_some h (part_some start kinds.Tc member) step))
+                ap (λ (s : hosts.HostBody). s.standing.view) (sym (told_some h (part_some start kinds.Tc member) step))
 
             never : (sends : List Outgoing) → AreNoWords sends → IsIn o sends → S tx
             never sends all there =

@@ -1,5 +1,6 @@
 -- What the client's side has noted at a moment: the commits that it is told of, and which takeovers are complete.
-use Rattle.std.proofs.Common.{◌≡◌, ◌≢◌, ◌≤◌, ◌<◌, ◌⊎◌, ◌∙◌, ◌||◌, ◌&&◌, ◌==◌, ◌+◌, ℕ, Bool, true, false, List, [], ◌∷◌, inl, inr, nat_lt, refl, sym, ap, subst, arith}
+use Rattle.std.proofs.Common.{◌≡◌, ◌≢◌, ◌≤◌, ◌<◌, ◌⊎◌, ◌∙◌, ◌||◌, ◌&&◌, ◌==◌, ◌+◌, ℕ, Bool, true, false, List, [], ◌∷◌}
+use Rattle.std.proofs.Common.{inl, inr, nat_lt, refl, sym, ap, subst, arith}
 use Rattle.std.proofs.lemmas.Bool.{cases_lt, or_left, true≢false}
 use Rattle.std.proofs.lemmas.Bool.Decides.{nat_tests}
 use Rattle.std.specs.List.{count_by}
@@ -41,7 +42,7 @@ use Rattle.api_views.specs.Reports.{greater_of}
 use Rattle.api_views.specs.State.{ClientState}
 use Rattle.arbiter_block.specs.Arbiter.{arbiter_row}
 use Rattle.lqh_block.specs.Views.{is_coordinated, was_begun_by}
-use Rattle.node_views.specs.declared.host.Host as hosts
+use Rattle.node_views.specs.declared.host_body.HostBody as hosts
 use Rattle.node_views.specs.declared.parts.Parts.{Parts}
 use Rattle.node_views.specs.declared.parts.Parts.TheVariants.{Shell}
 use Rattle.node_views.specs.declared.shell_part.ShellPart.{ShellPart}
@@ -77,7 +78,8 @@ use Rattle.commit_laws.specs.Reported.{CompletesLast, IsSaid, aborted, known, to
 use Rattle.commit_laws.specs.Takeovers.{IsOrphan}
 use Rattle.commit_laws.specs.Together.{FatesMove, Follows}
 use Rattle.commit_laws.specs.Traces.{has_sent, is_acknowledgement, is_known}
-use Rattle.commit_laws.proofs.forth.ClientReports.{TakesWord, acknowledges_some, drops, notes, takes_word, tally_counts, word_noted}
+use Rattle.commit_laws.proofs.forth.ClientReports.{TakesWord, acknowledges_some, drops, notes, takes_word, tally_counts}
+use Rattle.commit_laws.proofs.forth.ClientReports.{word_noted}
 use Rattle.commit_laws.proofs.hosts.ShellViews.{client_notes}
 use Rattle.commit_laws.proofs.views.AtEvents.{any_of, some_of}
 use Rattle.commit_laws.proofs.forth.Client.{Answers, IsToldOf, by_coordinator, by_takeover, client_acknowledges}
@@ -86,7 +88,8 @@ use Rattle.commit_laws.proofs.forth.KnownTold.{runs_shell}
 use Rattle.commit_laws.proofs.hosts.SomePasses.{passing}
 use Rattle.commit_laws.proofs.forth.ReportedBegun.{begun_once, begun_some, open_few}
 use Rattle.commit_laws.proofs.reported.Client.{TakenNext, client_is_good, completes, noted_opened, noted_taken, stays}
-use Rattle.commit_laws.proofs.hosts.ShellGoes.{IsSameBut, ShellGoes, acts, ends, rests, shell_goes, shell_next, shell_view}
+use Rattle.commit_laws.proofs.hosts.ShellGoes.{IsSameBut, ShellGoes, acts, ends, rests, shell_goes, shell_next}
+use Rattle.commit_laws.proofs.hosts.ShellGoes.{shell_view}
 use Rattle.commit_laws.proofs.hosts.ShellSees.{seeing}
 
 -- while the shell's host runs
@@ -199,7 +202,7 @@ module _ (start : Start) (all : ℕ → List HostStep) (e : HostStep) (es : List
 
     -- where the shell's does, and goes on
     module _ (at : e.host ≡ 0) (runs : stops_by e.step.marks ≡ false) where
-      abbrev step : Step hosts.Host
+      abbrev step : Step hosts.HostBody
       step = step_after start 0 (logs_of start es 0) e
 
       abbrev own : ShellPart

@@ -10,7 +10,7 @@ use Rattle.takeover_block.specs.declared.gathered.Gathered.{Gathered}
 use Rattle.takeover_block.specs.State.{resting}
 use Rattle.tc_block.specs.declared.transaction.Transaction.{Transaction}
 use Rattle.host_laws.specs.Live.{of_live}
-use Rattle.node_views.specs.declared.host.Host as node
+use Rattle.node_views.specs.declared.host_body.HostBody as node
 use Rattle.world_core.specs.Start.{Start, made}
 use Rattle.world_core.specs.Steps.{Addressed, HostStep}
 use Rattle.moment_laws.specs.Moments.{IsMoment, current, logs_of}
@@ -39,7 +39,7 @@ module _ (start : Start) where
   module _ (member : Member) (there : IsIn member (made start)) where
     none_gathered : (takeover_at start none member).gathered ≡ []
     none_gathered =
-        ap (λ (s : node.Host). (takeover_in (resting member.node (first_layout start.shape)) s.parts).gathered)
+        ap (λ (s : node.HostBody). (takeover_in (resting member.node (first_layout start.shape)) s.parts).gathered)
         (tc_started start member there)
 
     each_gathered : (P : Gathered → Type 0) → Each P (takeover_at start none member).gathered
@@ -47,7 +47,7 @@ module _ (start : Start) where
 
     none_wait : (rows_at start none member).lqh.waiting ≡ []
     none_wait =
-        ap (λ (s : node.Host). (rows_in (no_replica start member) s.parts).lqh.waiting) (ldm_started start member there)
+        ap (λ (s : node.HostBody). (rows_in (no_replica start member) s.parts).lqh.waiting) (ldm_started start member there)
 
     abbrev FirstIsRuled : List Gathered → Type 0
     FirstIsRuled gathered =

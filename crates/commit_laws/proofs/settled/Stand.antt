@@ -6,7 +6,8 @@ use Rattle.world_core.specs.Steps.{HostStep}
 use Rattle.moment_laws.specs.Moments.{IsMoment}
 use Rattle.moment_laws.proofs.MomentViews.{moment_less}
 use Rattle.commit_laws.specs.Gathering.{GatheringsAreWhole}
-use Rattle.commit_laws.specs.Together.{AllStand, AllStandAlways, EventsKeepAnswered, EventsKeepParts, FatesMove, Follows}
+use Rattle.commit_laws.specs.Together.{AllStand, AllStandAlways, EventsKeepAnswered, EventsKeepParts, FatesMove}
+use Rattle.commit_laws.specs.Together.{Follows}
 use Rattle.commit_laws.proofs.commits.Kept.{events_keep_commits}
 use Rattle.commit_laws.proofs.fates.Moves.{fates_move}
 use Rattle.commit_laws.proofs.forth.KnownComes.{known_commit}

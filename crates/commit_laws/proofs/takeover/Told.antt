@@ -1,5 +1,6 @@
 -- What takeovers are told stays true behind each event, and what they are told by it is true.
-use Rattle.std.proofs.Common.{◌≡◌, ◌⊎◌, ◌∙◌, ℕ, Bool, true, false, List, [], ◌∷◌, filter, inl, inr, map, refl, sym, ap, subst, arith}
+use Rattle.std.proofs.Common.{◌≡◌, ◌⊎◌, ◌∙◌, ℕ, Bool, true, false, List, [], ◌∷◌, filter, inl, inr, map, refl, sym, ap}
+use Rattle.std.proofs.Common.{subst, arith}
 use Rattle.std.specs.List.{list_any}
 use Rattle.std.specs.Prelude.{if◌then◌else◌, cond, Option, None, Some}
 use Rattle.run_theory.specs.Links.{sent}
@@ -52,7 +53,8 @@ use Rattle.commit_laws.specs.Fates.{commits, fate, is_led_by_full}
 use Rattle.commit_laws.specs.Going.{is_decided, is_forth, is_lost}
 use Rattle.commit_laws.specs.Takeovers.{IsOrphan, IsTrueReport, TellsFate}
 use Rattle.commit_laws.specs.Together.{FatesMove, Follows}
-use Rattle.commit_laws.specs.Traces.{has_trace, is_committed_of, is_known, is_marker_of, leave_trace, members_now, record_at, rows_at}
+use Rattle.commit_laws.specs.Traces.{has_trace, is_committed_of, is_known, is_marker_of, leave_trace, members_now}
+use Rattle.commit_laws.specs.Traces.{record_at, rows_at}
 use Rattle.commit_laws.proofs.forth.DecidedStay.{forth_decided, written_more}
 use Rattle.commit_laws.proofs.fates.Cases.{known_commits, trace_commits}
 use Rattle.commit_laws.proofs.fates.Forth.{commits_more, left_forth}
@@ -61,7 +63,8 @@ use Rattle.commit_laws.proofs.hosts.SomePasses.{passed}
 use Rattle.commit_laws.proofs.records.Once.{rows_once}
 use Rattle.commit_laws.proofs.records.Replicas.{members_full}
 use Rattle.commit_laws.proofs.hosts.RowsTurn.{IsBetween, IsTakenAt, as_was, entered, rows_each}
-use Rattle.commit_laws.proofs.takeover.Reports.{AreFated, Fated, HasTrace, IsFated, TracesIf, all_aside_fated, by_marker, by_record, rows_trace, tc_enters_fated, tc_fated}
+use Rattle.commit_laws.proofs.takeover.Reports.{AreFated, Fated, HasTrace, IsFated, TracesIf, all_aside_fated}
+use Rattle.commit_laws.proofs.takeover.Reports.{by_marker, by_record, rows_trace, tc_enters_fated, tc_fated}
 use Rattle.commit_laws.proofs.takeover.Words.{Commits}
 
 -- a record on a key is in its cell

@@ -1,6 +1,7 @@
 -- At each moment a coordinator is fenced at all numbers that its member has confirmed: the member has taken no more
 -- confirmations from it than it has taken requests, and links of a moment give what was sent by then.
-use Rattle.std.proofs.Common.{◌≡◌, ◌≤◌, ◌==◌, ◌&&◌, ◌||◌, ◌+◌, ◌++◌, ℕ, Bool, true, false, cond, filter, List, [], ◌∷◌, refl, sym, ap, subst, inl, inr, arith}
+use Rattle.std.proofs.Common.{◌≡◌, ◌≤◌, ◌==◌, ◌&&◌, ◌||◌, ◌+◌, ◌++◌, ℕ, Bool, true, false, cond, filter, List, [], ◌∷◌}
+use Rattle.std.proofs.Common.{refl, sym, ap, subst, inl, inr, arith}
 use Rattle.std.proofs.lemmas.Bool.{true≢false}
 use Rattle.std.specs.Prelude.{Option, None, Some, if◌then◌else◌, not}
 use Rattle.frag_map.specs.Layout.{first_layout}

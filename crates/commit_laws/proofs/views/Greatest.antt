@@ -1,5 +1,6 @@
 -- The view with the greatest number that was marked to be installed is the current one.
-use Rattle.std.proofs.Common.{◌≡◌, ◌≤◌, ◌<◌, ◌⊎◌, ◌++◌, ℕ, zero, suc, Bool, true, false, if◌then◌else◌, nat_lt, List, [], ◌∷◌, refl, ap, sym, subst, ◌∙◌, arith, inl, inr}
+use Rattle.std.proofs.Common.{◌≡◌, ◌≤◌, ◌<◌, ◌⊎◌, ◌++◌, ℕ, zero, suc, Bool, true, false, if◌then◌else◌, nat_lt, List}
+use Rattle.std.proofs.Common.{[], ◌∷◌, refl, ap, sym, subst, ◌∙◌, arith, inl, inr}
 use Rattle.std.proofs.lemmas.Bool.{ltb-true}
 use Rattle.std.proofs.lemmas.Bool.Decides.{nat_tests}
 use Rattle.std.specs.Prelude.{None}
@@ -32,7 +33,8 @@ use Rattle.view_laws.specs.Votes.{main_of, membership_in, membership_of}
 use Rattle.view_laws.proofs.eras.Causal.{greater_own, greater_taken}
 use Rattle.view_laws.proofs.eras.Rises.{view_rises}
 use Rattle.view_laws.proofs.follow.HostKinds.{no_membership_beside, no_membership_in_shell}
-use Rattle.view_laws.proofs.follow.Memberships.{MembershipSteps, TakesAs, leaves, member_steps, settles, settles_on, taken_entering, taken_plain, takes_it}
+use Rattle.view_laws.proofs.follow.Memberships.{MembershipSteps, TakesAs, leaves, member_steps, settles, settles_on}
+use Rattle.view_laws.proofs.follow.Memberships.{taken_entering, taken_plain, takes_it}
 use Rattle.view_laws.proofs.follow.Seen.{to_view, view_is_seen, view_seen}
 use Rattle.view_laws.proofs.follow.Steps.{PassesAs, StepsAs, dropped, entering, passed, plain, steps_as}
 use Rattle.view_laws.proofs.follow.Walk.{along, next_goes}

@@ -1,6 +1,7 @@
 -- No host takes a signal of a greater view than the current one, but for what isn't well formed and so changes nothing:
 -- so a host without a membership comes to no greater view than that.
-use Rattle.std.proofs.Common.{◌≡◌, ◌≢◌, ◌≤◌, ◌<◌, ◌⊎◌, ◌||◌, ◌∙◌, ℕ, zero, suc, Bool, true, false, List, [], ◌∷◌, refl, sym, ap, subst, inl, inr, arith}
+use Rattle.std.proofs.Common.{◌≡◌, ◌≢◌, ◌≤◌, ◌<◌, ◌⊎◌, ◌||◌, ◌∙◌, ℕ, zero, suc, Bool, true, false, List, [], ◌∷◌, refl}
+use Rattle.std.proofs.Common.{sym, ap, subst, inl, inr, arith}
 use Rattle.std.proofs.lemmas.Bool.{true≢false}
 use Rattle.std.specs.Prelude.{not, None}
 use Rattle.run_theory.specs.Links.{IsGiven, sent}
@@ -13,12 +14,13 @@ use Rattle.sig_core.specs.declared.signal.Body.TheVariants.{Host}
 use Rattle.sig_core.specs.declared.signal.Signal.{Signal}
 use Rattle.sig_core.specs.declared.view.View.{View}
 use Rattle.sig_core.specs.Step.{Step, stay}
-use Rattle.node_views.specs.declared.host.Host as node
+use Rattle.node_views.specs.declared.host_body.HostBody as node
 use Rattle.node_views.specs.WellFormed.{is_well_formed}
 use Rattle.node_views.proofs.LawLemmas.{malformed_signals_change_nothing}
 use Rattle.world_core.specs.Start.{Start}
 use Rattle.world_core.specs.Steps.{Addressed, HostStep}
-use Rattle.world_views.specs.Machine.{IsOwn, after, closing_view, comes_rightly, step_by, step_if, stops_by, told, machine}
+use Rattle.world_views.specs.Machine.{IsOwn, after, closing_view, comes_rightly, step_by, step_if, stops_by, told}
+use Rattle.world_views.specs.Machine.{machine}
 use Rattle.world_views.specs.Sending.{is_asked}
 use Rattle.view_laws.specs.Order.{sound_machine}
 use Rattle.view_laws.specs.Runs.{view_after}
@@ -32,12 +34,12 @@ use Rattle.moment_laws.proofs.MomentTurns.{current_rises, host_low, own_behind}
 use Rattle.moment_laws.proofs.MomentViews.{current_above, current_number, moment_less}
 
 -- what it doesn't ask of itself, and isn't well formed, changes nothing
-pub malformed_stays : (h : ℕ) (s : node.Host) (x : Signal) → is_asked h x ≡ false
+pub malformed_stays : (h : ℕ) (s : node.HostBody) (x : Signal) → is_asked h x ≡ false
     → is_well_formed s.standing.shape x ≡ false → step_by h s x ≡ stay s
 malformed_stays h s x unasked off =
     ap (step_if s x) (not_own h x unasked) ∙ malformed_signals_change_nothing s x off
 
-pub told_stands : (h : ℕ) (s : node.Host) → (told h (stay s)).standing.view ≡ s.standing.view
+pub told_stands : (h : ℕ) (s : node.HostBody) → (told h (stay s)).standing.view ≡ s.standing.view
 told_stands zero s = refl
 told_stands (suc h) s = refl
 
@@ -71,7 +73,7 @@ module _ (start : Start) (all : ℕ → List HostStep) (e : HostStep) (es : List
     abbrev x : Signal
     x = e.step.taken
 
-    abbrev s : node.Host
+    abbrev s : node.HostBody
     s = after start e.host (old e.host)
 
     abbrev less : IsMoment start all es
@@ -115,7 +117,7 @@ module _ (start : Start) (all : ℕ → List HostStep) (e : HostStep) (es : List
               → (closing_view start e.host (old e.host) e).number ≤ current_number start new
           by (inl same) =
               absurd (true≢false (sym is ∙ (ap stops_by happens.step.fits.marks
-              ∙ ap (λ (t : Step node.Host). stops_by t.effects.marks) same)))
+              ∙ ap (λ (t : Step node.HostBody). stops_by t.effects.marks) same)))
           by (inr low) =
               of_greater (λ (v : View). v.number ≤ current_number start new) (view_after start e.host (e ∷ old e.host))
               x.view
@@ -149,7 +151,7 @@ module _ (start : Start) (all : ℕ → List HostStep) (e : HostStep) (es : List
           by same (inl stays) = let is = ap (λ (v : View). v.number) stays in omega (arith, is, stood)
           by (inl same) (inr moved) =
               let is =
-              ap (λ (t : Step node.Host). (told e.host t).standing.view.number) same
+              ap (λ (t : Step node.HostBody). (told e.host t).standing.view.number) same
               ∙ ap (λ (v : View). v.number) (told_stands e.host s) in
               omega (arith, is, stood)
           by (inr low) (inr (above, is)) =

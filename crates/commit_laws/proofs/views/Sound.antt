@@ -1,5 +1,6 @@
 -- At each moment memberships have taken what is true, and each host stands in a view that was chosen by then.
-use Rattle.std.proofs.Common.{◌≡◌, ◌≢◌, ◌⊎◌, ◌||◌, ◌++◌, ◌∙◌, ℕ, Bool, true, false, List, [], ◌∷◌, refl, sym, ap, subst, inl, inr}
+use Rattle.std.proofs.Common.{◌≡◌, ◌≢◌, ◌⊎◌, ◌||◌, ◌++◌, ◌∙◌, ℕ, Bool, true, false, List, [], ◌∷◌, refl, sym, ap, subst}
+use Rattle.std.proofs.Common.{inl, inr}
 use Rattle.std.proofs.lemmas.Bool.{true≢false}
 use Rattle.std.specs.Prelude.{not}
 use Rattle.run_theory.specs.Links.{IsGiven, sent}
@@ -12,13 +13,15 @@ use Rattle.world_views.proofs.TakeDriven.{not_own}
 use Rattle.sig_core.specs.declared.place.BlockId.{BlockId}
 use Rattle.sig_core.specs.declared.signal.Signal.{Signal}
 use Rattle.sig_core.specs.Step.{Step, stay}
-use Rattle.node_views.specs.declared.host.Host as node
+use Rattle.node_views.specs.declared.host_body.HostBody as node
 use Rattle.node_views.specs.WellFormed.{is_well_formed}
 use Rattle.world_core.specs.Start.{Start}
 use Rattle.world_core.specs.Steps.{Addressed, HostStep}
-use Rattle.world_views.specs.Machine.{IsOwn, after, closing_view, comes_rightly, machine, signals_of, step_by, stops_by, told}
+use Rattle.world_views.specs.Machine.{IsOwn, after, closing_view, comes_rightly, machine, signals_of, step_by, stops_by}
+use Rattle.world_views.specs.Machine.{told}
 use Rattle.world_views.specs.Sending.{is_asked}
-use Rattle.view_laws.specs.HostEvents.{events_at, events_by, events_of, is_arbiter, is_membership, sound_events, taken_in}
+use Rattle.view_laws.specs.HostEvents.{events_at, events_by, events_of, is_arbiter, is_membership, sound_events}
+use Rattle.view_laws.specs.HostEvents.{taken_in}
 use Rattle.view_laws.specs.Order.{is_sound, sound_machine}
 use Rattle.view_laws.specs.Runs.{events_in, view_after}
 use Rattle.view_laws.specs.Votes.{main_of}
@@ -35,7 +38,7 @@ use Rattle.moment_laws.proofs.MomentTurns.{host_low, own_log}
 use Rattle.moment_laws.proofs.MomentViews.{moment_less, moment_within}
 use Rattle.commit_laws.proofs.views.HeadersLow.{malformed_stays, told_stands}
 
-pub no_events : (mine : BlockId → Bool) (h : ℕ) (s : node.Host) (x : Signal) → is_asked h x ≡ false
+pub no_events : (mine : BlockId → Bool) (h : ℕ) (s : node.HostBody) (x : Signal) → is_asked h x ≡ false
     → is_well_formed s.standing.shape x ≡ false → events_at mine h s x ≡ []
 no_events mine h s x unasked off =
     ap (events_by mine s x) (not_own h x unasked) ∙ ap (sound_events mine s x) off
@@ -74,7 +77,7 @@ module _ (start : Start) (all : ℕ → List HostStep) (e : HostStep) (es : List
     abbrev x : Signal
     x = e.step.taken
 
-    abbrev s : node.Host
+    abbrev s : node.HostBody
     s = after start e.host (old e.host)
 
     happens : Happens (sound_machine start) es e
@@ -120,7 +123,7 @@ module _ (start : Start) (all : ℕ → List HostStep) (e : HostStep) (es : List
       same_step = malformed_stays e.host s x plain.0 plain.1
 
       same_view : view_after start e.host (e ∷ old e.host) ≡ view_after start e.host (old e.host)
-      same_view = ap (λ (t : Step node.Host). (told e.host t).standing.view) same_step ∙ told_stands e.host s
+      same_view = ap (λ (t : Step node.HostBody). (told e.host t).standing.view) same_step ∙ told_stands e.host s
 
       plain_views : (h : ℕ) → IsGood start new (view_after start h (old h))
           → IsGood start new (view_after start h (new h))
@@ -174,7 +177,7 @@ module _ (start : Start) (all : ℕ → List HostStep) (e : HostStep) (es : List
         by : IsPlain ⊎ IsTrue → IsGood start new (closing_view start e.host (old e.host) e)
         by (inl plain) =
             absurd (true≢false (sym is ∙ (ap stops_by happens.step.fits.marks
-            ∙ ap (λ (t : Step node.Host). stops_by t.effects.marks) (same_step plain))))
+            ∙ ap (λ (t : Step node.HostBody). stops_by t.effects.marks) (same_step plain))))
         by (inr true_one) =
             of_greater (IsGood start new) (view_after start e.host (e ∷ old e.host)) x.view
             (subst (λ log. IsGood start new (view_after start e.host log)) (own_log start all e es moment)

@@ -1,6 +1,7 @@
 -- Members have records and markers of transactions alone whose coordinators are of nodes of the cluster, since nobody
 -- asks for others.
-use Rattle.std.proofs.Common.{◌≡◌, ◌⊎◌, ◌∙◌, ℕ, Bool, true, false, filter, map, List, [], ◌∷◌, inl, inr, refl, sym, ap, subst}
+use Rattle.std.proofs.Common.{◌≡◌, ◌⊎◌, ◌∙◌, ℕ, Bool, true, false, filter, map, List, [], ◌∷◌, inl, inr, refl, sym, ap}
+use Rattle.std.proofs.Common.{subst}
 use Rattle.std.proofs.lemmas.Bool.{and_from, le-leb, true≢false}
 use Rattle.std.specs.Prelude.{is_some, nat_le, Option, None, Some}
 use Rattle.std.specs.List.{list_any}
@@ -16,11 +17,10 @@ use Rattle.lqh_block.specs.Commit.{is_marker}
 use Rattle.key_laws.specs.Records.{as_committed, found, if_committed, unless_committed, without_epoch}
 use Rattle.key_laws.specs.Replica.{at_key}
 use Rattle.node_core.specs.Fresh.{own_rows}
-use Rattle.node_views.specs.declared.host.Host as node
+use Rattle.node_views.specs.declared.host_body.HostBody as node
 use Rattle.node_views.specs.WellFormed.{is_tx}
 use Rattle.world_core.specs.Start.{Start, made}
 use Rattle.world_core.specs.Steps.{HostStep}
-use Rattle.world_views.specs.Hosts.{epoch_before}
 use Rattle.world_views.proofs.FreshBodies.{none_pending}
 use Rattle.view_laws.proofs.runs.FirstMembers.{node_low, node_some}
 use Rattle.moment_laws.specs.Moments.{IsMoment, current, logs_of}
@@ -31,7 +31,8 @@ use Rattle.outcome_laws.specs.Counts.{coordinator_member}
 use Rattle.request_laws.specs.Blocks.{no_replica, rows_in}
 use Rattle.request_laws.specs.Routed.{WasAskedIn}
 use Rattle.commit_laws.specs.Traces.{has_marker_at, record_at}
-use Rattle.commit_laws.proofs.records.KeyGoes.{IsMarkedNow, KeyGoes, RecordGoes, is_aborted, is_committed, is_completed, record_stays}
+use Rattle.commit_laws.proofs.records.KeyGoes.{IsMarkedNow, KeyGoes, RecordGoes, is_aborted, is_committed, is_completed}
+use Rattle.commit_laws.proofs.records.KeyGoes.{record_stays}
 use Rattle.commit_laws.proofs.records.Moves.{now_by}
 use Rattle.commit_laws.proofs.fates.RowsUnasked.{unasked_goes}
 
@@ -47,12 +48,12 @@ module _ (start : Start) (member : Member) (there : IsIn member (made start)) (t
     first_unknown = record {
       record_none =
           subst
-          (λ (s : node.Host). found tx (at_key key (rows_in (no_replica start member) s.parts).lqh).cell.pending ≡ None)
+          (λ (s : node.HostBody). found tx (at_key key (rows_in (no_replica start member) s.parts).lqh).cell.pending ≡ None)
           (sym (ldm_started start member there))
           (ap (λ (xs : List PendingRecord). found tx (map without_epoch (filter (is_on key) xs)))
-          (none_pending no_rows (own_rows start.shape member.node start.rows) (epoch_before start.epoch)));
+          (none_pending no_rows (own_rows start.shape member.node start.rows) start.start_epoch));
       marker_none =
-          ap (λ (s : node.Host). list_any (is_marker tx key) (rows_in (no_replica start member) s.parts).lqh.markers)
+          ap (λ (s : node.HostBody). list_any (is_marker tx key) (rows_in (no_replica start member) s.parts).lqh.markers)
           (ldm_started start member there);
     }
 

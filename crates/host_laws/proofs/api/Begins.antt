@@ -1,5 +1,6 @@
 -- How many transactions of the API are beginning, step by step.
-use Rattle.std.proofs.Common.{◌≡◌, ◌⊎◌, ℕ, ◌+◌, ◌≤◌, List, [], ◌∷◌, ◌++◌, Bool, true, false, refl, ap, sym, ◌∙◌, subst, arith, inl, inr}
+use Rattle.std.proofs.Common.{◌≡◌, ◌⊎◌, ℕ, ◌+◌, ◌≤◌, List, [], ◌∷◌, ◌++◌, Bool, true, false, refl, ap, sym, ◌∙◌, subst}
+use Rattle.std.proofs.Common.{arith, inl, inr}
 use Rattle.std.specs.Prelude.{◌==◌, ◌&&◌, ◌||◌, nat_lt, Option, None, Some}
 use Rattle.std.specs.List.{list_any}
 use Rattle.std.proofs.lemmas.Bool.{eqb-true, true≢false}
@@ -20,7 +21,8 @@ use Rattle.api_block.specs.Opened.{asked_for, begins, begins_at, has_tx, is_begi
 use Rattle.api_block.specs.Requests.{is_request}
 use Rattle.api_block.specs.State.{ApiState}
 use Rattle.host_laws.proofs.rows.Operations.{left_of, right_of}
-use Rattle.host_laws.proofs.api.Moves.{ApiMove, GoesOn, HasBegun, begun_as, ended, ends, goes, is_api_kind, opens, refuses, rests}
+use Rattle.host_laws.proofs.api.Moves.{ApiMove, GoesOn, HasBegun, begun_as, ended, ends, goes, is_api_kind, opens}
+use Rattle.host_laws.proofs.api.Moves.{refuses, rests}
 use Rattle.api_block.proofs.ApiTurns.{IsNew, IsVoid}
 use Rattle.host_laws.proofs.hosts.SendKinds.{are_of, none_of}
 use Rattle.run_theory.proofs.Tally.{Counted, counted, only_one, tally_append, tally_between}

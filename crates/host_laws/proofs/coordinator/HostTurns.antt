@@ -4,7 +4,8 @@ use Rattle.std.specs.Prelude.{Option, None, Some}
 use Rattle.std.proofs.lemmas.Bool.{false≢true, true≢false}
 use Rattle.api_block.specs.declared.opened.OpenTransaction.{OpenTransaction}
 use Rattle.api_block.specs.State.{ApiState}
-use Rattle.node_core.proofs.HostCases.{BlockCase, IsRowsStep, IsTcStep, api_takes, block_case, dih_takes, none_takes, rows_take, runs, tc_takes}
+use Rattle.node_core.proofs.HostCases.{BlockCase, IsRowsStep, IsTcStep, api_takes, block_case, dih_takes, none_takes}
+use Rattle.node_core.proofs.HostCases.{rows_take, runs, tc_takes}
 use Rattle.node_core.specs.Blocks.{api_of, dih_of, has_lqh, has_tc, lqh_of, tc_of}
 use Rattle.node_core.specs.declared.host.Host.{Host}
 use Rattle.node_core.specs.declared.host.Host.TheVariants.{Shell, Main, Tc, Ldm}
@@ -18,7 +19,8 @@ use Rattle.sig_core.specs.declared.place.BlockId.TheVariants as block
 use Rattle.sig_core.specs.declared.signal.Body.{Body}
 use Rattle.sig_core.specs.declared.signal.Body.TheVariants as body
 use Rattle.sig_core.specs.declared.signal.Signal.{Signal}
-use Rattle.sig_core.specs.declared.signal.client.ClientSignal.TheVariants.{TcBeginReq, TcBeginConf, TcKeyConf, TcCommitConf, TcRollbackRep}
+use Rattle.sig_core.specs.declared.signal.client.ClientSignal.TheVariants.{TcBeginReq, TcBeginConf, TcKeyConf}
+use Rattle.sig_core.specs.declared.signal.client.ClientSignal.TheVariants.{TcCommitConf, TcRollbackRep}
 use Rattle.sig_core.specs.declared.signal.epoch.EpochSignal.TheVariants.{DiVerifyConf}
 use Rattle.sig_core.specs.declared.signal.host.HostSignal.TheVariants.{Continue}
 use Rattle.sig_core.specs.declared.signal.host.Work.TheVariants as work
@@ -35,7 +37,8 @@ use Rattle.host_laws.proofs.rows.Operations.{is_lqh}
 use Rattle.host_laws.proofs.hosts.SendKinds.{are_of, is_dih_kind, of_kind}
 use Rattle.host_laws.proofs.coordinator.Lives.{IsOwn, is_keyed}
 use Rattle.host_laws.specs.Live.{of_live}
-use Rattle.host_laws.proofs.coordinator.Steps.{TxStep, born, elsewhere, is_apart, left_of_turn, next_grows, turned, tx_step}
+use Rattle.host_laws.proofs.coordinator.Steps.{TxStep, born, elsewhere, is_apart, left_of_turn, next_grows, turned}
+use Rattle.host_laws.proofs.coordinator.Steps.{tx_step}
 use Rattle.tc_block.proofs.TurnRows.{tx_in, is_turn, turn_row}
 use Rattle.host_laws.proofs.coordinator.Turns.{TurnMove}
 use Rattle.host_laws.proofs.api.Wishes.{is_tc}

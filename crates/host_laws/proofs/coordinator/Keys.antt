@@ -22,7 +22,8 @@ use Rattle.tc_block.specs.Tc.{next_tx, tc_table}
 use Rattle.tc_block.specs.Turn.{Turn, asking}
 use Rattle.sig_core.proofs.Keys.{same_tx-self}
 use Rattle.tc_block.proofs.EachTurn.{AbortForms, CommittedForms, TurnForms, TurnFormsAt, rows_at}
-use Rattle.tc_block.proofs.TurnRows.{TcStep, begins, left_in, misses, passes, refuses, rests, takes, tc_step, turn_by, turn_row, tx_in, left_step}
+use Rattle.tc_block.proofs.TurnRows.{TcStep, begins, left_in, misses, passes, refuses, rests, takes, tc_step, turn_by}
+use Rattle.tc_block.proofs.TurnRows.{turn_row, tx_in, left_step}
 use Rattle.host_laws.proofs.hosts.SendKinds.{are_of, is_keyless, is_tc_kind, none_of}
 use Rattle.run_theory.proofs.Tally.{tally_between}
 use Rattle.run_theory.specs.Counts.{one_if, tally}

@@ -1,5 +1,6 @@
 -- Which transactions a coordinator has: those that it has begun and whose end it hasn't reported are among them.
-use Rattle.std.proofs.Common.{◌≡◌, ◌⊎◌, ℕ, ◌+◌, ◌<◌, ◌≤◌, List, [], ◌∷◌, ◌++◌, Bool, true, false, refl, ap, sym, ◌∙◌, subst, arith, inl, inr}
+use Rattle.std.proofs.Common.{◌≡◌, ◌⊎◌, ℕ, ◌+◌, ◌<◌, ◌≤◌, List, [], ◌∷◌, ◌++◌, Bool, true, false, refl, ap, sym, ◌∙◌}
+use Rattle.std.proofs.Common.{subst, arith, inl, inr}
 use Rattle.std.proofs.lemmas.Bool.{and_right, ne_eqb}
 use Rattle.std.specs.Prelude.{◌==◌, ◌&&◌, if◌then◌else◌, nat_eq}
 use Rattle.indexmap.specs.IndexMap.{insert_entry}
@@ -20,7 +21,8 @@ use Rattle.host_laws.proofs.api.Begins.{each_changed, each_less}
 use Rattle.host_laws.proofs.hosts.SendKinds.{are_of, is_tc_kind, none_of}
 use Rattle.run_theory.proofs.Tally.{tally_append, tally_between}
 use Rattle.run_theory.specs.Counts.{one_if, tally}
-use Rattle.host_laws.proofs.coordinator.Moves.{TcMove, end_of, ends_in, forgets, is_end, is_still_kind, same_tx-is, starts, stays, turns}
+use Rattle.host_laws.proofs.coordinator.Moves.{TcMove, end_of, ends_in, forgets, is_end, is_still_kind, same_tx-is}
+use Rattle.host_laws.proofs.coordinator.Moves.{starts, stays, turns}
 use Rattle.host_laws.proofs.api.Wishes.{and_false, is_api, sends_of, to_node}
 use Rattle.tc_block.specs.Phases.{is_completing}
 

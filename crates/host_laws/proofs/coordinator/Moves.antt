@@ -1,5 +1,6 @@
 -- What each row of a coordinator does to its transactions, and which of its signals report the end of one.
-use Rattle.std.proofs.Common.{◌≡◌, ◌⊎◌, ℕ, ◌≤◌, List, [], ◌∷◌, ◌++◌, Bool, true, false, refl, ap, sym, ◌∙◌, subst, arith, inl, inr}
+use Rattle.std.proofs.Common.{◌≡◌, ◌⊎◌, ℕ, ◌≤◌, List, [], ◌∷◌, ◌++◌, Bool, true, false, refl, ap, sym, ◌∙◌, subst}
+use Rattle.std.proofs.Common.{arith, inl, inr}
 use Rattle.std.specs.Prelude.{◌==◌, ◌&&◌, ◌||◌, Option, None}
 use Rattle.std.proofs.lemmas.Bool.{false≢true}
 use Rattle.sig_core.specs.declared.member.TxId.{TxId}
@@ -39,7 +40,8 @@ use Rattle.tc_block.specs.Tc.{begun, next_tx, tc_table}
 use Rattle.tc_block.specs.Turn.{Turn, asking}
 use Rattle.tc_block.specs.Phases.{is_completing}
 use Rattle.tc_block.proofs.EachTurn.{AbortForms, CommittedForms, TurnForms, rows_of}
-use Rattle.tc_block.proofs.TurnRows.{TcStep, begins, misses, passes as passed_on, refuses as lacks, rests as rested, takes, tc_step, turn_by, turn_row, tx_in, left_if, left_step}
+use Rattle.tc_block.proofs.TurnRows.{TcStep, begins, misses, passes as passed_on, refuses as lacks, rests as rested}
+use Rattle.tc_block.proofs.TurnRows.{takes, tc_step, turn_by, turn_row, tx_in, left_if, left_step}
 use Rattle.host_laws.proofs.coordinator.Sends.{TurnSends, turn_sends}
 pub use Rattle.sig_core.proofs.TxLemmas.{same_tx-is}
 

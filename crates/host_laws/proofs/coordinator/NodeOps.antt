@@ -1,5 +1,6 @@
 -- What a step of a coordinator does to an operation of a transaction: it is kept at the replicas, or was answered.
-use Rattle.std.proofs.Common.{◌≡◌, ◌⊎◌, ℕ, ◌+◌, ◌≤◌, ◌<◌, List, [], ◌∷◌, ◌++◌, Bool, true, false, refl, ap, sym, ◌∙◌, subst, arith, inl, inr}
+use Rattle.std.proofs.Common.{◌≡◌, ◌⊎◌, ℕ, ◌+◌, ◌≤◌, ◌<◌, List, [], ◌∷◌, ◌++◌, Bool, true, false, refl, ap, sym, ◌∙◌}
+use Rattle.std.proofs.Common.{subst, arith, inl, inr}
 use Rattle.std.specs.Prelude.{◌&&◌}
 use Rattle.indexmap.specs.IndexMap.{insert_entry}
 use Rattle.run_theory.proofs.Pasts.{each_append, each_map}
@@ -18,14 +19,16 @@ use Rattle.tc_block.specs.Tc.{next_tx, tc_table}
 use Rattle.tc_block.specs.Turn.{Turn}
 use Rattle.tc_block.proofs.EachTurn.{rows_at}
 use Rattle.tc_block.proofs.LiveSplit.{AreOthers}
-use Rattle.tc_block.proofs.TurnRows.{TcStep, begins, is_turn, misses, passes, refuses, rests, takes, tc_step, turn_by, turn_row, tx_in, left_if}
+use Rattle.tc_block.proofs.TurnRows.{TcStep, begins, is_turn, misses, passes, refuses, rests, takes, tc_step, turn_by}
+use Rattle.tc_block.proofs.TurnRows.{turn_row, tx_in, left_if}
 use Rattle.host_laws.proofs.api.Begins.{each_at, each_changed, each_less}
 use Rattle.host_laws.proofs.rows.Operations.{ops}
 use Rattle.run_theory.proofs.Tally.{tally_append, tally_between, tally_none}
 use Rattle.run_theory.specs.Counts.{one_if, tally}
 use Rattle.host_laws.proofs.coordinator.Lives.{IsOwn, insert_new, is_keyed}
 use Rattle.host_laws.proofs.coordinator.Moves.{same_tx-is}
-use Rattle.host_laws.proofs.coordinator.Operations.{Asks, IsGoodLayout, TurnAsks, answers_of, asks_forms, asks_key, is_right}
+use Rattle.host_laws.proofs.coordinator.Operations.{Asks, IsGoodLayout, TurnAsks, answers_of, asks_forms, asks_key}
+use Rattle.host_laws.proofs.coordinator.Operations.{is_right}
 
 -- each of a coordinator's transactions that has an operation unanswered may have one
 abbrev pub AreRight : List (TxId × Transaction) → Type 0

@@ -1,7 +1,8 @@
 -- What a coordinator says, transaction by transaction: it begins each once, asks for an epoch of each at most once, and
 -- tells
 -- of the commit of those alone that are decided.
-use Rattle.std.proofs.Common.{◌≡◌, ◌<◌, ℕ, ◌+◌, Bool, true, false, List, [], ◌∷◌, ◌++◌, refl, sym, ap, ◌∙◌, subst, subst₂, arith}
+use Rattle.std.proofs.Common.{◌≡◌, ◌<◌, ℕ, ◌+◌, Bool, true, false, List, [], ◌∷◌, ◌++◌, refl, sym, ap, ◌∙◌, subst}
+use Rattle.std.proofs.Common.{subst₂, arith}
 use Rattle.std.specs.Prelude.{Option}
 use Rattle.run_theory.specs.Lists.{Each}
 use Rattle.run_theory.proofs.Pasts.{each_after, each_append, each_before, each_map}
@@ -25,7 +26,8 @@ use Rattle.tc_block.specs.Turn.{Turn, at_phase}
 use Rattle.host_laws.specs.Kinds.{Kind, kind_of}
 use Rattle.host_laws.specs.Kinds as kind
 use Rattle.tc_block.specs.Phases.{is_decided, is_open}
-use Rattle.tc_block.proofs.LiveSplit.{KeysOnce, Live, Split, each_inserted, once_back, once_front, once_gone, once_inserted, once_set}
+use Rattle.tc_block.proofs.LiveSplit.{KeysOnce, Live, Split, each_inserted, once_back, once_front, once_gone}
+use Rattle.tc_block.proofs.LiveSplit.{once_inserted, once_set}
 use Rattle.tc_block.proofs.EachTc.{tc_each}
 use Rattle.tc_block.proofs.EachTurn.{rows_of}
 use Rattle.host_laws.proofs.coordinator.Goes.{AllSay, Goes, SaysOf, TurnGoes, turn_goes}

@@ -1,5 +1,6 @@
 -- No coordinator takes one transaction both forth and back.
-use Rattle.std.proofs.Common.{◌≡◌, ◌⊎◌, ◌<◌, ℕ, ◌+◌, Bool, true, false, List, [], ◌∷◌, ◌++◌, refl, sym, ap, ◌∙◌, subst, inl, inr, arith}
+use Rattle.std.proofs.Common.{◌≡◌, ◌⊎◌, ◌<◌, ℕ, ◌+◌, Bool, true, false, List, [], ◌∷◌, ◌++◌, refl, sym, ap, ◌∙◌, subst}
+use Rattle.std.proofs.Common.{inl, inr, arith}
 use Rattle.std.specs.List.{list_any}
 use Rattle.std.specs.Prelude.{◌||◌, Option}
 use Rattle.std.proofs.lemmas.Bool.{or_cases}
@@ -32,15 +33,18 @@ use Rattle.world_core.specs.Hosts.{started}
 use Rattle.world_core.specs.Start.{Start}
 use Rattle.tc_block.specs.Phases.{is_completing, is_decided}
 use Rattle.tc_block.specs.Phases.{is_aborting}
-use Rattle.host_laws.specs.Ways.{AreSaid, CoordinatorsGoOneWay, CoordinatorsSay, IsSaid, Way, back, back_by, closes, forth, forth_by, is_forth, neither, put_ways, sends_for, sent_ways, tc_sends, way_of}
+use Rattle.host_laws.specs.Ways.{AreSaid, CoordinatorsGoOneWay, CoordinatorsSay, IsSaid, Way, back, back_by, closes}
+use Rattle.host_laws.specs.Ways.{forth, forth_by, is_forth, neither, put_ways, sends_for, sent_ways, tc_sends, way_of}
 use Rattle.sig_core.proofs.Keys.{same_tx-self}
-use Rattle.tc_block.proofs.LiveSplit.{KeysOnce, Live, Split, each_inserted, once_back, once_front, once_gone, once_inserted, once_set}
+use Rattle.tc_block.proofs.LiveSplit.{KeysOnce, Live, Split, each_inserted, once_back, once_front, once_gone}
+use Rattle.tc_block.proofs.LiveSplit.{once_inserted, once_set}
 use Rattle.host_laws.proofs.hosts.StartedHosts.{none_live}
 use Rattle.host_laws.proofs.coordinator.Lives.{lower_apart}
 use Rattle.host_laws.proofs.coordinator.Numbers.{NotIn}
 use Rattle.tc_block.proofs.EachTc.{tc_each}
 use Rattle.tc_block.proofs.EachTurn.{rows_of}
-use Rattle.host_laws.proofs.coordinator.Ways.{AllWays, TellsForth, TurnWays, WayOf, Ways, aborting_apart, decided_apart, not_both, turn_ways}
+use Rattle.host_laws.proofs.coordinator.Ways.{AllWays, TellsForth, TurnWays, WayOf, Ways, aborting_apart, decided_apart}
+use Rattle.host_laws.proofs.coordinator.Ways.{not_both, turn_ways}
 
 -- one of the coordinator's transactions, where these went forth, and those back
 record IsLive (node next : ℕ) (cs bs : List TxId) (e : TxId × Transaction) : Type 0 where

@@ -1,5 +1,6 @@
 -- What a signal makes of a coordinator's transaction, case by case.
-use Rattle.std.proofs.Common.{◌≡◌, ◌⊎◌, ℕ, ◌-◌, ◌≤◌, ◌<◌, List, [], ◌∷◌, length, Bool, true, false, refl, ap, subst, sym, ◌∙◌, arith, inl, inr}
+use Rattle.std.proofs.Common.{◌≡◌, ◌⊎◌, ℕ, ◌-◌, ◌≤◌, ◌<◌, List, [], ◌∷◌, length, Bool, true, false, refl, ap, subst}
+use Rattle.std.proofs.Common.{sym, ◌∙◌, arith, inl, inr}
 use Rattle.std.specs.Prelude.{None}
 use Rattle.std.proofs.lemmas.Bool.{and_parts, false≢true}
 use Rattle.std.proofs.lemmas.Bool.Decides.{nat_tests}
@@ -11,7 +12,8 @@ use Rattle.sig_core.specs.declared.outs.Outgoing.{Outgoing}
 use Rattle.sig_core.specs.declared.signal.Body.{Body}
 use Rattle.sig_core.specs.declared.signal.Body.TheVariants.{Host, Client, Chain, Epoch}
 use Rattle.sig_core.specs.declared.signal.chain.ChainSignal.TheVariants.{LqhKeyConf, LqhKeyRef, Committed, Aborted}
-use Rattle.sig_core.specs.declared.signal.client.ClientSignal.TheVariants.{TcKeyReq, TcKeyConf, TcCommitReq, TcRollbackReq, LqhWaitReq}
+use Rattle.sig_core.specs.declared.signal.client.ClientSignal.TheVariants.{TcKeyReq, TcKeyConf, TcCommitReq}
+use Rattle.sig_core.specs.declared.signal.client.ClientSignal.TheVariants.{TcRollbackReq, LqhWaitReq}
 use Rattle.sig_core.specs.declared.signal.epoch.EpochSignal.TheVariants.{DiVerifyReq, DiVerifyConf}
 use Rattle.sig_core.specs.declared.signal.host.HostSignal.TheVariants.{Continue}
 use Rattle.sig_core.specs.declared.signal.host.Work.TheVariants as work
@@ -34,7 +36,8 @@ use Rattle.tc_block.specs.Touched.{fits}
 use Rattle.tc_block.specs.Turn.{Turn, asking, at_phase, ending, going}
 use Rattle.host_laws.proofs.hosts.SendKinds.{are_of, of_map}
 use Rattle.tc_block.specs.Phases.{is_aborting, is_committing, is_decided}
-use Rattle.tc_block.proofs.EachTurn.{AbortForms, CommittedForms, IsAnswered, IsMissed, IsRowAnswer, TurnForms, TurnFormsAt, by_conf, by_ref, ready_is, rows_at, rows_of}
+use Rattle.tc_block.proofs.EachTurn.{AbortForms, CommittedForms, IsAnswered, IsMissed, IsRowAnswer, TurnForms}
+use Rattle.tc_block.proofs.EachTurn.{TurnFormsAt, by_conf, by_ref, ready_is, rows_at, rows_of}
 use Rattle.tc_block.proofs.TurnRows.{is_turn, turn_by, turn_row, tx_in}
 use Rattle.tc_block.specs.declared.sends.TheConstants.{SENDS}
 

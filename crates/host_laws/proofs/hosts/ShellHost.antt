@@ -22,7 +22,8 @@ use Rattle.api_block.specs.declared.opened.OpenTransaction.{OpenTransaction}
 use Rattle.api_block.specs.Opened.{begins_at}
 use Rattle.api_block.specs.State.{ApiState, idle}
 use Rattle.lqh_block.specs.Lqh.{lqh_table}
-use Rattle.node_core.proofs.HostCases.{BlockCase, api_takes, block_case, dih_takes, each_send, none_takes, rows_take, runs, tc_takes}
+use Rattle.node_core.proofs.HostCases.{BlockCase, api_takes, block_case, dih_takes, each_send, none_takes, rows_take}
+use Rattle.node_core.proofs.HostCases.{runs, tc_takes}
 use Rattle.node_core.specs.Blocks.{api_of, dih_of, has_api, has_tc, lqh_of, tc_of}
 use Rattle.node_core.specs.declared.host.Host as host
 use Rattle.node_core.specs.declared.host.Host.TheVariants.{Shell, Main, Tc, Ldm}
@@ -45,7 +46,9 @@ use Rattle.host_laws.proofs.hosts.SendKinds.{are_of, each_of, is_dih_kind, is_lq
 use Rattle.tc_block.proofs.TurnRows as turns
 use Rattle.tc_block.proofs.TurnRows.{TcStep, tc_step, tx_in}
 use Rattle.host_laws.proofs.coordinator.Sends.{turn_sends}
-use Rattle.host_laws.proofs.api.Wishes.{and_false, dih_replies, dih_wishes, is_api, is_reply, is_tc, is_wish, lqh_replies, lqh_wishes, reply_of, sends_of, tc_replies, tc_wishes, to_node, wish_of}
+use Rattle.host_laws.proofs.api.Wishes.{and_false, dih_replies, dih_wishes, is_api, is_reply, is_tc, is_wish}
+use Rattle.host_laws.proofs.api.Wishes.{lqh_replies, lqh_wishes, reply_of, sends_of, tc_replies, tc_wishes, to_node}
+use Rattle.host_laws.proofs.api.Wishes.{wish_of}
 use Rattle.host_laws.specs.OpenedAfter.{opened_in}
 use Rattle.run_theory.proofs.Tally.{none_if}
 use Rattle.run_theory.specs.Counts.{one_if, tally}

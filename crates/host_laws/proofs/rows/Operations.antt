@@ -24,7 +24,8 @@ use Rattle.lqh_block.specs.Storage.{StorageState}
 use Rattle.lqh_block.specs.Work.{is_for}
 use Rattle.row_records.proofs.KeyLemmas.{same as same_key-is}
 use Rattle.lqh_block.proofs.LqhForms.{perform_forms}
-use Rattle.host_laws.proofs.rows.RequestCounts.{CountStep, asked_by, count_step, ends, is_work, performs, refuses, rests}
+use Rattle.host_laws.proofs.rows.RequestCounts.{CountStep, asked_by, count_step, ends, is_work, performs, refuses}
+use Rattle.host_laws.proofs.rows.RequestCounts.{rests}
 use Rattle.host_laws.proofs.coordinator.Moves.{same_tx-is}
 use Rattle.host_laws.proofs.coordinator.Sends.{eqb-self}
 use Rattle.host_laws.proofs.api.Wishes.{is_tc, sends_of}

@@ -34,7 +34,8 @@ use Rattle.key_laws.proofs.LocksAt.{lock-inserted}
 use Rattle.run_theory.proofs.Focus.{IsTakenAt, none_placed, taken_at, tally_taken}
 use Rattle.host_laws.proofs.rows.Operations.{is_lqh, left_of, right_of, true_and}
 use Rattle.host_laws.proofs.rows.QueueWaits.{AskedWaits, asked_waits}
-use Rattle.host_laws.proofs.rows.RequestCounts.{CountStep, asked_by, count_step, ends, is_work, performs, refuses, rests}
+use Rattle.host_laws.proofs.rows.RequestCounts.{CountStep, asked_by, count_step, ends, is_work, performs, refuses}
+use Rattle.host_laws.proofs.rows.RequestCounts.{rests}
 use Rattle.run_theory.proofs.Tally.{Counted, counted, tally_append, tally_in}
 use Rattle.run_theory.specs.Counts.{one_if, tally}
 use Rattle.host_laws.proofs.coordinator.Moves.{same_tx-is}

@@ -13,7 +13,7 @@ use Rattle.sig_core.specs.declared.signal.Body.{Body}
 use Rattle.sig_core.specs.declared.signal.Body.TheVariants.{Host}
 use Rattle.sig_core.specs.declared.signal.Signal.{Signal}
 use Rattle.sig_core.specs.Step.{Step}
-use Rattle.node_views.specs.declared.host.Host as node
+use Rattle.node_views.specs.declared.host_body.HostBody as node
 use Rattle.node_views.specs.declared.parts.Parts.{Parts}
 use Rattle.node_views.specs.declared.parts.Parts.TheVariants as part
 use Rattle.node_views.specs.Replies.{giving}
@@ -42,7 +42,7 @@ host_begins start zero = tt
 host_begins start (suc h) = part_begins start (part_by (h % 3)) h
 
 -- the replies that are told change nothing of it
-told_up : (h : ℕ) (step : Step node.Host) → PartsHaveNoDown step.state.parts → PartsHaveNoDown (told h step).parts
+told_up : (h : ℕ) (step : Step node.HostBody) → PartsHaveNoDown step.state.parts → PartsHaveNoDown (told h step).parts
 told_up zero step up = by step.state.parts up
   where
     by : (parts : Parts) → PartsHaveNoDown parts → PartsHaveNoDown (giving parts [])

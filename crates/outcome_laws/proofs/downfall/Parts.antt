@@ -13,7 +13,7 @@ use Rattle.gcp_master.specs.Master.{master_row}
 use Rattle.qmgr_block.specs.Qmgr.{qmgr_installed, qmgr_row}
 use Rattle.tc_views.specs.Views as coordinator
 use Rattle.node_views.specs.Blocks.{parts_entered, parts_row}
-use Rattle.node_views.specs.declared.host.Host as hosts
+use Rattle.node_views.specs.declared.host_body.HostBody as hosts
 use Rattle.node_views.specs.declared.ldm_part.LdmPart.{LdmPart}
 use Rattle.node_views.specs.declared.main_part.MainPart.{MainPart}
 use Rattle.node_views.specs.declared.parts.Parts.{Parts}
@@ -110,7 +110,7 @@ entered_up (Tc p) view up =
 entered_up (Ldm p) view up = (tt, tt)
 
 -- so it is behind a step of the host
-pub step_down_none : (h : ℕ) (s : hosts.Host) (x : Signal) → PartsHaveNoDown s.parts → TellsNoDown x.body
+pub step_down_none : (h : ℕ) (s : hosts.HostBody) (x : Signal) → PartsHaveNoDown s.parts → TellsNoDown x.body
     → PartsHaveNoDown (step_by h s x).state.parts × SendsNoDown (step_by h s x)
 step_down_none h s x up told =
     step_keeps PartsHaveNoDown HasNoDown effects_none x h s

@@ -21,7 +21,7 @@ use Rattle.sig_core.specs.declared.view.View.{View}
 use Rattle.sig_core.specs.Place.{epochs}
 use Rattle.sig_core.specs.Step.{Step}
 use Rattle.frag_map.specs.Layout.{first_layout}
-use Rattle.node_views.specs.declared.host.Host as node
+use Rattle.node_views.specs.declared.host_body.HostBody as node
 use Rattle.node_views.specs.declared.parts.Parts.{Parts}
 use Rattle.node_views.specs.declared.parts.Parts.TheVariants.{Shell, Main, Tc, Ldm}
 use Rattle.node_views.specs.Replies.{giving}
@@ -88,13 +88,13 @@ module _ (start : Start) where
   own_first : AllOwn (λ h. [])
   own_first = record {
     parts = λ me there.
-        subst (λ (s : node.Host). OwnParts me s.parts) (sym (tc_started start me there))
+        subst (λ (s : node.HostBody). OwnParts me s.parts) (sym (tc_started start me there))
         (coordinator_of_fresh me (first_layout start.shape), tt);
     decided = λ h. tt;
     asks = λ i j. tt;
   }
 
-  given_own : (me : Member) (h : ℕ) (t : Step node.Host) → OwnParts me t.state.parts → OwnParts me (told h t).parts
+  given_own : (me : Member) (h : ℕ) (t : Step node.HostBody) → OwnParts me t.state.parts → OwnParts me (told h t).parts
   given_own me zero t own = by t.state.parts own
     where
       by : (parts : Parts) → OwnParts me parts → OwnParts me (giving parts [])
@@ -116,7 +116,7 @@ module _ (start : Start) where
       abbrev x : Signal
       x = e.step.taken
 
-      abbrev step : Step node.Host
+      abbrev step : Step node.HostBody
       step = step_after start e.host (old e.host) e
 
       happens : Happens (sound_machine start) es e

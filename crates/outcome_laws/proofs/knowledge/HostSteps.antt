@@ -11,7 +11,7 @@ use Rattle.sig_core.specs.declared.signal.Signal.{Signal}
 use Rattle.sig_core.specs.declared.view.View.{View}
 use Rattle.sig_core.specs.Step.{Effects, joined, nothing}
 use Rattle.node_views.specs.Blocks.{parts_entered, parts_row}
-use Rattle.node_views.specs.declared.host.Host as hosts
+use Rattle.node_views.specs.declared.host_body.HostBody as hosts
 use Rattle.node_views.specs.declared.parts.Parts.{Parts}
 use Rattle.node_views.specs.declared.standing.Standing.{Standing}
 use Rattle.node_views.specs.Row.{cut_marks, marks_only}
@@ -57,7 +57,7 @@ module _ (K : Parts → Type 0) (E : Effects → Type 0) where
     }
 
     -- whatever signal it is, if it is so of each that is well formed
-    pub step_keeps : (h : ℕ) (s : hosts.Host) → (is_well_formed s.standing.shape x ≡ true → AreKept x) → K s.parts
+    pub step_keeps : (h : ℕ) (s : hosts.HostBody) → (is_well_formed s.standing.shape x ≡ true → AreKept x) → K s.parts
         → K (step_by h s x).state.parts × E (step_by h s x).effects
     step_keeps h s kept knows =
         step_so Comes x h s (record {

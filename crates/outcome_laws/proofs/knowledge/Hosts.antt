@@ -6,7 +6,7 @@ use Rattle.sig_core.specs.declared.signal.Signal.{Signal}
 use Rattle.sig_core.specs.declared.view.View.{View}
 use Rattle.sig_core.specs.Step.{Effects, Step}
 use Rattle.node_views.specs.Blocks.{parts_entered, parts_row}
-use Rattle.node_views.specs.declared.host.Host as hosts
+use Rattle.node_views.specs.declared.host_body.HostBody as hosts
 use Rattle.node_views.specs.declared.parts.Parts.{Parts}
 use Rattle.node_views.specs.declared.parts.Parts.TheVariants.{Shell, Main, Tc, Ldm}
 use Rattle.node_views.specs.Replies.{giving}
@@ -75,15 +75,15 @@ module _ (D : TxId → ℕ → Type 0) (B : TxId → Type 0) where
   given_know (Tc p) knows = knows
   given_know (Ldm p) knows = knows
 
-  told_know : (h : ℕ) (t : Step hosts.Host) → PartsKnow D B t.state.parts → PartsKnow D B (told h t).parts
+  told_know : (h : ℕ) (t : Step hosts.HostBody) → PartsKnow D B t.state.parts → PartsKnow D B (told h t).parts
   told_know zero t knows = given_know t.state.parts knows
   told_know (suc h) t knows = knows
 
-  pub record IsTrueStep (h : ℕ) (s : hosts.Host) (x : Signal) : Type 0 where
+  pub record IsTrueStep (h : ℕ) (s : hosts.HostBody) (x : Signal) : Type 0 where
     pub knows : PartsKnow D B (told h (step_by h s x)).parts
     pub effects : AreTrue D B (step_by h s x).effects
 
-  module _ (h : ℕ) (s : hosts.Host) (x : Signal)
+  module _ (h : ℕ) (s : hosts.HostBody) (x : Signal)
       (tells : is_well_formed s.standing.shape x ≡ true → Tells D B x.body)
     where
       stepped : AreTold D B x.body s.parts → IsTrueStep h s x

@@ -18,12 +18,12 @@ use Rattle.sig_core.specs.declared.signal.host.HostSignal.TheVariants.{Closed}
 use Rattle.sig_core.specs.declared.rows.PendingRecord.{PendingRecord}
 use Rattle.sig_core.specs.Rows.{no_rows}
 use Rattle.node_core.specs.Fresh.{own_rows, with_rows}
-use Rattle.node_views.specs.declared.host.Host as node
+use Rattle.node_views.specs.declared.host_body.HostBody as node
 use Rattle.node_views.specs.WellFormed.{is_well_formed}
 use Rattle.world_core.specs.Hosts.{member_at, part_by}
 use Rattle.world_core.specs.Start.{Start, made}
 use Rattle.world_core.specs.Steps.{Addressed, HostStep}
-use Rattle.world_views.specs.Hosts.{epoch_before, part_started, started}
+use Rattle.world_views.specs.Hosts.{part_started, started}
 use Rattle.world_views.specs.Machine.{IsOwnWork, after, machine, signals_of, step_after}
 use Rattle.world_views.proofs.FreshBodies.{none_pending}
 use Rattle.view_laws.specs.Order.{is_sound, sound_machine}
@@ -77,9 +77,9 @@ module _ (start : Start) where
           by (suc zero) = (tt, (record { gathered = tt; first = tt }, tt))
           by (suc (suc left)) =
               let member = member_at (made start) (suc k) in
-              let rows = with_rows no_rows (own_rows start.shape member.node start.rows) (epoch_before start.epoch) in
+              let rows = with_rows no_rows (own_rows start.shape member.node start.rows) start.start_epoch in
               let none : rows.pending ≡ [] =
-              none_pending no_rows (own_rows start.shape member.node start.rows) (epoch_before start.epoch) in
+              none_pending no_rows (own_rows start.shape member.node start.rows) start.start_epoch in
               record {
                 records = subst
                     (Each (λ (r : PendingRecord).
@@ -105,7 +105,7 @@ module _ (start : Start) where
       abbrev x : Signal
       x = e.step.taken
 
-      abbrev s : node.Host
+      abbrev s : node.HostBody
       s = after start e.host (old e.host)
 
       -- what is so of a log also with a step more

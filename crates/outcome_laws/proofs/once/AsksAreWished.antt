@@ -32,7 +32,7 @@ use Rattle.sig_core.specs.Step.{Effects}
 use Rattle.dih_node.specs.Orders as dih
 use Rattle.node_views.specs.Blocks.{parts_entered, parts_row}
 use Rattle.node_views.specs.Parts.{tc_entered, tc_row}
-use Rattle.node_views.specs.declared.host.Host as hosts
+use Rattle.node_views.specs.declared.host_body.HostBody as hosts
 use Rattle.node_views.specs.declared.parts.Parts.{Parts}
 use Rattle.node_views.specs.declared.parts.Parts.TheVariants.{Ldm, Main, Shell, Tc}
 use Rattle.node_views.specs.declared.tc_part.TcPart.{TcPart}
@@ -173,7 +173,7 @@ module _ (tx : TxId) where
         enters (Main q) view has = absurd has
         enters (Ldm q) view has = absurd has
 
-    step_asks : (h : ℕ) (s : hosts.Host) → HasTc s.parts → AskNone (step_by h s x).effects.sends
+    step_asks : (h : ℕ) (s : hosts.HostBody) → HasTc s.parts → AskNone (step_by h s x).effects.sends
     step_asks h s has = (step_keeps HasTc EffectsAskNone of_effects x h s (λ sound. kept) has).1
 
   -- along a log in which it isn't asked for the commit it asks for no epoch

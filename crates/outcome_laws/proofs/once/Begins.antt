@@ -10,7 +10,7 @@ use Rattle.sig_core.specs.declared.place.Place.{Place}
 use Rattle.sig_core.specs.declared.signal.Body.{Body}
 use Rattle.sig_core.specs.declared.signal.Body.TheVariants.{Host}
 use Rattle.frag_map.specs.Layout.{first_layout}
-use Rattle.node_views.specs.declared.host.Host as node
+use Rattle.node_views.specs.declared.host_body.HostBody as node
 use Rattle.node_views.specs.declared.parts.Parts.{Parts}
 use Rattle.node_views.specs.declared.parts.Parts.TheVariants as part
 use Rattle.tc_views.specs.Coordinator.{fresh_coordinator}
@@ -45,7 +45,7 @@ none_taken (e ∷ log) = let more = none_taken log in omega (arith, more)
 -- a member's coordinator begins as one of it
 pub tc_begins : (start : Start) (me : Member) → IsIn me (made start) → IsTcOf me (started start (tc_of start me)).parts
 tc_begins start me there =
-    subst (λ (s : node.Host). IsTcOf me s.parts) (sym (tc_started start me there))
+    subst (λ (s : node.HostBody). IsTcOf me s.parts) (sym (tc_started start me there))
     (coordinator_of_fresh me (first_layout start.shape))
 
 -- what may be sent at first where nothing ever is
@@ -81,7 +81,7 @@ module _ (p : Body → Bool) (counts : (body : Body) → is_counted body ≡ fal
         (are.right.local h) in
         let fresh : (of_coordinator p may).may (started start h).parts
         ≡ may (fresh_coordinator me.node me.start (first_layout start.shape)) =
-        ap (λ (s : node.Host). (of_coordinator p may).may s.parts) (tc_started start me there) in
+        ap (λ (s : node.HostBody). (of_coordinator p may).may s.parts) (tc_started start me there) in
         omega (arith, is.below, none_taken (logs h), fresh, once)
 
     -- a host without a coordinator

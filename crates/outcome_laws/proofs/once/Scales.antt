@@ -12,7 +12,7 @@ use Rattle.sig_core.specs.declared.signal.Signal.{Signal}
 use Rattle.sig_core.specs.declared.view.View.{View}
 use Rattle.sig_core.specs.Step.{Effects, joined, nothing}
 use Rattle.node_views.specs.Blocks.{parts_entered, parts_row}
-use Rattle.node_views.specs.declared.host.Host as hosts
+use Rattle.node_views.specs.declared.host_body.HostBody as hosts
 use Rattle.node_views.specs.declared.parts.Parts.{Parts}
 use Rattle.node_views.specs.declared.standing.Standing.{Standing}
 use Rattle.node_views.specs.Replies.{giving}
@@ -128,7 +128,7 @@ module _ (scale : Scale) (Q : Parts → Type 0) where
                 (record { keeps = all.keeps; below = omega (arith, all.below) });
           }
 
-      step_is : (h : ℕ) (s : hosts.Host) → Q s.parts
+      step_is : (h : ℕ) (s : hosts.HostBody) → Q s.parts
           → IsLight (scale.may s.parts + one_if (scale.taken x.body)) (step_by h s x).effects
           (step_by h s x).state.parts
       step_is h s keeps =
@@ -155,7 +155,7 @@ module _ (scale : Scale) (Q : Parts → Type 0) where
               }
 
       -- also behind the replies that are told
-      pub step_light : (h : ℕ) (s : hosts.Host) → Q s.parts
+      pub step_light : (h : ℕ) (s : hosts.HostBody) → Q s.parts
           → IsLight (scale.may s.parts + one_if (scale.taken x.body)) (step_by h s x).effects
           (told h (step_by h s x)).parts
       step_light zero s keeps =

@@ -21,7 +21,7 @@ use Rattle.node_views.specs.Blocks.{in_shell, parts_row}
 use Rattle.node_views.specs.Parts.{in_client, shell_row}
 use Rattle.node_views.specs.Row.{with_parts}
 use Rattle.node_views.specs.WellFormed.{is_body_sound, is_well_formed}
-use Rattle.node_views.specs.declared.host.Host as host
+use Rattle.node_views.specs.declared.host_body.HostBody as host
 use Rattle.node_views.specs.declared.parts.Parts.{Parts}
 use Rattle.node_views.specs.declared.parts.Parts.TheVariants.{Shell, Main, Tc, Ldm}
 use Rattle.node_views.specs.declared.shell_part.ShellPart.{ShellPart}
@@ -160,7 +160,7 @@ module _ (hosts_level : HostsAreLevel) (start : Start) (shape : IsShape start.sh
   low : e.host < hosts start
   low = host_there start (hosts start) e es within_now
 
-  abbrev s : host.Host
+  abbrev s : host.HostBody
   s = after start 0 (log 0)
 
   abbrev before : IsMirrored start 0 (log 0)
@@ -221,7 +221,7 @@ module _ (hosts_level : HostsAreLevel) (start : Start) (shape : IsShape start.sh
   blocks =
       near_parts_by start 0 replied s before.inner x before.near sound view_is (requests_for_blocks x asks_shell)
       (ap stops_by
-      (sym (ap (λ (t : Step host.Host). t.effects.marks)
+      (sym (ap (λ (t : Step host.HostBody). t.effects.marks)
       (near_row start 0 replied s before.inner x before.near sound view_is (requests_for_blocks x asks_shell)))
       ∙ near_step.marks))
 
@@ -236,7 +236,7 @@ module _ (hosts_level : HostsAreLevel) (start : Start) (shape : IsShape start.sh
   sends_are : (step_after start e.host (log e.host) e).effects.sends ≡ one ∷ []
   sends_are =
       subst (λ k. (step_after start k (log k) e).effects.sends ≡ one ∷ []) (sym shell)
-      (ap (λ (t : Step host.Host). t.effects.sends) blocks ∙ does.sends)
+      (ap (λ (t : Step host.HostBody). t.effects.sends) blocks ∙ does.sends)
 
   ease : IsAtEase start (after start e.host (e ∷ log e.host)).standing
   ease =
@@ -281,7 +281,7 @@ module _ (hosts_level : HostsAreLevel) (start : Start) (shape : IsShape start.sh
   shell_asks =
       subst (ShellWaits start (Some kind_of))
       (sym (ap (λ (those : List HostStep). (after start 0 those).parts) own_log
-      ∙ ap (λ (t : Step host.Host). (told 0 t).parts) blocks))
+      ∙ ap (λ (t : Step host.HostBody). (told 0 t).parts) blocks))
       does.client
 
   all_rest : AllRest start epoch asked_moment

@@ -23,7 +23,7 @@ use Rattle.node_core.specs.Row.{row}
 use Rattle.node_views.specs.Blocks.{in_shell}
 use Rattle.node_views.specs.Parts.{in_client, ldm_row, main_row, shell_row, tc_row}
 use Rattle.node_views.specs.Row.{with_parts}
-use Rattle.node_views.specs.declared.host.Host as host
+use Rattle.node_views.specs.declared.host_body.HostBody as host
 use Rattle.node_views.specs.declared.parts.Parts.{Parts}
 use Rattle.node_views.specs.declared.parts.Parts.TheVariants.{Shell, Main, Tc, Ldm}
 use Rattle.node_views.specs.declared.shell_part.ShellPart.{ShellPart}
@@ -81,7 +81,7 @@ asks_for s closing =
     }
 
 -- a step of a host and one of its plain one, where the one is asked for a closing
-record AskedNear (start : Start) (given : List ApiReply) (t : Step host.Host) (other : Step plain.Host) : Type 0 where
+record AskedNear (start : Start) (given : List ApiReply) (t : Step host.HostBody) (other : Step plain.Host) : Type 0 where
   near : AreNear start given (told 0 t) other.state
   plain : other.effects.sends ≡ []
   plain_marks : other.effects.marks ≡ []
@@ -119,7 +119,7 @@ module _ (start : Start) (given : List ApiReply) (shape : IsShape start.shape) (
   plain_is request.Micro is = refl
   plain_is _ is = absurd (false≢true is)
 
-  abbrev shell : host.Host
+  abbrev shell : host.HostBody
   shell = record { standing = standing; parts = Shell p }
 
   sends_request : (closing : Closing) (node : Option ℕ) → IsNodeOf node
@@ -194,7 +194,7 @@ row_of_is (plain_host.Ldm s) x = refl
 -- whichever part a host has
 module _ (start : Start) (given : List ApiReply) (shape : IsShape start.shape) (standing : Standing)
     (ease : IsAtEase start standing) (x : Signal) (view : x.view ≡ first start) where
-  abbrev with_part : Parts → host.Host
+  abbrev with_part : Parts → host.HostBody
   with_part parts = record { standing = standing; parts = parts }
 
   stays_near : (parts : Parts) (other : plain.Host) → AreNear start given (told 0 (stay (with_part parts))) other

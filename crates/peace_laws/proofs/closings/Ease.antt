@@ -8,10 +8,10 @@ use Rattle.node_core.specs.declared.host.Host as plain
 use Rattle.node_core.specs.declared.host.Host.TheVariants as plain_host
 use Rattle.node_views.specs.Blocks.{fence_at, parts_row}
 use Rattle.node_views.specs.Laws.{is_own}
-use Rattle.node_views.specs.Parts.{may_settle}
+use Rattle.qmgr_block.specs.Settle.{may_settle}
 use Rattle.node_views.specs.Row.{blocks_row, hushed, is_stop, settle, with_parts}
 use Rattle.node_views.specs.WellFormed.{is_well_formed}
-use Rattle.node_views.specs.declared.host.Host as host
+use Rattle.node_views.specs.declared.host_body.HostBody as host
 use Rattle.node_views.specs.declared.parts.Parts.{Parts}
 use Rattle.node_views.specs.declared.parts.Parts.TheVariants.{Shell, Main, Tc, Ldm}
 use Rattle.node_views.proofs.LawLemmas.{calm_hosts_leave_it_to_blocks}
@@ -101,7 +101,7 @@ module _ (number : ℕ) (is : number ≡ first_number) where
   fence_first start given to (Ldm p) (plain_host.Ldm s) near = ldm_fence number is p near.1.1 to
   fence_first start given to parts other near = absurd near
 
-module _ (start : Start) (h : ℕ) (given : List ApiReply) (s : host.Host) (other : plain.Host) (x : Signal)
+module _ (start : Start) (h : ℕ) (given : List ApiReply) (s : host.HostBody) (other : plain.Host) (x : Signal)
     (near : AreNear start given s other) (fine : is_well_formed start.shape x ≡ true) (view : x.view ≡ first start)
     (for_blocks : IsForBlocks x.body) where
   stands : s.standing.view.number ≡ first_number
@@ -131,7 +131,7 @@ module _ (start : Start) (h : ℕ) (given : List ApiReply) (s : host.Host) (othe
   near_parts goes =
       near_row
       ∙ goes_on (with_parts s (parts_row s.parts x))
-      (sym (ap (λ (step : Step host.Host). list_any is_stop step.effects.marks) near_row) ∙ goes)
+      (sym (ap (λ (step : Step host.HostBody). list_any is_stop step.effects.marks) near_row) ∙ goes)
 
   -- so where they don't stop it
   pub near_parts_by : list_any is_stop (parts_row s.parts x).effects.marks ≡ false

@@ -5,7 +5,7 @@ use Rattle.std.specs.List.{list_any}
 use Rattle.node_core.specs.declared.host.Host as plain
 use Rattle.node_views.specs.Blocks.{parts_row}
 use Rattle.node_views.specs.Row.{is_stop, with_parts}
-use Rattle.node_views.specs.declared.host.Host as host
+use Rattle.node_views.specs.declared.host_body.HostBody as host
 use Rattle.run_theory.specs.Lists.{Each}
 use Rattle.sig_core.specs.declared.mark.Mark.{Mark}
 use Rattle.sig_core.specs.declared.mark.Mark.TheVariants as mark
@@ -43,11 +43,11 @@ pub all_below : (epoch : ℕ) (marks : List Mark) → Each IsClosingMark marks �
 all_below epoch [] all = tt
 all_below epoch (m ∷ marks) all = (below epoch m all.0, all_below epoch marks all.1)
 
-module _ (start : Start) (h : ℕ) (given : List ApiReply) (s : host.Host) (other : plain.Host) (x : Signal)
+module _ (start : Start) (h : ℕ) (given : List ApiReply) (s : host.HostBody) (other : plain.Host) (x : Signal)
     (near : AreNear start given s other) (comes : ComesForClosing start h x) where
   same_marks : (step_by h s x).effects.marks ≡ (parts_row s.parts x).effects.marks
   same_marks =
-      ap (λ (t : Step host.Host). t.effects.marks)
+      ap (λ (t : Step host.HostBody). t.effects.marks)
       (near_row start h given s other x near comes.fine comes.view (closings_for_blocks h x comes.closing))
 
   only : Each IsClosingMark (parts_row s.parts x).effects.marks

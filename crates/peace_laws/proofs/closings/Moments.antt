@@ -7,7 +7,7 @@ use Rattle.frag_map.specs.Shape.{IsShape}
 use Rattle.node_views.specs.Blocks.{parts_row}
 use Rattle.node_views.specs.Row.{with_parts}
 use Rattle.node_views.specs.WellFormed.{is_well_formed}
-use Rattle.node_views.specs.declared.host.Host as host
+use Rattle.node_views.specs.declared.host_body.HostBody as host
 use Rattle.node_views.specs.declared.parts.Parts.{Parts}
 use Rattle.run_theory.proofs.Pasts.{each_from, each_map}
 use Rattle.run_theory.proofs.Runs.{log_of-other, log_of-own}
@@ -64,7 +64,7 @@ moment start base es links =
     }
 
 -- a host behind a step of its parts, and what was told
-told_is : (k : ℕ) (s : host.Host) (t : Step Parts) → (told k (with_parts s t)).parts ≡ behind k t.state
+told_is : (k : ℕ) (s : host.HostBody) (t : Step Parts) → (told k (with_parts s t)).parts ≡ behind k t.state
 told_is zero s t = refl
 told_is (suc k) s t = refl
 
@@ -162,7 +162,7 @@ module _ (hosts_level : HostsAreLevel) (start : Start) (shape : IsShape start.sh
   comes : ComesForClosing start h x
   comes = closing_comes start es h x within kept.mirrored closing (run.1.takes unasked) sound
 
-  abbrev pub s : host.Host
+  abbrev pub s : host.HostBody
   s = after start h (log h)
 
   abbrev before : IsMirrored start h (log h)
@@ -196,7 +196,7 @@ module _ (hosts_level : HostsAreLevel) (start : Start) (shape : IsShape start.sh
   pub parts_now : (after start h (log_of (machine start) (e ∷ es) h)).parts ≡ behind h (parts_row s.parts x).state
   parts_now =
       ap (λ (those : List HostStep). (after start h those).parts) (log_of-own (machine start) e es h refl)
-      ∙ ap (λ (t : Step host.Host). (told h t).parts) blocks
+      ∙ ap (λ (t : Step host.HostBody). (told h t).parts) blocks
       ∙ told_is h s (parts_row s.parts x)
 
   pub parts_stay : (k : ℕ) → k ≢ h
@@ -217,7 +217,7 @@ module _ (hosts_level : HostsAreLevel) (start : Start) (shape : IsShape start.sh
       go (inl at) =
           subst Told (sym at)
           (ap (replies_in start 0) (log_of-own (machine start) e es 0 at)
-          ∙ ap (λ (t : Step host.Host). replies_in start 0 (log 0) ++ replies_at 0 t)
+          ∙ ap (λ (t : Step host.HostBody). replies_in start 0 (log 0) ++ replies_at 0 t)
           (subst
           (λ k. step_by k (after start k (log k)) x
           ≡ with_parts (after start k (log k)) (parts_row (after start k (log k)).parts x)) at blocks))
@@ -237,7 +237,7 @@ module _ (hosts_level : HostsAreLevel) (start : Start) (shape : IsShape start.sh
   sends = (parts_row s.parts x).effects.sends
 
   sends_are : (step_after start h (log h) e).effects.sends ≡ sends
-  sends_are = ap (λ (t : Step host.Host). t.effects.sends) blocks
+  sends_are = ap (λ (t : Step host.HostBody). t.effects.sends) blocks
 
   near_step : StepsNear start h replied s before.inner x
   near_step = closings_step_near start h replied s before.inner x before.near comes goes

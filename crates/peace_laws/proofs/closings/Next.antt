@@ -6,7 +6,7 @@ use Rattle.frag_map.specs.Shape.{IsShape}
 use Rattle.node_core.specs.declared.host.Host as plain_host
 use Rattle.node_core.specs.Row.{row}
 use Rattle.node_views.specs.WellFormed.{is_well_formed}
-use Rattle.node_views.specs.declared.host.Host as host
+use Rattle.node_views.specs.declared.host_body.HostBody as host
 use Rattle.run_laws.specs.Transit.{IsRun}
 use Rattle.run_theory.proofs.Runs.{taken-other}
 use Rattle.run_theory.specs.Links.{sent, taken}
@@ -135,7 +135,7 @@ module _ (hosts_level : HostsAreLevel) (start : Start) (shape : IsShape start.sh
     closing_next = left_next hosts_level start shape es e happens within low kept (left_closing e closing) left
 
 -- A host is asked for a closing: it is the shell's.
-pub record IsAskedNear (start : Start) (h : ℕ) (given : List ApiReply) (s : host.Host) (other : plain_host.Host)
+pub record IsAskedNear (start : Start) (h : ℕ) (given : List ApiReply) (s : host.HostBody) (other : plain_host.Host)
     (x : Signal) : Type 0
   where
     pub rests : is_beating h ≡ false
@@ -147,7 +147,7 @@ pub record IsAskedNear (start : Start) (h : ℕ) (given : List ApiReply) (s : ho
     pub sends : Each (IsOfClosing h) (step_by h s x).effects.sends
     pub masters : Each IsForMaster (step_by h s x).effects.sends
 
-asked_near : ClosingsAreAskedNear → (start : Start) (h : ℕ) (given : List ApiReply) (s : host.Host)
+asked_near : ClosingsAreAskedNear → (start : Start) (h : ℕ) (given : List ApiReply) (s : host.HostBody)
     (other : plain_host.Host) (x : Signal) → IsShape start.shape → AreNear start given s other
     → RestsOfClosings s.parts → asks_closing h x ≡ true → is_well_formed start.shape x ≡ true → x.view ≡ first start
     → IsAskedNear start h given s other x

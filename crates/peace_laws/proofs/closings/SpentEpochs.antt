@@ -15,7 +15,7 @@ use Rattle.gcp_master.specs.Requests.{asked_by, asked_row, global_asked, micro_a
 use Rattle.gcp_master.specs.State.{MasterState}
 use Rattle.node_views.specs.Blocks.{in_main, parts_row}
 use Rattle.node_views.specs.Parts.{main_row}
-use Rattle.node_views.specs.declared.host.Host as host
+use Rattle.node_views.specs.declared.host_body.HostBody as host
 use Rattle.node_views.specs.declared.main_part.MainPart.{MainPart}
 use Rattle.node_views.specs.declared.parts.Parts.{Parts}
 use Rattle.node_views.specs.declared.parts.Parts.TheVariants.{Shell, Main, Tc, Ldm}
@@ -132,7 +132,7 @@ module _ (hosts_level : HostsAreLevel) (start : Start) (shape : IsShape start.sh
   spends_it : list_any is_spent e.step.marks ≡ true
   spends_it =
       ap (list_any is_spent) run.1.step.fits.marks
-      ∙ ap (λ (t : Step host.Host). list_any is_spent t.effects.marks)
+      ∙ ap (λ (t : Step host.HostBody). list_any is_spent t.effects.marks)
       (moments.blocks hosts_level start shape base all es e run within_now on.kept on.running unasked unspent links
       (asked_fits start shape c base es links asked))
       ∙ main_spent start c.epoch (after start e.host (log_of (machine start) es e.host)).parts

@@ -29,7 +29,7 @@ use Rattle.node_core.specs.Dih as plain_dih
 use Rattle.node_views.specs.Blocks.{in_ldm, in_main, in_shell, in_tc, parts_row}
 use Rattle.node_views.specs.Parts.{in_client, in_dih, in_master, in_replica, ldm_row, main_row, shell_row, tc_row}
 use Rattle.node_views.specs.Row.{with_parts}
-use Rattle.node_views.specs.declared.host.Host as host
+use Rattle.node_views.specs.declared.host_body.HostBody as host
 use Rattle.node_views.specs.declared.ldm_part.LdmPart.{LdmPart}
 use Rattle.node_views.specs.declared.main_part.MainPart.{MainPart}
 use Rattle.node_views.specs.declared.parts.Parts.{Parts}
@@ -70,7 +70,7 @@ use Rattle.peace_laws.proofs.closings.Ease.{closings_for_blocks, has_its_block, 
 use Rattle.peace_laws.proofs.closings.MasterNear.{IsClosingMark, master_steps}
 
 -- a step of a host that is near its plain one behind it, at a signal from a member of this node
-pub record HostNear (start : Start) (h : ℕ) (given : List ApiReply) (from : ℕ) (t : Step host.Host) (other : plain.Host)
+pub record HostNear (start : Start) (h : ℕ) (given : List ApiReply) (from : ℕ) (t : Step host.HostBody) (other : plain.Host)
     : Type 0
   where
     inner : plain.Host
@@ -82,7 +82,7 @@ pub record HostNear (start : Start) (h : ℕ) (given : List ApiReply) (from : �
     masters : is_beating h ≡ false → 1 ≤ from → Each IsForMaster t.effects.sends
 
 -- a part of a node that stays
-stays : (start : Start) (h : ℕ) (given : List ApiReply) (from : ℕ) (s : host.Host) (other : plain.Host)
+stays : (start : Start) (h : ℕ) (given : List ApiReply) (from : ℕ) (s : host.HostBody) (other : plain.Host)
     → AreNear start given s other → HostNear start (suc h) given from (stay s) other
 stays start h given from s other near = record {
   inner = other;
@@ -107,7 +107,7 @@ seen s view same =
 -- The client's side is told of the end of a closing.
 module _ (start : Start) (given : List ApiReply) (standing : Standing) (ease : IsAtEase start standing) (p : ShellPart)
     (a : ApiState) (near : ArePartsNear start given (Shell p) (plain_host.Shell a)) (from : ℕ) where
-  abbrev shell_with : ClientState → host.Host
+  abbrev shell_with : ClientState → host.HostBody
   shell_with c = record { standing = standing; parts = Shell (record { client = c; arbiter = p.arbiter }) }
 
   -- the plain one isn't
@@ -161,7 +161,7 @@ module _ (start : Start) (given : List ApiReply) (standing : Standing) (ease : I
     masters = λ beats some. tt;
   }
 
-  abbrev of_client : Step ClientState → Step host.Host
+  abbrev of_client : Step ClientState → Step host.HostBody
   of_client t = with_parts (shell_with p.client) (in_shell (in_client p t))
 
   client_by : (x : Signal) (body : Body) → is_for_closing block.Api body ≡ true
@@ -342,7 +342,7 @@ module _ (q : plain_dih.DihState) where
 -- a part that does something of a closing
 module _ (start : Start) (h : ℕ) (given : List ApiReply) (standing : Standing) (ease : IsAtEase start standing)
     (x : Signal) where
-  abbrev part_with : Parts → host.Host
+  abbrev part_with : Parts → host.HostBody
   part_with parts = record { standing = standing; parts = parts }
 
   tc_near : (p : TcPart) (q : plain_tc.TcPart) → ArePartsNear start given (Tc p) (plain_host.Tc q)
@@ -522,7 +522,7 @@ module _ (start : Start) (given : List ApiReply) (standing : Standing) (ease : I
   by_client to has is = absurd (false≢true has)
 
 -- so whatever the parts of a host do
-pub parts_near : (start : Start) (h : ℕ) (given : List ApiReply) (s : host.Host) (other : plain.Host) (x : Signal)
+pub parts_near : (start : Start) (h : ℕ) (given : List ApiReply) (s : host.HostBody) (other : plain.Host) (x : Signal)
     → AreNear start given s other → ComesForClosing start h x
     → HostNear start h given x.member.node (with_parts s (parts_row s.parts x)) other
 parts_near start h given s other x near comes =

@@ -1,6 +1,6 @@
 -- A life in peace, request by request: it stands after each, and rests where nothing is under way. So its plain parts
 -- are what the plain machine does, and each closing is answered, where closings go on from rest to rest.
-use Rattle.std.proofs.Common.{◌≡◌, ◌⊎◌, ◌≤◌, inl, inr, ℕ, Bool, true, false, List, [], ◌∷◌, ◌++◌, refl, sym, subst}
+use Rattle.std.proofs.Common.{◌<◌, ◌≡◌, ◌⊎◌, ◌≤◌, inl, inr, ℕ, Bool, true, false, List, [], ◌∷◌, ◌++◌, refl, sym, subst}
 use Rattle.std.proofs.Common.{arith}
 use Rattle.std.proofs.Math.Path.{fun_ext}
 use Rattle.std.specs.Prelude.{◌||◌}
@@ -72,7 +72,7 @@ either true b is = inl refl
 either false b is = inr is
 
 module _ (hosts_level : HostsAreLevel) (closes : ClosingGoesOn) (start : Start) (shape : IsShape start.shape)
-    (rows : start.rows ≡ []) (some : 1 ≤ start.epoch) where
+    (rows : start.rows ≡ []) (some : start.start_epoch < start.epoch) where
   none_asked : plain_requests.AreAskedAtQuiet start (plain_parts start (λ h. []))
   none_asked newer e before is asks = absurd (nothing newer is)
     where

@@ -9,7 +9,7 @@ use Rattle.node_core.specs.Blocks.{api_of, has_api}
 use Rattle.node_core.specs.declared.host.Host as plain_host
 use Rattle.node_core.specs.declared.host.Host.TheVariants as plain_kind
 use Rattle.node_core.specs.Row.{row}
-use Rattle.node_views.specs.declared.host.Host as host
+use Rattle.node_views.specs.declared.host_body.HostBody as host
 use Rattle.node_views.specs.declared.parts.Parts.{Parts}
 use Rattle.node_views.specs.declared.parts.Parts.TheVariants.{Shell, Main, Tc, Ldm}
 use Rattle.run_theory.proofs.Pasts.{each_after, each_append, each_before, each_map}
@@ -101,7 +101,7 @@ module _ (start : Start) (h : ℕ) (log : List HostStep) (e : HostStep) (beats :
       × RestsOfClosings (after start h (e ∷ log)).parts
   main_resting = by h beats (after start h log) comes main_near main_alike main_aside
     where
-      by : (k : ℕ) → is_beating k ≡ true → (s : host.Host) → ComesCalmly start k e.step.taken
+      by : (k : ℕ) → is_beating k ≡ true → (s : host.HostBody) → ComesCalmly start k e.step.taken
           → AreNear start [] s before.inner → AreAlike start [] s before.inner
           → StepAside start k s before.inner e.step.taken
           → AreNear start [] (told k (step_by k s e.step.taken)) before.inner

@@ -5,7 +5,7 @@ use Rattle.std.proofs.lemmas.Bool.{false≢true}
 use Rattle.node_core.specs.declared.host.Host as plain
 use Rattle.node_core.specs.declared.host.Host.TheVariants as plain_host
 use Rattle.node_views.specs.Blocks.{in_main, parts_row}
-use Rattle.node_views.specs.declared.host.Host as host
+use Rattle.node_views.specs.declared.host_body.HostBody as host
 use Rattle.node_views.specs.declared.main_part.MainPart.{MainPart}
 use Rattle.node_views.specs.declared.parts.Parts.{Parts}
 use Rattle.node_views.specs.declared.parts.Parts.TheVariants.{Shell, Main, Tc, Ldm}
@@ -66,7 +66,7 @@ same_main : (p q : MainPart) → Main p ≡ Main q → p ≡ q
 same_main p q is = cc is
 
 -- so is it after a calm step
-module _ (start : Start) (h : ℕ) (s : host.Host) (other : plain.Host) (x : Signal) (beats : is_beating (suc h) ≡ true)
+module _ (start : Start) (h : ℕ) (s : host.HostBody) (other : plain.Host) (x : Signal) (beats : is_beating (suc h) ≡ true)
     (alike : AreAlike start [] s other) (comes : ComesCalmly start (suc h) x) (main : IsNearMain s.parts) where
   abbrev p : MainPart
   p = main.part
@@ -88,7 +88,7 @@ module _ (start : Start) (h : ℕ) (s : host.Host) (other : plain.Host) (x : Sig
   master_kept q is =
       let now : Main q ≡ Main (in_qmgr p (qmgr_row p.qmgr x)).state =
       sym is
-      ∙ ap (λ (t : Step host.Host). t.state.parts) (ease_parts start (suc h) [] s other x alike comes runs)
+      ∙ ap (λ (t : Step host.HostBody). t.state.parts) (ease_parts start (suc h) [] s other x alike comes runs)
       ∙ ap (λ (t : Step Parts). t.state) row_is in
       subst (λ (r : MainPart). IsMasterNear r.master)
       (sym (same_main q (in_qmgr p (qmgr_row p.qmgr x)).state now)) main.master

@@ -10,7 +10,7 @@ use Rattle.node_core.specs.declared.host.Host as plain
 use Rattle.node_core.specs.declared.host.Host.TheVariants as plain_host
 use Rattle.node_core.specs.Fresh.{fresh_part, fresh_shell}
 use Rattle.node_core.specs.Row.{row}
-use Rattle.node_views.specs.declared.host.Host as host
+use Rattle.node_views.specs.declared.host_body.HostBody as host
 use Rattle.node_views.specs.declared.main_part.MainPart.{MainPart}
 use Rattle.node_views.specs.declared.parts.Parts.{Parts}
 use Rattle.node_views.specs.declared.parts.Parts.TheVariants.{Shell, Main, Tc, Ldm}
@@ -90,7 +90,7 @@ parts_alike start given (Tc p) (plain_host.Tc q) near rests = (
 parts_alike start given (Ldm p) (plain_host.Ldm s) near rests = near
 parts_alike start given parts other near rests = absurd near
 
-pub near_alike : (start : Start) (given : List ApiReply) (s : host.Host) (other : plain.Host)
+pub near_alike : (start : Start) (given : List ApiReply) (s : host.HostBody) (other : plain.Host)
     → AreNear start given s other → RestsOfClosings s.parts → AreAlike start given s other
 near_alike start given s other near rests =
     record { standing = near.standing; parts = parts_alike start given s.parts other near.parts rests }
@@ -145,7 +145,7 @@ no_main start given (Main q) (plain_host.Tc t) alike none p is = absurd alike
 no_main start given (Main q) (plain_host.Ldm s) alike none p is = absurd alike
 no_main start given parts other alike none p is = absurd cc
 
-pub resting_near : (start : Start) (given : List ApiReply) (s : host.Host) (other : plain.Host)
+pub resting_near : (start : Start) (given : List ApiReply) (s : host.HostBody) (other : plain.Host)
     → AreAlike start given s other → has_main other ≡ false
     → AreNear start given s other × RestsOfClosings s.parts
 resting_near start given s other alike none =
@@ -154,7 +154,7 @@ resting_near start given s other alike none =
     (λ p is. absurd (no_main start given s.parts other alike.parts none p is)) in
     (record { standing = alike.standing; parts = both.near }, both.rests)
 
-pub resting_main : (start : Start) (given : List ApiReply) (s : host.Host) (other : plain.Host)
+pub resting_main : (start : Start) (given : List ApiReply) (s : host.HostBody) (other : plain.Host)
     → AreAlike start given s other → ((p : MainPart) → s.parts ≡ Main p → IsMasterNear p.master)
     → AreNear start given s other × RestsOfClosings s.parts
 resting_main start given s other alike master =

@@ -13,7 +13,7 @@ use Rattle.node_core.specs.Dih.{DihState, dih_table}
 use Rattle.node_core.specs.Row.{row, tc_part_row}
 use Rattle.node_views.specs.Blocks.{in_main, parts_row}
 use Rattle.node_views.specs.Parts.{main_row}
-use Rattle.node_views.specs.declared.host.Host as host
+use Rattle.node_views.specs.declared.host_body.HostBody as host
 use Rattle.node_views.specs.declared.parts.Parts.{Parts}
 use Rattle.node_views.specs.declared.parts.Parts.TheVariants.{Shell, Main, Tc, Ldm}
 use Rattle.sig_core.specs.declared.place.BlockId.{BlockId}
@@ -142,7 +142,7 @@ alike_stays start given h epoch parts other alike none gives = absurd alike
 
 module _ (start : Start) (h epoch : ℕ) where
   -- a step of a host that is no main part
-  pub part_stays : (given now : List ApiReply) (s next : host.Host) (other : plain_host.Host) (x : Signal)
+  pub part_stays : (given now : List ApiReply) (s next : host.HostBody) (other : plain_host.Host) (x : Signal)
       → ArePartsNear start given s.parts other → StaysIn start h epoch s.parts
       → AreAlike start now next (row other x).state → has_main (row other x).state ≡ false
       → StaysIn start h epoch next.parts
@@ -151,7 +151,7 @@ module _ (start : Start) (h epoch : ℕ) where
       (row_gives epoch other x (near_gives start given h epoch s.parts other near stays))
 
   -- and one of a main part, which does something for its membership
-  told_parts : (k : ℕ) (t : Step host.Host) → is_beating k ≡ true → told k t ≡ t.state
+  told_parts : (k : ℕ) (t : Step host.HostBody) → is_beating k ≡ true → told k t ≡ t.state
   told_parts zero t beats = absurd (false≢true beats)
   told_parts (suc k) t beats = refl
 
@@ -174,13 +174,13 @@ module _ (start : Start) (h epoch : ℕ) where
   alike_main given parts (plain.Tc q) alike main = absurd (false≢true main)
   alike_main given parts (plain.Ldm s) alike main = absurd (false≢true main)
 
-  pub main_stays_in : (s : host.Host) (other : plain_host.Host) (x : Signal) → is_beating h ≡ true
+  pub main_stays_in : (s : host.HostBody) (other : plain_host.Host) (x : Signal) → is_beating h ≡ true
       → AreAlike start [] s other → has_main other ≡ true → ComesCalmly start h x → StaysIn start h epoch s.parts
       → StaysIn start h epoch (told h (step_by h s x)).parts
   main_stays_in s other x beats alike main calm stays =
-      subst (λ (next : host.Host). StaysIn start h epoch next.parts) (sym (told_parts h (step_by h s x) beats))
-      (subst (λ (t : Step host.Host). StaysIn start h epoch t.state.parts)
+      subst (λ (next : host.HostBody). StaysIn start h epoch next.parts) (sym (told_parts h (step_by h s x) beats))
+      (subst (λ (t : Step host.HostBody). StaysIn start h epoch t.state.parts)
       (sym (ease_row start h [] s other x alike calm))
-      (subst (λ (t : Step host.Host). StaysIn start h epoch t.state.parts) (sym (blocks_alone h s x calm.calm))
+      (subst (λ (t : Step host.HostBody). StaysIn start h epoch t.state.parts) (sym (blocks_alone h s x calm.calm))
       (membership_stays s.parts x (beating_block h x.to.block beats (has_calm_block h x calm.calm))
       (alike_main [] s.parts other alike.parts main) stays)))

@@ -21,7 +21,7 @@ use Rattle.takeover_block.specs.Takeover.{takeover_row}
 use Rattle.tc_views.specs.Coordinator.{coordinator_row}
 use Rattle.tc_views.specs.State.{CoordinatorState}
 use Rattle.tc_views.specs.Views as coordinator
-use Rattle.node_views.specs.declared.host.Host as hosts
+use Rattle.node_views.specs.declared.host_body.HostBody as hosts
 use Rattle.node_views.specs.declared.parts.Parts.TheVariants as part
 use Rattle.node_views.specs.declared.tc_part.TcPart.{TcPart}
 use Rattle.node_views.specs.Parts.{ldm_row, tc_entered, tc_row}
@@ -105,7 +105,7 @@ module _ (start : Start) where
 
   none_first : (member : Member) → IsIn member (made start) → (takeover_after start member []).gathered ≡ []
   none_first member there =
-      ap (λ (s : hosts.Host). (takeover_in (resting member.node (first_layout start.shape)) s.parts).gathered)
+      ap (λ (s : hosts.HostBody). (takeover_in (resting member.node (first_layout start.shape)) s.parts).gathered)
       (tc_started start member there)
 
   orphans_first : AllOrphans start (λ h. [])

@@ -15,13 +15,12 @@ use Rattle.tc_views.specs.Coordinator.{fresh_coordinator}
 use Rattle.tc_views.specs.State.{CoordinatorState}
 use Rattle.dih_node.specs.Dih.{fresh_dih}
 use Rattle.takeover_block.specs.State.{resting}
-use Rattle.node_views.specs.declared.host.Host as hosts
+use Rattle.node_views.specs.declared.host_body.HostBody as hosts
 use Rattle.node_views.specs.declared.parts.Parts.TheVariants as part
 use Rattle.node_views.specs.declared.tc_part.TcPart.{TcPart}
 use Rattle.node_views.specs.WellFormed.{is_well_formed}
 use Rattle.world_core.specs.Start.{Start, made}
 use Rattle.world_core.specs.Steps.{HostStep}
-use Rattle.world_views.specs.Hosts.{epoch_before}
 use Rattle.world_views.specs.Machine.{after, step_after, told}
 use Rattle.moment_laws.specs.Places.{tc_of}
 use Rattle.moment_laws.proofs.MomentHosts.{part_some, tc_started}
@@ -34,7 +33,7 @@ use Rattle.request_laws.proofs.phases.TouchedKeys.{IsKeyed}
 use Rattle.request_laws.proofs.phases.Moves.{Comes}
 
 -- a host of a node comes out as its step does
-pub told_some : (h : ℕ) → 1 ≤ h → (t : Step hosts.Host) → told h t ≡ t.state
+pub told_some : (h : ℕ) → 1 ≤ h → (t : Step hosts.HostBody) → told h t ≡ t.state
 told_some zero some t = absurd (omega (arith, some))
 told_some (suc h) some t = refl
 
@@ -63,7 +62,7 @@ module _ (start : Start) (member : Member) (there : IsIn member (made start)) wh
 
       now_runs : (after start h (e ∷ log)).parts ≡ part.Tc moved.now
       now_runs =
-          ap (λ (s : hosts.Host). s.parts) (told_some h (part_some start Tc member) (step_after start h log e))
+          ap (λ (s : hosts.HostBody). s.parts) (told_some h (part_some start Tc member) (step_after start h log e))
           ∙ moved.runs
 
       pub record IsNext : Type 0 where
@@ -89,13 +88,13 @@ module _ (start : Start) (member : Member) (there : IsIn member (made start)) wh
   begun = record {
     coordinator = other;
     takeover = resting member.node (first_layout start.shape);
-    dih = fresh_dih member.node (first_layout start.shape).view.number start.epoch (epoch_before start.epoch);
+    dih = fresh_dih member.node (first_layout start.shape).view.number start.epoch start.start_epoch;
   }
 
   first : IsRun []
   first = record {
     own = begun;
-    runs = ap (λ (s : hosts.Host). s.parts) (tc_started start member there);
+    runs = ap (λ (s : hosts.HostBody). s.parts) (tc_started start member there);
     fits = coordinator_of_fresh member (first_layout start.shape);
     touched = tt;
   }
@@ -152,4 +151,4 @@ module _ (start : Start) (member : Member) (there : IsIn member (made start)) wh
 
   -- and as its life begins
   pub coordinator_first : coordinator_after start member [] ≡ other
-  coordinator_first = ap (λ (s : hosts.Host). coordinator_in other s.parts) (tc_started start member there)
+  coordinator_first = ap (λ (s : hosts.HostBody). coordinator_in other s.parts) (tc_started start member there)

@@ -27,7 +27,7 @@ use Rattle.tc_views.specs.Coordinator.{coordinator_row}
 use Rattle.tc_views.specs.State.{CoordinatorState}
 use Rattle.tc_views.specs.State as coordinators
 use Rattle.takeover_block.specs.Takeover.{takeover_row}
-use Rattle.node_views.specs.declared.host.Host as hosts
+use Rattle.node_views.specs.declared.host_body.HostBody as hosts
 use Rattle.node_views.specs.declared.parts.Parts.TheVariants as part
 use Rattle.node_views.specs.declared.tc_part.TcPart.{TcPart}
 use Rattle.node_views.specs.Parts.{tc_row}
@@ -170,7 +170,7 @@ module _ (member : Member) (shape : Shape) (p : TcPart) (x : Signal) (of : IsCoo
       pub said : Said P q.dih.held effects
 
     -- in which part the step comes out
-    pub record HasMoved (step : Step hosts.Host) : Type 0 where
+    pub record HasMoved (step : Step hosts.HostBody) : Type 0 where
       pub now : TcPart
       pub runs : step.state.parts ≡ part.Tc now
       pub moves : Moves now step.effects
@@ -225,7 +225,7 @@ module _ (member : Member) (shape : Shape) (p : TcPart) (x : Signal) (of : IsCoo
           record { held_are = holds.held; decided = holds.decided; given = holds.given }
       row_said _ = quiet_said P between.dih.held nothing held_between refl tt
 
-    pub moves_by : (step : Step hosts.Host) → Goes shape p x step → HasMoved step
+    pub moves_by : (step : Step hosts.HostBody) → Goes shape p x step → HasMoved step
     moves_by step (leaves between entered parts words marks) = record {
       now = between;
       runs = parts;

@@ -29,7 +29,7 @@ use Rattle.dih_node.specs.Orders as dih
 use Rattle.dih_node.specs.State as epochs
 use Rattle.dih_node.specs.State.{DihState}
 use Rattle.dih_node.specs.Verify.{given}
-use Rattle.node_views.specs.declared.host.Host as hosts
+use Rattle.node_views.specs.declared.host_body.HostBody as hosts
 use Rattle.node_views.specs.declared.parts.Parts.TheVariants as part
 use Rattle.node_views.specs.declared.standing.Standing.{Standing}
 use Rattle.node_views.specs.declared.tc_part.TcPart.{TcPart}
@@ -65,7 +65,7 @@ abbrev pub IsEntered : TcPart → TcPart → Type 0
 IsEntered p between = (between ≡ p) ⊎ ((view : View) × (between ≡ (tc_entered p view).state))
 
 -- what a step of the host comes to
-pub data Goes (shape : Shape) (p : TcPart) (x : Signal) (step : Step hosts.Host) : Type 0 where
+pub data Goes (shape : Shape) (p : TcPart) (x : Signal) (step : Step hosts.HostBody) : Type 0 where
   leaves : (between : TcPart) → IsEntered p between → step.state.parts ≡ part.Tc between
       → AreWordless step.effects.sends → AreNoDecisions step.effects.marks → Goes shape p x step
   takes : (between : TcPart) → IsEntered p between → is_well_formed shape x ≡ true → (front : Effects)
@@ -113,18 +113,18 @@ module _ (p : TcPart) (view : View) where
   entered_marks = (dih_installs_quiet p.dih view.number).marks
 
 -- where the signal is passed to the part, or is the host's own
-data Passes (p : TcPart) (x : Signal) (step : Step hosts.Host) : Type 0 where
+data Passes (p : TcPart) (x : Signal) (step : Step hosts.HostBody) : Type 0 where
   rests : step.state.parts ≡ part.Tc p → step.effects.sends ≡ [] → AreNoDecisions step.effects.marks → Passes p x step
   acts : step.state.parts ≡ part.Tc (tc_row p x.to.block x).state → step.effects ≡ (tc_row p x.to.block x).effects
       → Passes p x step
 
 -- a host that runs the part
-abbrev host_of : Standing → TcPart → hosts.Host
+abbrev host_of : Standing → TcPart → hosts.HostBody
 host_of standing p = record { standing = standing; parts = part.Tc p }
 
 module _ (x : Signal) where
   module _ (standing : Standing) (p : TcPart) where
-    abbrev s : hosts.Host
+    abbrev s : hosts.HostBody
     s = host_of standing p
 
     blocks_pass : Passes p x (blocks_row s x)
@@ -158,12 +158,12 @@ module _ (x : Signal) where
         by false = table_passes x.body
 
   module _ (shape : Shape) (sound : is_well_formed shape x ≡ true) where
-    plain_goes : (p : TcPart) (step : Step hosts.Host) → Passes p x step → Goes shape p x step
+    plain_goes : (p : TcPart) (step : Step hosts.HostBody) → Passes p x step → Goes shape p x step
     plain_goes p step (rests parts sends marks) = leaves p (inl refl) parts (subst AreWordless (sym sends) tt) marks
     plain_goes p step (acts parts effects) = takes p (inl refl) sound nothing tt tt tt parts effects
 
     behind_goes : (p between : TcPart) → IsEntered p between → (front : Effects) → AreWordless front.sends
-        → AreNoDecisions front.marks → AreGoing front.marks → (step : Step hosts.Host) → Passes between x step
+        → AreNoDecisions front.marks → AreGoing front.marks → (step : Step hosts.HostBody) → Passes between x step
         → Goes shape p x (behind front step)
     behind_goes p between entered front words none going step (rests parts sends marks) =
         leaves between entered parts
@@ -201,7 +201,7 @@ module _ (x : Signal) where
     none_stops [] all = refl
     none_stops (mark ∷ marks) all = ap (λ b. b || list_any is_stop marks) all.0 ∙ none_stops marks all.1
 
-    hushed_goes : (p : TcPart) (step : Step hosts.Host) → Goes shape p x step → Goes shape p x (hushed step)
+    hushed_goes : (p : TcPart) (step : Step hosts.HostBody) → Goes shape p x step → Goes shape p x (hushed step)
     hushed_goes p step (leaves between entered parts words marks) =
         leaves between entered parts (by (list_any is_stop step.effects.marks)) marks
       where

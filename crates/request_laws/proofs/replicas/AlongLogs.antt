@@ -17,7 +17,7 @@ use Rattle.lqh_views.specs.Replica.{fresh_replica, installed, replica_row}
 use Rattle.lqh_views.specs.State.{ReplicaState}
 use Rattle.node_core.specs.Fresh.{own_rows, with_rows}
 use Rattle.node_views.specs.Blocks.{parts_entered, parts_row, settled_at}
-use Rattle.node_views.specs.declared.host.Host as hosts
+use Rattle.node_views.specs.declared.host_body.HostBody as hosts
 use Rattle.node_views.specs.declared.ldm_part.LdmPart.{LdmPart}
 use Rattle.node_views.specs.declared.parts.Parts.{Parts}
 use Rattle.node_views.specs.declared.parts.Parts.TheVariants.{Ldm}
@@ -25,7 +25,6 @@ use Rattle.node_views.specs.Parts.{ldm_row}
 use Rattle.node_views.specs.Replies.{giving}
 use Rattle.world_core.specs.Start.{Start, made}
 use Rattle.world_core.specs.Steps.{HostStep}
-use Rattle.world_views.specs.Hosts.{epoch_before}
 use Rattle.world_views.specs.Machine.{after, step_by, told}
 use Rattle.moment_laws.specs.Places.{ldm_of}
 use Rattle.moment_laws.proofs.MomentHosts.{ldm_started}
@@ -42,8 +41,8 @@ use Rattle.request_laws.proofs.replicas.KeyEvents.{installations_keep_well, sign
 abbrev pub first_rows : Start → Member → ReplicaState
 first_rows start member =
     fresh_replica member.node (first_layout start.shape)
-    (with_rows no_rows (own_rows start.shape member.node start.rows) (epoch_before start.epoch))
-    (record { used = 0; reserved = 0 }) (epoch_before start.epoch)
+    (with_rows no_rows (own_rows start.shape member.node start.rows) start.start_epoch)
+    (record { used = 0; reserved = 0 }) start.start_epoch
 
 module _ (So : ReplicaState → Type 0) (row : (s : ReplicaState) (x : Signal) → So s → So (replica_row s x).state)
     (install : (s : ReplicaState) (view : View) → So s → So (installed s view)) where
@@ -78,7 +77,7 @@ module _ (So : ReplicaState → Type 0) (row : (s : ReplicaState) (x : Signal) �
           absurd (let none : None ≡ Some view = ap (λ (q : Parts). settled_at q x) (sym rows.is) ∙ is in cc);
     }
 
-    step_so : (h : ℕ) (s : hosts.Host) → AreRows s.parts → AreRows (told h (step_by h s x)).parts
+    step_so : (h : ℕ) (s : hosts.HostBody) → AreRows s.parts → AreRows (told h (step_by h s x)).parts
     step_so h s rows =
         next_comes Says x h s (record {
           stays = rows;
@@ -96,7 +95,7 @@ module _ (So : ReplicaState → Type 0) (row : (s : ReplicaState) (x : Signal) �
     where
       pub rows_so : (log : List HostStep) → AreRows (after start (ldm_of start member) log).parts
       rows_so [] =
-          subst (λ (s : hosts.Host). AreRows s.parts) (sym (ldm_started start member there))
+          subst (λ (s : hosts.HostBody). AreRows s.parts) (sym (ldm_started start member there))
           (record { part = _; is = refl; so = first })
       rows_so (e ∷ log) =
           step_so e.step.taken (ldm_of start member) (after start (ldm_of start member) log) (rows_so log)
@@ -119,7 +118,7 @@ put_placed s (r ∷ rows) epoch apart none =
 
 pub first_well : (start : Start) (member : Member) → IsWell (first_rows start member).lqh
 first_well start member = record {
-  placed = put_placed no_rows (own_rows start.shape member.node start.rows) (epoch_before start.epoch) tt refl;
+  placed = put_placed no_rows (own_rows start.shape member.node start.rows) start.start_epoch tt refl;
   orderly = empty_orderly;
 }
 

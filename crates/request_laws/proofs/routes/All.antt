@@ -7,7 +7,7 @@ use Rattle.run_theory.specs.Links.{sent}
 use Rattle.sig_core.specs.declared.member.Member.{Member}
 use Rattle.sig_core.specs.declared.signal.Body.{Body}
 use Rattle.sig_core.specs.declared.view.View.{View}
-use Rattle.node_views.specs.declared.host.Host as hosts
+use Rattle.node_views.specs.declared.host_body.HostBody as hosts
 use Rattle.world_core.specs.Start.{Start, made}
 use Rattle.world_core.specs.Steps.{HostStep}
 use Rattle.world_views.specs.Machine.{step_after}
@@ -39,7 +39,7 @@ use Rattle.request_laws.proofs.routes.Idle.{none_first}
 module _ (start : Start) where
   none_wait : (member : Member) → IsIn member (made start) → (rows_after start member []).lqh.waiting ≡ []
   none_wait member there =
-      ap (λ (s : hosts.Host). (rows_in (no_replica start member) s.parts).lqh.waiting) (ldm_started start member there)
+      ap (λ (s : hosts.HostBody). (rows_in (no_replica start member) s.parts).lqh.waiting) (ldm_started start member there)
 
   routed_first : AllRouted start (λ h. [])
   routed_first = record {

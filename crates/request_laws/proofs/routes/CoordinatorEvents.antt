@@ -49,7 +49,6 @@ use Rattle.request_laws.specs.Phases.{CoordinatorStands}
 use Rattle.request_laws.specs.Routed.{IsGivenUp, IsRoutedSignal, WasAskedIn, WasDrivenIn, layout_in}
 use Rattle.request_laws.specs.Routes.{CoordinatorHasRoutes, IsRouted, IsSentRouted}
 use Rattle.request_laws.specs.Ways.{is_sent}
-use Rattle.request_laws.proofs.routes.UnansweredPhases.{answered_installed}
 use Rattle.request_laws.proofs.routes.OwnSends.{IsOfMember, IsUnsent, sends_of_member}
 use Rattle.request_laws.proofs.routes.BesideRows.{AreAside, all_aside_routed, epochs_aside, epochs_install_aside}
 use Rattle.request_laws.proofs.routes.BesideRows.{is_of_rows}
@@ -70,6 +69,11 @@ use Rattle.request_laws.proofs.routes.Turns.{Grows, IsGiven, was_so}
 use Rattle.request_laws.proofs.routes.Unsent.{asked_of, driven_of, nobody_of, sent_behind, unsent_of}
 use Rattle.request_laws.proofs.routes.PartsOfTheFirst.{chains_in, was_in}
 use Rattle.request_laws.proofs.strays.Numbers.{have_the_number}
+
+-- one all of whose transactions are answered stays so where a view is installed
+answered_installed : (s : CoordinatorState) (view : View) → AreAnswered s → AreAnswered (install_row s view).state
+unfolding install_row
+answered_installed s view all = all
 
 module _ (start : Start) (all : ℕ → List HostStep) (e : HostStep) (es : List HostStep)
     (moment : IsMoment start all (e ∷ es)) (member : Member) (there : IsIn member (made start))

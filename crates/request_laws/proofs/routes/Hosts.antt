@@ -12,7 +12,7 @@ use Rattle.sig_core.specs.declared.signal.Signal.{Signal}
 use Rattle.sig_core.specs.declared.view.View.{View}
 use Rattle.sig_core.specs.Step.{Effects, Step}
 use Rattle.node_views.specs.Blocks.{parts_entered, parts_row}
-use Rattle.node_views.specs.declared.host.Host as hosts
+use Rattle.node_views.specs.declared.host_body.HostBody as hosts
 use Rattle.node_views.specs.declared.main_part.MainPart.{MainPart}
 use Rattle.node_views.specs.declared.parts.Parts.{Parts}
 use Rattle.node_views.specs.declared.parts.Parts.TheVariants.{Shell, Main, Tc, Ldm}
@@ -112,7 +112,7 @@ entered_beside (Main p) view beside = (tt, membership_installs_aside p.qmgr view
 entered_beside (Tc p) view beside = absurd beside
 entered_beside (Ldm p) view beside = absurd beside
 
-given_beside : (h : ℕ) (t : Step hosts.Host) → IsBeside t.state.parts → IsBeside (told h t).parts
+given_beside : (h : ℕ) (t : Step hosts.HostBody) → IsBeside t.state.parts → IsBeside (told h t).parts
 given_beside zero t beside = by t.state.parts beside
   where
     by : (parts : Parts) → IsBeside parts → IsBeside (giving parts [])

@@ -19,7 +19,7 @@ use Rattle.tc_block.proofs.LiveSplit.{Live}
 use Rattle.tc_views.specs.Coordinator.{fresh_coordinator}
 use Rattle.tc_views.specs.Laws.{AreOnce}
 use Rattle.tc_views.specs.State.{CoordinatorState}
-use Rattle.node_views.specs.declared.host.Host as hosts
+use Rattle.node_views.specs.declared.host_body.HostBody as hosts
 use Rattle.world_core.specs.Start.{Start, made}
 use Rattle.world_core.specs.Steps.{HostStep}
 use Rattle.moment_laws.specs.Places.{tc_of}
@@ -53,7 +53,7 @@ module _ (start : Start) (member : Member) (there : IsIn member (made start)) wh
   pub none_first : (coordinator_after start member []).tc.live ≡ []
   none_first =
       ap
-      (λ (s : hosts.Host).
+      (λ (s : hosts.HostBody).
       (coordinator_in (fresh_coordinator member.node member.start (first_layout start.shape)) s.parts).tc.live)
       (tc_started start member there)
 

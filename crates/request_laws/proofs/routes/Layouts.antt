@@ -31,7 +31,7 @@ use Rattle.lqh_block.specs.State.{LqhState}
 use Rattle.lqh_block.proofs.LqhForms.{lqh_forms}
 use Rattle.lqh_views.specs.Replica.{is_stale, replica_by, replica_row, serve_if}
 use Rattle.lqh_views.specs.State.{ReplicaState}
-use Rattle.node_views.specs.declared.host.Host as hosts
+use Rattle.node_views.specs.declared.host_body.HostBody as hosts
 use Rattle.node_views.specs.declared.ldm_part.LdmPart.{LdmPart}
 use Rattle.node_views.specs.declared.parts.Parts.{Parts}
 use Rattle.node_views.specs.declared.parts.Parts.TheVariants as part
@@ -238,12 +238,12 @@ module _ (start : Start) where
       subst (AreLaid (laid stood)) (sym same) (ldm_rows between (laid stood) x own x.to.block)
 
   -- a host that runs a coordinating part, and one that runs rows
-  pub record RunsTc (s : hosts.Host) : Type 0 where
+  pub record RunsTc (s : hosts.HostBody) : Type 0 where
     pub own : TcPart
     pub runs : s.parts ≡ part.Tc own
     pub laid : IsLaid (layout_in start s.standing.view) own
 
-  pub record RunsLdm (s : hosts.Host) : Type 0 where
+  pub record RunsLdm (s : hosts.HostBody) : Type 0 where
     pub own : LdmPart
     pub runs : s.parts ≡ part.Ldm own
     pub laid : AreLaid (layout_in start s.standing.view) own

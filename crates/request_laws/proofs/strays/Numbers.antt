@@ -6,7 +6,7 @@ use Rattle.sig_core.specs.declared.place.Part.TheVariants.{Tc}
 use Rattle.sig_core.specs.declared.view.View.{View}
 use Rattle.frag_map.specs.Layout.{first_layout}
 use Rattle.node_views.specs.Blocks.{fence_at}
-use Rattle.node_views.specs.declared.host.Host as hosts
+use Rattle.node_views.specs.declared.host_body.HostBody as hosts
 use Rattle.node_views.specs.declared.parts.Parts.{Parts}
 use Rattle.node_views.specs.declared.parts.Parts.TheVariants as part
 use Rattle.run_theory.specs.Lists.{IsIn}
@@ -28,7 +28,7 @@ use Rattle.request_laws.proofs.strays.AlongHosts.{Stands, StandsIn, step_stands}
 pub begins_standing : (Asked : View → Type 0) (start : Start) (me : Member) → IsIn me (made start)
     → StandsIn Asked (started start (tc_of start me)).standing.view (started start (tc_of start me)).parts
 begins_standing Asked start me there =
-    subst (λ (s : hosts.Host). StandsIn Asked s.standing.view s.parts) (sym (tc_started start me there))
+    subst (λ (s : hosts.HostBody). StandsIn Asked s.standing.view s.parts) (sym (tc_started start me there))
     (record { number_is = refl; fenced = λ high. absurd (omega (arith, high)) })
 
 -- the coordinator of parts that have one

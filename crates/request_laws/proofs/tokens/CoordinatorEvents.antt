@@ -29,7 +29,7 @@ use Rattle.dih_node.specs.Dih.{dih_row}
 use Rattle.dih_node.specs.Orders as dih
 use Rattle.dih_node.specs.State.{DihState, go_on_if}
 use Rattle.takeover_block.specs.Takeover.{takeover_row}
-use Rattle.node_views.specs.declared.host.Host as hosts
+use Rattle.node_views.specs.declared.host_body.HostBody as hosts
 use Rattle.node_views.specs.declared.parts.Parts.TheVariants.{Tc}
 use Rattle.node_views.specs.declared.tc_part.TcPart.{TcPart}
 use Rattle.node_views.specs.Parts.{tc_entered, tc_row}
@@ -264,7 +264,7 @@ module _ (start : Start) (member : Member) (there : IsIn member (made start)) (t
         state_told : (q : TcPart) → (step_after start h log e).state.parts ≡ Tc q
             → (after start h (e ∷ log)).parts ≡ Tc q
         state_told q is =
-            ap (λ (s : hosts.Host). s.parts) (told_some h (part_some start kind.Tc member) (step_after start h log e))
+            ap (λ (s : hosts.HostBody). s.parts) (told_some h (part_some start kind.Tc member) (step_after start h log e))
             ∙ is
 
         -- what no other step than this tells

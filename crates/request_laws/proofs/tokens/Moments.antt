@@ -17,7 +17,7 @@ use Rattle.sig_core.specs.declared.signal.chain.ChainSignal.TheVariants.{LqhKeyR
 use Rattle.sig_core.specs.declared.view.View.{View}
 use Rattle.frag_map.specs.Replicas.{first_start}
 use Rattle.tc_block.specs.Phases.{is_aborting}
-use Rattle.node_views.specs.declared.host.Host as node
+use Rattle.node_views.specs.declared.host_body.HostBody as node
 use Rattle.world_core.specs.Hosts.{hosts}
 use Rattle.world_core.specs.Start.{Start, made}
 use Rattle.world_core.specs.Steps.{Addressed, HostStep}
@@ -284,7 +284,7 @@ module _ (start : Start) (all : ℕ → List HostStep) (e : HostStep) (es : List
       beside_rows : IsBeside (started start e.host).parts → (one : Member) → IsIn one (made start)
           → e.host ≢ ldm_of start one
       beside_rows beside one among same =
-          subst (λ (host : node.Host). IsBeside host.parts) (ldm_started start one among)
+          subst (λ (host : node.HostBody). IsBeside host.parts) (ldm_started start one among)
           (subst (λ h. IsBeside (started start h).parts) same beside)
 
       -- where it sends none of them
@@ -368,7 +368,7 @@ module _ (start : Start) (tx : TxId) (number : ℕ) where
     where
       rows : count_waiting tx (rows_after start me []) ≡ 0
       rows =
-          ap (λ (host : node.Host). count_waiting tx (rows_in (no_replica start me) host.parts))
+          ap (λ (host : node.HostBody). count_waiting tx (rows_in (no_replica start me) host.parts))
           (ldm_started start me there)
 
       by : (b : Bool) → (if b then count_waiting tx (rows_after start me []) else 0) ≡ 0

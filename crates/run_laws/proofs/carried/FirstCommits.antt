@@ -61,7 +61,8 @@ use Rattle.run_laws.proofs.routes.Routes.{signals_are_routed}
 use Rattle.run_laws.proofs.circle.SettledAlong.{settled_along}
 use Rattle.run_laws.proofs.fades.Steps.{StepFades, marks_at}
 use Rattle.run_laws.proofs.hosts.TcSaid.{tc_silent, tc_speaks}
-use Rattle.run_laws.proofs.fades.Signals.{cover, is_part, is_sign, part_tells, part_weight, request_part, sign_part, weight}
+use Rattle.run_laws.proofs.fades.Signals.{cover, is_part, is_sign, part_tells, part_weight, request_part, sign_part}
+use Rattle.run_laws.proofs.fades.Signals.{weight}
 use Rattle.run_laws.proofs.hosts.TcOwn.{AreSilent}
 use Rattle.tc_block.proofs.TurnRows.{turn_for}
 use Rattle.host_laws.proofs.coordinator.Steps.{left_of_turn}

@@ -1,5 +1,6 @@
 -- A transaction that is carried out stays so in each step of a run.
-use Rattle.std.proofs.Common.{◌≡◌, ◌≢◌, ◌⊎◌, ◌≤◌, ◌<◌, ◌+◌, ◌-◌, ℕ, Bool, true, false, length, List, ◌∷◌, refl, sym, ap, ◌∙◌, subst, arith, inl, inr}
+use Rattle.std.proofs.Common.{◌≡◌, ◌≢◌, ◌⊎◌, ◌≤◌, ◌<◌, ◌+◌, ◌-◌, ℕ, Bool, true, false, length, List, ◌∷◌, refl, sym, ap}
+use Rattle.std.proofs.Common.{◌∙◌, subst, arith, inl, inr}
 use Rattle.std.specs.Prelude.{◌==◌, ◌&&◌, Option, None, Some}
 use Rattle.std.proofs.lemmas.Bool.{cases_eq, cases_lt, eqb-true}
 use Rattle.std.proofs.lemmas.Bool.Decides.{nat_tests}
@@ -48,11 +49,13 @@ use Rattle.run_laws.specs.Routes.{IsCommitRouted, IsForBlock, IsNodeFor, IsOnWay
 use Rattle.run_laws.specs.Tokens.{tokens}
 use Rattle.run_laws.specs.Transit.{Comes, Takes, joined, logs_of}
 use Rattle.run_laws.proofs.routes.Addressed.{rows_addressed, tc_addressed}
-use Rattle.run_laws.proofs.carried.Out.{IsAhead, IsCarried, IsDone, IsLiveAhead, IsSpread, IsUpTo, TellsOf, committed_stays, tells_stay, tells_too}
+use Rattle.run_laws.proofs.carried.Out.{IsAhead, IsCarried, IsDone, IsLiveAhead, IsSpread, IsUpTo, TellsOf}
+use Rattle.run_laws.proofs.carried.Out.{committed_stays, tells_stay, tells_too}
 use Rattle.run_laws.proofs.carried.Turn.{TurnLeaves, ahead_stays, parts_tell, silent_parts, silent_stays, turn_leaves}
 use Rattle.run_laws.proofs.ways.GivenUp.{aborts_are_of_given_up, none_is_both}
 use Rattle.run_laws.proofs.hosts.HomeSteps.{IsHome, all_home, away, here_now, here_was, own_home, live_leaves}
-use Rattle.run_laws.proofs.hosts.TxSteps.{IsMissed, TxStep, aside, aside_cover, away_cover, begins, next_number, number_rises, rows, rows_cover, turns, tx_step}
+use Rattle.run_laws.proofs.hosts.TxSteps.{IsMissed, TxStep, aside, aside_cover, away_cover, begins, next_number}
+use Rattle.run_laws.proofs.hosts.TxSteps.{number_rises, rows, rows_cover, turns, tx_step}
 use Rattle.run_laws.proofs.hosts.LiveOf.{of_each}
 use Rattle.run_laws.proofs.fades.RowsPass.{IsLast, lqh_covers, lqh_tells, lqh_weighs}
 use Rattle.run_laws.proofs.routes.Events.{coming_are_routed, commits_end_at_primary}
@@ -61,7 +64,8 @@ use Rattle.run_laws.proofs.fades.Steps.{EndsAtPrimary, NoAbort, StepFades, step_
 use Rattle.run_laws.proofs.fades.Signals.{cover, part_tells, request_part, weight}
 use Rattle.run_laws.proofs.hosts.TcOwn.{AreSilent}
 use Rattle.tc_block.proofs.TurnRows.{turn_for}
-use Rattle.run_laws.proofs.transit.Weighing.{each_between, each_joins, each_taken, in_sends, in_transit, joins_weigh, takes_weigh}
+use Rattle.run_laws.proofs.transit.Weighing.{each_between, each_joins, each_taken, in_sends, in_transit, joins_weigh}
+use Rattle.run_laws.proofs.transit.Weighing.{takes_weigh}
 
 module _ (start : Start) (es : List HostStep) (e : HostStep) (come : Comes start es e) where
   -- a commit that comes is at the place of its chain that it is for, and that host runs rows

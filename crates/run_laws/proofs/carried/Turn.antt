@@ -40,7 +40,8 @@ use Rattle.run_laws.proofs.carried.Out.{at_all, committed_stays, done_stays}
 use Rattle.run_laws.proofs.hosts.TxSteps.{aside_cover}
 use Rattle.run_laws.proofs.fades.PartSends.{commits_tell, completions_tell, length_middle, part_covers, part_weighs}
 use Rattle.run_laws.proofs.fades.Steps.{StepFades}
-use Rattle.run_laws.proofs.fades.Signals.{cover, cover_weight, covers, is_next, is_part, is_sign, part_cover, part_tells}
+use Rattle.run_laws.proofs.fades.Signals.{cover, cover_weight, covers, is_next, is_part, is_sign, part_cover}
+use Rattle.run_laws.proofs.fades.Signals.{part_tells}
 use Rattle.run_laws.proofs.fades.Signals.{part_weight, request_part, sign_part, weight}
 use Rattle.run_laws.proofs.hosts.TcOwn.{AreSilent}
 use Rattle.tc_block.proofs.TurnRows.{turn_for}

@@ -1,5 +1,6 @@
 -- Along every run: a transaction is decided behind its beginning, and reported behind its decision.
-use Rattle.std.proofs.Common.{◌≡◌, ◌≢◌, ◌≤◌, ℕ, ◌+◌, Bool, true, false, List, [], ◌∷◌, refl, sym, ap, ◌∙◌, subst, inl, arith, true≢false}
+use Rattle.std.proofs.Common.{◌≡◌, ◌≢◌, ◌≤◌, ℕ, ◌+◌, Bool, true, false, List, [], ◌∷◌, refl, sym, ap, ◌∙◌, subst, inl}
+use Rattle.std.proofs.Common.{arith, true≢false}
 use Rattle.std.specs.List.{list_any}
 use Rattle.std.specs.Prelude.{Option, None, Some}
 use Rattle.run_theory.proofs.EventCases.{event_cases, event_each}
@@ -24,7 +25,8 @@ use Rattle.node_core.specs.Blocks.{api_of, has_api, tc_of}
 use Rattle.node_core.specs.Requests.{is_request}
 use Rattle.world_core.specs.History.{is_reported}
 use Rattle.world_core.specs.Hosts.{first_membership, home, host_for, hosts, started, tc_host}
-use Rattle.world_core.specs.Machine.{addressed, after, all_addressed, counted, last_stamp, machine, sent_count, signals_of, step_after}
+use Rattle.world_core.specs.Machine.{addressed, after, all_addressed, counted, last_stamp, machine, sent_count}
+use Rattle.world_core.specs.Machine.{signals_of, step_after}
 use Rattle.world_core.specs.Start.{Start}
 use Rattle.world_core.proofs.HostNumbers.{addressed_at, api_found, api_runs}
 use Rattle.world_core.proofs.SentFacts.{last_is}
@@ -38,7 +40,9 @@ use Rattle.host_laws.proofs.hosts.HostGoes.{HostGoes, HostKnows, HostSays, host_
 use Rattle.host_laws.proofs.hosts.StartedHosts.{node_at, none_live, none_opened, one_part, tc_home}
 use Rattle.tc_block.proofs.LiveSplit.{KeysOnce}
 use Rattle.host_laws.proofs.coordinator.Numbers.{IsLive, IsNumbered, Tells, begun_by, put_kinds, verified_by}
-use Rattle.run_laws.proofs.causes.Facts.{BeginsRightly, CommitsRightly, DecidesRightly, ReportsRightly, Says, SignalSays, decided_more, decision_of, report_of, request_other, says_more, told_more}
+use Rattle.run_laws.proofs.causes.Facts.{BeginsRightly, CommitsRightly, DecidesRightly, ReportsRightly, Says}
+use Rattle.run_laws.proofs.causes.Facts.{SignalSays, decided_more, decision_of, report_of, request_other, says_more}
+use Rattle.run_laws.proofs.causes.Facts.{told_more}
 
 knows_more : (node : ℕ) (T D T' D' : TxId → Type 0) (s : Host) (bs vs : List TxId) → ((tx : TxId) → T tx → T' tx)
     → ((tx : TxId) → D tx → D' tx)

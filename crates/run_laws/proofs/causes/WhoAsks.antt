@@ -1,5 +1,6 @@
 -- What asks for an epoch is of a transaction that waits for it with these operations, unless it is given up.
-use Rattle.std.proofs.Common.{◌≡◌, ◌≢◌, ◌⊎◌, ℕ, ◌+◌, ◌≤◌, List, [], ◌∷◌, Bool, true, false, refl, sym, ap, ◌∙◌, subst, inl, inr, arith}
+use Rattle.std.proofs.Common.{◌≡◌, ◌≢◌, ◌⊎◌, ℕ, ◌+◌, ◌≤◌, List, [], ◌∷◌, Bool, true, false, refl, sym, ap, ◌∙◌, subst}
+use Rattle.std.proofs.Common.{inl, inr, arith}
 use Rattle.std.proofs.lemmas.Bool.{cases_eq}
 use Rattle.std.specs.List.{list_any}
 use Rattle.std.specs.Prelude.{Option, None, Some}
@@ -39,7 +40,8 @@ use Rattle.run_laws.specs.Live.{live_at, of_host}
 use Rattle.run_laws.specs.Transit.{AreInTransit, Comes, IsRun, Takes, joined, logs_of}
 use Rattle.run_laws.proofs.causes.Hosts as asks
 use Rattle.run_laws.proofs.causes.Hosts.{HostAsks, Leaves, OpsOf, host_asks, none_ops, zero_ops}
-use Rattle.run_laws.proofs.hosts.HomeSteps.{IsHome, IsUnborn, all_home, here_now, here_was, own_home, live_leaves, unborn_leaves}
+use Rattle.run_laws.proofs.hosts.HomeSteps.{IsHome, IsUnborn, all_home, here_now, here_was, own_home, live_leaves}
+use Rattle.run_laws.proofs.hosts.HomeSteps.{unborn_leaves}
 use Rattle.host_laws.proofs.coordinator.Steps.{live_none, left_of_turn}
 use Rattle.host_laws.specs.Live.{of_live}
 use Rattle.run_laws.proofs.hosts.LiveAfter.{strange_none, unborn_none}
@@ -49,7 +51,8 @@ use Rattle.run_laws.proofs.tokens.Coordinator.{now_given_up}
 use Rattle.run_laws.proofs.tokens.Turns.{gives_up}
 use Rattle.run_laws.proofs.transit.Transit.{along_transit}
 use Rattle.run_laws.proofs.ways.Ways.{given_more}
-use Rattle.run_laws.proofs.transit.Weighing.{each_between, each_joins, in_sends, in_transit, joins_weigh, none_weighs, takes_weigh, weigh}
+use Rattle.run_laws.proofs.transit.Weighing.{each_between, each_joins, in_sends, in_transit, joins_weigh, none_weighs}
+use Rattle.run_laws.proofs.transit.Weighing.{takes_weigh, weigh}
 
 verifying_is : (phase : Phase) → is_verifying phase ≡ true → phase ≡ Verifying
 verifying_is Verifying is = refl

@@ -1,5 +1,6 @@
 -- A transaction that goes on, of one key, where its coordinator takes a step.
-use Rattle.std.proofs.Common.{◌≡◌, ◌⊎◌, ◌&&◌, ◌++◌, ℕ, Bool, true, false, List, [], ◌∷◌, refl, sym, ap, ◌∙◌, subst, inl, inr}
+use Rattle.std.proofs.Common.{◌≡◌, ◌⊎◌, ◌&&◌, ◌++◌, ℕ, Bool, true, false, List, [], ◌∷◌, refl, sym, ap, ◌∙◌, subst, inl}
+use Rattle.std.proofs.Common.{inr}
 use Rattle.std.proofs.lemmas.Bool.{and_parts}
 use Rattle.std.specs.Prelude.{if◌then◌else◌, Option, None, Some}
 use Rattle.run_theory.specs.Lists.{Each}
@@ -37,7 +38,8 @@ use Rattle.run_laws.proofs.circle.Kept.{IsGoing, SignalTells, cleared_going, res
 use Rattle.run_laws.proofs.circle.Circle.{IsPristine, pristine_as, pristine_settles}
 use Rattle.run_laws.proofs.circle.View.{IsAnswered, IsAsked, Settles, Tells, View, settles_as, settles_other}
 use Rattle.run_laws.proofs.circle.KeyMoves.{IsLike, host_of, view_before, view_now}
-use Rattle.run_laws.proofs.tokens.Signals.{Token, answers, home_is, is_home, performs, put, put_if, refuses, some_if, token_of, tokens_of}
+use Rattle.run_laws.proofs.tokens.Signals.{Token, answers, home_is, is_home, performs, put, put_if, refuses, some_if}
+use Rattle.run_laws.proofs.tokens.Signals.{token_of, tokens_of}
 use Rattle.run_laws.proofs.tokens.OnlyToken.{NoTokens, none_asked}
 use Rattle.run_laws.proofs.circle.Turns.{Going, IsDeaf, is_early, notes, operates, rests, verifies}
 use Rattle.run_laws.proofs.transit.Lists.{Told, joined_old, none_out, sent_none, takes_more, uncounted}

@@ -19,7 +19,8 @@ use Rattle.run_laws.specs.Transit.{Takes, joined}
 use Rattle.run_laws.proofs.circle.View.{IsAs, Settles, Tells, View, settles_as, tells_as}
 use Rattle.run_laws.proofs.circle.KeyMoves.{IsLike}
 use Rattle.run_laws.proofs.tokens.Signals.{Token, performs, token_of, tokens_of}
-use Rattle.run_laws.proofs.transit.Lists.{Told, sent_each, joined_new, joined_old, none_sent, takes_more, told_sends, uncounted}
+use Rattle.run_laws.proofs.transit.Lists.{Told, sent_each, joined_new, joined_old, none_sent, takes_more, told_sends}
+use Rattle.run_laws.proofs.transit.Lists.{uncounted}
 use Rattle.run_laws.proofs.transit.Weighing.{headed_each, joined_each, each_taken, each_between}
 
 module _ (start : Start) (tx : TxId) (key : List ℕ) where

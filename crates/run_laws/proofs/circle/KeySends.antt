@@ -54,7 +54,8 @@ use Rattle.key_laws.proofs.KeyAfter.{first_here}
 use Rattle.sig_core.proofs.Keys.{same_key-self}
 use Rattle.key_laws.proofs.PerformedAt.{seen-cell}
 use Rattle.run_laws.proofs.tokens.Signals.{Token, answers, asked_tokens, event_tokens, expired_tokens, is_home}
-use Rattle.run_laws.proofs.tokens.Signals.{operated_token, passed_token, performed_token, performs, put, put_home, put_if}
+use Rattle.run_laws.proofs.tokens.Signals.{operated_token, passed_token, performed_token, performs, put, put_home}
+use Rattle.run_laws.proofs.tokens.Signals.{put_if}
 use Rattle.run_laws.proofs.tokens.Signals.{refuses, served_tokens, stored_token, tokens-append, tokens_of, work_token}
 
 -- the signal isn't an abort of the transaction

@@ -1,5 +1,6 @@
 -- A transaction that goes on, of one key, where its key takes a step at a replica.
-use Rattle.std.proofs.Common.{◌≡◌, ◌⊎◌, ◌≢◌, ◌≤◌, ℕ, Bool, true, false, cond, filter, List, [], ◌∷◌, refl, sym, ap, ◌∙◌, subst, inl, inr}
+use Rattle.std.proofs.Common.{◌≡◌, ◌⊎◌, ◌≢◌, ◌≤◌, ℕ, Bool, true, false, cond, filter, List, [], ◌∷◌, refl, sym, ap, ◌∙◌}
+use Rattle.std.proofs.Common.{subst, inl, inr}
 use Rattle.std.proofs.lemmas.Bool.{cases_eq}
 use Rattle.std.specs.Prelude.{if◌then◌else◌, Option, None, Some}
 use Rattle.run_theory.specs.Lists.{Each}
@@ -26,7 +27,8 @@ use Rattle.world_core.specs.Start.{Start}
 use Rattle.sig_core.specs.Firsts.{first}
 use Rattle.key_laws.specs.PrimaryEvents.{ended_after, made_after, made_by, made_if, made_served}
 use Rattle.key_laws.specs.Records.{found}
-use Rattle.key_laws.specs.Replica.{Event, Replica, ages, asked_by, asks, expires, is_by, is_let_in, key_after, rests, served_by, serves, worked}
+use Rattle.key_laws.specs.Replica.{Event, Replica, ages, asked_by, asks, expires, is_by, is_let_in, key_after, rests}
+use Rattle.key_laws.specs.Replica.{served_by, serves, worked}
 use Rattle.key_laws.specs.Replica as replica
 use Rattle.sig_core.proofs.Keys.{same_tx-self}
 use Rattle.run_laws.specs.Circle.{at_primary}
@@ -36,8 +38,11 @@ use Rattle.run_laws.specs.Tokens.{is_token}
 use Rattle.run_laws.specs.Transit.{AreInTransit, Comes, Takes, joined, logs_of}
 use Rattle.run_laws.proofs.circle.Kept.{IsGoing, SignalTells, queued_going, rests_going, sent_going}
 use Rattle.run_laws.proofs.circle.View.{IsAs, IsAskedHere, Tells, settles_as}
-use Rattle.run_laws.proofs.circle.KeyMoves.{answered_here, before_here, event_here, ended_same, expired_as, host_of, key_here, key_other, made_here, made_other, others_like, view_as, view_before, view_now, waits_other}
-use Rattle.run_laws.proofs.tokens.Signals.{Token, asked_tokens, event_tokens, if_by, performed_token, performs, refuses, served_tokens, token_of, tokens_of, work_token}
+use Rattle.run_laws.proofs.circle.KeyMoves.{answered_here, before_here, event_here, ended_same, expired_as, host_of}
+use Rattle.run_laws.proofs.circle.KeyMoves.{key_here, key_other, made_here, made_other, others_like, view_as}
+use Rattle.run_laws.proofs.circle.KeyMoves.{view_before, view_now, waits_other}
+use Rattle.run_laws.proofs.tokens.Signals.{Token, asked_tokens, event_tokens, if_by, performed_token, performs, refuses}
+use Rattle.run_laws.proofs.tokens.Signals.{served_tokens, token_of, tokens_of, work_token}
 use Rattle.run_laws.proofs.tokens.OnlyToken.{IsOnly, one_sent}
 use Rattle.run_laws.proofs.circle.OthersStay.{event_of, filter-end, is_of, of_first, waits_of}
 use Rattle.run_laws.proofs.tokens.Performing.{IsPerformed, performed_tells}

@@ -18,9 +18,11 @@ use Rattle.lqh_block.specs.declared.request.Request.{Request}
 use Rattle.lqh_block.specs.Work.{work_mode}
 use Rattle.sig_core.specs.Firsts.{drop_first, first}
 use Rattle.key_laws.specs.Primary.{noted}
-use Rattle.key_laws.specs.PrimaryEvents.{AtPrimary, ended_after, made_after, made_by, made_if, made_served, noted_unless}
+use Rattle.key_laws.specs.PrimaryEvents.{AtPrimary, ended_after, made_after, made_by, made_if, made_served}
+use Rattle.key_laws.specs.PrimaryEvents.{noted_unless}
 use Rattle.key_laws.specs.Records.{as_committed, found, if_committed, seen_by, unless_committed}
-use Rattle.key_laws.specs.Replica.{Cell, Event, Replica, aborts, ages, asked_by, asks, commits, completes, expires, is_by, is_let_in, key_after, operated, rests, served_by, serves, storing, worked}
+use Rattle.key_laws.specs.Replica.{Cell, Event, Replica, aborts, ages, asked_by, asks, commits, completes, expires}
+use Rattle.key_laws.specs.Replica.{is_by, is_let_in, key_after, operated, rests, served_by, serves, storing, worked}
 use Rattle.sig_core.proofs.Firsts.{filter-drop_other}
 use Rattle.key_laws.proofs.RecordLemmas.{committed_keeps, found-edited, found-stored, if_keeps, unless_keeps}
 

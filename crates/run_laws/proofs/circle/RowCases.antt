@@ -5,7 +5,8 @@ use Rattle.sig_core.specs.declared.member.Member.{Member}
 use Rattle.sig_core.specs.declared.member.TxId.{TxId}
 use Rattle.sig_core.specs.declared.signal.Body.{Body}
 use Rattle.sig_core.specs.declared.signal.Body.TheVariants.{Host, Chain}
-use Rattle.sig_core.specs.declared.signal.chain.ChainSignal.TheVariants.{LqhKeyReq, LqhKeyConf, LqhKeyRef, Commit, Complete, Abort}
+use Rattle.sig_core.specs.declared.signal.chain.ChainSignal.TheVariants.{LqhKeyReq, LqhKeyConf, LqhKeyRef, Commit}
+use Rattle.sig_core.specs.declared.signal.chain.ChainSignal.TheVariants.{Complete, Abort}
 use Rattle.sig_core.specs.declared.signal.host.HostSignal.TheVariants.{Round, Continue}
 use Rattle.sig_core.specs.declared.signal.host.Work.TheVariants as work
 use Rattle.sig_core.specs.Place.{rows_of}
@@ -19,7 +20,8 @@ use Rattle.lqh_block.specs.Operate.{is_granted}
 use Rattle.lqh_block.specs.State.{LqhState, storage_of}
 use Rattle.sig_core.specs.Work.{work_key}
 use Rattle.sig_core.specs.Firsts.{first}
-use Rattle.key_laws.specs.Replica.{Event, Replica, aborts, ages, asks, at_key, commits, completes, event_at, expired_by, expires, expires_if, if_on, is_let_in, is_refused, rests, serves, serves_if}
+use Rattle.key_laws.specs.Replica.{Event, Replica, aborts, ages, asks, at_key, commits, completes, event_at, expired_by}
+use Rattle.key_laws.specs.Replica.{expires, expires_if, if_on, is_let_in, is_refused, rests, serves, serves_if}
 use Rattle.run_laws.proofs.tokens.Signals.{performs, token_of}
 use Rattle.run_laws.proofs.circle.OthersStay.{event_of, is_of, of_first}
 

@@ -8,7 +8,8 @@ use Rattle.node_core.specs.Blocks.{has_lqh, lqh_of}
 use Rattle.node_core.specs.declared.host.Host.{Host}
 use Rattle.node_core.specs.declared.host.Host.TheVariants.{Ldm}
 use Rattle.node_core.specs.Row.{row}
-use Rattle.node_core.proofs.HostCases.{BlockCase, IsRowsStep, api_takes, block_case, dih_takes, none_takes, rows_take, runs, tc_takes}
+use Rattle.node_core.proofs.HostCases.{BlockCase, IsRowsStep, api_takes, block_case, dih_takes, none_takes, rows_take}
+use Rattle.node_core.proofs.HostCases.{runs, tc_takes}
 use Rattle.key_laws.specs.Replica.{event_at, rests}
 use Rattle.host_laws.specs.ReplicaLaws.{event_for, event_in}
 use Rattle.run_laws.proofs.tokens.Signals.{is_rows}

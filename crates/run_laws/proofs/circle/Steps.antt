@@ -1,5 +1,6 @@
 -- Each step keeps what is true of a transaction that is neither given up nor carried out, of one key.
-use Rattle.std.proofs.Common.{◌≡◌, ◌⊎◌, ◌≢◌, ◌≤◌, ℕ, Bool, true, false, cond, filter, List, [], ◌∷◌, refl, sym, ap, ◌∙◌, subst, inl, inr, arith}
+use Rattle.std.proofs.Common.{◌≡◌, ◌⊎◌, ◌≢◌, ◌≤◌, ℕ, Bool, true, false, cond, filter, List, [], ◌∷◌, refl, sym, ap, ◌∙◌}
+use Rattle.std.proofs.Common.{subst, inl, inr, arith}
 use Rattle.std.proofs.lemmas.Bool.{cases_eq}
 use Rattle.std.specs.Prelude.{Option, None, Some}
 use Rattle.run_theory.specs.Lists.{Each}
@@ -20,7 +21,8 @@ use Rattle.row_records.proofs.KeyLemmas as index
 use Rattle.lqh_block.specs.declared.request.Request.{Request}
 use Rattle.lqh_block.specs.State.{LqhState, storage_of}
 use Rattle.sig_core.specs.Work.{work_key}
-use Rattle.node_core.proofs.HostCases.{BlockCase, IsRowsStep, IsTcStep, api_takes, block_case, dih_takes, none_takes, rows_take, runs, tc_takes}
+use Rattle.node_core.proofs.HostCases.{BlockCase, IsRowsStep, IsTcStep, api_takes, block_case, dih_takes, none_takes}
+use Rattle.node_core.proofs.HostCases.{rows_take, runs, tc_takes}
 use Rattle.node_core.specs.declared.host.Host.{Host}
 use Rattle.node_core.specs.Blocks.{api_of, dih_of, lqh_of, tc_of}
 use Rattle.node_core.specs.Requests.{is_request}
@@ -33,7 +35,8 @@ use Rattle.world_core.specs.Hosts.{first_membership, home, tc_host}
 use Rattle.world_core.specs.Machine.{after, sent_count, signals_of, step_after}
 use Rattle.world_core.specs.Start.{Start}
 use Rattle.world_core.specs.Steps.{Addressed, HostStep}
-use Rattle.key_laws.specs.Replica.{Event, Replica, ages, asks_for, event_at, expires, is_by, is_let_in, is_refused, rests}
+use Rattle.key_laws.specs.Replica.{Event, Replica, ages, asks_for, event_at, expires, is_by, is_let_in, is_refused}
+use Rattle.key_laws.specs.Replica.{rests}
 use Rattle.key_laws.proofs.Waiting.{each-first_item}
 use Rattle.host_laws.proofs.hosts.BlocksAlong.{IsAtNode, at_own_node}
 use Rattle.host_laws.proofs.rows.Operations.{is_lqh}
@@ -49,14 +52,18 @@ use Rattle.run_laws.proofs.tokens.Bystanders.{IsBystander, IsForHome, IsRequest,
 use Rattle.run_laws.proofs.circle.Kept.{IsGoing, rests_going}
 use Rattle.run_laws.proofs.circle.Circle.{IsCircling, IsPristine, pristine_as}
 use Rattle.run_laws.proofs.circle.View.{View}
-use Rattle.run_laws.proofs.ways.GivenUp.{aborts_are_of_given_up, commits_are_of_carried_out, completions_are_of_carried_out}
-use Rattle.run_laws.proofs.hosts.HomeSteps.{IsHome, IsUnborn, all_home, away, away_absent, here_now, here_was, unborn_absent, live_leaves, unborn_leaves}
+use Rattle.run_laws.proofs.ways.GivenUp.{aborts_are_of_given_up, commits_are_of_carried_out}
+use Rattle.run_laws.proofs.ways.GivenUp.{completions_are_of_carried_out}
+use Rattle.run_laws.proofs.hosts.HomeSteps.{IsHome, IsUnborn, all_home, away, away_absent, here_now, here_was}
+use Rattle.run_laws.proofs.hosts.HomeSteps.{unborn_absent, live_leaves, unborn_leaves}
 use Rattle.run_laws.proofs.hosts.TxSteps.{none_of, number_rises, runs_rows}
-use Rattle.run_laws.proofs.circle.KeyMoves.{IsLike, before_here, event_here, expired_as, host_of, others_like, view_before, view_now}
+use Rattle.run_laws.proofs.circle.KeyMoves.{IsLike, before_here, event_here, expired_as, host_of, others_like}
+use Rattle.run_laws.proofs.circle.KeyMoves.{view_before, view_now}
 use Rattle.run_laws.proofs.circle.KeySends.{is_abort, lqh_tokens}
 use Rattle.run_laws.proofs.circle.KeySteps.{asked_going, each-first_by, expired_going, off_going, served_going}
 use Rattle.run_laws.proofs.tokens.Signals.{Token, event_tokens, is_rows, is_tc, performs, token_of, tokens_of}
-use Rattle.run_laws.proofs.circle.RowCases.{LqhCase, aborted, asked, committed, completed, expired_here, lqh_case, off, served}
+use Rattle.run_laws.proofs.circle.RowCases.{LqhCase, aborted, asked, committed, completed, expired_here, lqh_case, off}
+use Rattle.run_laws.proofs.circle.RowCases.{served}
 use Rattle.run_laws.proofs.tokens.OnlyToken.{NoneAtAll, none_live}
 use Rattle.run_laws.proofs.circle.OthersStay.{event_of, is_of}
 use Rattle.run_laws.proofs.routes.Events.{coming_are_routed, placed, placed_runs}

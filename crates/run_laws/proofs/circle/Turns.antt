@@ -32,7 +32,8 @@ use Rattle.host_laws.proofs.coordinator.Steps.{left_of_turn}
 use Rattle.run_laws.proofs.hosts.TxTurns.{is_for, turn_each}
 use Rattle.sig_core.specs.Step.{stay, to_place}
 use Rattle.tc_block.specs.Turn.{Turn, asking, going}
-use Rattle.tc_block.proofs.EachTurn.{AbortForms, CommittedForms, IsMissed, TurnForms, TurnFormsAt, may_ask, ready_is, rows_at}
+use Rattle.tc_block.proofs.EachTurn.{AbortForms, CommittedForms, IsMissed, TurnForms, TurnFormsAt, may_ask, ready_is}
+use Rattle.tc_block.proofs.EachTurn.{rows_at}
 
 -- it is open, or waits for its epoch
 abbrev pub is_early : Phase → Bool

@@ -22,10 +22,13 @@ use Rattle.world_core.specs.Machine.{after}
 use Rattle.world_core.specs.Start.{Start}
 use Rattle.sig_core.specs.Firsts.{first}
 use Rattle.key_laws.specs.Primary.{HasPrepared}
-use Rattle.key_laws.specs.Records.{AreOnce, as_committed, committed, edited, found, if_committed, put_back, seen_by, unless_committed}
-use Rattle.key_laws.specs.Replica.{Cell, Event, Replica, aborts, ages, asked_by, asks, commits, completes, expires, is_let_in, key_after, operated, rests, served_by, serves, storing, worked}
+use Rattle.key_laws.specs.Records.{AreOnce, as_committed, committed, edited, found, if_committed, put_back, seen_by}
+use Rattle.key_laws.specs.Records.{unless_committed}
+use Rattle.key_laws.specs.Replica.{Cell, Event, Replica, aborts, ages, asked_by, asks, commits, completes, expires}
+use Rattle.key_laws.specs.Replica.{is_let_in, key_after, operated, rests, served_by, serves, storing, worked}
 use Rattle.host_laws.specs.ReplicaLaws.{event_in, key_in}
-use Rattle.key_laws.proofs.RecordLemmas.{committed_keeps, found-edited, found-stored, if_keeps, once-edited, once-stored, unless_keeps}
+use Rattle.key_laws.proofs.RecordLemmas.{committed_keeps, found-edited, found-stored, if_keeps, once-edited}
+use Rattle.key_laws.proofs.RecordLemmas.{once-stored, unless_keeps}
 use Rattle.host_laws.proofs.rows.Replicas.{logs_follow}
 use Rattle.key_laws.proofs.Waiting.{each-first_item}
 use Rattle.run_laws.proofs.hosts.FreshHosts.{none_pending}

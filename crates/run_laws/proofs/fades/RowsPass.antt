@@ -29,7 +29,8 @@ use Rattle.host_laws.proofs.rows.Operations.{is_lqh}
 use Rattle.run_theory.specs.Counts.{one_if}
 use Rattle.host_laws.proofs.api.Wishes.{is_tc}
 use Rattle.run_laws.proofs.hosts.TcOwn.{AreSilent}
-use Rattle.run_laws.proofs.fades.Signals.{Tells, cover, is_part, is_sign, part_cover, part_tells, part_weight, sign_part}
+use Rattle.run_laws.proofs.fades.Signals.{Tells, cover, is_part, is_sign, part_cover, part_tells, part_weight}
+use Rattle.run_laws.proofs.fades.Signals.{sign_part}
 use Rattle.run_laws.proofs.fades.Signals.{weight}
 use Rattle.run_laws.proofs.transit.Weighing.{in_sends, weigh, weigh_none}
 

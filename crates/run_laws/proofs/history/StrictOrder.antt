@@ -1,5 +1,6 @@
 -- Strict order: what was reported before another was asked for stands before it.
-use Rattle.std.proofs.Common.{◌≡◌, ◌⊎◌, ◌≤◌, ◌<◌, ℕ, Bool, true, false, ◌||◌, List, [], ◌∷◌, ◌++◌, append_assoc, refl, sym, ap, ◌∙◌, subst, inl, inr, arith}
+use Rattle.std.proofs.Common.{◌≡◌, ◌⊎◌, ◌≤◌, ◌<◌, ℕ, Bool, true, false, ◌||◌, List, [], ◌∷◌, ◌++◌, append_assoc, refl}
+use Rattle.std.proofs.Common.{sym, ap, ◌∙◌, subst, inl, inr, arith}
 use Rattle.std.proofs.lemmas.Bool.{or_cases}
 use Rattle.std.specs.List.{list_any}
 use Rattle.run_theory.specs.Lists.{Each, IsIn}
@@ -39,7 +40,8 @@ use Rattle.host_laws.proofs.hosts.HostMarks.{AreMarks, decides, plain}
 use Rattle.sig_core.proofs.Keys.{same_tx-self}
 use Rattle.host_laws.proofs.hosts.PlainMarks.{ArePlain}
 use Rattle.run_laws.proofs.history.SortedEntries.{sorted_history, stands_before}
-use Rattle.run_laws.proofs.causes.Unique.{Takes, begun_of, begun_reads, one_begun, one_verified, verified_of, verified_reads}
+use Rattle.run_laws.proofs.causes.Unique.{Takes, begun_of, begun_reads, one_begun, one_verified, verified_of}
+use Rattle.run_laws.proofs.causes.Unique.{verified_reads}
 use Rattle.host_laws.proofs.coordinator.Numbers.{begun_by, verified_by}
 
 -- no request begins a transaction or asks for an epoch

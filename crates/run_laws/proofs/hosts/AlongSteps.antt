@@ -1,5 +1,6 @@
 -- Laws that each step of a host keeps, and what is known of a coordinator after a log.
-use Rattle.std.proofs.Common.{◌≡◌, ◌≢◌, ◌⊎◌, ℕ, ◌+◌, ◌≤◌, ◌<◌, List, [], ◌∷◌, ◌++◌, Bool, true, false, refl, ap, sym, ◌∙◌, subst, arith, inl, inr}
+use Rattle.std.proofs.Common.{◌≡◌, ◌≢◌, ◌⊎◌, ℕ, ◌+◌, ◌≤◌, ◌<◌, List, [], ◌∷◌, ◌++◌, Bool, true, false, refl, ap, sym}
+use Rattle.std.proofs.Common.{◌∙◌, subst, arith, inl, inr}
 use Rattle.std.specs.Prelude.{◌==◌, ◌&&◌, nat_lt, None, Some}
 use Rattle.std.proofs.lemmas.Bool.{cases_eq, cases_lt, eqb-true, false≢true}
 use Rattle.std.proofs.lemmas.Bool.Decides.{nat_tests}
@@ -28,7 +29,8 @@ use Rattle.world_core.specs.Start.{Start}
 use Rattle.world_core.specs.Steps.{Addressed, HostStep}
 use Rattle.host_laws.proofs.hosts.BlocksAlong.{IsHome, at_own_node, first_live}
 pub use Rattle.host_laws.proofs.coordinator.HostTurns.{tx_at}
-use Rattle.host_laws.proofs.coordinator.HostTurns.{HostTurn, IsAside, aside, host_turn, in_rows, starting, turning, tx_runs}
+use Rattle.host_laws.proofs.coordinator.HostTurns.{HostTurn, IsAside, aside, host_turn, in_rows, starting, turning}
+use Rattle.host_laws.proofs.coordinator.HostTurns.{tx_runs}
 use Rattle.host_laws.proofs.hosts.LinkCounts.{signals}
 use Rattle.host_laws.proofs.rows.Operations.{is_lqh, is_node, left_of, right_of}
 use Rattle.host_laws.proofs.coordinator.Lives.{IsKept, IsOwn, is_over, is_keyed, kept_move, starts_in}

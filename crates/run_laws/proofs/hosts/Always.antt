@@ -35,8 +35,10 @@ use Rattle.run_theory.specs.Counts.{one_if}
 use Rattle.host_laws.proofs.coordinator.Keys.{key_of_tx}
 use Rattle.host_laws.proofs.coordinator.Owes.{last_length, set_length}
 use Rattle.host_laws.specs.Live.{of_live}
-use Rattle.host_laws.proofs.coordinator.Turns.{GivesUp, TurnMove, abort_ends, aborted, aborts, all_completed, answers, asked_to}
-use Rattle.host_laws.proofs.coordinator.Turns.{asks, commits, committed, completed, completes, decides, ends, gives_up, goes_on}
+use Rattle.host_laws.proofs.coordinator.Turns.{GivesUp, TurnMove, abort_ends, aborted, aborts, all_completed, answers}
+use Rattle.host_laws.proofs.coordinator.Turns.{asked_to}
+use Rattle.host_laws.proofs.coordinator.Turns.{asks, commits, committed, completed, completes, decides, ends, gives_up}
+use Rattle.host_laws.proofs.coordinator.Turns.{goes_on}
 use Rattle.host_laws.proofs.coordinator.Turns.{keeps, late, refused}
 
 -- what holds of a transaction that begins, and is kept by each turn

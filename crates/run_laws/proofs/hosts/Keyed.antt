@@ -25,7 +25,8 @@ use Rattle.tc_block.proofs.LiveKeeps.{TurnsKeep, live_keeps}
 use Rattle.host_laws.proofs.hosts.BlocksAlong.{first_live}
 use Rattle.run_laws.specs.Keyed.{HasTouched, HasTouchedAsked, IsHostKeyed, IsTouchedRightly, TransactionsAreKeyed}
 use Rattle.run_laws.specs.Transit.{logs_of}
-use Rattle.run_laws.proofs.tokens.TouchedLists.{touch_apart, touch_more, touch_own, touch_written, undone_written, write_apart, write_touched, write_written}
+use Rattle.run_laws.proofs.tokens.TouchedLists.{touch_apart, touch_more, touch_own, touch_written, undone_written}
+use Rattle.run_laws.proofs.tokens.TouchedLists.{write_apart, write_touched, write_written}
 
 -- of what is sent nothing is said
 abbrev pub AnySend : Outgoing → Type 0

@@ -10,7 +10,8 @@ use Rattle.node_core.specs.declared.host.Host.TheVariants.{Tc}
 use Rattle.node_core.specs.declared.tc_part.TcPart.{TcPart}
 use Rattle.node_core.specs.Blocks.{has_tc, tc_of}
 use Rattle.node_core.specs.Row.{row}
-use Rattle.node_core.proofs.HostCases.{BlockCase, IsTcStep, api_takes, block_case, dih_takes, none_takes, rows_take, runs, tc_takes}
+use Rattle.node_core.proofs.HostCases.{BlockCase, IsTcStep, api_takes, block_case, dih_takes, none_takes, rows_take}
+use Rattle.node_core.proofs.HostCases.{runs, tc_takes}
 use Rattle.host_laws.specs.Ways.{sends_for, tc_sends}
 
 pub tc_speaks : (s : Host) (x : Signal) → has_tc s ≡ true → x.to.block ≡ block.Tc

@@ -21,7 +21,8 @@ use Rattle.tc_block.specs.Turn.{Turn}
 use Rattle.tc_block.proofs.EachTurn.{RowsAre}
 use Rattle.tc_block.proofs.LiveKeeps.{SendsBeside}
 use Rattle.tc_block.proofs.LiveSplit.{AreOthers}
-use Rattle.tc_block.proofs.TurnRows.{TcStep, begins as begins_one, is_turn, misses, passes, refuses, rests, takes, tc_step, turn_for, turn_row, turn_with, tx_in, left_step}
+use Rattle.tc_block.proofs.TurnRows.{TcStep, begins as begins_one, is_turn, misses, passes, refuses, rests, takes}
+use Rattle.tc_block.proofs.TurnRows.{tc_step, turn_for, turn_row, turn_with, tx_in, left_step}
 use Rattle.run_theory.specs.Counts.{one_if, tally}
 use Rattle.host_laws.specs.Live.{of_live}
 use Rattle.host_laws.proofs.coordinator.OfLive.{of_here, of_other}

@@ -1,5 +1,6 @@
 -- What comes to a host is for it: operations to the primary, images to the others, and commits to the primary last.
-use Rattle.std.proofs.Common.{◌≡◌, ◌≢◌, ◌⊎◌, ◌==◌, ◌<◌, ℕ, true, List, length, sym, ap, ◌∙◌, subst, arith, inl, inr, eq-eqb, ne_eqb}
+use Rattle.std.proofs.Common.{◌≡◌, ◌≢◌, ◌⊎◌, ◌==◌, ◌<◌, ℕ, true, List, length, sym, ap, ◌∙◌, subst, arith, inl, inr}
+use Rattle.std.proofs.Common.{eq-eqb, ne_eqb}
 use Rattle.std.proofs.lemmas.Bool.{cases_eq}
 use Rattle.sig_core.specs.declared.member.Member.{Member}
 use Rattle.sig_core.specs.declared.signal.chain.RowWork.{RowWork}
@@ -15,10 +16,13 @@ use Rattle.world_core.specs.Start.{Start}
 use Rattle.world_core.specs.Steps.{HostStep}
 use Rattle.key_laws.specs.BackupEvents.{IsOfImage}
 use Rattle.key_laws.specs.PrimaryEvents.{IsOfOperation}
-use Rattle.run_laws.specs.Routes.{ComingAreRouted, CommitsEndAtPrimary, IsCommitRouted, IsForBlock, IsRequestRouted, IsRouted, IsSentTo, IsWorkAt, RequestsAreForReplicas, primary_host, replica_host, replicas}
+use Rattle.run_laws.specs.Routes.{ComingAreRouted, CommitsEndAtPrimary, IsCommitRouted, IsForBlock, IsRequestRouted}
+use Rattle.run_laws.specs.Routes.{IsRouted, IsSentTo, IsWorkAt, RequestsAreForReplicas, primary_host, replica_host}
+use Rattle.run_laws.specs.Routes.{replicas}
 use Rattle.run_laws.proofs.routes.Addressed.{rows_addressed}
 use Rattle.run_laws.proofs.routes.Routes.{all_routed, took_routed}
-use Rattle.run_laws.proofs.routes.Chain.{hosts_are_apart, primary_first, primary_length, replicas_are_nodes, replicas_some}
+use Rattle.run_laws.proofs.routes.Chain.{hosts_are_apart, primary_first, primary_length, replicas_are_nodes}
+use Rattle.run_laws.proofs.routes.Chain.{replicas_some}
 use Rattle.run_laws.proofs.transit.Runs.{taking}
 
 -- two tests of numbers that pass together

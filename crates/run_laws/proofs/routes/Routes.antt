@@ -1,5 +1,6 @@
 -- What is sent along chains goes to the places that it is for, along every run.
-use Rattle.std.proofs.Common.{◌≡◌, ◌⊎◌, ◌<◌, ℕ, Bool, true, false, List, [], ◌∷◌, length, refl, sym, ap, ◌∙◌, subst, inl, inr}
+use Rattle.std.proofs.Common.{◌≡◌, ◌⊎◌, ◌<◌, ℕ, Bool, true, false, List, [], ◌∷◌, length, refl, sym, ap, ◌∙◌, subst}
+use Rattle.std.proofs.Common.{inl, inr}
 use Rattle.run_theory.specs.Lists.{Each}
 use Rattle.run_theory.proofs.Pasts.{each_map}
 use Rattle.sig_core.specs.declared.place.BlockId.TheVariants as block
@@ -28,7 +29,8 @@ use Rattle.host_laws.proofs.hosts.DihSends.{dih_kinds}
 use Rattle.host_laws.proofs.hosts.BlocksAlong.{first_live, first_waiting, tc_layout}
 use Rattle.host_laws.proofs.rows.Node.{lqh_node}
 use Rattle.host_laws.proofs.hosts.SendKinds.{each_of, is_dih_kind}
-use Rattle.run_laws.specs.Routes.{IsForBlock, IsHostRouted, IsOnWay, IsRequestRouted, IsRouted, IsTransactionRouted, SignalsAreForBlocks, SignalsAreRouted, replicas}
+use Rattle.run_laws.specs.Routes.{IsForBlock, IsHostRouted, IsOnWay, IsRequestRouted, IsRouted, IsTransactionRouted}
+use Rattle.run_laws.specs.Routes.{SignalsAreForBlocks, SignalsAreRouted, replicas}
 use Rattle.run_laws.specs.Transit.{AreInTransit, Comes, IsRun, Takes, host_after, joined, logs_of}
 use Rattle.run_laws.proofs.hosts.HostAfter.{each_host}
 use Rattle.run_laws.proofs.routes.Chain.{replicas_some}

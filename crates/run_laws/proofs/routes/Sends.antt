@@ -16,7 +16,8 @@ use Rattle.sig_core.specs.Chain.{primary_of}
 use Rattle.tc_block.specs.declared.phase.Phase.{Phase}
 use Rattle.tc_block.specs.declared.phase.Phase.TheVariants.{Open, Verifying, Committing, Completing, Aborting}
 use Rattle.tc_block.specs.declared.touched.Touched.{Touched}
-use Rattle.tc_block.specs.Sends.{abort_of, aborts_of, commit_of, complete_if, complete_of, front_sends, key_sends, phase_sends}
+use Rattle.tc_block.specs.Sends.{abort_of, aborts_of, commit_of, complete_if, complete_of, front_sends, key_sends}
+use Rattle.tc_block.specs.Sends.{phase_sends}
 use Rattle.world_core.specs.Start.{Start}
 use Rattle.run_theory.proofs.EachSent.{each_mapped}
 use Rattle.run_laws.specs.Routes.{IsForBlock, IsOnWay, IsRouted, IsTouchedRouted, replicas}

@@ -20,7 +20,8 @@ use Rattle.tc_block.specs.State.{TcState}
 use Rattle.host_laws.specs.Live.{of_live}
 use Rattle.run_laws.specs.Live.{of_host}
 use Rattle.run_laws.proofs.hosts.HomeSteps.{IsUnborn}
-use Rattle.run_laws.proofs.tokens.Signals.{Token, answers, is_home, is_rows, is_tc, performs, refuses, some_if, token_of}
+use Rattle.run_laws.proofs.tokens.Signals.{Token, answers, is_home, is_rows, is_tc, performs, refuses, some_if}
+use Rattle.run_laws.proofs.tokens.Signals.{token_of}
 use Rattle.run_laws.proofs.tokens.Still.{AreStill}
 
 -- what neither the rows nor the coordinator take

@@ -37,7 +37,8 @@ use Rattle.run_laws.specs.Tokens.{is_token}
 use Rattle.run_laws.specs.Transit.{Comes, logs_of}
 use Rattle.run_laws.proofs.fades.Completions.{completions_follow_commits}
 use Rattle.run_laws.proofs.causes.Decided.{commits_are_decided}
-use Rattle.run_laws.proofs.ways.GivenUp.{aborts_are_of_given_up, commits_are_of_carried_out, completions_are_of_carried_out}
+use Rattle.run_laws.proofs.ways.GivenUp.{aborts_are_of_given_up, commits_are_of_carried_out}
+use Rattle.run_laws.proofs.ways.GivenUp.{completions_are_of_carried_out}
 use Rattle.run_laws.proofs.tokens.NoneWait.{comers_are_undecided, none_wait_beside, none_wait_where_carried_out}
 use Rattle.run_laws.proofs.routes.Events.{commits_end_at_primary, requests_are_for_replicas}
 

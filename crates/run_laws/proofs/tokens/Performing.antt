@@ -1,5 +1,6 @@
 -- A replica performs a part of an operation, and what it sends then tells the truth.
-use Rattle.std.proofs.Common.{◌≡◌, ◌⊎◌, ◌≢◌, ◌<◌, ◌≤◌, ◌+◌, ◌++◌, ℕ, Bool, true, false, length, List, [], ◌∷◌, refl, sym, ap, ◌∙◌, subst, inl, inr, arith}
+use Rattle.std.proofs.Common.{◌≡◌, ◌⊎◌, ◌≢◌, ◌<◌, ◌≤◌, ◌+◌, ◌++◌, ℕ, Bool, true, false, length, List, [], ◌∷◌, refl}
+use Rattle.std.proofs.Common.{sym, ap, ◌∙◌, subst, inl, inr, arith}
 use Rattle.std.proofs.lemmas.Bool.{cases_eq}
 use Rattle.std.proofs.lemmas.Bool.Decides.{nat_tests}
 use Rattle.std.proofs.lemmas.Option.{slice_get-get_or}
@@ -24,7 +25,8 @@ use Rattle.key_laws.specs.Replica.{Cell, operated, storing, worked}
 use Rattle.sig_core.proofs.Keys.{same_tx-self}
 use Rattle.key_laws.proofs.RecordLemmas.{found-stored}
 use Rattle.run_laws.specs.Routes.{IsWorkAt, primary_host, replica_host, replicas}
-use Rattle.run_laws.proofs.circle.View.{HasIt, IsAsked, IsStoring, Settles, Stores, Tells, View, answers_settle, last_settles, next_stores, writes_store}
+use Rattle.run_laws.proofs.circle.View.{HasIt, IsAsked, IsStoring, Settles, Stores, Tells, View, answers_settle}
+use Rattle.run_laws.proofs.circle.View.{last_settles, next_stores, writes_store}
 use Rattle.run_laws.proofs.tokens.Signals.{answers, operated_token, passed_token, performs, stored_token, work_token}
 
 not_none : (xs : List Member) (at : ℕ) → slice_get xs at ≡ None → at < length xs → ⊥

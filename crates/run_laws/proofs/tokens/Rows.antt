@@ -18,7 +18,8 @@ use Rattle.lqh_block.specs.Storage.{StorageState}
 use Rattle.lqh_block.specs.Work.{is_for}
 use Rattle.lqh_block.proofs.LqhForms.{perform_forms}
 use Rattle.run_theory.proofs.Focus.{none_placed}
-use Rattle.host_laws.proofs.rows.RequestCounts.{CountStep, asked_by, count_step, ends, is_work, performs, refuses, rests}
+use Rattle.host_laws.proofs.rows.RequestCounts.{CountStep, asked_by, count_step, ends, is_work, performs, refuses}
+use Rattle.host_laws.proofs.rows.RequestCounts.{rests}
 use Rattle.run_theory.specs.Counts.{one_if, tally}
 use Rattle.run_laws.specs.Tokens.{is_token}
 use Rattle.run_laws.proofs.tokens.Waiting.{WaitersAsk}

@@ -1,5 +1,6 @@
 -- Signals that are sent, join those in transit and are taken.
-use Rattle.std.proofs.Common.{◌≡◌, ◌≤◌, ◌+◌, ◌&&◌, ℕ, Bool, true, false, List, [], ◌∷◌, refl, sym, ap, ◌∙◌, subst, arith}
+use Rattle.std.proofs.Common.{◌≡◌, ◌≤◌, ◌+◌, ◌&&◌, ℕ, Bool, true, false, List, [], ◌∷◌, refl, sym, ap, ◌∙◌, subst}
+use Rattle.std.proofs.Common.{arith}
 use Rattle.std.specs.Prelude.{if◌then◌else◌, Option, None, Some}
 use Rattle.run_theory.specs.Lists.{Each}
 use Rattle.run_theory.proofs.Pasts.{each_after, each_append, each_before, each_map}
@@ -19,7 +20,8 @@ use Rattle.world_core.specs.Machine.{all_addressed, counted}
 use Rattle.run_theory.specs.Counts.{one_if, tally}
 use Rattle.run_laws.specs.Tokens.{is_token}
 use Rattle.run_laws.specs.Transit.{Takes, joined, taken_by}
-use Rattle.run_laws.proofs.tokens.Signals.{Token, answers, is_home, is_rows, performs, put, refuses, token_of, tokens_of}
+use Rattle.run_laws.proofs.tokens.Signals.{Token, answers, is_home, is_rows, performs, put, refuses, token_of}
+use Rattle.run_laws.proofs.tokens.Signals.{tokens_of}
 use Rattle.run_laws.proofs.hosts.TxTurns.{is_for}
 
 -- what holds of all holds of those before, and of those that join

@@ -1,5 +1,6 @@
 -- Transactions that are given up, and those that are carried out.
-use Rattle.std.proofs.Common.{◌≡◌, ◌⊎◌, ℕ, zero, suc, Bool, true, false, List, [], ◌∷◌, refl, sym, ap, ◌∙◌, subst, inl, inr}
+use Rattle.std.proofs.Common.{◌≡◌, ◌⊎◌, ℕ, zero, suc, Bool, true, false, List, [], ◌∷◌, refl, sym, ap, ◌∙◌, subst, inl}
+use Rattle.std.proofs.Common.{inr}
 use Rattle.std.proofs.lemmas.Bool.{or_cases}
 use Rattle.std.specs.List.{list_any}
 use Rattle.std.specs.Prelude.{◌||◌}
@@ -17,7 +18,8 @@ use Rattle.world_core.specs.Marks.{has_mark, have_mark}
 use Rattle.world_core.specs.Start.{Start}
 use Rattle.host_laws.specs.Ways.{back_by, forth_by, sent_ways, way_of}
 use Rattle.host_laws.proofs.coordinator.OneWay.{coordinators_one_way}
-use Rattle.run_laws.specs.GivenUp.{AbortsAreOfGivenUp, CommitsAreOfCarriedOut, CompletionsAreOfCarriedOut, KeptAreNotGivenUp, NoneIsBoth, is_carried_out}
+use Rattle.run_laws.specs.GivenUp.{AbortsAreOfGivenUp, CommitsAreOfCarriedOut, CompletionsAreOfCarriedOut}
+use Rattle.run_laws.specs.GivenUp.{KeptAreNotGivenUp, NoneIsBoth, is_carried_out}
 use Rattle.run_laws.specs.Transit.{IsRun, logs_of}
 use Rattle.run_laws.proofs.transit.Runs.{runs_have_transit, taking}
 use Rattle.run_laws.proofs.ways.Ways.{IsMarkTold, IsTold, all_told, taken_told}

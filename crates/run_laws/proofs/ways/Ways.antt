@@ -26,7 +26,8 @@ use Rattle.node_core.specs.Row.{row}
 use Rattle.world_core.specs.Hosts.{home, tc_host}
 use Rattle.world_core.specs.Machine.{after, machine, signals_of}
 use Rattle.world_core.specs.Start.{Start}
-use Rattle.host_laws.specs.Ways.{AreSaid, IsSaid, Way, back, back_by, closes, forth, forth_by, neither, sent_ways, tc_sends, way_of}
+use Rattle.host_laws.specs.Ways.{AreSaid, IsSaid, Way, back, back_by, closes, forth, forth_by, neither, sent_ways}
+use Rattle.host_laws.specs.Ways.{tc_sends, way_of}
 use Rattle.host_laws.proofs.coordinator.OneWay.{back_more, coordinators_say, forth_more}
 use Rattle.host_laws.proofs.hosts.BlocksAlong.{at_own_node}
 use Rattle.run_laws.specs.GivenUp.{is_carried_out, is_given_up}

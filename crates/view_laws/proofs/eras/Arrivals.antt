@@ -9,7 +9,7 @@ use Rattle.sig_core.specs.declared.signal.Signal.{Signal}
 use Rattle.sig_core.specs.declared.view.View.{View}
 use Rattle.sig_core.specs.Step.{Step}
 use Rattle.node_views.specs.Blocks.{parts_entered}
-use Rattle.node_views.specs.declared.host.Host as hosts
+use Rattle.node_views.specs.declared.host_body.HostBody as hosts
 use Rattle.node_views.specs.declared.parts.Parts.{Parts}
 use Rattle.node_views.specs.Row.{counted_row, entered, entering_if, headed_if, headed_row, host_row, is_excluded}
 use Rattle.node_views.specs.Row.{is_stop, killed_after, standing_at, taken_if}
@@ -27,14 +27,14 @@ pub data Arrives (mine : BlockId → Bool) (parts : Parts) (view : View) (x : Si
       → PassesAs mine (parts_entered parts x.view).state x later → Arrives mine parts view x events
 
 -- the step doesn't stop its host
-abbrev Goes : Step hosts.Host → Type 0
+abbrev Goes : Step hosts.HostBody → Type 0
 Goes t = list_any is_stop t.effects.marks ≡ false
 
 module _ (mine : BlockId → Bool) where
-  abbrev ArrivesBy : hosts.Host → Signal → List Event → Type 0
+  abbrev ArrivesBy : hosts.HostBody → Signal → List Event → Type 0
   ArrivesBy s x events = Arrives mine s.parts s.standing.view x events
 
-  entering_arrives : (s : hosts.Host) (x : Signal) (excluded : Bool) → Goes (entering_if s x excluded)
+  entering_arrives : (s : hosts.HostBody) (x : Signal) (excluded : Bool) → Goes (entering_if s x excluded)
       → ArrivesBy s x (if excluded then [] else entering_events mine s x)
   entering_arrives s x true goes = absurd (true≢false goes)
   entering_arrives s x false goes =
@@ -43,7 +43,7 @@ module _ (mine : BlockId → Bool) where
       (subst (λ parts. PassesAs mine parts x (passed_events mine inside x)) (entered_parts s x.view)
       (passes_as mine inside x))
 
-  headed_if_arrives : (s : hosts.Host) (x : Signal) (newer : Bool) → nat_lt s.standing.view.number x.view.number ≡ newer
+  headed_if_arrives : (s : hosts.HostBody) (x : Signal) (newer : Bool) → nat_lt s.standing.view.number x.view.number ≡ newer
       → Goes (headed_if s x newer)
       → ArrivesBy s x
       (if newer
@@ -52,11 +52,11 @@ module _ (mine : BlockId → Bool) where
   headed_if_arrives s x true e goes = entering_arrives s x (is_excluded s.standing x.view) goes
   headed_if_arrives s x false e goes = is_low (ltb-false s.standing.view.number x.view.number e)
 
-  headed_arrives : (s : hosts.Host) (x : Signal) → Goes (headed_row s x) → ArrivesBy s x (headed_events mine s x)
+  headed_arrives : (s : hosts.HostBody) (x : Signal) → Goes (headed_row s x) → ArrivesBy s x (headed_events mine s x)
   unfolding headed_row
   headed_arrives s x goes = headed_if_arrives s x (nat_lt s.standing.view.number x.view.number) refl goes
 
-  counted_arrives : (s : hosts.Host) (x : Signal) (left : Option ℕ) → Goes (counted_row s x left)
+  counted_arrives : (s : hosts.HostBody) (x : Signal) (left : Option ℕ) → Goes (counted_row s x left)
       → ArrivesBy s x (counted_events mine s x left)
   counted_arrives s x None goes = headed_arrives s x goes
   counted_arrives s x (Some zero) goes = absurd (true≢false goes)
@@ -64,22 +64,22 @@ module _ (mine : BlockId → Bool) where
   counted_arrives s x (Some (suc (suc left))) goes =
       headed_arrives (standing_at s (killed_after s.standing (Some (suc left)))) x goes
 
-  taken_arrives : (s : hosts.Host) (x : Signal) (sound : Bool) → sound ≡ true → Goes (taken_if s x sound)
+  taken_arrives : (s : hosts.HostBody) (x : Signal) (sound : Bool) → sound ≡ true → Goes (taken_if s x sound)
       → ArrivesBy s x (sound_events mine s x sound)
   taken_arrives s x true e goes = counted_arrives s x s.standing.left goes
   taken_arrives s x false e goes = absurd (true≢false (sym e))
 
-  row_arrives : (s : hosts.Host) (x : Signal) → is_well_formed s.standing.shape x ≡ true → Goes (host_row s x)
+  row_arrives : (s : hosts.HostBody) (x : Signal) → is_well_formed s.standing.shape x ≡ true → Goes (host_row s x)
       → ArrivesBy s x (sound_events mine s x (is_well_formed s.standing.shape x))
   unfolding host_row
   row_arrives s x e goes = taken_arrives s x (is_well_formed s.standing.shape x) e goes
 
-  by_arrives : (s : hosts.Host) (x : Signal) (cause : Option StopCause) → is_well_formed s.standing.shape x ≡ true
+  by_arrives : (s : hosts.HostBody) (x : Signal) (cause : Option StopCause) → is_well_formed s.standing.shape x ≡ true
       → Goes (step_if s x cause) → ArrivesBy s x (events_by mine s x cause)
   by_arrives s x (Some cause) e goes = absurd (true≢false goes)
   by_arrives s x None e goes = row_arrives s x e goes
 
-  pub arrives : (h : ℕ) (s : hosts.Host) (x : Signal) → is_well_formed s.standing.shape x ≡ true
+  pub arrives : (h : ℕ) (s : hosts.HostBody) (x : Signal) → is_well_formed s.standing.shape x ≡ true
       → list_any is_stop (step_by h s x).effects.marks ≡ false
       → Arrives mine s.parts s.standing.view x (events_at mine h s x)
   arrives h s x e goes = by_arrives s x (own_stop h x) e goes

@@ -10,7 +10,7 @@ use Rattle.sig_core.specs.declared.place.BlockId.{BlockId}
 use Rattle.sig_core.specs.declared.reply.ApiReply.{ApiReply}
 use Rattle.sig_core.specs.declared.view.View.{View}
 use Rattle.sig_core.specs.Step.{Step}
-use Rattle.node_views.specs.declared.host.Host as hosts
+use Rattle.node_views.specs.declared.host_body.HostBody as hosts
 use Rattle.node_views.specs.declared.parts.Parts.{Parts}
 use Rattle.node_views.specs.declared.parts.Parts.TheVariants.{Ldm, Main, Shell, Tc}
 use Rattle.node_views.specs.Replies.{giving}
@@ -32,7 +32,7 @@ use Rattle.view_laws.proofs.follow.Walk.{IsSeen, along, log_goes}
 use Rattle.view_laws.proofs.runs.Step.{started_view}
 
 -- whether a host has a coordinator never changes
-abbrev has_seen : hosts.Host → Bool
+abbrev has_seen : hosts.HostBody → Bool
 has_seen s = has_coordinator s.parts
 
 abbrev the_same : Bool → Event → Bool
@@ -45,7 +45,7 @@ along_same : (has : Bool) (events : List Event) → along the_same has events �
 along_same has [] = refl
 along_same has (event ∷ events) = along_same has events
 
-entered_same : (s : hosts.Host) (view : View) → has_seen (entered s view).state ≡ has_seen s
+entered_same : (s : hosts.HostBody) (view : View) → has_seen (entered s view).state ≡ has_seen s
 unfolding entered
 entered_same s view = entered_has s.parts view
 
@@ -70,7 +70,7 @@ module _ (start : Start) where
       log_goes no_block has_seen the_same has_is_seen start h log
       ∙ along_same (has_seen (started start h)) (events_of no_block start h log)
 
-  told_view : (h : ℕ) (t : Step hosts.Host) → (told h t).standing.view ≡ t.state.standing.view
+  told_view : (h : ℕ) (t : Step hosts.HostBody) → (told h t).standing.view ≡ t.state.standing.view
   told_view zero t = refl
   told_view (suc h) t = refl
 

@@ -14,11 +14,12 @@ use Rattle.sig_core.specs.declared.place.Part.TheVariants.{Ldm, Main, Tc}
 use Rattle.sig_core.specs.declared.signal.Signal.{Signal}
 use Rattle.sig_core.specs.declared.view.View.{View}
 use Rattle.node_views.specs.Blocks.{parts_entered, settled_at}
-use Rattle.node_views.specs.declared.host.Host as hosts
+use Rattle.node_views.specs.declared.host_body.HostBody as hosts
 use Rattle.node_views.specs.declared.main_part.MainPart.{MainPart}
 use Rattle.node_views.specs.declared.parts.Parts.{Parts}
 use Rattle.node_views.specs.declared.parts.Parts.TheVariants as part
-use Rattle.node_views.specs.Parts.{main_settled, qmgr_settled}
+use Rattle.node_views.specs.Parts.{main_settled}
+use Rattle.qmgr_block.specs.Settle.{qmgr_settles}
 use Rattle.node_views.specs.Row.{is_stop}
 use Rattle.node_views.specs.WellFormed.{is_well_formed}
 use Rattle.qmgr_block.specs.Laws.{Event, installs}
@@ -61,7 +62,7 @@ main_above : (me : Member) (layout : Layout) (events : List Event) (p : MainPart
     → (known_of me layout events).layout.view.number < now.number
 main_above me layout events p x now block.Qmgr same e =
     let q = state_of me layout events in
-    let marks = (settles_on q x now (subst (λ r. qmgr_settled r x ≡ Some now) same e)).marks in
+    let marks = (settles_on q x now (subst (λ r. qmgr_settles r x ≡ Some now) same e)).marks in
     settles_above me layout events x now (subst (IsIn (Installed now)) (sym marks) (inl refl))
 main_above me layout events p x now _ same e = absurd cc
 
@@ -134,12 +135,12 @@ module _ (start : Start) where
   layout = first_layout start.shape
 
   -- each host begins with no membership, or with a fresh one in the first view
-  record Begins (s : hosts.Host) : Type 0 where
+  record Begins (s : hosts.HostBody) : Type 0 where
     me : Member
     is : membership_in s.parts ≡ Some (fresh_qmgr me layout)
     view_is : s.standing.view ≡ layout.view
 
-  abbrev MayBegin : hosts.Host → Type 0
+  abbrev MayBegin : hosts.HostBody → Type 0
   MayBegin s = (membership_in s.parts ≡ None) ⊎ Begins s
 
   part_begins : (part : Part) (me : Member) → MayBegin (part_started start part me)
@@ -177,7 +178,7 @@ module _ (start : Start) where
           })
 
   module _ (h : ℕ) (log : List HostStep) (e : HostStep) where
-    abbrev s : hosts.Host
+    abbrev s : hosts.HostBody
     s = after start h log
 
     abbrev x : Signal

@@ -6,7 +6,7 @@ use Rattle.sig_core.specs.declared.place.Part.TheVariants.{Ldm, Main, Tc}
 use Rattle.sig_core.specs.declared.signal.Signal.{Signal}
 use Rattle.sig_core.specs.declared.view.Shape.{Shape}
 use Rattle.sig_core.specs.Step.{Step}
-use Rattle.node_views.specs.declared.host.Host as hosts
+use Rattle.node_views.specs.declared.host_body.HostBody as hosts
 use Rattle.node_views.proofs.HostWalk.{Saying}
 use Rattle.world_core.specs.Hosts.{member_at, part_by}
 use Rattle.world_core.specs.Start.{Start, made}
@@ -16,14 +16,14 @@ use Rattle.world_views.specs.Machine.{after, step_by, told}
 use Rattle.world_views.proofs.StepWalk.{step_so}
 use Rattle.view_laws.proofs.follow.Hosts.{started_behind}
 
-abbrev shape_of : hosts.Host → Shape
+abbrev shape_of : hosts.HostBody → Shape
 shape_of s = s.standing.shape
 
 -- no step changes it
 abbrev Keeps : Shape → Saying
 Keeps shape standing parts sends marks = standing.shape ≡ shape
 
-step_keeps : (h : ℕ) (s : hosts.Host) (x : Signal) → shape_of (step_by h s x).state ≡ shape_of s
+step_keeps : (h : ℕ) (s : hosts.HostBody) (x : Signal) → shape_of (step_by h s x).state ≡ shape_of s
 step_keeps h s x =
     step_so (Keeps (shape_of s)) x h s (record {
       own = record {
@@ -38,7 +38,7 @@ step_keeps h s x =
       behind = λ sound newer among barred left. record { row = λ none. refl; settles = λ view at. refl };
     })
 
-told_keeps : (h : ℕ) (t : Step hosts.Host) → shape_of (told h t) ≡ shape_of t.state
+told_keeps : (h : ℕ) (t : Step hosts.HostBody) → shape_of (told h t) ≡ shape_of t.state
 told_keeps zero t = refl
 told_keeps (suc h) t = refl
 

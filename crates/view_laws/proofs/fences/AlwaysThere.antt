@@ -7,7 +7,7 @@ use Rattle.sig_core.specs.declared.member.Member.{Member}
 use Rattle.sig_core.specs.declared.place.BlockId.{BlockId}
 use Rattle.sig_core.specs.declared.place.BlockId.TheVariants as block
 use Rattle.sig_core.specs.Part.{part_of}
-use Rattle.node_views.specs.declared.host.Host as node
+use Rattle.node_views.specs.declared.host_body.HostBody as node
 use Rattle.qmgr_block.specs.Laws.{Event, installs, takes}
 use Rattle.world_core.specs.Hosts.{host_of, member_at, part_by}
 use Rattle.world_core.specs.Start.{Start, made}
@@ -37,7 +37,7 @@ module _ (start : Start) (me : Member) (made_me : IsIn me (made start)) where
   begins_there at left h few begins is =
       let k = (me.node - 1) * 3 + suc left in
       subst (λ h. IsThere (fence_seen at (started start h))) (sym is)
-      (subst (λ (s : node.Host). IsThere (fence_seen at s)) (sym (started_behind start k))
+      (subst (λ (s : node.HostBody). IsThere (fence_seen at s)) (sym (started_behind start k))
       (subst (λ r. IsThere (fence_seen at (part_started start (part_by r) (member_at (made start) (suc k)))))
       (sym (mod-mul-add (me.node - 1) 3 (suc left) (omega (arith, few)))) (begins (member_at (made start) (suc k)))))
 

@@ -7,22 +7,22 @@ use Rattle.node_views.specs.Blocks.{fence_at}
 use Rattle.node_views.specs.Row.{counted_row, headed_if, headed_row, host_row, hushed, is_barred, passed_if, passed_row}
 use Rattle.node_views.specs.Row.{taken_if}
 use Rattle.node_views.specs.WellFormed.{is_well_formed}
-use Rattle.node_views.specs.declared.host.Host as hosts
+use Rattle.node_views.specs.declared.host_body.HostBody as hosts
 use Rattle.view_laws.specs.Fenced.{FencedSignalsChangeNothing, IsFromBelow}
 
-bars : (s : hosts.Host) (x : Signal) → IsFromBelow s x → is_barred s x ≡ true
+bars : (s : hosts.HostBody) (x : Signal) → IsFromBelow s x → is_barred s x ≡ true
 bars s x low =
     ap (λ kind. kind && nat_lt x.view.number (fence_at s.parts x.to.block s.standing.view.number)) low.kind ∙ low.below
 
-drops : (s : hosts.Host) (x : Signal) → IsFromBelow s x → passed_row s x ≡ stay s
+drops : (s : hosts.HostBody) (x : Signal) → IsFromBelow s x → passed_row s x ≡ stay s
 unfolding passed_row
 drops s x low = ap (passed_if s x) (bars s x low)
 
-goes_no_further : (s : hosts.Host) (x : Signal) → IsFromBelow s x → headed_row s x ≡ stay s
+goes_no_further : (s : hosts.HostBody) (x : Signal) → IsFromBelow s x → headed_row s x ≡ stay s
 unfolding headed_row
 goes_no_further s x low = ap (headed_if s x) low.same ∙ drops s x low
 
-taken_nothing : (s : hosts.Host) (x : Signal) (fine : Bool) → IsFromBelow s x → taken_if s x fine ≡ stay s
+taken_nothing : (s : hosts.HostBody) (x : Signal) (fine : Bool) → IsFromBelow s x → taken_if s x fine ≡ stay s
 taken_nothing s x true low =
     ap (λ left. hushed (counted_row s x left)) low.lives ∙ ap hushed (goes_no_further s x low)
 taken_nothing s x false low = refl

@@ -18,7 +18,7 @@ use Rattle.lqh_block.specs.State.{LqhState}
 use Rattle.lqh_views.specs.Replica.{replica_row}
 use Rattle.lqh_views.specs.State.{ReplicaState}
 use Rattle.node_views.specs.Blocks.{parts_row}
-use Rattle.node_views.specs.declared.host.Host as hosts
+use Rattle.node_views.specs.declared.host_body.HostBody as hosts
 use Rattle.node_views.specs.declared.ldm_part.LdmPart.{LdmPart}
 use Rattle.node_views.specs.declared.parts.Parts.{Parts}
 use Rattle.node_views.specs.declared.parts.Parts.TheVariants.{Shell, Main, Tc, Ldm}
@@ -163,7 +163,7 @@ node_tells (Main p) b replies = refl
 node_tells (Tc p) b replies = refl
 node_tells (Ldm p) b replies = refl
 
-node_entered : (b : BlockId) (s : hosts.Host) (view : View)
+node_entered : (b : BlockId) (s : hosts.HostBody) (view : View)
     → own_node (entered s view).state.parts b ≡ own_node s.parts b
 unfolding entered
 node_entered b s view = still_node s.parts view b
@@ -175,7 +175,7 @@ no_block block = false
 stays_node : ℕ → Event → ℕ
 stays_node node event = node
 
-node_seen : BlockId → hosts.Host → ℕ
+node_seen : BlockId → hosts.HostBody → ℕ
 node_seen b s = own_node s.parts b
 
 node_is_seen : (b : BlockId) → IsSeen no_block (node_seen b) stays_node
@@ -203,7 +203,7 @@ module _ (start : Start) (k left : ℕ) (part : k % 3 ≡ suc left) where
   unfolding node_seen
   begins b =
       let m = member_at (made start) (suc k) in
-      ap (λ (s : hosts.Host). own_node s.parts b) (started_behind start k)
+      ap (λ (s : hosts.HostBody). own_node s.parts b) (started_behind start k)
       ∙ ap (λ r. own_node (part_started start (part_by r) m).parts b) part
       ∙ begun_node m left b
 

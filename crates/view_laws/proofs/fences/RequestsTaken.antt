@@ -13,7 +13,7 @@ use Rattle.sig_core.specs.declared.signal.membership.MembershipSignal.TheVariant
 use Rattle.sig_core.specs.declared.signal.Signal.{Signal}
 use Rattle.sig_core.specs.declared.view.View.{View}
 use Rattle.node_views.specs.Blocks.{settled_at}
-use Rattle.node_views.specs.declared.host.Host as hosts
+use Rattle.node_views.specs.declared.host_body.HostBody as hosts
 use Rattle.node_views.specs.Fence.{is_body_fenced, is_fenced}
 use Rattle.node_views.specs.Row.{counted_row, entered, entering_if, headed_if, headed_row, host_row, is_barred}
 use Rattle.node_views.specs.Row.{is_excluded, killed_after, standing_at, taken_if}
@@ -30,12 +30,12 @@ open_body : (x : Signal) (body : Body) → is_fencing body ≡ true → is_body_
 open_body x (Membership (FenceReq set)) is = refl
 open_body x _ is = absurd cc
 
-open_barred : (s : hosts.Host) (x : Signal) → is_fencing x.body ≡ true → is_barred s x ≡ false
+open_barred : (s : hosts.HostBody) (x : Signal) → is_fencing x.body ≡ true → is_barred s x ≡ false
 unfolding is_fenced
 open_barred s x is =
     rw (open_body x x.body is) refl
 
-open_handled : (s : hosts.Host) (x : Signal) (body : Body) → is_fencing body ≡ true → is_handled s x body ≡ false
+open_handled : (s : hosts.HostBody) (x : Signal) (body : Body) → is_fencing body ≡ true → is_handled s x body ≡ false
 open_handled s x (Membership (FenceReq set)) is = refl
 open_handled s x _ is = absurd cc
 
@@ -63,12 +63,12 @@ module _ (mine : BlockId → Bool) (x : Signal) (is : is_fencing x.body ≡ true
   block_has None = taking_has (mine x.to.block) own
   block_has (Some view) = taking_has (mine x.to.block) own
 
-  passed_if_has : (s : hosts.Host) (b : Bool) → b ≡ false
+  passed_if_has : (s : hosts.HostBody) (b : Bool) → b ≡ false
       → IsIn x (taken_in (if not b then block_events mine s x else []))
   passed_if_has s true e = absurd cc
   passed_if_has s false e = block_has (settled_at s.parts x)
 
-  passed_has : (s : hosts.Host) → IsIn x (taken_in (passed_events mine s x))
+  passed_has : (s : hosts.HostBody) → IsIn x (taken_in (passed_events mine s x))
   passed_has s =
       passed_if_has s (is_barred s x || is_handled s x x.body)
       (ap (λ b. b || is_handled s x x.body) (open_barred s x is) ∙ open_handled s x x.body is)
@@ -80,13 +80,13 @@ module _ (mine : BlockId → Bool) (x : Signal) (is : is_fencing x.body ≡ true
   in_before (installs other ∷ later) view there = in_before later view there
   in_before [] view there = absurd there
 
-  entering_has : (s : hosts.Host) (excluded : Bool)
+  entering_has : (s : hosts.HostBody) (excluded : Bool)
       → TakesOrStops (if excluded then [] else entering_events mine s x) (entering_if s x excluded).effects.marks
   entering_has s true = inr refl
   entering_has s false =
       inl (in_before (passed_events mine (entered s x.view).state x) x.view (passed_has (entered s x.view).state))
 
-  headed_if_has : (s : hosts.Host) (newer : Bool)
+  headed_if_has : (s : hosts.HostBody) (newer : Bool)
       → TakesOrStops
       (if newer
       then (if is_excluded s.standing x.view then [] else entering_events mine s x)
@@ -95,33 +95,33 @@ module _ (mine : BlockId → Bool) (x : Signal) (is : is_fencing x.body ≡ true
   headed_if_has s true = entering_has s (is_excluded s.standing x.view)
   headed_if_has s false = inl (passed_has s)
 
-  headed_has : (s : hosts.Host) → TakesOrStops (headed_events mine s x) (headed_row s x).effects.marks
+  headed_has : (s : hosts.HostBody) → TakesOrStops (headed_events mine s x) (headed_row s x).effects.marks
   unfolding headed_row
   headed_has s = headed_if_has s (is_newer mine s x)
 
-  counted_has : (s : hosts.Host) (left : Option ℕ)
+  counted_has : (s : hosts.HostBody) (left : Option ℕ)
       → TakesOrStops (counted_events mine s x left) (counted_row s x left).effects.marks
   counted_has s None = headed_has s
   counted_has s (Some zero) = inr refl
   counted_has s (Some (suc zero)) = inr refl
   counted_has s (Some (suc (suc left))) = headed_has (standing_at s (killed_after s.standing (Some (suc left))))
 
-  sound_has : (s : hosts.Host) (sound : Bool) → sound ≡ true
+  sound_has : (s : hosts.HostBody) (sound : Bool) → sound ≡ true
       → TakesOrStops (sound_events mine s x sound) (taken_if s x sound).effects.marks
   sound_has s true e = counted_has s s.standing.left
   sound_has s false e = absurd cc
 
-  row_has : (s : hosts.Host) → is_well_formed s.standing.shape x ≡ true
+  row_has : (s : hosts.HostBody) → is_well_formed s.standing.shape x ≡ true
       → TakesOrStops (sound_events mine s x (is_well_formed s.standing.shape x)) (host_row s x).effects.marks
   unfolding host_row
   row_has s sound = sound_has s (is_well_formed s.standing.shape x) sound
 
-  by_has : (s : hosts.Host) → is_well_formed s.standing.shape x ≡ true → (o : Option StopCause) → o ≡ None
+  by_has : (s : hosts.HostBody) → is_well_formed s.standing.shape x ≡ true → (o : Option StopCause) → o ≡ None
       → TakesOrStops (events_by mine s x o) (step_if s x o).effects.marks
   by_has s sound (Some cause) e = absurd cc
   by_has s sound None e = row_has s sound
 
-  pub takes_or_stops : (h : ℕ) (s : hosts.Host) → is_well_formed s.standing.shape x ≡ true
+  pub takes_or_stops : (h : ℕ) (s : hosts.HostBody) → is_well_formed s.standing.shape x ≡ true
       → TakesOrStops (events_at mine h s x) (step_by h s x).effects.marks
   takes_or_stops h s sound = by_has s sound (own_stop h x) (open_stop h x is)
 

@@ -7,7 +7,7 @@ use Rattle.sig_core.specs.declared.reply.ApiReply.{ApiReply}
 use Rattle.sig_core.specs.declared.signal.Signal.{Signal}
 use Rattle.sig_core.specs.declared.view.View.{View}
 use Rattle.node_views.specs.Blocks.{fence_at, parts_entered, parts_row}
-use Rattle.node_views.specs.declared.host.Host as hosts
+use Rattle.node_views.specs.declared.host_body.HostBody as hosts
 use Rattle.node_views.specs.declared.ldm_part.LdmPart.{LdmPart}
 use Rattle.node_views.specs.declared.parts.Parts.{Parts}
 use Rattle.node_views.specs.declared.parts.Parts.TheVariants.{Ldm, Main, Shell, Tc}
@@ -27,7 +27,7 @@ own_fence (Tc p) block.Dih = Some p.dih.fence
 own_fence (Ldm p) block.Lqh = Some p.fence
 own_fence _ _ = None
 
-abbrev pub fence_seen : BlockId → hosts.Host → Option ℕ
+abbrev pub fence_seen : BlockId → hosts.HostBody → Option ℕ
 fence_seen at s = own_fence s.parts at
 
 -- else it is at the view
@@ -108,7 +108,7 @@ fence_tells (Main p) at replies = refl
 fence_tells (Tc p) at replies = refl
 fence_tells (Ldm p) at replies = refl
 
-fence_entered : (at : BlockId) (s : hosts.Host) (view : View)
+fence_entered : (at : BlockId) (s : hosts.HostBody) (view : View)
     → fence_seen at (entered s view).state ≡ to_fence (fence_seen at s) (installs view)
 unfolding entered
 fence_entered at s view = fence_enters s.parts at view

@@ -4,7 +4,7 @@ use Rattle.std.specs.Prelude.{None}
 use Rattle.sig_core.specs.declared.member.Member.{Member}
 use Rattle.sig_core.specs.declared.place.Part.{Part}
 use Rattle.sig_core.specs.declared.place.Part.TheVariants.{Ldm, Main, Tc}
-use Rattle.node_views.specs.declared.host.Host as node
+use Rattle.node_views.specs.declared.host_body.HostBody as node
 use Rattle.qmgr_block.specs.Laws.{Event}
 use Rattle.world_core.specs.Hosts.{member_at, part_by}
 use Rattle.world_core.specs.Start.{Start, made}
@@ -65,13 +65,13 @@ module _ (start : Start) where
   no_arbiter_behind zero log some = absurd (omega (arith, some))
   no_arbiter_behind (suc k) log some =
       never_arbitrates (suc k) log
-      (ap (λ (s : node.Host). arbiter_in s.parts) (started_behind start k)
+      (ap (λ (s : node.HostBody). arbiter_in s.parts) (started_behind start k)
       ∙ part_arbiter start (part_by (k % 3)) (member_at (made start) (suc k)))
 
   pub no_membership_beside : (k left : ℕ) (log : List HostStep) → k % 3 ≡ suc left
       → membership_in (after start (suc k) log).parts ≡ None
   no_membership_beside k left log e =
       never_joins (suc k) log
-      (ap (λ (s : node.Host). membership_in s.parts) (started_behind start k)
+      (ap (λ (s : node.HostBody). membership_in s.parts) (started_behind start k)
       ∙ ap (λ n. membership_in (part_started start (part_by n) (member_at (made start) (suc k))).parts) e
       ∙ no_member_part left (member_at (made start) (suc k)))

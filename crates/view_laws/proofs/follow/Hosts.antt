@@ -11,7 +11,7 @@ use Rattle.sig_core.specs.declared.member.Member.{Member}
 use Rattle.sig_core.specs.declared.place.BlockId.TheVariants as block
 use Rattle.sig_core.specs.declared.place.Part.TheVariants.{Main}
 use Rattle.sig_core.specs.Members.{nobody}
-use Rattle.node_views.specs.declared.host.Host as hosts
+use Rattle.node_views.specs.declared.host_body.HostBody as hosts
 use Rattle.node_views.specs.Fresh.{fresh_main}
 use Rattle.world_core.proofs.HostNumbers.{members_at, node_host, the_member}
 use Rattle.world_core.specs.Hosts.{host_by, host_for, member_at, member_of, part_by, receiver}
@@ -116,11 +116,11 @@ hosts_follow start member log there =
     record {
       state =
           log_goes is_membership membership_seen to_membership membership_is_seen start h log
-          ∙ ap (λ (s : hosts.Host). along to_membership (membership_seen s) events) begins
+          ∙ ap (λ (s : hosts.HostBody). along to_membership (membership_seen s) events) begins
           ∙ some_membership member layout events;
       view =
           log_goes is_membership view_seen to_view (view_is_seen is_membership) start h log
-          ∙ ap (λ (s : hosts.Host). along to_view (view_seen s) events) begins
+          ∙ ap (λ (s : hosts.HostBody). along to_view (view_seen s) events) begins
           ∙ sym (known_view member layout events);
     }
 

@@ -9,11 +9,13 @@ use Rattle.sig_core.specs.declared.place.BlockId.{BlockId}
 use Rattle.sig_core.specs.declared.place.BlockId.TheVariants as block
 use Rattle.sig_core.specs.declared.signal.Signal.{Signal}
 use Rattle.sig_core.specs.declared.view.View.{View}
-use Rattle.node_views.specs.declared.host.Host as hosts
+use Rattle.node_views.specs.declared.host_body.HostBody as hosts
 use Rattle.node_views.specs.declared.main_part.MainPart.{MainPart}
 use Rattle.node_views.specs.declared.parts.Parts.{Parts}
 use Rattle.node_views.specs.declared.parts.Parts.TheVariants.{Main}
-use Rattle.node_views.specs.Parts.{main_entered, main_settled, may_settle, qmgr_settled, settled, settled_if}
+use Rattle.node_views.specs.Parts.{main_entered, main_settled}
+use Rattle.qmgr_block.proofs.Settles.{settles_marks, settles_may}
+use Rattle.qmgr_block.specs.Settle.{may_settle, qmgr_settles}
 use Rattle.qmgr_block.specs.Laws.{Event, after, installs, takes}
 use Rattle.qmgr_block.specs.Qmgr.{qmgr_row}
 use Rattle.qmgr_block.specs.State.{QmgrState}
@@ -30,22 +32,14 @@ pub record SettlesOn (q : QmgrState) (x : Signal) (view : View) : Type 0 where
   pub may : may_settle x.body ≡ true
   pub marks : (qmgr_row q x).effects.marks ≡ Installed view ∷ []
 
-settled_marks : (marks : List Mark) (view : View) → settled marks ≡ Some view → marks ≡ Installed view ∷ []
-settled_marks (Installed other ∷ []) view e = cc (e)
-settled_marks _ view e = absurd cc
-
-pub settles_on : (q : QmgrState) (x : Signal) (view : View) → qmgr_settled q x ≡ Some view → SettlesOn q x view
-settles_on q x view e = by (may_settle x.body) refl e
-  where
-    by : (may : Bool) → may_settle x.body ≡ may → settled_if q x may ≡ Some view → SettlesOn q x view
-    by true may e = record { may = may; marks = settled_marks (qmgr_row q x).effects.marks view e }
-    by false may e = absurd cc
+pub settles_on : (q : QmgrState) (x : Signal) (view : View) → qmgr_settles q x ≡ Some view → SettlesOn q x view
+settles_on q x view e = record { may = settles_may q x view e; marks = settles_marks q x view e }
 
 -- what happens to a membership at a signal: nothing, or it takes it, and the view that it settles on is installed
 pub data TakesAs (q : QmgrState) (x : Signal) (events : List Event) : Type 0 where
   leaves : events ≡ [] → TakesAs q x events
-  takes_it : x.to.block ≡ block.Qmgr → qmgr_settled q x ≡ None → events ≡ takes x ∷ [] → TakesAs q x events
-  settles : (view : View) → x.to.block ≡ block.Qmgr → qmgr_settled q x ≡ Some view
+  takes_it : x.to.block ≡ block.Qmgr → qmgr_settles q x ≡ None → events ≡ takes x ∷ [] → TakesAs q x events
+  settles : (view : View) → x.to.block ≡ block.Qmgr → qmgr_settles q x ≡ Some view
       → events ≡ installs view ∷ takes x ∷ [] → TakesAs q x events
 
 -- and in a step, before it, the greater view of its header
@@ -59,7 +53,7 @@ main_takes_as : (p : MainPart) (x : Signal) (events : List Event) → PassesAs i
 main_takes_as p x events (dropped is) = leaves is
 main_takes_as p x events (passed is) = by x.to.block refl is
   where
-    for_qmgr : (view : Option View) → x.to.block ≡ block.Qmgr → qmgr_settled p.qmgr x ≡ view
+    for_qmgr : (view : Option View) → x.to.block ≡ block.Qmgr → qmgr_settles p.qmgr x ≡ view
         → events ≡ installing is_membership view ++ takes x ∷ [] → TakesAs p.qmgr x events
     for_qmgr None to e is = takes_it to e is
     for_qmgr (Some view) to e is = settles view to e is
@@ -67,7 +61,7 @@ main_takes_as p x events (passed is) = by x.to.block refl is
     by : (to : BlockId) → x.to.block ≡ to
         → events ≡ installing is_membership (main_settled p to x) ++ taking is_membership x (is_membership to)
         → TakesAs p.qmgr x events
-    by block.Qmgr to is = for_qmgr (qmgr_settled p.qmgr x) to refl is
+    by block.Qmgr to is = for_qmgr (qmgr_settles p.qmgr x) to refl is
     by _ to is = leaves is
 
 main_steps : (p : MainPart) (view : View) (x : Signal) (events : List Event)
@@ -76,7 +70,7 @@ main_steps p view x events (plain passes) = taken_plain (main_takes_as p x event
 main_steps p view x events (entering above later is passes) =
     taken_entering above later is (main_takes_as (main_entered p x.view).state x later passes)
 
-pub membership_steps : (h : ℕ) (s : hosts.Host) (q : QmgrState) (x : Signal) → membership_in s.parts ≡ Some q
+pub membership_steps : (h : ℕ) (s : hosts.HostBody) (q : QmgrState) (x : Signal) → membership_in s.parts ≡ Some q
     → MembershipSteps q s.standing.view x (events_at is_membership h s x)
 membership_steps h s q x has = by s.parts has (steps_as is_membership h s x)
   where

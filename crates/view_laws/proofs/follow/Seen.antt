@@ -10,7 +10,7 @@ use Rattle.sig_core.specs.declared.signal.Signal.{Signal}
 use Rattle.sig_core.specs.declared.view.View.{View}
 use Rattle.arbiter_block.specs.Arbiter.{ArbiterState, arbiter_row}
 use Rattle.node_views.specs.Blocks.{parts_entered, parts_row}
-use Rattle.node_views.specs.declared.host.Host as hosts
+use Rattle.node_views.specs.declared.host_body.HostBody as hosts
 use Rattle.node_views.specs.declared.main_part.MainPart.{MainPart}
 use Rattle.node_views.specs.declared.parts.Parts.{Parts}
 use Rattle.node_views.specs.declared.parts.Parts.TheVariants.{Ldm, Main, Shell, Tc}
@@ -29,7 +29,7 @@ use Rattle.view_laws.proofs.follow.Walk.{IsSeen, along}
 use Rattle.view_laws.proofs.memberships.Steps.{row_installs}
 
 -- the membership, where there is one
-abbrev pub membership_seen : hosts.Host → Option QmgrState
+abbrev pub membership_seen : hosts.HostBody → Option QmgrState
 membership_seen s = membership_in s.parts
 
 abbrev pub to_membership : Option QmgrState → Event → Option QmgrState
@@ -69,7 +69,7 @@ membership_tells (Main p) replies = refl
 membership_tells (Tc p) replies = refl
 membership_tells (Ldm p) replies = refl
 
-membership_entered : (s : hosts.Host) (view : View)
+membership_entered : (s : hosts.HostBody) (view : View)
     → membership_seen (entered s view).state ≡ to_membership (membership_seen s) (installs view)
 unfolding entered
 membership_entered s view = membership_enters s.parts view
@@ -88,7 +88,7 @@ some_membership me layout [] = refl
 some_membership me layout (event ∷ events) = ap (λ q. to_membership q event) (some_membership me layout events)
 
 -- the arbitrator, where there is one
-abbrev pub arbiter_seen : hosts.Host → Option ArbiterState
+abbrev pub arbiter_seen : hosts.HostBody → Option ArbiterState
 arbiter_seen s = arbiter_in s.parts
 
 abbrev pub to_arbiter : Option ArbiterState → Event → Option ArbiterState
@@ -128,7 +128,7 @@ arbiter_tells (Main p) replies = refl
 arbiter_tells (Tc p) replies = refl
 arbiter_tells (Ldm p) replies = refl
 
-arbiter_entered : (s : hosts.Host) (view : View)
+arbiter_entered : (s : hosts.HostBody) (view : View)
     → arbiter_seen (entered s view).state ≡ to_arbiter (arbiter_seen s) (installs view)
 unfolding entered
 arbiter_entered s view = arbiter_enters s.parts view
@@ -149,7 +149,7 @@ some_arbiter members (installs view ∷ events) =
     ap (λ a. to_arbiter a (installs view)) (some_arbiter members events)
 
 -- the view that the host stands in
-abbrev pub view_seen : hosts.Host → View
+abbrev pub view_seen : hosts.HostBody → View
 view_seen s = s.standing.view
 
 abbrev pub to_view : View → Event → View
@@ -161,7 +161,7 @@ pub view_takes : (mine : BlockId → Bool) (view : View) (x : Signal) (own : Boo
 view_takes mine view x true = refl
 view_takes mine view x false = refl
 
-view_entered : (s : hosts.Host) (view : View) → view_seen (entered s view).state ≡ view
+view_entered : (s : hosts.HostBody) (view : View) → view_seen (entered s view).state ≡ view
 unfolding entered
 view_entered s view = refl
 

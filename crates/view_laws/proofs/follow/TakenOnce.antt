@@ -5,7 +5,7 @@ use Rattle.sig_core.specs.declared.place.BlockId.{BlockId}
 use Rattle.sig_core.specs.declared.signal.Signal.{Signal}
 use Rattle.sig_core.specs.declared.view.View.{View}
 use Rattle.node_views.specs.Blocks.{settled_at}
-use Rattle.node_views.specs.declared.host.Host as hosts
+use Rattle.node_views.specs.declared.host_body.HostBody as hosts
 use Rattle.node_views.specs.declared.parts.Parts.{Parts}
 use Rattle.qmgr_block.specs.Laws.{Event, installs, takes}
 use Rattle.view_laws.specs.HostEvents.{events_at, installing, taken_in, taking}
@@ -52,5 +52,5 @@ module _ (mine : BlockId → Bool) where
       same_once x (taken_in events) (taken_in later) (ap taken_in is ∙ taken_before later x.view)
       (passes_once _ x later passes)
 
-  pub taken_once : (h : ℕ) (s : hosts.Host) (x : Signal) → IsTakenOnce mine x (taken_in (events_at mine h s x))
+  pub taken_once : (h : ℕ) (s : hosts.HostBody) (x : Signal) → IsTakenOnce mine x (taken_in (events_at mine h s x))
   taken_once h s x = steps_once s.parts s.standing.view x (events_at mine h s x) (steps_as mine h s x)

@@ -5,7 +5,7 @@ use Rattle.sig_core.specs.declared.place.BlockId.{BlockId}
 use Rattle.sig_core.specs.declared.signal.Signal.{Signal}
 use Rattle.sig_core.specs.declared.view.View.{View}
 use Rattle.node_views.specs.Blocks.{parts_entered, settled_at}
-use Rattle.node_views.specs.declared.host.Host as hosts
+use Rattle.node_views.specs.declared.host_body.HostBody as hosts
 use Rattle.node_views.specs.declared.parts.Parts.{Parts}
 use Rattle.node_views.specs.declared.parts.Parts.TheVariants.{Ldm, Main, Shell, Tc}
 use Rattle.qmgr_block.specs.Laws.{Event, installs}
@@ -63,7 +63,7 @@ steps_views mine parts view x events (entering above later is passes) =
     by (inl same) = enters above same
     by (inr e) = settles_in (record { at = (parts_entered parts x.view).state; from = inr refl; is = e })
 
-pub view_moves : (h : ℕ) (s : hosts.Host) (x : Signal)
+pub view_moves : (h : ℕ) (s : hosts.HostBody) (x : Signal)
     → ViewMoves s.parts s.standing.view x (told h (step_by h s x)).standing.view
 view_moves h s x =
     subst (ViewMoves s.parts s.standing.view x)
@@ -90,7 +90,7 @@ none_settled parts x view none is = by is.from
         is.is
 
 -- so its view is as it was, or the greater one of the signal's header
-pub others_move : (h : ℕ) (s : hosts.Host) (x : Signal) → membership_in s.parts ≡ None
+pub others_move : (h : ℕ) (s : hosts.HostBody) (x : Signal) → membership_in s.parts ≡ None
     → ((told h (step_by h s x)).standing.view ≡ s.standing.view)
     ⊎ ((s.standing.view.number < x.view.number) × ((told h (step_by h s x)).standing.view ≡ x.view))
 others_move h s x none = by (view_moves h s x)

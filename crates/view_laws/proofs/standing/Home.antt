@@ -19,7 +19,7 @@ use Rattle.sig_core.specs.declared.view.View.{View}
 use Rattle.sig_core.specs.Members.{nobody}
 use Rattle.sig_core.specs.Step.{Step}
 use Rattle.api_views.specs.Members.{is_member, same_member}
-use Rattle.node_views.specs.declared.host.Host as hosts
+use Rattle.node_views.specs.declared.host_body.HostBody as hosts
 use Rattle.node_views.specs.Row.{is_excluded, killed_after, standing_at}
 use Rattle.node_views.specs.WellFormed.{is_well_formed}
 use Rattle.qmgr_block.specs.Laws.{Event}
@@ -46,7 +46,7 @@ use Rattle.view_laws.proofs.ballots.MadeSets.{in_front}
 use Rattle.view_laws.proofs.memberships.SetTests.{any_in, any_is}
 
 -- a host of the member, which has joined, in a cluster of this shape
-pub record IsHome (me : Member) (shape : Shape) (s : hosts.Host) : Type 0 where
+pub record IsHome (me : Member) (shape : Shape) (s : hosts.HostBody) : Type 0 where
   pub is : s.standing.member ≡ me
   pub joined : s.standing.has_joined ≡ true
   pub shape_is : s.standing.shape ≡ shape
@@ -63,7 +63,7 @@ module _ (me : Member) (shape : Shape) where
   joins_still standing view joined = ap (λ (b : Bool). b || is_member view standing.member) joined
 
   -- no step changes that
-  step_home : (h : ℕ) (s : hosts.Host) (x : Signal) → IsHome me shape s
+  step_home : (h : ℕ) (s : hosts.HostBody) (x : Signal) → IsHome me shape s
       → StandsHome (step_by h s x).state.standing (step_by h s x).state.parts (step_by h s x).effects.sends
       (step_by h s x).effects.marks
   step_home h s x home =
@@ -94,11 +94,11 @@ module _ (me : Member) (shape : Shape) where
         settles = λ view at. (so.0, (joins_still standing view so.1.0, so.1.1));
       }
 
-  told_home : (h : ℕ) (t : Step hosts.Host) → IsHome me shape t.state → IsHome me shape (told h t)
+  told_home : (h : ℕ) (t : Step hosts.HostBody) → IsHome me shape t.state → IsHome me shape (told h t)
   told_home zero t home = record { is = home.is; joined = home.joined; shape_is = home.shape_is }
   told_home (suc h) t home = home
 
-  next_home : (h : ℕ) (s : hosts.Host) (x : Signal) → IsHome me shape s → IsHome me shape (told h (step_by h s x))
+  next_home : (h : ℕ) (s : hosts.HostBody) (x : Signal) → IsHome me shape s → IsHome me shape (told h (step_by h s x))
   next_home h s x home =
       let so = step_home h s x home in
       told_home h (step_by h s x) (record { is = so.0; joined = so.1.0; shape_is = so.1.1 })
@@ -125,7 +125,7 @@ module _ (me : Member) (shape : Shape) where
     admitted true false events e some = absurd (some refl)
     admitted false false events e some = absurd cc
 
-    entering_has : (s : hosts.Host) (x : Signal) → IsHome me shape s
+    entering_has : (s : hosts.HostBody) (x : Signal) → IsHome me shape s
         → IsSomething (if is_excluded s.standing x.view then [] else entering_events mine s x)
         → IsIn me (all_of x.view)
     entering_has s x home some =
@@ -134,7 +134,7 @@ module _ (me : Member) (shape : Shape) where
         (admitted s.standing.has_joined (is_member x.view s.standing.member) (entering_events mine s x) home.joined
         some))
 
-    headed_has : (s : hosts.Host) (x : Signal) → IsHome me shape s → s.standing.view.number < x.view.number
+    headed_has : (s : hosts.HostBody) (x : Signal) → IsHome me shape s → s.standing.view.number < x.view.number
         → IsSomething (headed_events mine s x) → IsIn me (all_of x.view)
     headed_has s x home above some =
         entering_has s x home
@@ -144,7 +144,7 @@ module _ (me : Member) (shape : Shape) where
         else passed_events mine s x))
         (lt-ltb s.standing.view.number x.view.number above) some)
 
-    counted_has : (s : hosts.Host) (x : Signal) (left : Option ℕ) → IsHome me shape s
+    counted_has : (s : hosts.HostBody) (x : Signal) (left : Option ℕ) → IsHome me shape s
         → s.standing.view.number < x.view.number → IsSomething (counted_events mine s x left)
         → IsIn me (all_of x.view)
     counted_has s x None home above some = headed_has s x home above some
@@ -154,18 +154,18 @@ module _ (me : Member) (shape : Shape) where
         headed_has (standing_at s (killed_after s.standing (Some (suc left)))) x
         (record { is = home.is; joined = home.joined; shape_is = home.shape_is }) above some
 
-    sound_has : (s : hosts.Host) (x : Signal) (sound : Bool) → IsHome me shape s
+    sound_has : (s : hosts.HostBody) (x : Signal) (sound : Bool) → IsHome me shape s
         → s.standing.view.number < x.view.number
         → IsSomething (sound_events mine s x sound) → IsIn me (all_of x.view)
     sound_has s x true home above some = counted_has s x s.standing.left home above some
     sound_has s x false home above some = absurd (some refl)
 
-    by_has : (s : hosts.Host) (x : Signal) (cause : Option StopCause) → IsHome me shape s
+    by_has : (s : hosts.HostBody) (x : Signal) (cause : Option StopCause) → IsHome me shape s
         → s.standing.view.number < x.view.number → IsSomething (events_by mine s x cause) → IsIn me (all_of x.view)
     by_has s x (Some cause) home above some = absurd (some refl)
     by_has s x None home above some = sound_has s x (is_well_formed s.standing.shape x) home above some
 
-    pub header_has : (h : ℕ) (s : hosts.Host) (x : Signal) → IsHome me shape s
+    pub header_has : (h : ℕ) (s : hosts.HostBody) (x : Signal) → IsHome me shape s
         → s.standing.view.number < x.view.number
         → IsSomething (events_at mine h s x) → IsIn me (all_of x.view)
     header_has h s x home above some = by_has s x (own_stop h x) home above some
@@ -214,5 +214,5 @@ module _ (start : Start) where
   started_of zero some low = absurd (omega (arith, some))
   started_of (suc k) some low =
       let me = member_at (made start) (suc k) in
-      subst (λ (s : hosts.Host). IsIn me (all_of s.standing.view)) (sym (started_behind start k))
+      subst (λ (s : hosts.HostBody). IsIn me (all_of s.standing.view)) (sym (started_behind start k))
       (part_of (part_by (k % 3)) me (host_made (suc k) some low))

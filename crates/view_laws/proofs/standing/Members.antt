@@ -9,7 +9,7 @@ use Rattle.sig_core.specs.declared.mark.Mark.TheVariants.{Installed}
 use Rattle.sig_core.specs.declared.member.Member.{Member}
 use Rattle.sig_core.specs.declared.signal.Signal.{Signal}
 use Rattle.sig_core.specs.declared.view.View.{View}
-use Rattle.node_views.specs.declared.host.Host as node
+use Rattle.node_views.specs.declared.host_body.HostBody as node
 use Rattle.qmgr_block.specs.Laws.{Event, installs, takes}
 use Rattle.qmgr_block.specs.Qmgr.{qmgr_row}
 use Rattle.world_core.specs.Hosts.{hosts, member_at}
@@ -130,7 +130,7 @@ module _ (start : Start) (logs : ℕ → List HostStep) (are : AreOfCluster star
       → membership_in (after start h log).parts ≡ None → IsOfView h log → IsOfView h (e ∷ log)
   other_next h some low log e none of = by (others_move h s x none)
     where
-      s : node.Host
+      s : node.HostBody
       s = after start h log
 
       x : Signal

@@ -12,7 +12,7 @@ use Rattle.sig_core.specs.declared.signal.Signal.{Signal}
 use Rattle.sig_core.specs.declared.view.View.{View}
 use Rattle.qmgr_block.specs.Install.{is_oldest_of}
 use Rattle.qmgr_block.specs.Laws.{Event}
-use Rattle.node_views.specs.Parts.{qmgr_settled}
+use Rattle.qmgr_block.specs.Settle.{qmgr_settles}
 use Rattle.world_core.specs.Start.{Start, made}
 use Rattle.world_core.specs.Steps.{HostStep}
 use Rattle.view_laws.specs.Kept.{IsOwn, oldest}
@@ -58,7 +58,7 @@ first_is me other (member ∷ members) own is = same_is other member is ∙ cc o
 -- what a sound membership settles on at a signal
 pub settled_oldest : (start : Start) (logs : ℕ → List HostStep) (is_shape : IsShape start.shape) (me : Member)
     (events : List Event) → IsSoundMember start logs me events → (x : Signal) (view : View)
-    → qmgr_settled (state_of me (first_layout start.shape) events) x ≡ Some view → (other : Member)
+    → qmgr_settles (state_of me (first_layout start.shape) events) x ≡ Some view → (other : Member)
     → is_oldest_of other view.full ≡ true → other ≡ me
 settled_oldest start logs is_shape me events sound x view at other is =
     let layout = first_layout start.shape in

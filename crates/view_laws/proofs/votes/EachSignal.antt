@@ -8,7 +8,7 @@ use Rattle.sig_core.specs.declared.place.BlockId.{BlockId}
 use Rattle.sig_core.specs.declared.signal.Signal.{Signal}
 use Rattle.sig_core.specs.declared.view.View.{View}
 use Rattle.node_views.specs.Blocks.{parts_entered, parts_row}
-use Rattle.node_views.specs.declared.host.Host as hosts
+use Rattle.node_views.specs.declared.host_body.HostBody as hosts
 use Rattle.node_views.specs.declared.parts.Parts.{Parts}
 use Rattle.qmgr_block.specs.Laws.{Event, installs}
 use Rattle.world_views.specs.Machine.{step_by}
@@ -52,7 +52,7 @@ module _ (mine : BlockId → Bool) (x : Signal) where
         (each_map IsNoVote (P events) more (said.none events) none);
   }
 
-  pub step_said : (P : Saying) (s : hosts.Host) → IsSaid mine P s.parts x
+  pub step_said : (P : Saying) (s : hosts.HostBody) → IsSaid mine P s.parts x
       → IsSaid mine (behind_view x.view P) (parts_entered s.parts x.view).state x → (h : ℕ)
       → Each (P (events_at mine h s x)) (step_by h s x).effects.sends
   step_said P s said behind h =

@@ -13,7 +13,7 @@ use Rattle.sig_core.specs.declared.signal.host.HostSignal.TheVariants.{Closed, C
 use Rattle.sig_core.specs.declared.view.View.{View}
 use Rattle.api_views.specs.Members.{same_member}
 use Rattle.node_views.specs.Blocks.{parts_entered, parts_row, settled_at}
-use Rattle.node_views.specs.declared.host.Host as hosts
+use Rattle.node_views.specs.declared.host_body.HostBody as hosts
 use Rattle.node_views.specs.declared.parts.Parts.{Parts}
 use Rattle.node_views.specs.Row.{blocks_row, closed_if, counted_row, cut_if, entered, entering_if, headed_if}
 use Rattle.node_views.specs.Row.{headed_row, host_row, host_table, is_barred, is_excluded, is_stop, kill_row}
@@ -50,7 +50,7 @@ pub record IsSaidOf (mine : BlockId → Bool) (P : SayingAll) (parts : Parts) (x
       → P (installs view ∷ taking mine x (mine x.to.block)) (sends ++ more)
 
 module _ (mine : BlockId → Bool) (x : Signal) where
-  module _ (P : SayingAll) (s : hosts.Host) (said : IsSaidOf mine P s.parts x) where
+  module _ (P : SayingAll) (s : hosts.HostBody) (said : IsSaidOf mine P s.parts x) where
     settle_said : (o : Option View)
         → P (installing mine o ++ taking mine x (mine x.to.block))
         (settle (with_parts s (parts_row s.parts x)) o).effects.sends
@@ -95,7 +95,7 @@ module _ (mine : BlockId → Bool) (x : Signal) where
 
   -- where its header may be installed
   module _ (P : SayingAll) where
-    headed_said : (s : hosts.Host) → IsSaidOf mine P s.parts x
+    headed_said : (s : hosts.HostBody) → IsSaidOf mine P s.parts x
         → IsSaidOf mine (behind_all x.view P) (parts_entered s.parts x.view).state x
         → P (headed_events mine s x) (headed_row s x).effects.sends
     unfolding headed_row entered
@@ -116,7 +116,7 @@ module _ (mine : BlockId → Bool) (x : Signal) where
         by true = unless_excluded (is_excluded s.standing x.view)
         by false = passed_said P s said
 
-    module _ (s : hosts.Host) (said : IsSaidOf mine P s.parts x)
+    module _ (s : hosts.HostBody) (said : IsSaidOf mine P s.parts x)
         (behind : IsSaidOf mine (behind_all x.view P) (parts_entered s.parts x.view).state x) where
       counted_said : (left : Option ℕ) → P (counted_events mine s x left) (counted_row s x left).effects.sends
       counted_said None = headed_said s said behind
@@ -149,12 +149,12 @@ module _ (mine : BlockId → Bool) (x : Signal) where
           by None = host_said
 
 -- at a signal that isn't well formed nothing is sent
-unsound_sends : (s : hosts.Host) (x : Signal) → is_well_formed s.standing.shape x ≡ false
+unsound_sends : (s : hosts.HostBody) (x : Signal) → is_well_formed s.standing.shape x ≡ false
     → (host_row s x).effects.sends ≡ []
 unfolding host_row
 unsound_sends s x off = ap (λ b. (taken_if s x b).effects.sends) off
 
-pub unsound_none : (h : ℕ) (s : hosts.Host) (x : Signal) → is_well_formed s.standing.shape x ≡ false
+pub unsound_none : (h : ℕ) (s : hosts.HostBody) (x : Signal) → is_well_formed s.standing.shape x ≡ false
     → (step_by h s x).effects.sends ≡ []
 unsound_none h s x off = by (own_stop h x)
   where

@@ -8,6 +8,7 @@ live-requires-clause-world g c =
     begun_world (whole_of c.in_ok-world.world) (record {
       shape = c.shape_of-shape.result;
       epoch = 4294967296;
+      start_epoch = 0;
       rows = [];
     })
     c.in_ok-world.ensures

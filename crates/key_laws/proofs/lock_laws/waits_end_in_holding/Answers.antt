@@ -1,4 +1,5 @@
-use Rattle.key_laws.proofs.LockWaiting.{attended_hold, expiries_attend, queued_wait, releases_attend, requests_attend, rounds_attend}
+use Rattle.key_laws.proofs.LockWaiting.{attended_hold, expiries_attend, queued_wait, releases_attend, requests_attend}
+use Rattle.key_laws.proofs.LockWaiting.{rounds_attend}
 use Rattle.key_laws.proofs.lock_laws.waits_end_in_holding.Goals as goal
 
 pub returns-clause-queued : goal.returns-clause-queued

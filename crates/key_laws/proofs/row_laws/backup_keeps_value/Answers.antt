@@ -1,4 +1,5 @@
-use Rattle.key_laws.proofs.BackupMoves.{aborts_move, commits_move, completions_move, decisions_move, grants_move, images_move, unkept_decisions_move}
+use Rattle.key_laws.proofs.BackupMoves.{aborts_move, commits_move, completions_move, decisions_move, grants_move}
+use Rattle.key_laws.proofs.BackupMoves.{images_move, unkept_decisions_move}
 use Rattle.key_laws.proofs.row_laws.backup_keeps_value.Goals as goal
 
 pub returns-clause-granted : goal.returns-clause-granted

@@ -1,4 +1,5 @@
-use Rattle.key_laws.proofs.PrimaryValue.{aborts_value, commits_value, completions_value, decisions_right, operations_value}
+use Rattle.key_laws.proofs.PrimaryValue.{aborts_value, commits_value, completions_value, decisions_right}
+use Rattle.key_laws.proofs.PrimaryValue.{operations_value}
 use Rattle.key_laws.proofs.row_laws.primary_keeps_value.Goals as goal
 
 pub returns-clause-performed : goal.returns-clause-performed

@@ -5,5 +5,10 @@ use Rattle.machine_tests.proofs.world_views_session.printed.Goals as goal
 
 pub loop-line-init : goal.loop-line-init
 loop-line-init g c =
-    begun_world (whole_of c.in_ok-world.world) (record { shape = c.args.shape; epoch = 4294967296; rows = [] })
+    begun_world (whole_of c.in_ok-world.world) (record {
+      shape = c.args.shape;
+      epoch = 4294967296;
+      start_epoch = 0;
+      rows = [];
+    })
     c.in_ok-world.ensures

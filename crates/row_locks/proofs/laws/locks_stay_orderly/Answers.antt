@@ -1,4 +1,5 @@
-use Rattle.row_locks.proofs.TableLawLemmas.{empty_orderly, request_orderly, release_orderly, unwait_orderly, age_round_orderly}
+use Rattle.row_locks.proofs.TableLawLemmas.{empty_orderly, request_orderly, release_orderly, unwait_orderly}
+use Rattle.row_locks.proofs.TableLawLemmas.{age_round_orderly}
 use Rattle.row_locks.proofs.UnqueuedLemmas.{unwait_all_orderly}
 use Rattle.row_locks.proofs.laws.locks_stay_orderly.Goals as goal
 

@@ -1,4 +1,5 @@
-use Rattle.run_laws.proofs.ways.GivenUp.{aborts_are_of_given_up, commits_are_of_carried_out, completions_are_of_carried_out, kept_are_not_given_up, none_is_both}
+use Rattle.run_laws.proofs.ways.GivenUp.{aborts_are_of_given_up, commits_are_of_carried_out}
+use Rattle.run_laws.proofs.ways.GivenUp.{completions_are_of_carried_out, kept_are_not_given_up, none_is_both}
 use Rattle.run_laws.proofs.way_laws.transactions_go_one_way.Goals as goal
 
 pub returns-clause-apart : goal.returns-clause-apart

@@ -4,7 +4,8 @@ use Rattle.shell_top.specs.Subject.{subject_in}
 use Rattle.shell_top.specs.Text.{reply_lines}
 use Rattle.world_views.specs.World.{Whole, is_down}
 use Rattle.world_views.specs.WorldOf.{whole_of}
-use Rattle.shell_top.proofs.ServedLemmas.{down_behind, gone_sound, left_about, left_gone, left_own, on_err, own_sound, serves, told_world}
+use Rattle.shell_top.proofs.ServedLemmas.{down_behind, gone_sound, left_about, left_gone, left_own, on_err, own_sound}
+use Rattle.shell_top.proofs.ServedLemmas.{serves, told_world}
 use Rattle.shell_top.proofs.served.serve.Goals as goal
 
 pub returns-in_err-ask_own-clause-err : goal.returns-in_err-ask_own-clause-err

@@ -13,7 +13,8 @@ returns-in-Ok-true-clause-cause g c =
 -- an open slot is read
 pub returns-in-Ok-true-clause-read : goal.returns-in-Ok-true-clause-read
 returns-in-Ok-true-clause-read g c = λ calls told.
-    system_found (state_of calls SYSTEM_FILE).bytes c.read_slot.new.bytes c.args.which c.place_of.result _ c.in-Ok-true.field-0
+    system_found (state_of calls SYSTEM_FILE).bytes c.read_slot.new.bytes c.args.which c.place_of.result _
+    c.in-Ok-true.field-0
     c.system_in.result c.place_of.ensures.value (search rules) (c.in-Ok-true.ensures.slot calls told)
     c.in-Ok-true.field-0-test
     (c.system_in.ensures.told ∙ ap (λ at. system_in at c.read_slot.new.bytes) c.place_of-in-Ok-true.ensures.value)

@@ -1,6 +1,7 @@
 use Rattle.tuple_pages.specs.Places.{places_in}
 use Rattle.tuple_pages.proofs.FreeLemmas.{Popped}
-use Rattle.tuple_pages.proofs.PageLemmas.{more_are, more_places, none_first, page_below, pop_are, pop_first, pop_inside, pop_places, slot_below, there_page, there_slot}
+use Rattle.tuple_pages.proofs.PageLemmas.{more_are, more_places, none_first, page_below, pop_are, pop_first, pop_inside}
+use Rattle.tuple_pages.proofs.PageLemmas.{pop_places, slot_below, there_page, there_slot}
 use Rattle.tuple_pages.proofs.pages.occupy.Goals as goal
 
 pub write-requires-clause-page : goal.write-requires-clause-page

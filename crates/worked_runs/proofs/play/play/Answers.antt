@@ -7,7 +7,8 @@ pub play_lines-requires : goal.play_lines-requires
 play_lines-requires g c =
     begun_world (whole_of c.in_ok-world.world) (record {
       shape = c.shape_of-shape.result;
-      epoch = 4294967296;
-      rows = [];
+      epoch = c.epochs_of-epochs.result.first;
+      start_epoch = c.epochs_of-epochs.result.start;
+      rows = c.in_ok-rows.rows.items;
     })
     c.in_ok-world.ensures

@@ -6,7 +6,9 @@ use Rattle.world_views.specs.Hosts.{front_of}
 use Rattle.world_views.specs.Sending.{headed}
 use Rattle.world_views.specs.World.{is_unclosed}
 use Rattle.world_views.proofs.CloseLemmas.{is_closed, is_left, is_left_cut, one_closed, one_left}
-use Rattle.world_views.proofs.closing.close_all.Goals.{then-to-by+then-not-is_cut+in_ok-first_signal+in_ok-close, else-to-by, else-to-by-via-then-to-by+else-not-is_cut, else-to-by-via-else-to-by}
+use Rattle.world_views.proofs.closing.close_all.Goals.{then-to-by+then-not-is_cut+in_ok-first_signal+in_ok-close}
+use Rattle.world_views.proofs.closing.close_all.Goals.{else-to-by, else-to-by-via-then-to-by+else-not-is_cut}
+use Rattle.world_views.proofs.closing.close_all.Goals.{else-to-by-via-else-to-by}
 use Rattle.world_views.proofs.closing.close_all.Goals as goal
 
 pub loop-to-preserved : goal.loop-to-preserved

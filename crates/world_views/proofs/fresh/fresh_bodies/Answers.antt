@@ -9,7 +9,8 @@ use Rattle.world_views.proofs.fresh.fresh_bodies.Goals as goal
 
 pub loop-before-init : goal.loop-before-init
 loop-before-init c =
-    let start : Start = record { shape = c.args.shape; epoch = c.args.epoch; rows = c.args.rows.now } in
+    let start : Start =
+    record { shape = c.args.shape; epoch = c.args.epoch; start_epoch = c.args.start; rows = c.args.rows.now } in
     let shell = c.in_ok-shell.field-0 in
     let begins = shell_begins start c.first-layout.result shell c.first-layout.ensures c.in_ok-shell.ensures in
     let done = first_put c.in_ok-bodies.bodies.items c.push_reserved.new.self.items shell (started start 0)
@@ -22,7 +23,8 @@ loop-before-init c =
 
 pub loop-before-preserved : goal.loop-before-preserved
 loop-before-preserved c =
-    let start : Start = record { shape = c.args.shape; epoch = c.args.epoch; rows = c.args.rows.now } in
+    let start : Start =
+    record { shape = c.args.shape; epoch = c.args.epoch; start_epoch = c.args.start; rows = c.args.rows.now } in
     let k = c.loop-before.before in
     let next = c.in_ok-part_started.field-0 in
     let pushed = c.push_reserved-in-loop-before.ensures.items in

@@ -8,7 +8,8 @@ use Rattle.world_views.proofs.fresh.fresh_bodies.Given as goal
 abbrev pub invariant-loop-before : goal.invariant-loop-before
 invariant-loop-before l = record {
   done : l.bodies.items
-      ≡ for_each (l.before + 1) (started (record { shape = l.fn.shape; epoch = l.epoch; rows = l.rows }));
+      ≡ for_each (l.before + 1)
+      (started (record { shape = l.fn.shape; epoch = l.epoch; start_epoch = l.start; rows = l.rows }));
   count : length l.bodies.items ≡ l.before + 1;
   room : l.behind + 1 ≤ vec_capacity l.bodies;
 }

@@ -5,7 +5,8 @@ use Rattle.std.specs.Prelude.{None, Some}
 use Rattle.shell_top.specs.Parsed.{parsed as parsed_line}
 use Rattle.shell_top.specs.declared.script.Parsed.TheVariants as parsed
 use Rattle.shell_top.proofs.ScriptLemmas.{command_served}
-use Rattle.shell_top.proofs.SessionLemmas.{served_as, none_held, some_held, last_none, last_nothing, last_command, last_quit, last_fault}
+use Rattle.shell_top.proofs.SessionLemmas.{served_as, none_held, some_held, last_none, last_nothing, last_command}
+use Rattle.shell_top.proofs.SessionLemmas.{last_quit, last_fault}
 use Rattle.shell_top.proofs.session.Session.last_line.Goals as goal
 
 pub returns-then-is_empty-clause-done : goal.returns-then-is_empty-clause-done

@@ -1,4 +1,5 @@
-use Rattle.shell_top.proofs.SessionLemmas.{read_on, past_end, not_past_end, line_past, part_too_long, part_unread, ends_unremembered}
+use Rattle.shell_top.proofs.SessionLemmas.{read_on, past_end, not_past_end, line_past, part_too_long, part_unread}
+use Rattle.shell_top.proofs.SessionLemmas.{ends_unremembered}
 use Rattle.shell_top.proofs.session.Session.next_line.Goals as goal
 
 pub returns-then-is_past_end-clause-done : goal.returns-then-is_past_end-clause-done

@@ -1,6 +1,6 @@
 use Rattle.std.proofs.Common.{◌≡◌, ◌++◌, ap, ◌∙◌, subst, IfSome, slice_set}
 use Rattle.sig_core.specs.Step.{Step, stay}
-use Rattle.node_views.specs.declared.host.Host.{Host}
+use Rattle.node_views.specs.declared.host_body.HostBody.{HostBody}
 use Rattle.world_core.specs.Right.{arriving}
 use Rattle.world_views.specs.Machine.{cause_in, replies_at, stops_by, told}
 use Rattle.world_views.specs.World.{Whole, body_at, sending}
@@ -13,10 +13,10 @@ returns-clause-ok c =
     let w = whole_of c.args.self.now in
     let h = c.args.host in
     let x = arriving h c.args.taken in
-    let t : Step Host = record { state = body_at w.bodies h; effects = c.args.self.now.outs } in
+    let t : Step HostBody = record { state = body_at w.bodies h; effects = c.args.self.now.outs } in
     let read = body_read w.bodies h c.index_mut.result.now c.requires.there.bodies c.index_mut.ensures.value in
-    let host = c.in_ok-tell.ensures.host ∙ ap (λ (s : Host). told h (stay s)) read in
-    let replies = c.in_ok-tell.ensures.told ∙ ap (λ (s : Host). w.replies ++ replies_at h (stay s)) read in
+    let host = c.in_ok-tell.ensures.host ∙ ap (λ (s : HostBody). told h (stay s)) read in
+    let replies = c.in_ok-tell.ensures.told ∙ ap (λ (s : HostBody). w.replies ++ replies_at h (stay s)) read in
     let telling = has_told w x t c.tell.new.host c.tell.new.replies.items host replies in
     let spoken : Whole =
     record w { bodies = slice_set w.bodies h c.tell.new.host; replies = c.tell.new.replies.items } in

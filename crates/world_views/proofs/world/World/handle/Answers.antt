@@ -4,7 +4,7 @@ use Rattle.std.proofs.lemmas.List.{get_or_read}
 use Rattle.sig_core.specs.declared.signal.Signal.{Signal}
 use Rattle.sig_core.specs.declared.view.View.{View}
 use Rattle.sig_core.specs.Step.{IsTaken, nothing}
-use Rattle.node_views.specs.declared.host.Host.{Host}
+use Rattle.node_views.specs.declared.host_body.HostBody.{HostBody}
 use Rattle.node_views.specs.Row.{host_row}
 use Rattle.world_core.specs.Right.{arriving}
 use Rattle.world_views.specs.World.{body_at}
@@ -27,7 +27,7 @@ returns-in-Ok-clause-ok c =
     (search rules) in
     let read = body_read w.bodies h c.index_mut.result.now c.requires.there.bodies c.index_mut.ensures.value in
     let taken =
-    subst (λ (s : Host). IsTaken (host_row s c.args.signal) c.step.new.self nothing c.step.new.out) read
+    subst (λ (s : HostBody). IsTaken (host_row s c.args.signal) c.step.new.self nothing c.step.new.out) read
     (subst (λ (x : Signal). IsTaken (host_row c.index_mut.result.now x) c.step.new.self nothing c.step.new.out)
     c.get-3.ensures
     c.in-Ok.ensures.taken) in
@@ -52,20 +52,20 @@ returns-in-Err-clause-ok c =
     let same =
     read_back w.bodies h c.step.new.self c.index_mut-in-Err.result.now c.requires.there.bodies
     c.index_mut-in-Err.ensures.value in
-    let before = ap (λ (s : Host). s.standing.view) seen in
+    let before = ap (λ (s : HostBody). s.standing.view) seen in
     let view =
     stands_before c.in_ok-view.view (body_at w.bodies h).standing.view c.args.signal.view.number c.step.new.self
     c.index_mut-in-Err.result.now c.put_back.new.host same
     (subst (λ (v : View). MatchOption c.in_ok-view.view (c.args.signal.view.number ≤ v.number) (λ k. k ≡ v)) before
     (subst (λ (x : Signal). MatchOption c.in_ok-view.view (x.view.number ≤ c.index-2.result.now.standing.view.number)
     (λ k. k ≡ c.index-2.result.now.standing.view)) c.get-2.ensures c.in_ok-view.ensures))
-    (subst (λ (s : Host). c.args.signal.view.number ≤ s.standing.view.number
+    (subst (λ (s : HostBody). c.args.signal.view.number ≤ s.standing.view.number
     → c.step.new.self.standing.view ≡ s.standing.view) read
     (subst (λ (x : Signal). x.view.number ≤ c.index_mut.result.now.standing.view.number
     → c.step.new.self.standing.view ≡ c.index_mut.result.now.standing.view) c.get-3.ensures c.in-Err.ensures.seen))
     c.put_back.ensures.seen in
     has_no_memory c.fail-in-Err.result w (whole_of c.fail-in-Err.new.self) (arriving h c.args.signal) c.step.new.self
     c.put_back.new.host c.requires.there.bodies at view
-    (c.put_back.ensures.kept ∙ ap (λ (s : Host). s.standing.cut) same
-    ∙ c.in-Err.ensures.kept ∙ ap (λ (s : Host). s.standing.cut) read) c.fail-in-Err.ensures.some
+    (c.put_back.ensures.kept ∙ ap (λ (s : HostBody). s.standing.cut) same
+    ∙ c.in-Err.ensures.kept ∙ ap (λ (s : HostBody). s.standing.cut) read) c.fail-in-Err.ensures.some
     c.fail-in-Err.ensures.ok

@@ -1,0 +1,4 @@
+pub mod Random
+pub mod Wave
+pub mod Load
+pub mod Left
