@@ -1,5 +1,4 @@
-# What ./ndb and ./try have in common: which program is run, and how. Both set `top`, and `me` to how they are called.
-# Sourced, not run.
+# What ./ndb takes, and how it runs a program. It sets `top`. Sourced, not run.
 
 # A crate's sources, or the list of crates, changed since a program was built.
 is_stale() {
@@ -10,13 +9,10 @@ is_stale() {
 # How the program is called.
 usage() {
     cat <<END
-$me [--nodes N] [--replicas R] [--fragments F] [FILE]
+ndb [--nodes N] [--replicas R] [--fragments F] [FILE]
     A cluster of N nodes, 1 to 8 (2), with R replicas of each row, 1 to 4 (2), which divide N, and
     F fragments, 1 to 32 (4). It runs the script in FILE, or on standard input.
-$me --help, $me --version
-END
-    [ "$me" != try ] || echo 'try runs the program unproved; ./ndb is the one that is proved.'
-    cat <<END
+ndb --help, ndb --version
 
 status   0 the input was read to its end, or to \`quit\`    1 words refused     2 a line refused
          3 reading failed    4 writing failed    5 memory is wanting    9 a line too long
@@ -36,7 +32,7 @@ tell_status() {
     local words
     case $1 in
         0) return ;;
-        1) words="words refused: $me --help tells which there are" ;;
+        1) words="words refused: ndb --help tells which there are" ;;
         2) words='a line is outside the grammar; the last line tells which, and docs/SCRIPT.md what its code means' ;;
         3) words='reading failed' ;;
         4) words='writing failed' ;;
@@ -44,7 +40,7 @@ tell_status() {
         9) words='a line is too long: more than 512 bytes, or the 65,537th' ;;
         *) words='the program was stopped' ;;
     esac
-    [ ! -t 2 ] || echo "$me: status $1: $words" >&2
+    [ ! -t 2 ] || echo "ndb: status $1: $words" >&2
 }
 
 # Takes the words. Leaves those of the program in `words`, and the script's file in `script`.

@@ -5,7 +5,7 @@
 //! | line | what is printed |
 //! |---|---|
 //! | `wave SEED W N` | the commands of the first N transactions of wave W, from 0, each as the line that it is of |
-//! | `load COUNT SEED` | of the whole load: its bytes, as a script of batches and of `gcp`, and their digest |
+//! | `load COUNT SEED` | of the whole load, of at most 100,000 transactions: its bytes, as a script of batches and of `gcp`, and their digest |
 //!
 //! Each line is printed first. Where a command of a wave isn't one of a batch, `no line of a batch` follows it.
 //! A line that is none of these ends the program with status 2.

@@ -36,9 +36,15 @@ fn wave_of(rest: &str) -> Option<Wanted> {
     Some(Wanted::Wave { seed, w, n })
 }
 
+/// The transactions that a load has at most: it asks for fewer than 10,000 waves and checkpoints.
+const MOST_TRANSACTIONS: u32 = 100_000;
+
 fn load_of(rest: &str) -> Option<Wanted> {
     let (transactions, seed) = cut_word(rest);
     let transactions = transactions.parse::<u32>().ok()?;
     let seed = seed.parse::<u64>().ok()?;
+    if transactions > MOST_TRANSACTIONS {
+        return None;
+    }
     Some(Wanted::Load { transactions, seed })
 }

@@ -123,10 +123,12 @@ fn shape<'a>(rest: &'a str) -> Option<Line<'a>> {
 
 fn epochs<'a>(rest: &'a str) -> Option<Line<'a>> {
     let (first, start) = rest.split_once(" from ")?;
-    Some(Line::Epochs(Epochs {
-        first: epoch_of(first)?,
-        start: epoch_of(start)?,
-    }))
+    let first = epoch_of(first)?;
+    let start = epoch_of(start)?;
+    if start >= first {
+        return None;
+    }
+    Some(Line::Epochs(Epochs { first, start }))
 }
 
 fn row<'a>(rest: &'a str) -> Option<Line<'a>> {
