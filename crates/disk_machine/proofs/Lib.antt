@@ -1,0 +1,4 @@
+pub mod Entries
+pub mod Pending
+pub mod Behind
+pub mod LogsPlain

@@ -1,0 +1,4 @@
+pub mod Rule
+pub mod Erased
+pub mod Machine
+pub mod Transparent
