@@ -1,7 +1,6 @@
 -- An epoch that is marked durable was marked closed before. The statement (Statement) says what members and masters
--- have noted and
--- tell of closed and durable epochs; it is kept by each event (Hosts), by induction along moments, on how far members
--- are (the laws of epochs).
+-- have noted and tell of closed and durable epochs; it is kept by each event (Hosts), by induction along moments, on
+-- how far members are (the laws of epochs).
 pub mod All
 pub mod BehindClosed
 pub mod Hosts

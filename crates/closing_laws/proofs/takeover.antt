@@ -1,7 +1,6 @@
 -- Once a takeover has told its master that it is over, nobody whose coordinator is gone is left to decide: all that it
 -- decided is done. One induction along moments for whose end a master is told (OwnMaster, MastersAreTold), one for
--- where rows stand
--- meanwhile (RowsStand), and the rest at one moment, on the laws of commits.
+-- where rows stand meanwhile (RowsStand), and the rest at one moment, on the laws of commits.
 pub mod BesideClients
 pub mod Done
 pub mod LeavesNone

@@ -12,8 +12,7 @@ use Rattle.view_laws.specs.Runs.{AreOfCluster}
 use Rattle.outcome_laws.specs.Decided.{IsMarked}
 
 -- Once an epoch is closed, or durable, whoever writes and has that epoch or one before it, and is in the history of a
--- later
--- cut, is in that of this one.
+-- later cut, is in that of this one.
 abbrev pub ClosedStayClosed : Type 0
 ClosedStayClosed =
     (start : Start) (small large : ℕ → List HostStep) → start.start_epoch < start.epoch → AreOfCluster start small

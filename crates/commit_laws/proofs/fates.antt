@@ -1,7 +1,6 @@
--- What becomes of a transaction: it goes on, commits or aborts, and whoever speaks of that speaks truly.
--- By induction along moments, of what is spoken, of what takeovers rule, and of fates together. It stands on who has
--- gone
--- forth and who is lost.
+-- What becomes of a transaction: it goes on, commits or aborts, and whoever speaks of that speaks truly. By induction
+-- along moments, of what is spoken, of what takeovers rule, and of fates together. It stands on who has gone forth and
+-- who is lost.
 pub mod AbortedFinals
 pub mod BegunNone
 pub mod Cases

@@ -1,7 +1,6 @@
 -- What a takeover is told while it gathers: each member is asked once and ends once, in front of the end it tells of
--- each
--- record and marker, and when the last has ended the takeover has noted all that it was told.
--- By induction along moments, view by view, with counts of asks and ends. It stands on the orders, one for each view.
+-- each record and marker, and when the last has ended the takeover has noted all that it was told. By induction along
+-- moments, view by view, with counts of asks and ends. It stands on the orders, one for each view.
 pub mod All
 pub mod Alone
 pub mod Asked

@@ -45,8 +45,7 @@ module _ (start : Start) (logs : ℕ → List HostStep) where
     pub prepared : own.committed ≡ false
 
   -- it was told of each key of which a full member has a record or a marker, and that each is committed of which one
-  -- has
-  -- a marker; who wasn't told to be committed is prepared at a replica
+  -- has a marker; who wasn't told to be committed is prepared at a replica
   pub record AllIsTold (member : Member) : Type 0 where
     pub records : (one : Member) → IsIn one (current start logs).full → (tx : TxId) → IsOrphan (current start logs) tx
         → (key : List ℕ) → is_some (record_at start logs one key tx) ≡ true

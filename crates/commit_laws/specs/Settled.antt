@@ -45,8 +45,7 @@ module _ (start : Start) (logs : ℕ → List HostStep) (key : List ℕ) where
 
   -- The answers of these operations are right from the primary's row on; each replica in the current view has the image
   -- that they leave, if one took effect, and nobody else has any; and the transaction holds the lock at the primary as
-  -- the
-  -- operations need it, if there are any.
+  -- the operations need it, if there are any.
   pub record IsSettledWith (tx : TxId) (ops : List (Op × Answer)) : Type 0 where
     pub right : (primary : Member) → IsPrimary primary
         → AreRight (replica_at start logs primary key).cell.row (ops_on key ops)

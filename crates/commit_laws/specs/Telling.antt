@@ -45,8 +45,7 @@ module _ (start : Start) (logs : ℕ → List HostStep) where
     pub committed : Marked → told_epoch telling.told telling.epoch ≡ None → ⊥
 
   -- In front of each end that the rows of this member sent to this takeover they told of each record and marker of
-  -- orphans
-  -- that they have.
+  -- orphans that they have.
   abbrev pub ToldBeforeEnds : Member → Member → Type 0
   ToldBeforeEnds member one =
       (y : Addressed) (newer older : List Addressed)

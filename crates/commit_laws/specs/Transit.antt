@@ -1,6 +1,5 @@
 -- What is in transit at a moment: signals that were sent and weren't taken. What a host that stopped, or was cut off,
--- would
--- have been sent stays among them.
+-- would have been sent stays among them.
 use Rattle.std.specs.Prelude.{◌≡◌, ℕ, Bool, true, false, List, [], ◌∷◌, ◌||◌}
 use Rattle.sig_core.specs.declared.signal.Body.{Body}
 use Rattle.sig_core.specs.declared.signal.Body.TheVariants.{Host}

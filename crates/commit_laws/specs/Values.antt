@@ -46,8 +46,7 @@ module _ (start : Start) (end : List HostStep) where
 
   -- The answers of the history up to this moment are right for the key. What is prepared at a replica, decided and
   -- final, leads from the row there to the one that this history leaves, unless something was committed there that
-  -- isn't
-  -- final.
+  -- isn't final.
   pub record IsLedAt (es : List HostStep) (key : List ℕ) : Type 0 where
     pub right : IsRightAt key (first_row key) (history_at es)
     pub led : (member : Member) → IsReplicaOf start (logs_of start es) key member

@@ -1,6 +1,5 @@
 -- What a step of a host comes to for the epochs of a member, and for its master: views are installed, and they may take
--- the
--- signal of the step.
+-- the signal of the step.
 use Rattle.std.proofs.Common.{◌≡◌, ◌≤◌, ◌<◌, ◌⊎◌, ℕ, true, refl, sym, ap, subst, ◌∙◌, inl, inr, arith}
 use Rattle.std.specs.Prelude.{Some}
 use Rattle.frag_map.specs.Layout.{Layout}

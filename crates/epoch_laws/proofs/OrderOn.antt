@@ -1,6 +1,5 @@
 -- The three ways in which members and president go on in one view: the president takes a signal, a member carries out
--- an
--- order, or each is where it was.
+-- an order, or each is where it was.
 use Rattle.std.proofs.Common.{◌≡◌, ◌≤◌, ◌⊎◌, ℕ, List, ap, sym, subst, inl, arith}
 use Rattle.sig_core.specs.declared.member.Member.{Member}
 use Rattle.sig_core.specs.declared.signal.Body.{Body}

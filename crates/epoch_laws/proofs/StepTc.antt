@@ -35,8 +35,7 @@ use Rattle.epoch_laws.proofs.SentParts.{entered_none}
 use Rattle.world_views.proofs.StepWalk.{IsTaken, IsWalked, Saying, next_comes}
 
 -- The blocks of a host take the signal, where it stands in this view behind it: the signal's own, which is greater, or
--- the
--- one before, where the signal isn't below their fence.
+-- the one before, where the signal isn't below their fence.
 abbrev pub IsPassed : hosts.HostBody → Signal → View → Type 0
 IsPassed s x stood =
     ((nat_lt s.standing.view.number x.view.number ≡ true) × (stood ≡ x.view))

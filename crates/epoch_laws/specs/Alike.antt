@@ -1,6 +1,5 @@
 -- How far the members of the current view are: each gives the same epoch, or some have prepared for the next one or
--- gone on
--- to it.
+-- gone on to it.
 use Rattle.std.specs.Prelude.{◌≡◌, ◌≤◌, ◌<◌, ◌⊎◌, ℕ, List, Option, None, Some}
 use Rattle.run_theory.specs.Lists.{Each, IsIn}
 use Rattle.sig_core.specs.declared.mark.Mark.{Mark}
@@ -19,8 +18,7 @@ IsPast None epoch = Unit {0}
 IsPast (Some order) epoch = order.epoch < epoch
 
 -- What is so of one member by itself: a prepared epoch isn't below the current one, and the next is above it; where
--- none is
--- prepared the next is the current one, and the last order was for one before it.
+-- none is prepared the next is the current one, and the last order was for one before it.
 pub record IsSound (s : DihState) : Type 0 where
   pub some : 1 ≤ s.current
   pub preparing : s.current < s.next → (s.current ≤ s.prepared) × (s.prepared < s.next)

@@ -1,6 +1,5 @@
 -- Signals at an event: what was sent before has no greater view than the current one, what is sent has that of its
--- host,
--- and what is told of each that was sent is told of the one that the event takes.
+-- host, and what is told of each that was sent is told of the one that the event takes.
 use Rattle.std.proofs.Common.{◌≡◌, ◌≤◌, ◌<◌, ◌⊎◌, ◌||◌, ℕ, Bool, true, false, filter, List, [], ◌∷◌, refl, sym, ap}
 use Rattle.std.proofs.Common.{subst, ◌∙◌, inl, inr, arith}
 use Rattle.std.proofs.lemmas.Bool.{cases_lt}

@@ -11,8 +11,7 @@ use Rattle.sig_core.specs.Place.{epochs}
 use Rattle.outcome_laws.specs.Counts.{coordinator_member}
 
 -- Its own member tells that a transaction has begun, and asks for its epoch: of the epochs of its own node. Clients
--- alone
--- ask for commits.
+-- alone ask for commits.
 abbrev pub IsOwnAt : Member → Place → Body → Type 0
 IsOwnAt member to (Client (TcBeginConf name tx)) = coordinator_member tx ≡ member
 IsOwnAt member to (Client (TcCommitReq tx)) = ⊥

@@ -1,8 +1,7 @@
 -- Where signals about the rows of transactions go, in the view of their sender.
 --
 -- Of a view three things are said of transactions: its coordinator asked for an operation of it in this view, it drives
--- it
--- there, so that it has sent commits of it, and it has given it up.
+-- it there, so that it has sent commits of it, and it has given it up.
 use Rattle.std.specs.Prelude.{◌≡◌, ◌<◌, ◌⊎◌, ℕ, Bool, true, false, List, [], ◌∷◌, length, Option, None, Some}
 use Rattle.run_theory.specs.Lists.{Each}
 use Rattle.frag_map.specs.Layout.{Layout, chain_of}
@@ -34,8 +33,7 @@ use Rattle.lqh_block.specs.Views.{is_coordinated}
 use Rattle.lqh_views.specs.State.{ReplicaState}
 
 -- a request goes along the replicas of its key, to the rows of the one at its place: an operation to the first, an
--- image
--- to each behind
+-- image to each behind
 pub record IsRequestRouted (layout : Layout) (to : Place) (q : Request) : Type 0 where
   pub chain : q.chain ≡ chain_of layout (work_key q.work)
   pub inside : q.at < length q.chain
@@ -56,8 +54,7 @@ pub record IsCompletionRouted (layout : Layout) (to : Place) (key : List ℕ) (c
     pub place : to ≡ rows_of (node_at chain at)
 
 -- what tells of the end of a transaction's part in a row goes to its coordinator where that is a full member, and else
--- to
--- the takeover of the oldest full member
+-- to the takeover of the oldest full member
 abbrev pub owner_if : List Member → TxId → Bool → Place
 owner_if full tx true = coordinator_of tx
 owner_if [] tx false = coordinator_of tx
@@ -107,8 +104,7 @@ module _ (layout : Layout) (A D : TxId → Type 0) (G : TxId → Type 0) where
   WaitsRouted s = Each (λ (q : Request). IsRequestRouted layout (rows_of s.lqh.node) q × A q.tx) s.lqh.waiting
 
   -- Of one that isn't doomed they are those of this view where none of its operations is unanswered, or the unanswered
-  -- one
-  -- was asked for in this view; of one that is committed, where it is driven in this view; it isn't given up then.
+  -- one was asked for in this view; of one that is committed, where it is driven in this view; it isn't given up then.
   abbrev pub HasRoutesIn : CoordinatorState → TxId → Transaction → Phase → Type 0
   HasRoutesIn s tx t Open = (is_among s.doomed tx ≡ false) → ((t.asked ≡ None) ⊎ A tx) → HasRoutes layout t
   HasRoutesIn s tx t Verifying = (is_among s.doomed tx ≡ false) → ((t.asked ≡ None) ⊎ A tx) → HasRoutes layout t

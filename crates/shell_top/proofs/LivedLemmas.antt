@@ -68,6 +68,7 @@ module _ (start : Start) where
       record {
         labelled = sound_labels start w (record { given = was.given; right = was.right });
         right = right_logs start was.given w was.right;
+        next_stamps = was.right.next;
         within = within start was.given w was.right;
         asked = asked e last;
         at_quiet = was.at_quiet;
@@ -98,6 +99,7 @@ module _ (start : Start) where
       record {
         labelled = left.left.labelled;
         right = left.left.right;
+        next_stamps = left.left.next_stamps;
         within = left.left.within;
         asked = record {
           count = length done;

@@ -153,6 +153,7 @@ module _ (start : Start) where
       (record {
         labelled = sound_labels start w sound;
         right = right_logs start sound.given w sound.right;
+        next_stamps = sound.right.next;
         within = within start sound.given w sound.right;
         more = λ h. past_self (logs_at w.logs h);
         part = 0;
@@ -172,6 +173,7 @@ module _ (start : Start) where
       record {
         labelled = labelled;
         right = grown.right;
+        next_stamps = grown.next;
         within = grown.within;
         more = λ h. past_trans (asked.more h) (grown.more h);
         part = 1;
@@ -206,6 +208,7 @@ module _ (start : Start) where
       record {
         labelled = left.labelled;
         right = left.right;
+        next_stamps = left.next_stamps;
         within = left.within;
         more = λ h. past_trans (served.more h) (left.more h);
         part = length asked + left.part;
@@ -230,6 +233,7 @@ module _ (start : Start) where
       record {
         labelled = left.labelled;
         right = left.right;
+        next_stamps = left.next_stamps;
         within = left.within;
         more = left.more;
         part = part.count;

@@ -70,8 +70,7 @@ pub record IsAskedNext (served log : List HostStep) : Type 0 where
   pub asks : is_some (request_of asking) ≡ true
 
 -- The log went on from `served`, where a command's own requests were served, to its end: at once where nothing of its
--- own
--- was unanswered, and else the shell asked what it waits for, and then for its replies.
+-- own was unanswered, and else the shell asked what it waits for, and then for its replies.
 abbrev pub AsksOn : List HostStep → List HostStep → Bool → Type 0
 AsksOn served log false = log ≡ served
 AsksOn served log true = IsAskedNext served log × (requests log ≡ requests served ++ questions)

@@ -28,6 +28,7 @@ use Rattle.world_views.specs.Lives.{fresh, start_of}
 use Rattle.world_views.specs.Machine.{machine}
 use Rattle.world_views.specs.Quiet.{IsQuiet}
 use Rattle.world_views.specs.Requests.{AreAskedAtQuiet}
+use Rattle.world_views.specs.Stamps.{HaveNextStamps}
 use Rattle.world_views.specs.Unscheduled.{AreUnscheduled}
 
 -- All commands were asked for; or, where the sink failed meanwhile, the first of them; or, where memory was wanting
@@ -40,11 +41,11 @@ AreAskedFor start ending commands log = AreAsked start (reverse commands) log
 -- The logs of a life in which the shell asked for the commands, each at quiet, as far as the session came. There is one
 -- for each host, and it says which host's it is. At its end nothing was under way, unless memory was wanting. No host
 -- stopped by itself, unless for want of memory or of stamps, and then it had no stamp left, nor cut off a node. Where
--- none
--- did so, and no command kills or cuts anything, the logs came about in peace.
+-- none did so, and no command kills or cuts anything, the logs came about in peace.
 pub record AreLived (start : Start) (ending : Ending) (commands : List Command) (logs : List HostLog) : Type 0 where
   pub labelled : AreLabelled start logs
   pub right : AreLogs (machine start) (logs_at logs)
+  pub next_stamps : (h : ℕ) → HaveNextStamps (logs_at logs h)
   pub within : IsWithin (hosts start) (logs_at logs)
   pub asked : AreAskedFor start ending commands (logs_at logs 0)
   pub at_quiet : AreAskedAtQuiet start (logs_at logs)
@@ -81,8 +82,7 @@ may_be_unborn NoMemory = true
 may_be_unborn ending = false
 
 -- The lives of a session whose words ask for this shape, if for any: one life; or none, where the words were refused,
--- or
--- memory was wanting, before anything was read.
+-- or memory was wanting, before anything was read.
 abbrev pub AreLives : Option Shape → Ending → List Command → List ℕ → List Life → Type 0
 AreLives asked ending commands input [] = (input ≡ []) × (may_be_unborn ending ≡ true)
 AreLives (Some shape) ending commands input (life ∷ []) = IsLife shape ending commands life

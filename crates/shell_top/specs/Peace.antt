@@ -23,8 +23,7 @@ use Rattle.world_views.specs.Requests.{requests}
 use Rattle.world_views.specs.Right.{replies_in}
 
 -- Each request in these logs of a cluster in which nothing can fail is served between two quiet moments and answered
--- there
--- as it should be; but for the last one, where memory was wanting.
+-- there as it should be; but for the last one, where memory was wanting.
 abbrev pub EachIsAnswered : Start → Ending → (ℕ → List HostStep) → Type 0
 EachIsAnswered start ending logs =
     (newer : List HostStep) (e : HostStep) (before : List HostStep) (request : ApiReq) → logs 0 ≡ newer ++ e ∷ before
@@ -58,10 +57,9 @@ replied start log = replies_of (plain.after start 0 log)
 
 -- Peaceful logs, of a session that ended so. Their plain parts, which leave out what is done for closings and have all
 -- epochs made one, are the logs of a cluster in which nothing can fail: its shell was replied the same, but for the
--- views
--- that it was shown, the ends of closings, and epochs; each request is answered; each abort that is told has its cause
--- in
--- every closed cut; and no reply tells of a host that stopped. And each closing is answered in its own command.
+-- views that it was shown, the ends of closings, and epochs; each request is answered; each abort that is told has its
+-- cause in every closed cut; and no reply tells of a host that stopped. And each closing is answered in its own
+-- command.
 pub record IsPeacefullyServed (start : Start) (ending : Ending) (logs : ℕ → List HostStep) : Type 0 where
   pub peaceful : ArePeaceful logs
   pub replies : levelled_replies start.epoch (replies_in start 0 (logs 0)) ≡ replied start (plain_parts start logs 0)

@@ -32,10 +32,8 @@ use Rattle.commit_laws.specs.Traces.{record_at}
 -- serial one: each answer in it is right, what was reported before another transaction was asked for stands before it,
 -- epochs never fall along it, and a live replica of a key at rest has the row that it leaves. A transaction is decided
 -- once at most, as its client asked for it and was answered, and reported once at most: where it is reported committed
--- it
--- is in the history, with that epoch, and where it is reported aborted it isn't; since the cluster is down only where
--- it
--- wasn't decided. An epoch that is durable was closed.
+-- it is in the history, with that epoch, and where it is reported aborted it isn't; since the cluster is down only
+-- where it wasn't decided. An epoch that is durable was closed.
 pub record IsSafe (start : Start) (inside : ℕ → List HostStep) : Type 0 where
   pub one_view : (one other : View) → WasInstalled start inside one → WasInstalled start inside other
       → one.number ≡ other.number → one ≡ other
@@ -55,10 +53,9 @@ pub record IsSafe (start : Start) (inside : ℕ → List HostStep) : Type 0 wher
   pub durable : (h epoch : ℕ) → h < hosts start → IsMarked (Durable epoch) (inside h) → WasClosed start inside epoch
 
 -- Of a closed cut and a larger one. Once an epoch is closed, or durable, whoever writes, and has that epoch or one
--- before
--- it in the larger one's history, is in that of the smaller one. Of a transaction that is in the larger one's history,
--- members have the same image of a key in the smaller one, as far as they have a record of it on that key and no
--- operation of it there is unanswered.
+-- before it in the larger one's history, is in that of the smaller one. Of a transaction that is in the larger one's
+-- history, members have the same image of a key in the smaller one, as far as they have a record of it on that key and
+-- no operation of it there is unanswered.
 pub record AreSafe (start : Start) (small large : ℕ → List HostStep) : Type 0 where
   pub closed : (h epoch : ℕ) → h < hosts start
       → (IsMarked (Closed epoch) (small h)) ⊎ (IsMarked (Durable epoch) (small h))

@@ -26,6 +26,7 @@ use Rattle.world_views.specs.Driven.{IsSound}
 use Rattle.world_views.specs.Machine.{machine}
 use Rattle.world_views.specs.Requests.{AreAskedAtQuiet, requests}
 use Rattle.world_views.specs.Right.{IsRight}
+use Rattle.world_views.specs.Stamps.{HaveNextStamps}
 use Rattle.world_views.specs.Unscheduled.{AreUnscheduled}
 use Rattle.world_views.specs.World.{IsIdle, Whole}
 
@@ -61,11 +62,11 @@ pub record HasServed (start : Start) (asked : List ApiReq) (w t : Whole) : Type 
       → AreInPeace start (logs_at t.logs)
 
 -- Memory was wanting while the world was asked for these requests: of the logs, a first part of them was asked for,
--- each
--- at quiet; where none was, the shell's host made no step. Peace goes on.
+-- each at quiet; where none was, the shell's host made no step. Peace goes on.
 pub record AreLeftOff (start : Start) (asked : List ApiReq) (w : Whole) (logs : List HostLog) : Type 0 where
   pub labelled : AreLabelled start logs
   pub right : AreLogs (machine start) (logs_at logs)
+  pub next_stamps : (h : ℕ) → HaveNextStamps (logs_at logs h)
   pub within : IsWithin (hosts start) (logs_at logs)
   pub more : (h : ℕ) → IsPast (logs_at w.logs h) (logs_at logs h)
   pub part : ℕ
@@ -83,8 +84,7 @@ HasGoneOn start w t false = t ≡ w
 HasGoneOn start w t true = HasServed start questions w t
 
 -- The world is quiet. The shell asked for these commands, each at quiet, and has had all replies. Where they stop and
--- cut
--- off nobody, and no host gave up, the logs are peaceful.
+-- cut off nobody, and no host gave up, the logs are peaceful.
 pub record IsServed (start : Start) (commands : List Command) (w : Whole) : Type 0 where
   pub given : List ApiReply
   pub right : IsRight start given w

@@ -62,8 +62,7 @@ is_killed Killed = true
 is_killed _ = false
 
 -- Of a command that is about this the reply is an own one: it tells what that asked for, and of no transaction of
--- another
--- name, nor of a stop or closing that it didn't ask for.
+-- another name, nor of a stop or closing that it didn't ask for.
 abbrev pub is_own : Subject → ApiReply → Bool
 is_own asked (reply.Stopped node cause) = is_killed cause && is_stop_of asked node
 is_own asked (reply.Closed epoch) = is_closing asked

@@ -1,6 +1,5 @@
 -- The client's side asks for one operation of a transaction at a time: while one is unanswered there is one answer
--- fewer
--- than it asked for, and none is missing where it has asked for the commit.
+-- fewer than it asked for, and none is missing where it has asked for the commit.
 use Rattle.std.proofs.Common.{◌≡◌, ◌≤◌, ◌+◌, ◌∙◌, ◌++◌, ◌&&◌, ℕ, Bool, true, false, List, [], ◌∷◌, length, ap, arith}
 use Rattle.std.proofs.Common.{refl, subst, sym}
 use Rattle.std.specs.List.{count_by}
@@ -70,8 +69,7 @@ module _ (tx : TxId) where
   IsPaid asked told t = has_tx tx t ≡ true → asked ≤ told + one_if (is_operating t.doing)
 
   -- the client's side, with how many operations it asked for, answers it told, and commits it asked for, and how often
-  -- it
-  -- was told of the begin
+  -- it was told of the begin
   pub record ClientTalked (opened : List OpenTransaction) (asked told wished begun : ℕ) : Type 0 where
     pub paid : Each (IsPaid asked told) opened
     pub open_few : count_by (has_tx tx) opened ≤ begun

@@ -1,6 +1,5 @@
 -- Along the log of a coordinator's host: what it gives with a request for an epoch are operations that it took, and
--- their
--- answers, all that it has told.
+-- their answers, all that it has told.
 use Rattle.std.proofs.Common.{◌≡◌, ◌≤◌, ◌+◌, ◌∙◌, ◌++◌, ◌⊎◌, ℕ, Bool, true, false, List, [], ◌∷◌, length, ap, arith}
 use Rattle.std.proofs.Common.{inl, inr, refl, subst, sym}
 use Rattle.std.specs.List.{cons_option}

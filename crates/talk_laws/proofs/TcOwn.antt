@@ -1,6 +1,5 @@
 -- A coordinator asks for no operations, and answers only those of its own transactions; so of the hosts only that of
--- the
--- coordinator which began a transaction answers its operations, and only the shell's asks for them.
+-- the coordinator which began a transaction answers its operations, and only the shell's asks for them.
 use Rattle.std.proofs.Common.{◌≡◌, ◌≢◌, ◌≤◌, ◌<◌, ◌⊎◌, ◌∙◌, ℕ, zero, suc, Bool, true, false, List, ◌∷◌, ap, arith, inl}
 use Rattle.std.proofs.Common.{inr, refl, subst, sym}
 use Rattle.std.proofs.lemmas.Bool.{cases_lt}

@@ -1,6 +1,5 @@
 -- What a turn of a coordinator's transaction has to do with its operations: one is asked for, one is answered, or all
--- go
--- with the request for an epoch.
+-- go with the request for an epoch.
 use Rattle.std.proofs.Common.{◌≡◌, ◌⊎◌, ◌+◌, ◌&&◌, ℕ, Bool, true, false, List, [], ◌∷◌, ◌++◌, take, drop, length}
 use Rattle.std.proofs.Common.{nat_lt, refl, ap, inl, inr}
 use Rattle.std.specs.Prelude.{Option, None, Some}

@@ -1,6 +1,5 @@
 -- A coordinator has each operation of an open transaction from its client, and each answer that it has given is of one
--- of
--- them; and so it is with the operations with which it asks for an epoch, for good.
+-- of them; and so it is with the operations with which it asks for an epoch, for good.
 use Rattle.std.proofs.Common.{◌≡◌, ◌≤◌, ◌<◌, ◌+◌, ◌∙◌, ◌⊎◌, ◌++◌, ◌&&◌, ℕ, Bool, true, false, List, [], ◌∷◌, length, ap}
 use Rattle.std.proofs.Common.{arith, inl, inr, refl, subst, sym}
 use Rattle.std.proofs.lemmas.Bool.{leb-false, leb-true}

@@ -57,11 +57,9 @@ IsForItsTransaction opened body o =
 
 -- The client is told just the ends that are marked, and no answer but the one that the step's signal tells, each under
 -- the name of its transaction; no more answers were told of a transaction than operations of it were asked for, and
--- those
--- are what the shell requested. One transaction at most is open under a name. An operation is asked for by the number
--- of
--- the transaction that is open under the name of the step's request, and an operation alone by that of one without a
--- name.
+-- those are what the shell requested. One transaction at most is open under a name. An operation is asked for by the
+-- number of the transaction that is open under the name of the step's request, and an operation alone by that of one
+-- without a name.
 pub record AreReported (start : Start) (logs : ℕ → List HostStep) : Type 0 where
   pub told : (newer : List HostStep) (e : HostStep) (before : List HostStep) → logs 0 ≡ newer ++ e ∷ before
       → outcomes_told (replies_at 0 (step_after start 0 before e)) ≡ outcomes_marked e.step.marks

@@ -1,6 +1,5 @@
 -- Hosts follow the events of their blocks: from the log of a host to the events of its membership, of its arbitrator
--- and
--- of the view that it stands in. The induction goes along a log; a step has few forms.
+-- and of the view that it stands in. The induction goes along a log; a step has few forms.
 pub mod HostKinds
 pub mod Hosts
 pub mod Memberships

@@ -1,6 +1,5 @@
 -- Who sends what memberships tell of views: memberships and the arbitrator alone, but for confirmations of fences. So
--- it
--- is of each step of a host, by what its blocks say.
+-- it is of each step of a host, by what its blocks say.
 pub mod Arbitrators
 pub mod EachSignal
 pub mod Lists

@@ -66,6 +66,7 @@ module _ (start : Start) (given : List ApiReply) (w : Whole) (right : IsRight st
         right = λ others was. move_right start others w 0 wish step (ready others was);
         more = log_grows start given w 0 wish step (ready given right);
         logs = right_logs start given (asked w request) now;
+        next_stamps = now.next;
         within = within start given (asked w request) now;
         requests = ap requests log_is;
         asked = at_quiet;

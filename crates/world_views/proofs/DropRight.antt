@@ -69,6 +69,7 @@ module _ (start : Start) (given : List ApiReply) (w : Whole) (new : Links) (i j 
           logs = right.sizes.logs;
         };
         local = right.local;
+        next = right.next;
         stamps = right.stamps;
         labels = right.labels;
         stopped = right.stopped;

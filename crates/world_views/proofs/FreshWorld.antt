@@ -27,6 +27,7 @@ use Rattle.world_views.specs.Links.{AreLinks, LinkState, Links, inbox_of, link, 
 use Rattle.world_views.specs.Machine.{after, has_stopped, machine, sent_count}
 use Rattle.world_views.specs.Requests.{AreAskedAtQuiet}
 use Rattle.world_views.specs.Right.{IsLinked, IsRight, replies_in}
+use Rattle.world_views.specs.Stamps.{HaveNextStamps}
 use Rattle.world_views.specs.World.{IsIdle, new_world}
 
 -- wherever one looks in a list of one thing, it is that
@@ -89,6 +90,7 @@ module _ (start : Start) where
           logs = each_length (hosts start) no_steps;
         };
         local = λ h low. subst (IsLog (machine start) h) (sym (no_log h)) tt;
+        next = λ h. subst HaveNextStamps (sym (no_log h)) tt;
         stamps = λ h low. get_or-replicate (hosts start) h 0 0 low ∙ ap last_stamp (sym (no_log h));
         labels = λ h low.
             subst (IsLabelled h) (sym (each_at (hosts start) no_steps h (no_steps 0) low)) (record {

@@ -21,6 +21,7 @@ use Rattle.world_core.specs.Machine.{last_stamp}
 use Rattle.world_views.specs.Links.{LinkState, Links, link}
 use Rattle.world_views.specs.Machine.{after, has_stopped, machine, replies_at, sent_count, step_by, stops_by, told}
 use Rattle.world_views.specs.Right.{IsLinked, IsRight, replies_in}
+use Rattle.world_views.specs.Stamps.{HaveNextStamps}
 use Rattle.world_views.specs.World.{Whole, body_at, entered, step_made}
 use Rattle.world_views.proofs.CloseRight.{close_right}
 use Rattle.world_views.proofs.Entered.{AreRightLinks, behind_step, entered_is, links_by, new_links}
@@ -77,12 +78,14 @@ module _ (start : Start) (given : List ApiReply) (w : Whole) (lost : ℕ) (x : A
   pub logs_are : (k : ℕ) → logs_at (entered w lost x t).logs k ≡ log_with w x t k
   logs_are k = ap (λ (v : Whole). logs_at v.logs k) (entered_is start given w lost x t ready) ∙ logs_behind k
 
+  own_next : e.step.stamp ≡ max (last_stamp (logs_at w.logs x.to)) x.signal.stamp + 1
+  own_next = ap (λ n. max n x.signal.stamp + 1) (ready.stamps x.to ready.there)
+
   own_step : IsStep (machine start) x.to (logs_at w.logs x.to) e
   own_step =
       record {
         at = refl;
-        stamped = ap (λ n. max n x.signal.stamp + 1)
-            (ready.stamps x.to ready.there ∙ sym (last_is start x.to (logs_at w.logs x.to)));
+        stamped = omega (arith, own_next, last_is start x.to (logs_at w.logs x.to));
         runs = running start (logs_at w.logs x.to) ready.runs;
         fits = record { marks = ap (λ (f : Effects). f.marks) ready.step.effects; comes = ready.comes };
       }
@@ -96,6 +99,16 @@ module _ (start : Start) (given : List ApiReply) (w : Whole) (lost : ℕ) (x : A
         ready.local k low,
       )
       go false differs = ready.local k low
+
+  next_behind : (k : ℕ) → HaveNextStamps (log_with w x t k)
+  next_behind k = go (x.to == k) refl
+    where
+      go : (b : Bool) → (x.to == k) ≡ b → HaveNextStamps (grown b k)
+      go true same = (
+        subst (λ n. e.step.stamp ≡ max (last_stamp (logs_at w.logs n)) x.signal.stamp + 1) (eqb-true x.to k same) own_next,
+        ready.next k,
+      )
+      go false differs = ready.next k
 
   stamps_behind : (k : ℕ) → k < hosts start → slice_index_or behind.stamps k 0 ≡ last_stamp (log_with w x t k)
   stamps_behind k low = go (x.to == k) refl
@@ -206,6 +219,7 @@ module _ (start : Start) (given : List ApiReply) (w : Whole) (lost : ℕ) (x : A
           logs = with_step_length w.logs x.to (step_made w x t) ∙ ready.sizes.logs;
         };
         local = λ k low. subst (IsLog (machine start) k) (sym (logs_behind k)) (local_behind k low);
+        next = λ k. subst HaveNextStamps (sym (logs_behind k)) (next_behind k);
         stamps = λ k low. stamps_behind k low ∙ ap last_stamp (sym (logs_behind k));
         labels = labels_behind;
         stopped = λ k low. stopped_behind k low ∙ ap has_stopped (sym (logs_behind k));

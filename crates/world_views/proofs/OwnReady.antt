@@ -141,6 +141,7 @@ module _ (start : Start) (given : List ApiReply) (w : Whole) (right : IsRight st
           step = is;
           comes = subst (λ b. comes_rightly b start h (logs_at w.logs h) wish.signal) (sym asks) (asks_own work own);
           local = right.local;
+          next = right.next;
           stamps = right.stamps;
           labels = right.labels;
           stopped = right.stopped;

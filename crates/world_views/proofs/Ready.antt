@@ -19,6 +19,7 @@ use Rattle.world_views.specs.Machine.{after, comes_rightly, has_stopped, machine
 use Rattle.world_views.specs.Machine.{stops_by, told}
 use Rattle.world_views.specs.Right.{IsHeld, IsOpen, on_link, replies_in}
 use Rattle.world_views.specs.Sending.{is_asked}
+use Rattle.world_views.specs.Stamps.{HaveNextStamps}
 use Rattle.world_views.specs.World.{IsOf, Whole, body_at, step_made}
 
 -- the step that the host of a signal makes in a world, and the log of a host with it
@@ -29,8 +30,7 @@ abbrev pub log_with : Whole → Addressed → Step HostBody → ℕ → List Hos
 log_with w x t h = if x.to == h then host_step w x t ∷ logs_at w.logs h else logs_at w.logs h
 
 -- What host h did is the step that the machine makes; where it stops, so far as that tells: of a host that wanted
--- memory it
--- isn't known what is left, but for the hosts that it had cut off and its view.
+-- memory it isn't known what is left, but for the hosts that it had cut off and its view.
 pub record IsStepOf (h : ℕ) (machine_step t : Step HostBody) : Type 0 where
   pub effects : t.effects ≡ machine_step.effects
   pub cut : (told h t).standing.cut ≡ (told h machine_step).standing.cut
@@ -54,6 +54,7 @@ pub record IsReady (start : Start) (given : List ApiReply) (w : Whole) (x : Addr
   pub step : IsStepOf x.to (step_by x.to (after start x.to (logs_at w.logs x.to)) x.signal) t
   pub comes : comes_rightly (is_asked x.to x.signal) start x.to (logs_at w.logs x.to) x.signal
   pub local : (h : ℕ) → h < hosts start → IsLog (machine start) h (logs_at w.logs h)
+  pub next : (h : ℕ) → HaveNextStamps (logs_at w.logs h)
   pub stamps : (h : ℕ) → h < hosts start → slice_index_or w.stamps h 0 ≡ last_stamp (logs_at w.logs h)
   pub labels : (h : ℕ) → h < hosts start → IsLabelled h (slice_index_or w.logs h (no_steps 0))
   pub stopped : (h : ℕ) → h < hosts start → slice_index_or w.stopped h true ≡ has_stopped (logs_at w.logs h)

@@ -47,6 +47,7 @@ module _ (start : Start) (given : List ApiReply) (w : Whole) (right : IsRight st
           logs = right.sizes.logs;
         };
         local = right.local;
+        next = right.next;
         stamps = right.stamps;
         labels = right.labels;
         stopped = right.stopped;

@@ -89,6 +89,7 @@ module _ (start : Start) where
       record {
         more = λ h. past_self (logs_at w.logs h);
         right = right_logs given w right;
+        next = right.next;
         within = within given w right;
         requests = refl;
         asked = λ was. was;
@@ -147,6 +148,7 @@ entered_driven start given w bodies links lost x t right ready plain =
       grown = record {
         more = log_grows start given u lost x t (ready given right);
         right = right_logs start given (entered u lost x t) now;
+        next = now.next;
         within = within start given (entered u lost x t) now;
         requests = requests_kept start given u lost x t (ready given right) plain;
         asked = asked_kept start given u lost x t (ready given right) plain;

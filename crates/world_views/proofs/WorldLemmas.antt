@@ -129,6 +129,7 @@ grown_further start a b c first second =
     record {
       more = λ h. past_trans (first.more h) (second.more h);
       right = second.right;
+      next = second.next;
       within = second.within;
       requests = second.requests ∙ first.requests;
       asked = λ was. second.asked (first.asked was);
@@ -251,6 +252,7 @@ told_right start given w t reply same right =
         logs = was.sizes.logs;
       };
       local = was.local;
+      next = was.next;
       stamps = was.stamps;
       labels = was.labels;
       stopped = was.stopped;

@@ -1,6 +1,5 @@
 -- Hosts: which one runs what, as each sender knows it. Host 0 is the shell's; behind it each member has three, one for
--- each
--- part, in the order in which members are made.
+-- each part, in the order in which members are made.
 use Rattle.std.specs.Prelude.{ℕ, zero, suc, ◌-◌, ◌*◌, ◌/◌, ◌%◌, ◌==◌, if◌then◌else◌, List, [], ◌∷◌, Option, None, Some}
 use Rattle.sig_core.specs.declared.member.Member.{Member}
 use Rattle.sig_core.specs.declared.place.BlockId.{BlockId}
@@ -29,8 +28,7 @@ abbrev pub latest : List Member → ℕ → Option Member
 latest made node = last_of None made node
 
 -- the member that a host sends to for a node: the shell to the latest start, whether or not it has seen a view with it;
--- a
--- part of a node to the one in its view
+-- a part of a node to the one in its view
 abbrev pub known : List Member → ℕ → View → ℕ → Option Member
 known made zero view node = latest made node
 known made (suc h) view node = member_of view node

@@ -11,6 +11,7 @@ pub mod Schedule
 pub mod Sending
 pub mod SerialLaw
 pub mod Shell
+pub mod Stamps
 pub mod Strict
 pub mod Unscheduled
 pub mod World

@@ -10,8 +10,7 @@ abbrev pub fresh : Shape → Start
 fresh shape = record { shape = shape; epoch = MICROS; start_epoch = 0; rows = [] }
 
 -- how a life of a cluster of this shape began: in the first epoch of the checkpoint number behind that of its start
--- epoch,
--- with its start rows
+-- epoch, with its start rows
 abbrev pub start_of : Shape → Life → Start
 start_of shape life =
     record {

@@ -1,10 +1,9 @@
 -- The machine of a cluster that may fail: the shell's host and three for each node, each of which has a log.
 --
 -- A step takes a signal and does what the row of its host says. Three kinds of signals no link gives: a request, a stop
--- and
--- a cut, each of which a host asks of itself. A step that stops its host sends the closings of its links and nothing
--- else,
--- and none follows it. The replies that a step of the shell makes are told with it, so none stays in the host.
+-- and a cut, each of which a host asks of itself. A step that stops its host sends the closings of its links and
+-- nothing else, and none follows it. The replies that a step of the shell makes are told with it, so none stays in the
+-- host.
 use Rattle.std.specs.Prelude.{◌≡◌, ◌≤◌, ℕ, zero, suc, ◌==◌, if◌then◌else◌, Bool, true, false, List, [], ◌∷◌, Option}
 use Rattle.std.specs.Prelude.{None, Some}
 use Rattle.std.specs.List.{list_any}
@@ -122,8 +121,7 @@ closing_signal made view e j =
     headed (sender made e.host e.step.stamp view) 0 (to_front made j (Host (Closed (cause_in e.step.marks))))
 
 -- The view of the closings of host h: the one in which it stands behind its last step, or that of the signal which it
--- took
--- if that is greater, since the greater one may be what stopped it.
+-- took if that is greater, since the greater one may be what stopped it.
 abbrev pub closing_view : Start → ℕ → List HostStep → HostStep → View
 closing_view start h log e = greater_view (after start h (e ∷ log)).standing.view e.step.taken.view
 
@@ -177,13 +175,14 @@ pub record FitsRow (start : Start) (h : ℕ) (log : List HostStep) (e : HostStep
   pub marks : e.step.marks ≡ (step_after start h log e).effects.marks
   pub comes : comes_rightly (is_asked h e.step.taken) start h log e.step.taken
 
--- The machine, from this start. No host is made later by now.
+-- The machine, from this start. No host is made later by now. Stamps may be skipped, as they are where a host has
+-- something else to do besides.
 abbrev pub machine : Start → Machine HostStep Addressed
 machine start =
     record {
       host = λ e. e.host;
       stamp = λ e. e.step.stamp;
-      skips = false;
+      skips = true;
       signal = λ e. record { to = e.host; signal = e.step.taken };
       asked = λ e. is_asked e.host e.step.taken;
       from = λ x. x.signal.from.0;

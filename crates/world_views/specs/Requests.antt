@@ -20,8 +20,7 @@ requests [] = []
 requests (e ∷ log) = requests log ++ option_to_list (request_of e)
 
 -- The cut of the logs before the step of host 0 that comes after `before`: it is right and quiet, so that it has of
--- each
--- log all the steps that don't follow from that step, and no others.
+-- each log all the steps that don't follow from that step, and no others.
 pub record QuietBefore (start : Start) (logs : ℕ → List HostStep) (before : List HostStep) : Type 0 where
   pub inside : ℕ → List HostStep
   pub cut : IsCut inside logs

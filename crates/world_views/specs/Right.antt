@@ -12,6 +12,7 @@ use Rattle.world_core.specs.Steps.{Addressed, HostStep}
 use Rattle.world_core.specs.World.{logs_at, no_steps}
 use Rattle.world_core.specs.Machine.{last_stamp}
 use Rattle.world_views.specs.Links.{LinkState, link}
+use Rattle.world_views.specs.Stamps.{HaveNextStamps}
 use Rattle.world_views.specs.Machine.{after, has_cut, has_stopped, machine, replies_at, sent_count, step_after}
 use Rattle.world_views.specs.World.{IsOf, Whole, body_at}
 
@@ -26,8 +27,7 @@ pub record IsOpen (start : Start) (i j : ℕ) (log : List HostStep) : Type 0 whe
   pub takes : has_cut start j log i ≡ false
 
 -- what a link has given, and still holds, of a host that stopped: an older part of what was sent, and the closing,
--- which
--- there is none of where the host had cut off the other one
+-- which there is none of where the host had cut off the other one
 abbrev pub stopped_holds : Bool → Start → ℕ → ℕ → List HostStep → List Addressed → Type 0
 stopped_holds true start i j log xs = IsPast xs (sent (machine start) i j log)
 stopped_holds false start i j log xs = IsClosing (machine start) i j log xs
@@ -45,8 +45,7 @@ abbrev pub on_link : ℕ → LinkState → List Addressed
 on_link j l = map (arriving j) (reverse l.signals)
 
 -- A link from host i, with this log, to host j, with that log. What stands on it is from host i. What was taken from it
--- was
--- given; and where host j still takes from it, that and what stands on it are all that it holds.
+-- was given; and where host j still takes from it, that and what stands on it are all that it holds.
 pub record IsLinked (start : Start) (i j : ℕ) (sender taker : List HostStep) (l : LinkState) : Type 0 where
   pub from : Each (λ (x : Signal). x.from.0 ≡ i) l.signals
   pub given : IsGiven (machine start) i j sender (taken (machine start) i taker)
@@ -58,6 +57,7 @@ pub record IsRight (start : Start) (given : List ApiReply) (w : Whole) : Type 0 
   pub made : w.made ≡ made start
   pub sizes : IsOf (hosts start) w
   pub local : (h : ℕ) → h < hosts start → IsLog (machine start) h (logs_at w.logs h)
+  pub next : (h : ℕ) → HaveNextStamps (logs_at w.logs h)
   pub stamps : (h : ℕ) → h < hosts start → slice_index_or w.stamps h 0 ≡ last_stamp (logs_at w.logs h)
   pub labels : (h : ℕ) → h < hosts start → IsLabelled h (slice_index_or w.logs h (no_steps 0))
   pub stopped : (h : ℕ) → h < hosts start → slice_index_or w.stopped h true ≡ has_stopped (logs_at w.logs h)

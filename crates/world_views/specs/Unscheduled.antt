@@ -18,8 +18,7 @@ use Rattle.world_views.specs.Sending.{is_asked}
 use Rattle.world_views.specs.World.{is_stamp}
 
 -- After this log host h has no stamp left for a signal that one of its links gives it next: the step that takes it
--- would
--- have one more than the greater of the stamps of the last step and of the signal, and no step may have that.
+-- would have one more than the greater of the stamps of the last step and of the signal, and no step may have that.
 pub record HasNoStamp (start : Start) (logs : ℕ → List HostStep) (h : ℕ) (log : List HostStep) : Type 0 where
   pub from : ℕ
   pub signal : Signal

@@ -34,8 +34,7 @@ use Rattle.world_views.specs.Machine.{stops_by, to_front, told}
 use Rattle.world_views.specs.Sending.{headed, routed_all}
 
 -- the shape of the cluster, the members that were made, the hosts, which of them have stopped, the links to each, the
--- stamp
--- of each host's last step, the log of each, and the replies that the shell hasn't had
+-- stamp of each host's last step, the log of each, and the replies that the shell hasn't had
 pub record Whole : Type 0 where
   pub shape : Shape
   pub made : List Member
@@ -75,8 +74,7 @@ abbrev pub last_view : Whole → ℕ → View → View
 last_view w h taken = greater_view (body_at w.bodies h).standing.view taken
 
 -- a host that has stopped, by a step of this stamp which took a signal of this view, loses so many of the youngest
--- signals of
--- each link from it, and closes its links
+-- signals of each link from it, and closes its links
 abbrev pub closing : Whole → ℕ → ℕ → View → StopCause → ℕ → Whole
 closing w h stamp taken cause lost =
     record w {
@@ -148,8 +146,7 @@ abbrev pub with_body : Whole → ℕ → HostBody → Whole
 with_body w h s = record w { bodies = slice_set w.bodies h s }
 
 -- A host stopped for this cause, whatever was left of it: it still knows which hosts it had cut off, and stands in the
--- view
--- that it had before.
+-- view that it had before.
 pub record HasFailed (w : Whole) (h : ℕ) (cause : StopCause) (t : Whole) : Type 0 where
   pub left : HostBody
   pub cut : left.standing.cut ≡ (body_at w.bodies h).standing.cut

@@ -51,8 +51,7 @@ module _ (start : Start) (logs : ℕ → List HostStep) where
   AllSaid sends = Each (λ (sent : Outgoing). IsSaidTruly sent.body) sends
 
   -- what a member has noted as closed was closed, and the member has come to it; as durable it has noted none before
-  -- the
-  -- start
+  -- the start
   pub record HasNoted (s : DihState) : Type 0 where
     pub noted : IsNoted start logs s.closed
     pub reached : HasReached s.closed s

@@ -1,6 +1,5 @@
 -- A master owes no takeover in the first view, and later where it was told, in its view, that the takeover of its
--- member is
--- over.
+-- member is over.
 use Rattle.std.proofs.Common.{◌<◌, ◌≡◌, ◌≤◌, ◌⊎◌, ◌||◌, ◌==◌, ◌&&◌, ℕ, Bool, true, false, List, [], ◌∷◌, refl, sym, ap}
 use Rattle.std.proofs.Common.{subst, ◌∙◌, inl, inr, eq-eqb}
 use Rattle.std.proofs.lemmas.Bool.{true≢false}

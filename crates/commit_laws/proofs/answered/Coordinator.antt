@@ -1,6 +1,5 @@
 -- Behind an event of its host a coordinator that completes a transaction, and has driven it in its view, was told in
--- that
--- view of each key that the transaction wrote.
+-- that view of each key that the transaction wrote.
 use Rattle.std.proofs.Common.{◌≡◌, ◌∙◌, ℕ, List, ◌∷◌, sym, ap, subst}
 use Rattle.std.specs.Prelude.{Some}
 use Rattle.run_theory.specs.Lists.{IsIn}

@@ -1,6 +1,5 @@
 -- A key that was written is among those that the transaction has touched, so where each of these was committed, all
--- were
--- that were written.
+-- were that were written.
 use Rattle.std.proofs.Common.{◌≡◌, ◌||◌, ◌∙◌, ℕ, Bool, true, false, List, [], ◌∷◌, refl, sym, subst, inl, inr}
 use Rattle.std.proofs.lemmas.Bool.{true≢false}
 use Rattle.std.specs.List.{list_any}

@@ -1,6 +1,5 @@
 -- For a transaction whose coordinator is a full member of the view of a number, no other host that coordinates commits
--- or
--- completes a key in that view, and no other host at all goes on with that.
+-- or completes a key in that view, and no other host at all goes on with that.
 use Rattle.std.proofs.Common.{◌≡◌, ◌≤◌, ◌⊎◌, ◌==◌, ◌&&◌, ◌++◌, ◌∙◌, ℕ, Bool, true, false, List, [], ◌∷◌, inl, inr, refl}
 use Rattle.std.proofs.Common.{sym, ap, arith, subst}
 use Rattle.std.proofs.lemmas.Bool.{eqb-true}

@@ -1,6 +1,5 @@
 -- What a takeover gathers names each transaction once, and of each transaction each key once; and before it is ordered
--- it
--- does nothing.
+-- it does nothing.
 use Rattle.std.proofs.Common.{◌≡◌, ◌⊎◌, ◌==◌, ◌&&◌, ◌||◌, ◌∙◌, ℕ, Bool, true, false, None, Some, Option, List, [], ◌∷◌}
 use Rattle.std.proofs.Common.{inl, inr, nat_lt, refl, sym, arith, subst}
 use Rattle.std.proofs.lemmas.Bool.{ltb-true, true≢false}

@@ -1,6 +1,5 @@
 -- Commits and completions of keys go along replicas until one tells of them: tests of signals by the transaction and
--- the
--- key that they name.
+-- the key that they name.
 use Rattle.std.proofs.Common.{◌≡◌, ◌+◌, ◌||◌, ◌&&◌, ◌==◌, ℕ, Bool, true, false, List, refl, arith}
 use Rattle.std.proofs.lemmas.Bool.{true≢false}
 use Rattle.sig_core.specs.declared.member.TxId.{TxId}

@@ -1,6 +1,5 @@
 -- In each view each key of a transaction is committed once at most, and completed once at most, where takeovers commit
--- and
--- complete each once.
+-- and complete each once.
 use Rattle.std.proofs.Common.{◌≡◌, ◌≤◌, ◌⊎◌, ◌==◌, ◌&&◌, ◌∙◌, ℕ, Bool, true, false, List, [], ◌∷◌, inl, inr, refl, sym}
 use Rattle.std.proofs.Common.{ap, arith, subst, nat_eq}
 use Rattle.std.proofs.lemmas.Bool.{and_parts, eqb-true}

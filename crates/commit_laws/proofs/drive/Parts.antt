@@ -1,6 +1,5 @@
 -- At an event of a host that coordinates, takeovers and coordinators of other members send nothing for a transaction
--- whose
--- coordinator is a full member of the view.
+-- whose coordinator is a full member of the view.
 use Rattle.std.proofs.Common.{◌≡◌, ◌==◌, ◌&&◌, ◌++◌, ◌∙◌, ℕ, Bool, true, false, List, [], ◌∷◌, Some, inl, inr, refl}
 use Rattle.std.proofs.Common.{sym, ap, arith, subst}
 use Rattle.std.proofs.lemmas.Bool.{true≢false}

@@ -1,6 +1,5 @@
 -- The takeover of a member commits each key of a transaction that is left in a view once at most there, and only when
--- it
--- was ordered; where it is ordered once.
+-- it was ordered; where it is ordered once.
 use Rattle.std.proofs.Common.{◌≡◌, ◌≢◌, ◌≤◌, ◌+◌, ◌⊎◌, ◌++◌, ◌∙◌, ℕ, zero, suc, Bool, true, false, List, [], ◌∷◌, inl}
 use Rattle.std.proofs.Common.{inr, refl, sym, ap, arith, subst}
 use Rattle.std.proofs.lemmas.Bool.{cases_eq, true≢false}

@@ -1,6 +1,5 @@
 -- How far a coordinator has come with the commits of a transaction in one view, by what it has sent and taken in it;
--- and
--- that each turn leads on.
+-- and that each turn leads on.
 use Rattle.std.proofs.Common.{◌≡◌, ◌≤◌, ◌+◌, ◌==◌, ◌&&◌, ◌∙◌, ℕ, Bool, true, false, List, [], length, nat_lt, refl, sym}
 use Rattle.std.proofs.Common.{ap, arith, subst, take}
 use Rattle.std.proofs.lemmas.Bool.{eqb-true, true≢false}

@@ -1,6 +1,5 @@
 -- Each turn of a coordinator's transaction leads on with its commits as it should, and so does what an installation
--- left
--- to do.
+-- left to do.
 use Rattle.std.proofs.Common.{◌≡◌, ◌≤◌, ◌+◌, ◌==◌, ◌&&◌, ◌∙◌, ℕ, suc, Bool, true, false, List, [], ◌∷◌, length, map}
 use Rattle.std.proofs.Common.{nat_lt, refl, sym, ap, arith, subst}
 use Rattle.std.proofs.lemmas.Bool.{eq-eqb, ltb-false, ltb-true, true≢false}

@@ -1,6 +1,5 @@
 -- How often a transaction is listed to be driven once more: once at most as a view is installed, if it is decided; and
--- no
--- more often later.
+-- no more often later.
 use Rattle.std.proofs.Common.{◌≡◌, ◌≤◌, ◌==◌, ◌&&◌, ◌||◌, ◌++◌, ◌∙◌, ℕ, Bool, true, false, List, [], ◌∷◌, nat_lt, refl}
 use Rattle.std.proofs.Common.{sym, ap, arith}
 use Rattle.std.specs.List.{count_by}

@@ -1,6 +1,5 @@
 -- Whoever commits has gone forth at its coordinator, and is decided; and what becomes of whoever has no coordinator in
--- the
--- current view.
+-- the current view.
 use Rattle.std.proofs.Common.{◌≡◌, ◌≢◌, ◌⊎◌, ℕ, Bool, true, false, List, ◌∷◌, inl, inr, sym, subst}
 use Rattle.std.proofs.lemmas.Bool.{and_parts, true≢false, or_cases}
 use Rattle.std.specs.List.{list_any}

@@ -1,6 +1,5 @@
--- What is so of a transaction that goes on: it went no way, nobody aborts it; and where no part of its operation on
--- a key is at
--- rows, what these do on the key isn't of it.
+-- What is so of a transaction that goes on: it went no way, nobody aborts it; and where no part of its operation on a
+-- key is at rows, what these do on the key isn't of it.
 use Rattle.std.proofs.Common.{◌≡◌, ◌⊎◌, ◌==◌, ◌∙◌, ℕ, Bool, true, false, cond, filter, List, [], ◌∷◌, refl, sym, ap}
 use Rattle.std.proofs.Common.{subst, inl, inr}
 use Rattle.std.proofs.lemmas.Bool.{true≢false}

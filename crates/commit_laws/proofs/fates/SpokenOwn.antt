@@ -1,6 +1,5 @@
 -- At an event of the host of a coordinator it speaks truly of its own transactions: who has gone forth there commits,
--- and
--- who is given up aborts.
+-- and who is given up aborts.
 use Rattle.std.proofs.Common.{◌≡◌, ◌||◌, ◌&&◌, ◌∙◌, not, ℕ, Bool, true, false, List, ◌∷◌, refl, sym, ap, subst}
 use Rattle.std.proofs.lemmas.Bool.{true≢false, false_from_ne_true, or_left}
 use Rattle.std.specs.Prelude.{Option, None, Some}

@@ -1,6 +1,5 @@
 -- What the client's side does where it is told of a commit: it drops that, if the sender isn't in the view that it
--- sees,
--- and else acknowledges it, and reports it if the transaction is open.
+-- sees, and else acknowledges it, and reports it if the transaction is open.
 use Rattle.std.proofs.Common.{◌≡◌, ◌≤◌, ◌⊎◌, ◌∙◌, ◌||◌, ◌++◌, ◌-◌, ℕ, Bool, true, false, length, List, [], ◌∷◌, inl}
 use Rattle.std.proofs.Common.{inr, take, refl, ap, arith}
 use Rattle.std.specs.List.{count_by}

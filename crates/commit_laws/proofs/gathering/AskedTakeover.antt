@@ -1,6 +1,5 @@
 -- While a takeover gathers it has asked no more than the first ones of its list, and awaits an end of each member but
--- for
--- those that were taken: each of its steps keeps this.
+-- for those that were taken: each of its steps keeps this.
 use Rattle.std.proofs.Common.{◌≡◌, ◌≤◌, ◌⊎◌, ◌+◌, ◌==◌, ◌&&◌, ◌∙◌, ℕ, true, false, List, [], inl, inr, nat_lt, refl}
 use Rattle.std.proofs.Common.{sym, ap, arith, take}
 use Rattle.std.proofs.lemmas.Bool.{and_parts, eqb-true, ltb-true, true≢false}

@@ -1,6 +1,5 @@
 -- Until a takeover is at work in a view, records of whoever has no coordinator in it stay as they are, and no marker of
--- it
--- comes.
+-- it comes.
 use Rattle.std.proofs.Common.{◌≡◌, ◌⊎◌, ◌∙◌, ◌<◌, ℕ, true, List, ◌∷◌, inl, inr, ap, subst, arith}
 use Rattle.run_theory.specs.Lists.{IsIn}
 use Rattle.sig_core.specs.declared.member.Member.{Member}

@@ -1,6 +1,5 @@
 -- Coordinators end their own transactions alone, and rows only whom they are told to: so nobody ends an orphan of the
--- current
--- view until a takeover is at work.
+-- current view until a takeover is at work.
 use Rattle.std.proofs.Common.{◌≡◌, ◌⊎◌, ◌∙◌, ◌<◌, ℕ, false, List, [], ◌∷◌, inl, inr, refl, sym, ap, subst, arith}
 use Rattle.std.proofs.lemmas.Bool.{true≢false}
 use Rattle.run_theory.specs.Links.{sent}

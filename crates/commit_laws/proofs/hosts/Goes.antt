@@ -1,6 +1,5 @@
 -- What a step comes to of a host that settles on no view: it stops; or the view of the signal is installed, or none,
--- and
--- behind that its blocks take the signal, or leave it alone. What is sent is told exactly.
+-- and behind that its blocks take the signal, or leave it alone. What is sent is told exactly.
 use Rattle.std.proofs.Common.{◌≡◌, ◌≤◌, ◌⊎◌, ◌||◌, ◌&&◌, ◌++◌, ◌∙◌, ℕ, zero, suc, Bool, true, false, nat_lt, List, []}
 use Rattle.std.proofs.Common.{◌∷◌, refl, sym, ap, subst, inl, inr, arith}
 use Rattle.std.proofs.lemmas.Bool.{and_parts, ltb-true, true≢false}

@@ -1,6 +1,5 @@
 -- Where all stands at each moment, each key is led to what the history makes of it; so the history of each cut is
--- legal,
--- and rows follow it.
+-- legal, and rows follow it.
 use Rattle.commit_laws.specs.Cuts.{HistoriesAreLegal, RowsFollowHistories}
 use Rattle.commit_laws.specs.Owed.{AbortedAreNotFinal}
 use Rattle.commit_laws.specs.Together.{AllStandAlways}

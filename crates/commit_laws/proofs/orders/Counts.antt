@@ -1,6 +1,5 @@
 -- A membership orders a takeover once along its list of orders: where it takes a signal to go on from a place in front
--- of
--- that order it sends the order, or the signal to go on from another such place, and nothing of the kind behind it.
+-- of that order it sends the order, or the signal to go on from another such place, and nothing of the kind behind it.
 use Rattle.std.proofs.Common.{◌≡◌, ◌≤◌, ◌<◌, ◌+◌, ◌++◌, ◌&&◌, ◌⊎◌, ℕ, zero, suc, Bool, true, false, List, [], ◌∷◌, drop}
 use Rattle.std.proofs.Common.{inl, inr, length, nat_le, refl, ap, take, arith}
 use Rattle.std.proofs.lemmas.Bool.{cases_lt, true≢false}

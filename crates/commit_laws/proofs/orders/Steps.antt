@@ -1,6 +1,5 @@
 -- At an event of a membership's host it sends as many orders, and signals to go on to them, as it takes of these, and
--- one
--- more where it comes to a greater view.
+-- one more where it comes to a greater view.
 use Rattle.std.proofs.Common.{◌≡◌, ◌≤◌, ◌<◌, ◌+◌, ◌++◌, ◌⊎◌, ◌∙◌, ℕ, true, false, ◌&&◌, ◌||◌, ◌==◌, Bool, List, [], ◌∷◌}
 use Rattle.std.proofs.Common.{inl, inr, length, nat_lt, refl, sym, ap, subst, arith}
 use Rattle.std.proofs.lemmas.Bool.Decides.{nat_tests}

@@ -1,6 +1,5 @@
--- How a transaction goes on that is undecided behind an event of its coordinator's host: as it was, or it begins, or
--- it takes a
--- turn.
+-- How a transaction goes on that is undecided behind an event of its coordinator's host: as it was, or it begins, or it
+-- takes a turn.
 use Rattle.std.proofs.Common.{◌≡◌, ◌⊎◌, ◌++◌, ◌∙◌, ℕ, Bool, true, false, List, [], ◌∷◌, append-nil, refl, sym, ap}
 use Rattle.std.proofs.Common.{subst, inl, inr}
 use Rattle.std.specs.Prelude.{if◌then◌else◌, None, Some}

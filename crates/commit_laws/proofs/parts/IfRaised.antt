@@ -1,6 +1,5 @@
 -- Each event keeps the parts of operations that are under way true, and other keys settled, if events that raise the
--- view
--- do.
+-- view do.
 use Rattle.std.proofs.Common.{◌≤◌, ◌<◌, ◌⊎◌, ℕ, List, ◌∷◌, inl, inr, arith}
 use Rattle.std.proofs.lemmas.Bool.{cases_lt}
 use Rattle.world_core.specs.Start.{Start}

@@ -1,6 +1,5 @@
 -- What an operation of a transaction leaves where it is performed: at the primary its answer or its image, at each
--- place behind
--- the image, and an answer when all places have that.
+-- place behind the image, and an answer when all places have that.
 use Rattle.std.proofs.Common.{◌≡◌, ◌≢◌, ◌<◌, ◌⊎◌, ◌||◌, ◌+◌, ◌++◌, ◌∙◌, ℕ, zero, suc, Bool, true, false, not, List, []}
 use Rattle.std.proofs.Common.{◌∷◌, refl, sym, ap, subst, inl, inr, arith}
 use Rattle.std.proofs.lemmas.Bool.{cases_eq, true≢false}

@@ -1,6 +1,5 @@
 -- Where the current view rises, and all that go on keep to it, all parts stand behind the event: of whoever goes on
--- nothing is under way, and what it has
--- settled is so still.
+-- nothing is under way, and what it has settled is so still.
 use Rattle.std.proofs.Common.{◌≡◌, ◌<◌, ℕ, List, ◌∷◌, sym, ap, subst}
 use Rattle.std.specs.Prelude.{None}
 use Rattle.run_theory.specs.Lists.{IsIn}

@@ -1,6 +1,5 @@
--- How an open transaction goes on at its coordinator: as it was, or it asks for an operation, or the one that it
--- asked for is
--- answered.
+-- How an open transaction goes on at its coordinator: as it was, or it asks for an operation, or the one that it asked
+-- for is answered.
 use Rattle.std.proofs.Common.{◌≡◌, ◌++◌, ◌∙◌, ℕ, Bool, true, false, List, [], ◌∷◌, refl, sym, ap}
 use Rattle.std.proofs.lemmas.Bool.{and_parts, true≢false}
 use Rattle.std.specs.Prelude.{◌&&◌, None, Some}

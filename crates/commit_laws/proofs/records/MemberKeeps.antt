@@ -1,6 +1,5 @@
--- What a member of the current view keeps of a transaction on a key at an event that isn't of it there: its record,
--- its hold
--- on the lock, and the row, if it holds the lock.
+-- What a member of the current view keeps of a transaction on a key at an event that isn't of it there: its record, its
+-- hold on the lock, and the row, if it holds the lock.
 use Rattle.std.proofs.Common.{◌≡◌, ◌⊎◌, ◌||◌, ◌&&◌, ◌∙◌, ℕ, Bool, true, false, cond, List, [], ◌∷◌, filter, refl, sym}
 use Rattle.std.proofs.Common.{ap, subst, inl, inr}
 use Rattle.std.proofs.lemmas.Bool.{or_left, or_right, true≢false}

@@ -1,6 +1,5 @@
 -- What a host sends to the client's side goes on its link, unless it stops, or has cut that off; and what is sent later
--- is
--- in front of what was sent before.
+-- is in front of what was sent before.
 use Rattle.std.proofs.Common.{◌≡◌, ◌==◌, ◌||◌, ◌&&◌, ◌++◌, ◌∙◌, ℕ, zero, suc, Bool, true, false, filter, List, [], ◌∷◌}
 use Rattle.std.proofs.Common.{refl, sym, ap, subst, inl, inr}
 use Rattle.std.proofs.lemmas.Bool.{true≢false}

@@ -1,6 +1,5 @@
 -- What is settled stays so at an event that isn't of the transaction on the key, as long as the replicas of what it
--- wrote, and
--- the primary of what it touched, are the same.
+-- wrote, and the primary of what it touched, are the same.
 use Rattle.std.proofs.Common.{◌≡◌, ◌⊎◌, ◌∙◌, ℕ, Bool, true, false, List, [], ◌∷◌, refl, sym, subst, inl, inr}
 use Rattle.std.proofs.lemmas.Bool.{true≢false}
 use Rattle.std.specs.List.{list_any, slice_get}

@@ -1,6 +1,5 @@
 -- The coordinator of each full member of the current view is fenced at it, if it is so at each number that its member
--- has
--- confirmed by then.
+-- has confirmed by then.
 use Rattle.std.proofs.Common.{◌≡◌, ◌≤◌, ℕ, Bool, true, false, List, [], ◌∷◌, sym, ap, subst, inl, inr, arith}
 use Rattle.std.specs.List.{list_any}
 use Rattle.std.specs.Prelude.{if◌then◌else◌}

@@ -1,6 +1,5 @@
 -- Where the current view rises, and a transaction that goes on keeps to it, it touched no key whose primary isn't that
--- of
--- before, and wrote none of which a replica isn't one still.
+-- of before, and wrote none of which a replica isn't one still.
 use Rattle.std.proofs.Common.{◌≡◌, ◌≤◌, ◌<◌, ◌⊎◌, ◌||◌, ◌&&◌, ◌∙◌, ℕ, Bool, true, false, List, [], ◌∷◌, refl, sym, ap}
 use Rattle.std.proofs.Common.{subst, inl, inr, arith}
 use Rattle.std.proofs.lemmas.Bool.{cases_lt, true≢false}

@@ -1,6 +1,5 @@
 -- Where the coordinator of a transaction that goes on is fenced at the current view, as that rises, the transaction
--- keeps to
--- it; and so does one that has its routes in it.
+-- keeps to it; and so does one that has its routes in it.
 use Rattle.std.proofs.Common.{◌≡◌, ◌≤◌, ◌<◌, ◌||◌, ◌∙◌, ℕ, Bool, true, false, List, [], ◌∷◌, refl, ap, subst, inl, inr}
 use Rattle.std.proofs.Common.{arith}
 use Rattle.std.specs.List.{list_any}

@@ -1,6 +1,5 @@
 -- What holds of each turn of a coordinator's transactions, those among them that an installation left to do, and of
--- what
--- it does beside them, holds of each of its steps under views.
+-- what it does beside them, holds of each of its steps under views.
 use Rattle.std.proofs.Common.{◌≡◌, ◌==◌, ℕ, Bool, true, false, List, [], ◌∷◌, nat_lt, length, refl, ap}
 use Rattle.std.specs.Prelude.{Option, None, Some, slice_get}
 use Rattle.std.specs.Map.{values_of}

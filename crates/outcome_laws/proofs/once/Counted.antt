@@ -1,6 +1,5 @@
 -- Signals that count: what only a coordinator tells a client, or asks the epochs of its node, and what only a client
--- asks
--- a coordinator; that the cluster is down no replica says.
+-- asks a coordinator; that the cluster is down no replica says.
 use Rattle.std.proofs.Common.{◌≡◌, Bool, true, false, List, [], ◌∷◌, ap, arith, refl}
 use Rattle.std.specs.List.{count_by}
 use Rattle.run_theory.specs.Lists.{Each}

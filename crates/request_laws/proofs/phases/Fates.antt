@@ -1,6 +1,5 @@
 -- What a step of a coordinator comes to for one of its transactions: it stays as it is, begins, or changes by a turn;
--- and
--- what is told of it, and asked.
+-- and what is told of it, and asked.
 use Rattle.std.proofs.Common.{◌≡◌, ◌∙◌, ◌+◌, ◌++◌, ℕ, Bool, true, false, List, [], ◌∷◌, refl, sym, ap, subst}
 use Rattle.std.proofs.lemmas.Bool.{true≢false}
 use Rattle.std.proofs.lemmas.List.{append-nil}

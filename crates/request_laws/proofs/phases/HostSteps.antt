@@ -1,7 +1,6 @@
 -- What a step of a host that runs a coordinating part comes to: a view is installed in the part, or nothing is; and
--- behind
--- that the part takes the signal, all of what it sends is sent, and its marks are the host's; or the part leaves it
--- alone.
+-- behind that the part takes the signal, all of what it sends is sent, and its marks are the host's; or the part leaves
+-- it alone.
 use Rattle.std.proofs.Common.{◌≡◌, ◌⊎◌, ◌||◌, ◌∙◌, ℕ, zero, suc, Bool, true, false, nat_lt, List, [], ◌∷◌, refl, sym}
 use Rattle.std.proofs.Common.{ap, subst, inl, inr}
 use Rattle.std.specs.Prelude.{not, Option, None, Some}

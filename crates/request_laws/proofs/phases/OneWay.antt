@@ -1,6 +1,5 @@
 -- Each transaction of a coordinator goes one way, along every log of its host: it is given up, or committed, and none
--- is
--- forgotten before.
+-- is forgotten before.
 use Rattle.std.proofs.Common.{◌≡◌, ◌⊎◌, ◌∙◌, ◌+◌, ◌≤◌, ◌<◌, ◌++◌, ◌||◌, ℕ, Bool, true, false, List, [], ◌∷◌, refl, sym}
 use Rattle.std.proofs.Common.{ap, subst, inl, inr, arith}
 use Rattle.std.proofs.lemmas.Bool.{leb-true, leb-false, true≢false}

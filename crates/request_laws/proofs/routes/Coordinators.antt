@@ -48,8 +48,7 @@ use Rattle.request_laws.proofs.routes.Turns.{Grows, IsAnsweredIn, IsGiven, Renew
 use Rattle.request_laws.proofs.routes.Turns.{turn_forms, was_so}
 
 -- What a coordinator sends is of transactions that it asks for, or drives, in this view, and of those that it had no
--- other
--- is asked for, or driven, anew; of those that it has, who is aborted is given up, and who is decided isn't.
+-- other is asked for, or driven, anew; of those that it has, who is aborted is given up, and who is decided isn't.
 pub record Makes (A0 D0 A D G : TxId → Type 0) (before live : Live) (sends : List Outgoing) : Type 0 where
   pub sends_own : Each (λ (sent : Outgoing). IsMade A D sent.body) sends
   pub given : Each (λ (e : TxId × Transaction). IsGiven G e.0 e.1.phase) live

@@ -1,6 +1,5 @@
 -- What an event adds to what transactions were asked for, and driven, in a view: at the host of their coordinator, what
--- it
--- sends in this view, and elsewhere nothing.
+-- it sends in this view, and elsewhere nothing.
 use Rattle.std.proofs.Common.{◌≡◌, ◌⊎◌, ◌==◌, ◌||◌, ◌&&◌, ℕ, Bool, true, false, List, [], ◌∷◌, inl, inr, refl, sym, ap}
 use Rattle.std.proofs.Common.{◌∙◌, subst}
 use Rattle.std.proofs.lemmas.Bool.{eq-eqb, true≢false}

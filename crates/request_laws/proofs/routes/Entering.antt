@@ -1,6 +1,5 @@
 -- At an event of the host of a coordinator it has its routes, in the view in which the host stands then, before it
--- takes
--- the signal.
+-- takes the signal.
 use Rattle.std.proofs.Common.{◌≡◌, ◌<◌, ◌≤◌, ℕ, Bool, true, List, ◌∷◌, sym, ap, ◌∙◌, subst, arith}
 use Rattle.run_theory.specs.Lists.{Each, IsIn, IsPast}
 use Rattle.run_theory.proofs.Pasts.{each_map}

@@ -1,6 +1,5 @@
 -- What a transaction sends in its phases is routed in the view of its coordinator, where its keys have their routes,
--- and it
--- is driven where it is committed.
+-- and it is driven where it is committed.
 use Rattle.std.proofs.Common.{◌≡◌, ◌<◌, ◌⊎◌, ◌||◌, ◌+◌, ℕ, Bool, true, false, List, [], ◌∷◌, drop, inl, inr, length}
 use Rattle.std.proofs.Common.{map, nat_lt, refl, sym, ap, ◌∙◌, arith, take}
 use Rattle.std.proofs.lemmas.Bool.{true≢false}

@@ -1,6 +1,5 @@
 -- Behind an event at which a coordinator takes a signal that is routed it has its routes, whether its host sends what
--- it
--- sends or, as it stops, nothing.
+-- it sends or, as it stops, nothing.
 use Rattle.std.proofs.Common.{◌≡◌, ◌⊎◌, ℕ, true, List, ◌∷◌, inl, inr, sym, ap, ◌∙◌, subst}
 use Rattle.run_theory.specs.Lists.{Each, IsIn}
 use Rattle.run_theory.proofs.Pasts.{each_map}

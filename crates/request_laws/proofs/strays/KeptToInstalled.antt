@@ -1,7 +1,6 @@
 -- Where a coordinator is fenced at a view above its own that was installed, all of its transactions keep to that view
--- that
--- are undecided, aren't doomed and have no operation unanswered: the set that it has promised with the fence is a part
--- of it.
+-- that are undecided, aren't doomed and have no operation unanswered: the set that it has promised with the fence is a
+-- part of it.
 use Rattle.std.proofs.Common.{◌≡◌, ◌⊎◌, ◌≤◌, ◌<◌, ◌∙◌, ◌||◌, ℕ, Bool, true, false, List, [], ◌∷◌, refl, sym, ap, subst}
 use Rattle.std.proofs.Common.{arith, inl, inr}
 use Rattle.std.proofs.lemmas.Bool.{cases_lt}

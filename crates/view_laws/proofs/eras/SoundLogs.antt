@@ -2,7 +2,7 @@
 use Rattle.std.proofs.Common.{◌≡◌, ◌==◌, ◌||◌, ◌&&◌, ℕ, Bool, true, false, cond, List, [], ◌∷◌, filter, refl, sym, ap}
 use Rattle.std.proofs.Common.{subst, ◌∙◌, inl, inr}
 use Rattle.std.proofs.lemmas.List.Elements.{filter-append}
-use Rattle.std.specs.Prelude.{if◌then◌else◌, not, max, ◌+◌}
+use Rattle.std.specs.Prelude.{if◌then◌else◌, not, max, ◌<◌}
 use Rattle.run_theory.specs.Links.{Closes, IsGiven, put, sent, sent_by, taken}
 use Rattle.run_theory.specs.Lists.{Each, IsIn, IsPast}
 use Rattle.run_theory.specs.Logs.{IsLog, IsRunning, IsStep, last}
@@ -59,7 +59,7 @@ module _ (start : Start) where
   sound_step : (h : ℕ) (log : List HostStep) (e : HostStep) → IsStep m h log e → IsStep n h log e
   sound_step h log e one = record {
     at = one.at;
-    stamped = one.stamped ∙ ap (λ (k : ℕ). max k (m.sent_at (m.signal e)) + 1) (sym (last_same h log));
+    stamped = subst (λ k. max k (m.sent_at (m.signal e)) < m.stamp e) (sym (last_same h log)) one.stamped;
     runs = still_runs log one.runs;
     fits = one.fits;
   }

@@ -1,5 +1,4 @@
--- A part that has taken as many requests for fences as were sent up to a promise has taken one of that promise, or
--- of a
+-- A part that has taken as many requests for fences as were sent up to a promise has taken one of that promise, or of a
 -- later one, for each of its blocks: a link gives first what was sent first.
 use Rattle.std.proofs.Common.{◌≡◌, ◌⊎◌, ◌≤◌, ◌==◌, ◌&&◌, ◌+◌, ◌-◌, ◌*◌, ◌++◌, ◌∙◌, ℕ, suc, Bool, true, false, cond}
 use Rattle.std.proofs.Common.{List, [], ◌∷◌, append_assoc, length, refl, ap, sym, subst, arith, inl, inr}

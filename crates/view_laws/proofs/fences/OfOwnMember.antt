@@ -1,5 +1,4 @@
--- Each request for a fence that a part of a member takes was sent by the member's own main host, which had promised
--- the
+-- Each request for a fence that a part of a member takes was sent by the member's own main host, which had promised the
 -- set.
 use Rattle.std.proofs.Common.{◌≡◌, ◌⊎◌, ◌<◌, ◌≤◌, ◌∙◌, ◌+◌, ◌-◌, ◌*◌, ℕ, suc, Bool, true, false, List, [], ◌∷◌, refl}
 use Rattle.std.proofs.Common.{ap, sym, subst, inl, inr}

@@ -1,6 +1,5 @@
 -- Requests for fences are sent by the main host of a member, to its own blocks, and of sets that it has promised;
--- fences
--- are confirmed by the other hosts of a member, to its membership.
+-- fences are confirmed by the other hosts of a member, to its membership.
 use Rattle.std.proofs.Common.{◌≡◌, ◌⊎◌, ◌<◌, ◌==◌, ◌||◌, ◌++◌, ◌%◌, ◌∙◌, ℕ, suc, Bool, true, false, List, [], ◌∷◌}
 use Rattle.std.proofs.Common.{append_assoc, refl, ap, sym, subst, arith, inl, inr}
 use Rattle.std.proofs.lemmas.Bool.{eqb-true, true≢false}

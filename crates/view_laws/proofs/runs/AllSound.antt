@@ -55,8 +55,7 @@ module _ (start : Start) (is_shape : IsShape start.shape) where
       all_within (x ∷ xs) all = (λ within. (all within).0, all_within xs (λ within. (all within).1))
 
   -- the closing of a host that has stopped has the view in which it stands or that of the signal that it took, and is
-  -- no
-  -- vote
+  -- no vote
   closing_next : (es : List HostStep) (e : HostStep) → IsNext es e → (j : ℕ)
       → IsTrueIn (closing start e.host (log_of (machine start) es e.host) e j) (log_of (machine start) (e ∷ es))
   closing_next es e come j within =

@@ -73,8 +73,7 @@ settled_oldest start logs is_shape me events sound x view at other is =
     (subst (λ (v : View). is_oldest_of other v.full ≡ true) (sym settled.of.is) is)
 
 -- Behind a step a host stands in the view in which it stood, or in that of the signal's header, or it runs the
--- membership
--- of the oldest member of its view.
+-- membership of the oldest member of its view.
 abbrev pub ViewsComeRightly : Type 0
 ViewsComeRightly =
     (start : Start) (logs : ℕ → List HostStep) → AreOfCluster start logs → (h : ℕ) → h < hosts start

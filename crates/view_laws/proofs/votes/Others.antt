@@ -1,6 +1,5 @@
--- A host that runs neither a membership nor the arbitrator sends no vote, and confirms a fence once at most, where
--- it is
--- asked for one.
+-- A host that runs neither a membership nor the arbitrator sends no vote, and confirms a fence once at most, where it
+-- is asked for one.
 use Rattle.std.proofs.Common.{◌≡◌, ◌⊎◌, ◌≤◌, ◌+◌, ◌++◌, ◌||◌, ℕ, Bool, true, false, List, [], refl, ap, sym, subst}
 use Rattle.std.proofs.Common.{arith, inl, inr}
 use Rattle.std.specs.Prelude.{None}
