@@ -53,7 +53,7 @@ AreServedBy start (request ∷ earlier) logs =
 pub record IsPeacefulLife (start : Start) (asked : List ApiReq) (logs : ℕ → List HostStep) : Type 0 where
   pub shape : IsShape start.shape
   pub rows : start.rows ≡ []
-  pub some : start.start_epoch < start.epoch
+  pub begins : start.start_epoch < start.epoch
   pub served : AreServedBy start asked logs
 
 -- They are peaceful. Their plain parts are logs of the plain machine, whose shell was replied the same, but for views,

@@ -64,11 +64,11 @@ last_of (x ∷ xs) = go (last_of xs)
         inr (record { front = x ∷ has.front; last = has.last; is = ap (λ (ys : List ApiReq). x ∷ ys) has.is })
 
 module _ (plain_lives : PeacefulLivesArePlain) (closings : ClosingsAreAnswered) (start : Start)
-    (shape : IsShape start.shape) (rows : start.rows ≡ []) (some : start.start_epoch < start.epoch)
+    (shape : IsShape start.shape) (rows : start.rows ≡ []) (begins : start.start_epoch < start.epoch)
   where
     life : (asked : List ApiReq) (logs : ℕ → List HostStep) → AreServedBy start asked logs
         → IsPeacefulLife start asked logs
-    life asked logs served = record { shape = shape; rows = rows; some = some; served = served }
+    life asked logs served = record { shape = shape; rows = rows; begins = begins; served = served }
 
     -- a closing within logs that came about in peace
     closed_along : (asked : List ApiReq) (logs : ℕ → List HostStep) → AreServedBy start asked logs

@@ -28,7 +28,7 @@ use Rattle.commit_laws.proofs.led.CutLaws.{resting_rows}
 use Rattle.commit_laws.proofs.views.Greatest.{greatest_viable}
 use Rattle.shell_top.specs.Safe.{AreSafe, IsSafe}
 
-module _ (start : Start) (logs : ℕ → List HostStep) (some : start.start_epoch < start.epoch) (shape : IsShape start.shape)
+module _ (start : Start) (logs : ℕ → List HostStep) (begins : start.start_epoch < start.epoch) (shape : IsShape start.shape)
     (within : IsWithin (hosts start) logs) (right : AreLogs (machine start) logs)
   where
     of_cluster : (inside : ℕ → List HostStep) → IsCut inside logs → IsClosed (machine start) inside
@@ -49,7 +49,7 @@ module _ (start : Start) (logs : ℕ → List HostStep) (some : start.start_epoc
           serial = record {
             legal = histories_legal start inside of;
             strict = histories_in_strict_order start inside of;
-            epochs = epochs_of_histories stand_in_order start inside some of;
+            epochs = epochs_of_histories stand_in_order start inside begins of;
             viable = greatest_viable start inside of;
             rows = resting_rows start inside of;
           };
@@ -59,7 +59,7 @@ module _ (start : Start) (logs : ℕ → List HostStep) (some : start.start_epoc
           committed = commits_effective start inside of;
           aborted = aborts_effectless start inside of;
           down = none_down_decided start inside of;
-          durable = durable_were_closed start inside some of;
+          durable = durable_were_closed start inside begins of;
         }
       where
         of : AreOfCluster start inside
@@ -70,7 +70,7 @@ module _ (start : Start) (logs : ℕ → List HostStep) (some : start.start_epoc
     between_cuts small large inside cut closed closed_too =
         record {
           closed =
-              closed_stay_closed start small large some (of_cluster small (λ h. past_trans (inside h) (cut h)) closed)
+              closed_stay_closed start small large begins (of_cluster small (λ h. past_trans (inside h) (cut h)) closed)
               (of_cluster large cut closed_too) inside;
           agreed = λ tx key answered entry there own one other made_one made_other r q at at_other.
               records_alike start small large (of_cluster small (λ h. past_trans (inside h) (cut h)) closed)

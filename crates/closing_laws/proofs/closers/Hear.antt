@@ -78,7 +78,7 @@ told_view zero t = refl
 told_view (suc h) t = refl
 
 module _ (own : EndsAreOwn) (start : Start) (all : ℕ → List HostStep) (e : HostStep) (es : List HostStep)
-    (some : start.start_epoch < start.epoch) (moment : IsMoment start all (e ∷ es))
+    (begins : start.start_epoch < start.epoch) (moment : IsMoment start all (e ∷ es))
   where
     abbrev old : ℕ → List HostStep
     old = logs_of start es
@@ -93,10 +93,10 @@ module _ (own : EndsAreOwn) (start : Start) (all : ℕ → List HostStep) (e : H
     less = moment_less start all e es moment
 
     stand : AllStand start (logs_of start es)
-    stand = epochs_stand start all es some less
+    stand = epochs_stand start all es begins less
 
     heard_all : AllHeard start (logs_of start es)
-    heard_all = all_heard start all es some less
+    heard_all = all_heard start all es begins less
 
     abbrev s : node.HostBody
     s = after start e.host (old e.host)
@@ -225,11 +225,11 @@ module _ (own : EndsAreOwn) (start : Start) (all : ℕ → List HostStep) (e : H
             over_in : Heard p.master (voice_of x) x.body closes.run → IsOverIn start new me (current start new)
             over_in (last body have none) =
                 subst (IsOverIn start new me) master_seen
-                (still own start all e es some moment (all_over own start all es some less) me there p.master.view
+                (still own start all e es begins moment (all_over own start all es begins less) me there p.master.view
                 (subst (λ (t : MasterState). IsOverIn start old me t.view) master_is
-                (all_over own start all es some less me there (ap (λ (t : MasterState). t.owed) master_is ∙ none))))
+                (all_over own start all es begins less me there (ap (λ (t : MasterState). t.owed) master_is ∙ none))))
             over_in (heard.over body have) =
-                over_now own start all e es some moment (all_over own start all es some less) me there at
+                over_now own start all e es begins moment (all_over own start all es begins less) me there at
                 taken_here body
                 (current start new) refl
 
@@ -312,5 +312,5 @@ module _ (own : EndsAreOwn) (start : Start) (all : ℕ → List HostStep) (e : H
               absurd (no_master (part.Ldm runs.rows) (ap (λ h. (after start h (old h)).parts) at ∙ runs.is) tt)
 
 pub closers_have_heard_all : ClosersHaveHeardAll
-closers_have_heard_all start all e es some moment epoch marked =
-    closes_rightly ends_own start all e es some moment epoch marked
+closers_have_heard_all start all e es begins moment epoch marked =
+    closes_rightly ends_own start all e es begins moment epoch marked

@@ -147,7 +147,7 @@ module _ (start : Start) (large : ℕ → List HostStep) (more : AreOfCluster st
 
     -- a lesser cut, with the event that closes the epoch
     module _ (uncounted : UncountedAreForgotten) (forgotten : ForgottenAreDone) (leaves : OverLeavesNone)
-        (small : ℕ → List HostStep) (some : start.start_epoch < start.epoch) (less : AreOfCluster start small)
+        (small : ℕ → List HostStep) (begins : start.start_epoch < start.epoch) (less : AreOfCluster start small)
         (cut : IsCut small large)
         (epoch : ℕ) (low : z.epoch ≤ epoch) (newer : List HostStep) (e : HostStep) (older : List HostStep)
         (is : events_of start small ≡ newer ++ e ∷ older) (member : Member)
@@ -199,7 +199,7 @@ module _ (start : Start) (large : ℕ → List HostStep) (more : AreOfCluster st
         by_led : is_led_by_full start (logs_of start (e ∷ older)) z.tx ≡ true → IsIn z (history (hosts start) small)
         by_led led =
             from_done
-            (done_where_led uncounted forgotten start large some es end at last part epoch closed.ended z.tx led
+            (done_where_led uncounted forgotten start large begins es end at last part epoch closed.ended z.tx led
             own.epoch own.marked (λ a b one other. at_epoch a one ∙ sym (at_epoch b other))
             (let same = at_epoch own.epoch own.marked in omega (arith, same, low)) forth)
 
@@ -281,7 +281,7 @@ module _ (closers : ClosersHaveHeardAll) (durable : DurableWereClosed) (uncounte
         → AreOfCluster start large → IsCut small large → (epoch : ℕ) → WasClosed start small epoch → (z : Entry)
         → IsIn z (history (hosts start) large) → writes z ≡ true → z.epoch ≤ epoch
         → IsIn z (history (hosts start) small)
-    closed_stay start small large some less more cut epoch was z there wrote low =
+    closed_stay start small large begins less more cut epoch was z there wrote low =
         let found =
         marks_at start was.host (Closed epoch) (events_of start small)
         (subst (λ (logs : ℕ → List HostStep). IsMarked (Closed epoch) (logs was.host))
@@ -289,19 +289,19 @@ module _ (closers : ClosersHaveHeardAll) (durable : DurableWereClosed) (uncounte
         let moment =
         moment_before start large found.newer (found.event ∷ found.older)
         (subst (IsMoment start large) found.is (cut_moment start small large less more cut)) in
-        let closing = closers start large found.event found.older some moment epoch found.there in
-        stays_there start large more z there wrote uncounted forgotten leaves small some less cut epoch low found.newer
+        let closing = closers start large found.event found.older begins moment epoch found.there in
+        stays_there start large more z there wrote uncounted forgotten leaves small begins less cut epoch low found.newer
         found.event found.older found.is closing.member closing.is
         (president_made start large (found.event ∷ found.older) moment closing.member closing.is.president)
 
     pub closed_stay_closed : ClosedStayClosed
-    closed_stay_closed start small large some less more cut h epoch below marked z there wrote low = by marked
+    closed_stay_closed start small large begins less more cut h epoch below marked z there wrote low = by marked
       where
         by : (IsMarked (Closed epoch) (small h)) ⊎ (IsMarked (Durable epoch) (small h))
             → IsIn z (history (hosts start) small)
         by (inl closed) =
-            closed_stay start small large some less more cut epoch
+            closed_stay start small large begins less more cut epoch
             (record { host = h; below = below; marked = closed }) z there wrote low
         by (inr saved) =
-            closed_stay start small large some less more cut epoch (durable start small some less h epoch below saved) z
+            closed_stay start small large begins less more cut epoch (durable start small begins less h epoch below saved) z
             there wrote low

@@ -63,12 +63,12 @@ decided_past tx log whole past is =
     go (e ∷ newer) =
         or_right (list_any (is_decision tx) e.step.marks) (has_mark (is_decision tx) (newer ++ log)) (go newer)
 
-module _ (start : Start) (all : ℕ → List HostStep) (some : start.start_epoch < start.epoch) where
+module _ (start : Start) (all : ℕ → List HostStep) (begins : start.start_epoch < start.epoch) where
   abbrev now : List HostStep → Member → ℕ
   now es member = (epochs_of start (logs_of start es) member).current
 
   stands : (es : List HostStep) → IsMoment start all es → AllStand start (logs_of start es)
-  stands es moment = epochs_stand start all es some moment
+  stands es moment = epochs_stand start all es begins moment
 
   one_up : (e : HostStep) (es : List HostStep) → IsMoment start all (e ∷ es) → (member : Member)
       → now es member ≤ now (e ∷ es) member

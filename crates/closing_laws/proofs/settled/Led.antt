@@ -63,7 +63,7 @@ pub record IsDecidedAndDone (start : Start) (logs : ℕ → List HostStep) (tx :
   pub done : IsDone start logs tx
 
 module _ (uncounted : UncountedAreForgotten) (forgotten : ForgottenAreDone) (start : Start) (all : ℕ → List HostStep)
-    (some : start.start_epoch < start.epoch) (es end : List HostStep) (at : IsMoment start all es)
+    (begins : start.start_epoch < start.epoch) (es end : List HostStep) (at : IsMoment start all es)
     (last : IsMoment start all end)
     (part : (h : ℕ) → IsPast (logs_of start es h) (logs_of start end h)) (epoch : ℕ)
     (ended : EachFull start (logs_of start es) (HasEnded epoch)) (tx : TxId)
@@ -95,7 +95,7 @@ module _ (uncounted : UncountedAreForgotten) (forgotten : ForgottenAreDone) (sta
 
     decided : is_decided start (logs_of start es) tx ≡ true
     decided =
-        decided_by_then start all some es end last me there (part h) tx given marked
+        decided_by_then start all begins es end last me there (part h) tx given marked
         (let later = its.later in omega (arith, later, low))
 
     -- it isn't counted any more

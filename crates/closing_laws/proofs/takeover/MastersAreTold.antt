@@ -95,7 +95,7 @@ module _ (m : Machine HostStep Addressed) where
       by true b is at = absurd (true≢false is)
 
 module _ (own : EndsAreOwn) (start : Start) (all : ℕ → List HostStep) (e : HostStep) (es : List HostStep)
-    (some : start.start_epoch < start.epoch) (moment : IsMoment start all (e ∷ es))
+    (begins : start.start_epoch < start.epoch) (moment : IsMoment start all (e ∷ es))
     (over : AreOver start (logs_of start es))
   where
     abbrev old : ℕ → List HostStep
@@ -142,7 +142,7 @@ module _ (own : EndsAreOwn) (start : Start) (all : ℕ → List HostStep) (e : H
           is_true : IsOverTrue start (n.signal e)
           is_true =
               taken_told start (IsOverTrue start) all e es moment
-              (own start all es some (moment_less start all e es moment))
+              (own start all es begins (moment_less start all e es moment))
               taken_here.sound not_own
               (λ closes. let differ : Takeover TakeoverEnd ≡ Host (Closed closes.cause) = sym ends ∙ closes.is in
               absurd cc)
@@ -231,10 +231,10 @@ module _ (own : EndsAreOwn) (start : Start) (all : ℕ → List HostStep) (e : H
 pub all_over : EndsAreOwn → (start : Start) (all : ℕ → List HostStep) (es : List HostStep)
     → start.start_epoch < start.epoch
     → IsMoment start all es → AreOver start (logs_of start es)
-all_over own start all [] some moment member there none =
+all_over own start all [] begins moment member there none =
     inl (ap (λ (s : node.HostBody).
     (master_in (fresh_master member (first_layout start.shape).view 0) s.parts).view)
     (main_started start member there))
-all_over own start all (e ∷ es) some moment member there none =
-    over_next own start all e es some moment (all_over own start all es some (moment_less start all e es moment)) member
+all_over own start all (e ∷ es) begins moment member there none =
+    over_next own start all e es begins moment (all_over own start all es begins (moment_less start all e es moment)) member
     there none

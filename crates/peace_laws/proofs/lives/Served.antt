@@ -72,7 +72,7 @@ either true b is = inl refl
 either false b is = inr is
 
 module _ (hosts_level : HostsAreLevel) (closes : ClosingGoesOn) (start : Start) (shape : IsShape start.shape)
-    (rows : start.rows ≡ []) (some : start.start_epoch < start.epoch) where
+    (rows : start.rows ≡ []) (begins : start.start_epoch < start.epoch) where
   none_asked : plain_requests.AreAskedAtQuiet start (plain_parts start (λ h. []))
   none_asked newer e before is asks = absurd (nothing newer is)
     where
@@ -85,7 +85,7 @@ module _ (hosts_level : HostsAreLevel) (closes : ClosingGoesOn) (start : Start) 
       let rests : Rests start start.epoch (λ h. []) = lives_rest start rows in
       record {
         stands = rests.stands;
-        rests = λ quiet. record { epoch = start.epoch; some = omega (arith, some); rests = rests };
+        rests = λ quiet. record { epoch = start.epoch; some = omega (arith, begins); rests = rests };
         asked = none_asked;
       }
 
@@ -142,7 +142,7 @@ module _ (hosts_level : HostsAreLevel) (closes : ClosingGoesOn) (start : Start) 
 pub lives_plain : HostsAreLevel → ClosingGoesOn → PeacefulLivesArePlain
 lives_plain hosts_level closes start asked logs life =
     let served : IsServed start logs =
-    serves hosts_level closes start life.shape life.rows life.some asked logs life.served in
+    serves hosts_level closes start life.shape life.rows life.begins asked logs life.served in
     let stands : Stands start logs = served.stands in
     record {
       peaceful = stands.peaceful;
@@ -199,7 +199,7 @@ module _ (start : Start) (shape : IsShape start.shape) (epoch : ℕ) (logs : ℕ
 pub closings_answered : HostsAreLevel → ClosingGoesOn → ClosingsAreAnswered
 closings_answered hosts_level closes start earlier request was now life quiet closing by again =
     let served : IsServed start was =
-    serves hosts_level closes start life.shape life.rows life.some earlier was life.served in
+    serves hosts_level closes start life.shape life.rows life.begins earlier was life.served in
     let rest : RestsSome start was = served.rests quiet in
     let on : ClosesOn start request rest.epoch was now =
     closes start request rest.epoch was now life.shape rest.some rest.rests quiet closing by in
