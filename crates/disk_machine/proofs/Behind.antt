@@ -10,12 +10,12 @@ use Rattle.world_core.specs.Right.{arriving}
 use Rattle.world_core.specs.Start.{Start}
 use Rattle.world_core.specs.Steps.{Addressed, HostStep}
 use Rattle.world_views.proofs.CutFacts.{cut_stays}
-use Rattle.world_views.specs.Machine.{FitsRow, comes_rightly, has_cut}
+use Rattle.world_views.specs.Machine.{FitsRow, comes_rightly, has_cut, machine}
 use Rattle.world_views.specs.Sending.{is_asked}
 use Rattle.disk_machine.proofs.Entries.{entry}
 use Rattle.disk_machine.proofs.Pending.{AllPut, all_put, not_asked}
 use Rattle.disk_machine.specs.Erased.{erased, handling, is_work, pending, puts_off, with_step}
-use Rattle.disk_machine.specs.Machine.{disk_machine, does, is_behind, skipping}
+use Rattle.disk_machine.specs.Machine.{disk_machine, does, is_behind}
 use Rattle.disk_machine.specs.Rule.{DiskRule}
 
 -- a signal from host i is put off
@@ -66,7 +66,7 @@ module _ (rule : DiskRule) (start : Start) (i h : ℕ) where
   abbrev IsBehind : List HostStep → Type 0
   IsBehind log =
       Behind i h (waiting log) (has_cut start h (left log) i) (taken (disk_machine rule start) i log)
-      (taken (skipping start) i (left log))
+      (taken (machine start) i (left log))
 
   module _ (log : List HostStep) (e : HostStep) (step : IsStep (disk_machine rule start) h log e)
       (put : AllPut rule start h log (waiting log)) (before : IsBehind log) where
@@ -77,7 +77,7 @@ module _ (rule : DiskRule) (start : Start) (i h : ℕ) where
     all = taken (disk_machine rule start) i log
 
     abbrev some : List Addressed
-    some = taken (skipping start) i (left log)
+    some = taken (machine start) i (left log)
 
     abbrev cut : Bool
     cut = has_cut start h (left log) i
@@ -89,14 +89,14 @@ module _ (rule : DiskRule) (start : Start) (i h : ℕ) where
     abbrev Comes : Option HostStep → Option Signal → Type 0
     Comes p o =
         Behind i h o (has_cut start h (with_step rule start h p (left log)) i) more
-        (taken (skipping start) i (with_step rule start h p (left log)))
+        (taken (machine start) i (with_step rule start h p (left log)))
 
     unchanged : is_work h x ≡ true → more ≡ all
     unchanged work = add_asked (is_asked h x) (is_work h x) (x.from.0 == i) (arriving h x) all work
 
     -- a step without the disk that takes this
     abbrev takes : HostStep → List Addressed
-    takes p = taken (skipping start) i (p ∷ left log)
+    takes p = taken (machine start) i (p ∷ left log)
 
     takes_is : (p : HostStep) → p.host ≡ h
         → takes p ≡ add (is_asked h p.step.taken) (p.step.taken.from.0 == i) (arriving h p.step.taken) some
@@ -222,7 +222,7 @@ module _ (rule : DiskRule) (start : Start) (i h : ℕ) where
       → AllPut rule start h log (waiting log) → IsBehind log → IsBehind (e ∷ log)
   behind_step log e step put before =
       subst (λ xs. Behind i h (waiting (e ∷ log)) (has_cut start h (left (e ∷ log)) i) xs
-      (taken (skipping start) i (left (e ∷ log)))) (sym more_is)
+      (taken (machine start) i (left (e ∷ log)))) (sym more_is)
       (entry rule start h log e (λ p o. Does p → Comes log e step put before p o) (record {
         idle = λ work none does. absurd (let both : None ≡ Some _ = sym none ∙ (step.fits.works work).put_off in cc);
         works = λ y work is does. works log e step put before y work is;

@@ -2,21 +2,23 @@
 use Rattle.std.proofs.Common.{◌≡◌, ◌==◌, ℕ, Bool, true, false, List, [], ◌∷◌, refl, sym, ◌∙◌, ap, arith, inl, inr, subst}
 use Rattle.std.proofs.Common.{◌≤◌, ◌<◌}
 use Rattle.std.specs.Prelude.{if◌then◌else◌, Option}
+use Rattle.run_theory.proofs.Cuts.{logs_of_closed}
 use Rattle.run_theory.proofs.Pasts.{past_less}
 use Rattle.run_theory.specs.Links.{Closes, IsClosing, IsGiven, put, sent, taken}
-use Rattle.run_theory.specs.Lists.{IsPast}
+use Rattle.run_theory.specs.Lists.{Each, IsPast}
 use Rattle.run_theory.specs.Logs.{IsLog, IsRunning, IsStep, last}
-use Rattle.run_theory.specs.Machine.{Machine}
+use Rattle.run_theory.specs.Machine.{IsStamped, Machine}
 use Rattle.run_theory.specs.Runs.{AreLogs}
 use Rattle.sig_core.specs.declared.mark.Mark.{Mark}
 use Rattle.world_core.specs.Start.{Start}
 use Rattle.world_core.specs.Steps.{Addressed, HostStep}
-use Rattle.world_views.specs.Machine.{FitsRow, has_cut, signals_of, stops_by}
+use Rattle.world_views.specs.Machine.{FitsRow, has_cut, signals_of, stops_by, machine}
+use Rattle.world_views.proofs.SentFacts.{is_stamped}
 use Rattle.disk_machine.proofs.Behind.{Behind, is_behind_without}
 use Rattle.disk_machine.proofs.Entries.{entry}
 use Rattle.disk_machine.proofs.Pending.{after_signal, all_put, later}
 use Rattle.disk_machine.specs.Erased.{erased, handling, pending, with_step}
-use Rattle.disk_machine.specs.Machine.{closing_by, disk_machine, does, sends_by, skipping}
+use Rattle.disk_machine.specs.Machine.{closing_by, disk_machine, does, sends_by}
 use Rattle.disk_machine.specs.Rule.{DiskRule}
 use Rattle.disk_machine.specs.Transparent.{DisksAreTransparent}
 
@@ -25,7 +27,7 @@ module _ (rule : DiskRule) (start : Start) where
   d = disk_machine rule start
 
   abbrev m : Machine HostStep Addressed
-  m = skipping start
+  m = machine start
 
   abbrev left : ℕ → List HostStep → List HostStep
   left h log = erased rule start h log
@@ -197,9 +199,37 @@ module _ (rule : DiskRule) (start : Start) where
       by (Behind.one x is from same) given = given_less i j (left i (logs i)) _ some (subst Given same given)
       by (Behind.lost y gone none same) given = given_less i j (left i (logs i)) _ some (subst Given same given)
 
+  -- a step's signals have its stamp, and so has what its host's links give last
+  stamped : IsStamped d
+  stamped = record {
+    sends = λ h log e.
+        entry rule start h log e (λ p o. Each (λ x. x.signal.stamp ≡ e.step.stamp) (sends_by rule start h log p)) (record {
+          idle = λ work is. tt;
+          works = λ y work is. tt;
+          drops = λ y work is gone. tt;
+          handles = λ y work is uncut. (is_stamped start).sends h (left h log) (handling e y);
+          puts = λ work off. tt;
+          steps = λ work off. (is_stamped start).sends h (left h log) e;
+        });
+    closing = λ h log e j.
+        entry rule start h log e (λ p o. (closing_by rule start h log e j p).signal.stamp ≡ e.step.stamp) (record {
+          idle = λ work is. refl;
+          works = λ y work is. refl;
+          drops = λ y work is gone. refl;
+          handles = λ y work is uncut. refl;
+          puts = λ work off. refl;
+          steps = λ work off. refl;
+        });
+  }
+
+  right_left : (logs : ℕ → List HostStep) → AreLogs d logs → AreLogs m (λ h. left h (logs h))
+  right_left logs all = record {
+    local = λ h. local_left h (logs h) (all.local h);
+    there = λ h has. inl refl;
+    linked = linked_left logs all;
+  }
+
 pub plain_logs : DisksAreTransparent
-plain_logs rule start logs all = record {
-  local = λ h. local_left rule start h (logs h) (all.local h);
-  there = λ h has. inl refl;
-  linked = linked_left rule start logs all;
-}
+plain_logs rule start logs inside all cut closed =
+    right_left rule start inside
+    (logs_of_closed (disk_machine rule start) (stamped rule start) inside logs all cut closed)

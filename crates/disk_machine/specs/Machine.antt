@@ -6,7 +6,7 @@ use Rattle.sig_core.specs.declared.signal.Signal.{Signal}
 use Rattle.world_core.specs.Machine.{last_stamp}
 use Rattle.world_core.specs.Start.{Start, made}
 use Rattle.world_core.specs.Steps.{Addressed, HostStep}
-use Rattle.world_views.specs.Machine.{FitsRow, after, closing, has_cut, machine, own_signal, signals_of, stops_by}
+use Rattle.world_views.specs.Machine.{FitsRow, after, closing, has_cut, own_signal, signals_of, stops_by}
 use Rattle.world_views.specs.Sending.{is_asked}
 use Rattle.disk_machine.specs.Erased.{erased, is_work, pending, plain, puts_off}
 use Rattle.disk_machine.specs.Rule.{DiskRule}
@@ -70,7 +70,3 @@ module _ (rule : DiskRule) (start : Start) where
         made = λ h. 0;
         Makes = λ h log e. ⊥;
       }
-
--- the machine without disks, where a step may have a later stamp than the next one
-abbrev pub skipping : Start → Machine HostStep Addressed
-skipping start = record (machine start) { skips = true }

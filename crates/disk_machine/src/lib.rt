@@ -3,4 +3,4 @@
 
 mod laws;
 
-pub use laws::disks_are_transparent;
+pub use laws::{disks_are_transparent, without_disks_all_is_left};
