@@ -72,7 +72,7 @@ either true b is = inl refl
 either false b is = inr is
 
 module _ (hosts_level : HostsAreLevel) (closes : ClosingGoesOn) (start : Start) (shape : IsShape start.shape)
-    (rows : start.rows ≡ []) (begins : start.start_epoch < start.epoch) where
+    (rows : start.rows ≡ []) (above : start.start_epoch < start.epoch) where
   none_asked : plain_requests.AreAskedAtQuiet start (plain_parts start (λ h. []))
   none_asked newer e before is asks = absurd (nothing newer is)
     where
@@ -85,7 +85,7 @@ module _ (hosts_level : HostsAreLevel) (closes : ClosingGoesOn) (start : Start) 
       let rests : Rests start start.epoch (λ h. []) = lives_rest start rows in
       record {
         stands = rests.stands;
-        rests = λ quiet. record { epoch = start.epoch; some = omega (arith, begins); rests = rests };
+        rests = λ quiet. record { epoch = start.epoch; some = omega (arith, above); rests = rests };
         asked = none_asked;
       }
 
