@@ -1,5 +1,5 @@
 //! Lists of signals to send.
-ghost use Rattle.std.specs.Prelude.{◌≡◌, ◌≤◌, ◌+◌, IfOk, [], ◌∷◌, length, map};
+ghost use Rattle.std.specs.Prelude.{◌≡◌, ◌≤◌, ◌+◌, ◌++◌, IfOk, OnOk, [], ◌∷◌, length, map};
 ghost use Rattle.sig_core.specs.Step.{joined, sends_only, to_place};
 ghost use Rattle.qmgr_block.specs.Propose.{request_of, stop_of, stop_sends};
 
@@ -32,14 +32,26 @@ pub fn requests(alloc: Global, members: &Members, view: &View) -> Result<Vec<Out
     let held = Held::new(alloc, *view)?;
     let mut sends = Vec::new(alloc);
     for member in members.as_slice() {
-        let proposal = held.share()?;
-        let body = Body::Membership(MembershipSignal::PrepFailReq { proposal });
-        sends.push(Outgoing {
-            to: membership(member.node),
-            body,
-        })?;
+        add_request(&held, member, &mut sends)?;
     }
     Ok(sends)
+}
+
+// A member is asked to promise the view, behind what is sent so far.
+fn add_request(
+    view: &Held<View>,
+    member: &Member,
+    sends: &mut Vec<Outgoing>,
+) -> Result<(), NoMemory>
+    ensures { OnOk result (sends.new.items ≡ sends.old.items ++ request_of view.now member.now ∷ []) }
+{
+    let proposal = view.share()?;
+    let body = Body::Membership(MembershipSignal::PrepFailReq { proposal });
+    sends.push(Outgoing {
+        to: membership(member.node),
+        body,
+    })?;
+    Ok(())
 }
 
 /// Sends all of a list that the event has room for.

@@ -1,10 +1,18 @@
 //! The operations of a transaction: one goes out, is answered, or waits.
-ghost use Rattle.std.specs.Prelude.{◌≡◌, None, Some, MatchOption, OnOk, OnErr};
+ghost use Rattle.std.specs.Prelude.{◌≡◌, ◌<◌, length, None, Some, IsTrue, MatchOption, OnOk, OnErr};
+ghost use Rattle.sig_core.specs.declared.signal.Body.TheVariants as bodies;
+ghost use Rattle.sig_core.specs.declared.signal.chain.ChainSignal.TheVariants.{LqhKeyReq};
+ghost use Rattle.sig_core.specs.Chain.{node_at};
+ghost use Rattle.sig_core.specs.Op.{key_of};
+ghost use Rattle.sig_core.specs.Place.{rows_of};
 ghost use Rattle.tc_block.specs.declared.phase.Asked.{Asked};
 ghost use Rattle.tc_block.specs.Operate.{answer_row, answered, asked_on, can_operate, is_ready, late_answer};
 ghost use Rattle.tc_block.specs.Operate.{operate_row, wait_row};
-ghost use Rattle.sig_core.specs.Step.{HasRoom, IsTaken, IsUntouched};
+ghost use Rattle.tc_block.specs.Touched.{fits, touch};
+ghost use Rattle.tc_block.specs.Turn.{asking};
+ghost use Rattle.sig_core.specs.Step.{HasRoom, IsTaken, IsUntouched, and_send};
 
+use crate::commit::share_both;
 use crate::phase::{Asked, Phase};
 use crate::sends::{send_aborts, send_waits};
 use crate::touched::same_key;
@@ -12,7 +20,7 @@ use crate::transaction::Transaction;
 use frag_map::Layout;
 use sig_core::{
     Answer, Body, CLIENT, Chain, ChainSignal, ClientSignal, HeldAnswer, HeldOp, HeldWork, Key,
-    NoMemory, Op, Outs, TxId, node_at, rows_of,
+    Members, NoMemory, Op, Outs, TxId, node_at, rows_of,
 };
 
 impl Transaction {
@@ -51,21 +59,22 @@ impl Transaction {
     {
         if self.can_operate(op.get()) {
             let chain = &layout.chain_for(op);
-            let asked = op.share()?;
             let work = HeldWork::operate(op.share()?);
-            self.touched.touch(op.get().key(), chain)?;
-            self.asked = Some(Asked {
-                op: asked,
-                chain: *chain,
-            });
-            let body = ChainSignal::LqhKeyReq {
-                tx,
-                work,
-                chain: Chain::of(chain),
-                at: 0,
-            };
-            out.send(rows_of(node_at(chain, 0)), Body::Chain(body));
+            self.take_on(op.share()?, chain)?;
+            send_request(tx, work, chain, out);
         }
+        Ok(())
+    }
+
+    // The operation is the unanswered one, and its key is touched.
+    #[inline(always)]
+    fn take_on(&mut self, op: HeldOp, chain: &Members) -> Result<(), NoMemory>
+        requires { IsTrue (fits self.old.touched (key_of op)) }
+        ensures ok { OnOk result (self.new ≡ asking (record self.old { touched = touch self.old.touched (key_of op) chain.now }) (Some (record { op = op; chain = chain.now }))) }
+        ensures err { OnErr result (self.new ≡ self.old) }
+    {
+        self.touched.touch(op.get().key(), chain)?;
+        self.asked = Some(Asked { op, chain: *chain });
         Ok(())
     }
 
@@ -129,7 +138,7 @@ impl Transaction {
         let Some(asked) = &self.asked else {
             return Ok(());
         };
-        self.ops.push((asked.op.share()?, answer.share()?))?;
+        self.ops.push(share_both(&asked.op, answer)?)?;
         if let Answer::Done = answer.get() {
             self.touched.write(asked.op.get().key(), &asked.chain);
         }
@@ -156,4 +165,19 @@ impl Transaction {
             send_waits(tx, asked.op.get().key(), &asked.chain, out);
         }
     }
+}
+
+// Work on a key goes to the first node of its chain.
+#[inline(always)]
+fn send_request(tx: TxId, work: HeldWork, chain: &Members, out: &mut Outs)
+    requires { length out.old.sends < 16 }
+    ensures { out.new ≡ and_send out.old (rows_of (node_at chain.now 0)) (bodies.Chain (LqhKeyReq tx work chain.now 0)) }
+{
+    let body = ChainSignal::LqhKeyReq {
+        tx,
+        work,
+        chain: Chain::of(chain),
+        at: 0,
+    };
+    out.send(rows_of(node_at(chain, 0)), Body::Chain(body));
 }

@@ -1,5 +1,6 @@
 //! The coordinator of a node.
 ghost use Rattle.std.specs.Prelude.{◌≡◌, ◌+◌, ◌<◌, ◌^◌, OnOk, OnErr, IfOk, IfSome, is_some, length};
+ghost use Rattle.indexmap.specs.IndexMap.{insert_entry};
 ghost use Rattle.sig_core.specs.Same.{same_tx};
 ghost use Rattle.sig_core.specs.Step.{HasRoom, IsTaken, IsUntouched};
 ghost use Rattle.sig_core.specs.declared.signal.Body.TheVariants.{Chain, Client};
@@ -7,7 +8,7 @@ ghost use Rattle.tc_block.specs.Abort.{aborted_row, refuse_row, rollback_row};
 ghost use Rattle.tc_block.specs.Commit.{commit_row, committed_row, verify_row};
 ghost use Rattle.tc_block.specs.Complete.{completed_row};
 ghost use Rattle.tc_block.specs.Live.{place_in, step_of, turn_of, without};
-ghost use Rattle.tc_block.specs.Operate.{answer_row, operate_row, wait_row};
+ghost use Rattle.tc_block.specs.Operate.{answer_row, fresh, operate_row, wait_row};
 ghost use Rattle.tc_block.specs.Sends.{go_on_row};
 ghost use Rattle.tc_block.specs.Tc.{tc_table};
 
@@ -98,9 +99,19 @@ impl Tc {
             start: self.start,
             seq: self.next_seq,
         };
-        self.live.insert(tx, Transaction::new(alloc))?;
+        self.add(alloc, tx)?;
         self.next_seq += 1;
         out.send(CLIENT, Body::Client(ClientSignal::TcBeginConf { name, tx }));
+        Ok(())
+    }
+
+    // A transaction stands behind the others.
+    #[inline(always)]
+    fn add(&mut self, alloc: Global, tx: TxId) -> Result<(), NoMemory>
+        ensures ok { OnOk result (self.new ≡ with_live self.old (insert_entry same_tx self.old.live tx fresh)) }
+        ensures err { OnErr result (self.new ≡ self.old) }
+    {
+        self.live.insert(tx, Transaction::new(alloc))?;
         Ok(())
     }
 
