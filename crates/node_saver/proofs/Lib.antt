@@ -1,0 +1,9 @@
+pub mod AskLemmas
+pub mod CopyForms
+pub mod CopyLawLemmas
+pub mod RedoLemmas
+pub mod SaveForms
+pub mod SaveLawLemmas
+pub mod SlotCalls
+pub mod SlotLawLemmas
+pub mod SystemSlotLemmas
