@@ -48,7 +48,7 @@ untaken {J} given req (Some job) (inl free) = absurd (not_none job free)
   where
     not_none : (job : J) → Some job ≡ None → ⊥
     not_none job e = cc
-untaken given req (Some job) (inr no) = cond-false (req == given) None (Some given) no
+untaken given req (Some job) (inr other) = cond-false (req == given) None (Some given) other
 
 -- and where it is taken none is
 pub taken : {J : Type 0} (given req : ℕ) (now : Option J) (job : J) → (req == given) ≡ true → now ≡ Some job

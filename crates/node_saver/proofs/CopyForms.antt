@@ -69,7 +69,7 @@ module _ (s : SystemSaverState) (order : CopyOrder) where
   unfolding ask_row
   ask_form =
       cond_both (nat_le order.epoch s.slot.epoch) _ _ (Form s (Ask order))
-      (λ saved. Saved order (leb-true order.epoch s.slot.epoch saved)) (λ no. asked s.job refl)
+      (λ saved. Saved order (leb-true order.epoch s.slot.epoch saved)) (λ other. asked s.job refl)
 
 -- a confirmation that is taken
 module _ (s : SystemSaverState) (req : ℕ) (job : CopyJob) where
@@ -80,7 +80,7 @@ module _ (s : SystemSaverState) (req : ℕ) (job : CopyJob) where
   waited ended (Some waiting) some =
       cond_both (nat_le waiting.epoch job.order.epoch) _ _ (Form s (Confirm req))
       (λ saved. EndedBoth req job waiting ended some (leb-true waiting.epoch job.order.epoch saved))
-      (λ no. EndedOn req job waiting ended some)
+      (λ other. EndedOn req job waiting ended some)
 
   went_on : (req == s.given) ≡ true → s.job ≡ Some job → Form s (Confirm req) (called_on s job.order job.k)
   unfolding called_on
@@ -92,9 +92,9 @@ module _ (s : SystemSaverState) (req : ℕ) (job : CopyJob) where
 module _ (s : SystemSaverState) (req : ℕ) where
   confirmed_by : (is : Bool) (now : Option CopyJob) → (req == s.given) ≡ is → s.job ≡ now
       → Form s (Confirm req) (confirm_by s is now)
-  confirmed_by true (Some job) yes busy = went_on s req job yes busy
-  confirmed_by true None yes free = Untaken req (inl free)
-  confirmed_by false now no is = Untaken req (inr no)
+  confirmed_by true (Some job) same busy = went_on s req job same busy
+  confirmed_by true None same free = Untaken req (inl free)
+  confirmed_by false now other is = Untaken req (inr other)
 
   confirm_form : Form s (Confirm req) (confirm_row s req)
   confirm_form = confirmed_by (req == s.given) s.job refl refl

@@ -26,7 +26,7 @@ module _ (P : CopyOrder → Type 0)
     next : IfSome s.next P
 
   -- it holds of the order of a call
-  Tells : CopyCall → Type 0
+  abbrev Tells : CopyCall → Type 0
   Tells (Ask order) = P order
   Tells (Confirm req) = Unit {0}
 
@@ -126,17 +126,16 @@ pub done_is_noted : WhatIsDoneIsNoted
 done_is_noted s c = noted_at s c (turn_at s c) (form s c)
 
 -- Requests go out one at a time: the one that is out is the last, while a job is on its way.
-out_of : SystemSaverState → Option ℕ
+abbrev out_of : SystemSaverState → Option ℕ
 out_of s = out_by s.given s.job
 
 -- a turn goes so
-Goes : Option ℕ → ℕ → CopyTurn → Type 0
+abbrev Goes : Option ℕ → ℕ → CopyTurn → Type 0
 Goes left given turn = IsInTurn left given turn.step.ask turn.state.given turn.state.job
 
 -- a call of the slot goes out in its turn
 calls_in_turn : (s : SystemSaverState) (order : CopyOrder) (k : ℕ) (left : Option ℕ) → left ≡ None
     → Goes left s.given (calling s order k)
-unfolding Goes
 calls_in_turn s order k left none =
     let turn = calling s order k in
     goes_in_turn left s.given turn.step.ask _ turn.state.given turn.state.job (record { order = order; k = k }) none refl
@@ -144,9 +143,6 @@ calls_in_turn s order k left none =
 
 in_turn : (s : SystemSaverState) (c : CopyCall) (turn : CopyTurn) → Form s c turn
     → Goes (left_out (out_of s) c) s.given turn
-unfolding out_of
-
-unfolding Goes
 in_turn s c turn (Saved order saved) = record { goes = tt; number = refl; out = refl }
 in_turn s c turn (Begun order free) =
     calls_in_turn s order 0 (out_of s) (ap (λ (now : Option CopyJob). out_by s.given now) free)
@@ -165,9 +161,6 @@ in_turn s c turn (EndedOn req job waiting ended some) =
     (taken s.given req s.job job ended.is ended.busy)
 
 in_turn_along : (s : SystemSaverState) (calls : List CopyCall) → AreOneAtATime (out_of s) s.given s calls
-unfolding out_of
-
-unfolding Goes
 in_turn_along s [] = tt
 in_turn_along s (c ∷ cs) =
     let turn = turn_at s c in
@@ -180,5 +173,4 @@ in_turn_along s (c ∷ cs) =
     )
 
 pub one_at_a_time : OneRequestAtATime
-unfolding out_of
 one_at_a_time slot which calls = in_turn_along (fresh_saver slot which) calls

@@ -60,14 +60,14 @@ more_synced parity position (FsConf req) asked is = is
 
 -- From a position on, redo of a parity was written up to one end, and synced up to another.
 module _ (base parity : ℕ) where
-  WrittenTo : List FileSignal → ℕ → Type 0
+  abbrev WrittenTo : List FileSignal → ℕ → Type 0
   WrittenTo asked to = (position : ℕ) → base ≤ position → position < to → IsWritten parity position asked
 
-  SyncedTo : List FileSignal → ℕ → Type 0
+  abbrev SyncedTo : List FileSignal → ℕ → Type 0
   SyncedTo asked to = (position : ℕ) → base ≤ position → position < to → IsSynced parity position asked
 
   -- how far a save is
-  PhaseFits : List FileSignal → ℕ → ℕ → SavePhase → Type 0
+  abbrev PhaseFits : List FileSignal → ℕ → ℕ → SavePhase → Type 0
   PhaseFits asked flushed synced (Writing goal) = Unit {0}
   PhaseFits asked flushed synced (Syncing end at) =
       (end ≡ flushed)
@@ -75,7 +75,7 @@ module _ (base parity : ℕ) where
       → IsSynced parity position asked)
   PhaseFits asked flushed synced (Slot end k) = (end ≡ flushed) × (end ≡ synced)
 
-  JobFits : List FileSignal → ℕ → ℕ → Option SaveJob → Type 0
+  abbrev JobFits : List FileSignal → ℕ → ℕ → Option SaveJob → Type 0
   JobFits asked flushed synced None = Unit {0}
   JobFits asked flushed synced (Some job) = PhaseFits asked flushed synced job.phase
 
@@ -90,15 +90,12 @@ module _ (base parity : ℕ) where
     kept : Kept asked s.flushed s.synced s.slot.parity
     job : JobFits asked s.flushed s.synced s.job
 
-  SafeThen : List FileSignal → SaveTurn → Type 0
+  abbrev SafeThen : List FileSignal → SaveTurn → Type 0
   SafeThen asked turn = Safe (option_to_list turn.step.ask ++ asked) turn.state
 
   -- any request leaves it so
   kept_behind : (ask : FileSignal) (asked : List FileSignal) (flushed synced now : ℕ)
       → Kept asked flushed synced now → Kept (ask ∷ asked) flushed synced now
-  unfolding WrittenTo
-
-  unfolding SyncedTo
   kept_behind ask asked flushed synced now kept = record {
     half = kept.half;
     order = kept.order;
@@ -111,7 +108,6 @@ module _ (base parity : ℕ) where
       → ((position : ℕ) → base ≤ position → position < at → position < flushed → IsSynced parity position asked)
       → (position : ℕ) → base ≤ position → position < next_file at → position < flushed
       → IsSynced parity position (FsSyncReq Lqh req (file_of now at) ∷ asked)
-  unfolding WrittenTo
   synced_more req at flushed now asked half written synced position least most below =
       elim (cases_lt position at) [
         | inl before ↦ inr (synced position least before below)
@@ -127,9 +123,6 @@ module _ (base parity : ℕ) where
       → o.parity ≡ now → Kept asked flushed synced now
       → Kept (FsWriteReq Lqh req (file_of o.parity o.flushed) (place_of o.flushed) (take (next_len o) o.left) ∷ asked)
       (flushed + next_len o) synced now
-  unfolding WrittenTo
-
-  unfolding SyncedTo
   given_more o req flushed synced now asked is half kept =
       let low : synced ≤ flushed = kept.order in
       record {
@@ -147,15 +140,6 @@ module _ (base parity : ℕ) where
   module _ (asked : List FileSignal) where
     written_safe : (s : RowSaverState) (o : OutletState) (order : SaveOrder)
         → Kept asked s.flushed s.synced s.slot.parity → SafeThen asked (written s o order)
-    unfolding WrittenTo
-
-    unfolding SyncedTo
-
-    unfolding PhaseFits
-
-    unfolding JobFits
-
-    unfolding SafeThen
     written_safe s o order kept =
         written_by (SafeThen asked) s o order
         (λ more. record {
@@ -174,11 +158,6 @@ module _ (base parity : ℕ) where
 
     writing_safe : (s : RowSaverState) (o : OutletState) (order : SaveOrder) (goal : ℕ) → IsInStep s o
         → Kept asked s.flushed s.synced s.slot.parity → SafeThen asked (writing s o order goal)
-    unfolding PhaseFits
-
-    unfolding JobFits
-
-    unfolding SafeThen
     writing_safe s o order goal in_step kept =
         writing_by (SafeThen asked) s o order goal
         (λ more. record {
@@ -190,9 +169,6 @@ module _ (base parity : ℕ) where
     ended_safe : (s : RowSaverState) (o : OutletState) (order : SaveOrder) (end : ℕ) (next : Option SaveOrder)
         → IsInStep s o → Kept asked s.flushed s.synced s.slot.parity
         → SafeThen asked (go_on_with (in_use s order end) o order next)
-    unfolding JobFits
-
-    unfolding SafeThen
     ended_safe s o order end None in_step kept = record { kept = kept; job = tt }
     ended_safe s o order end (Some waiting) in_step kept =
         let t = in_use s order end in
@@ -203,15 +179,6 @@ module _ (base parity : ℕ) where
     went_on_safe : (s : RowSaverState) (o : OutletState) (order : SaveOrder) (phase : SavePhase) → IsInStep s o
         → Kept asked s.flushed s.synced s.slot.parity → PhaseFits asked s.flushed s.synced phase
         → SafeThen asked (go_on s o order phase)
-    unfolding WrittenTo
-
-    unfolding SyncedTo
-
-    unfolding PhaseFits
-
-    unfolding JobFits
-
-    unfolding SafeThen
     went_on_safe s o order (Writing goal) in_step kept fits = writing_safe s o order goal in_step kept
     went_on_safe s o order (Syncing end at) in_step kept fits =
         let high : end ≡ s.flushed = fits.0 in
@@ -243,9 +210,6 @@ module _ (base parity : ℕ) where
     asked_safe : (s : RowSaverState) (o : OutletState) (order : SaveOrder) (now : Option SaveJob) → s.job ≡ now
         → IsInStep s o → Kept asked s.flushed s.synced s.slot.parity → JobFits asked s.flushed s.synced now
         → SafeThen asked (ask_by s o order now)
-    unfolding JobFits
-
-    unfolding SafeThen
     asked_safe s o order None free in_step kept fits = writing_safe s o order (end_of o) in_step kept
     asked_safe s o order (Some job) busy in_step kept fits =
         beside_by (SafeThen asked) s o order job (λ same. record { kept = kept; job = fits })
@@ -254,9 +218,6 @@ module _ (base parity : ℕ) where
     confirmed_safe : (s : RowSaverState) (o : OutletState) (is : Bool) (now : Option SaveJob) → s.job ≡ now
         → IsInStep s o → Kept asked s.flushed s.synced s.slot.parity → JobFits asked s.flushed s.synced now
         → SafeThen asked (confirm_by s o is now)
-    unfolding JobFits
-
-    unfolding SafeThen
     confirmed_safe s o true (Some job) busy in_step kept fits = went_on_safe s o job.order job.phase in_step kept fits
     confirmed_safe s o true None free in_step kept fits =
         record { kept = kept; job = subst (JobFits asked s.flushed s.synced) (sym free) tt }
@@ -265,7 +226,6 @@ module _ (base parity : ℕ) where
 
     turn_safe : (s : RowSaverState) (c : SaveCall) → IsInStep s (outlet_at c) → Safe asked s
         → SafeThen asked (turn_at s c)
-    unfolding SafeThen
     turn_safe s (Ask o order) in_step safe =
         ask_row_by (SafeThen asked) s o order (λ saved. record { kept = safe.kept; job = safe.job })
         (asked_safe s o order s.job refl in_step safe.kept safe.job)
@@ -274,7 +234,6 @@ module _ (base parity : ℕ) where
 
   safe_along : (asked : List FileSignal) (s : RowSaverState) (calls : List SaveCall) → AreInStep s calls
       → Safe asked s → Safe (asked_along asked s calls) (after_all s calls)
-  unfolding SafeThen
   safe_along asked s [] in_step safe = safe
   safe_along asked s (c ∷ cs) in_step safe =
       safe_along (option_to_list (turn_at s c).step.ask ++ asked) (turn_at s c).state cs in_step.1
@@ -284,13 +243,6 @@ module _ (base parity : ℕ) where
   synced_before : (asked : List FileSignal) (s : RowSaverState) (job : SaveJob) (end k position : ℕ)
       → Safe asked s → s.job ≡ Some job → job.phase ≡ Slot end k → base ≤ position → position < end
       → IsSynced parity position asked
-  unfolding WrittenTo
-
-  unfolding SyncedTo
-
-  unfolding PhaseFits
-
-  unfolding JobFits
   synced_before asked s job end k position safe busy phase least most =
       let by_job : JobFits asked s.flushed s.synced (Some job) =
       subst (JobFits asked s.flushed s.synced) busy safe.job in
@@ -300,11 +252,6 @@ module _ (base parity : ℕ) where
       safe.kept.synced_to position least (omega (arith, same, most))
 
 pub redo_first : RedoIsSyncedFirst
-unfolding WrittenTo
-
-unfolding SyncedTo
-
-unfolding JobFits
 redo_first slot which synced calls job end k position in_step busy phase least most =
     let fresh = fresh_saver slot which synced in
     let safe : Safe synced slot.parity [] fresh = record {
@@ -320,18 +267,16 @@ redo_first slot which synced calls job end k position in_step busy phase least m
     (safe_along synced slot.parity [] fresh calls in_step safe) busy phase least most
 
 -- The saver and the journal stay in step.
-StepsOn : SaveTurn → Type 0
+abbrev StepsOn : SaveTurn → Type 0
 StepsOn turn = IsInStep turn.state turn.outlet
 
 module _ (s : RowSaverState) (o : OutletState) (in_step : IsInStep s o) where
   written_on : (order : SaveOrder) → StepsOn (written s o order)
-  unfolding StepsOn
   written_on order =
       written_by StepsOn s o order (λ more. record { flushed = in_step.flushed; parity = in_step.parity })
       (λ none. record { flushed = in_step.flushed; parity = in_step.parity })
 
   writing_on : (order : SaveOrder) (goal : ℕ) → StepsOn (writing s o order goal)
-  unfolding StepsOn
   writing_on order goal =
       writing_by StepsOn s o order goal
       (λ more. record { flushed = ap (λ (n : ℕ). n + next_len o) in_step.flushed; parity = in_step.parity })
@@ -339,7 +284,6 @@ module _ (s : RowSaverState) (o : OutletState) (in_step : IsInStep s o) where
 
 ended_on : (s : RowSaverState) (o : OutletState) (order : SaveOrder) (end : ℕ) (next : Option SaveOrder)
     → IsInStep s o → StepsOn (go_on_with (in_use s order end) o order next)
-unfolding StepsOn
 ended_on s o order end None in_step = record { flushed = in_step.flushed; parity = in_step.parity }
 ended_on s o order end (Some waiting) in_step =
     let t = in_use s order end in
@@ -349,7 +293,6 @@ ended_on s o order end (Some waiting) in_step =
 
 went_on_steps : (s : RowSaverState) (o : OutletState) (order : SaveOrder) (phase : SavePhase) → IsInStep s o
     → StepsOn (go_on s o order phase)
-unfolding StepsOn
 went_on_steps s o order (Writing goal) in_step = writing_on s o in_step order goal
 went_on_steps s o order (Syncing end at) in_step =
     synced_by StepsOn s o order end at (λ more. record { flushed = in_step.flushed; parity = in_step.parity })
@@ -360,7 +303,6 @@ went_on_steps s o order (Slot end k) in_step =
 
 asked_steps : (s : RowSaverState) (o : OutletState) (order : SaveOrder) (now : Option SaveJob) → IsInStep s o
     → StepsOn (ask_by s o order now)
-unfolding StepsOn
 asked_steps s o order None in_step = writing_on s o in_step order (end_of o)
 asked_steps s o order (Some job) in_step =
     beside_by StepsOn s o order job (λ same. record { flushed = in_step.flushed; parity = in_step.parity })
@@ -368,17 +310,14 @@ asked_steps s o order (Some job) in_step =
 
 confirmed_steps : (s : RowSaverState) (o : OutletState) (is : Bool) (now : Option SaveJob) → IsInStep s o
     → StepsOn (confirm_by s o is now)
-unfolding StepsOn
 confirmed_steps s o true (Some job) in_step = went_on_steps s o job.order job.phase in_step
 confirmed_steps s o true None in_step = in_step
 confirmed_steps s o false now in_step = in_step
 
 steps_at : (s : RowSaverState) (c : SaveCall) → IsInStep s (outlet_at c) → StepsOn (turn_at s c)
-unfolding StepsOn
 steps_at s (Ask o order) in_step =
     ask_row_by StepsOn s o order (λ saved. in_step) (asked_steps s o order s.job in_step)
 steps_at s (Confirm o req) in_step = confirmed_steps s o (req == s.given) s.job in_step
 
 pub stay_in_step : SaverAndJournalStayInStep
-unfolding StepsOn
 stay_in_step s c in_step = steps_at s c in_step

@@ -95,7 +95,7 @@ pub writing_by : (P : SaveTurn → Type 0) (s : RowSaverState) (o : OutletState)
     → P (written s o order) → P (writing s o order goal)
 unfolding writing
 writing_by P s o order goal gives then =
-    cond_both (nat_lt s.flushed goal && nat_lt 0 (length o.left)) _ _ P gives (λ no. then)
+    cond_both (nat_lt s.flushed goal && nat_lt 0 (length o.left)) _ _ P gives (λ other. then)
 
 -- what holds of a sync and of a slot's first call holds while the redo is being synced
 pub synced_by : (P : SaveTurn → Type 0) (s : RowSaverState) (o : OutletState) (order : SaveOrder) (end at : ℕ)
@@ -118,7 +118,7 @@ pub waited_by : (P : SaveTurn → Type 0) (s : RowSaverState) (o : OutletState) 
     → P (done_besides order (begin s o waiting)) → P (waited_on s o order waiting)
 unfolding waited_on
 waited_by P s o order waiting both begins =
-    cond_both (nat_le waiting.epoch s.slot.saved) _ _ P both (λ no. begins)
+    cond_both (nat_le waiting.epoch s.slot.saved) _ _ P both (λ other. begins)
 
 -- an order beside a save
 pub beside_by : (P : SaveTurn → Type 0) (s : RowSaverState) (o : OutletState) (order : SaveOrder) (job : SaveJob)
@@ -135,7 +135,7 @@ pub ask_row_by : (P : SaveTurn → Type 0) (s : RowSaverState) (o : OutletState)
     → P (ask_row s o order)
 unfolding ask_row
 ask_row_by P s o order saved asked =
-    cond_both (nat_le order.epoch s.slot.saved) _ _ P saved (λ no. asked)
+    cond_both (nat_le order.epoch s.slot.saved) _ _ P saved (λ other. asked)
 
 pub written_asks : (s : RowSaverState) (o : OutletState) (order : SaveOrder) → Asks s order (written s o order)
 written_asks s o order =
@@ -220,9 +220,9 @@ module _ (s : RowSaverState) (o : OutletState) (req : ℕ) (job : SaveJob) (is :
 module _ (s : RowSaverState) (o : OutletState) (req : ℕ) where
   confirmed_by : (is : Bool) (now : Option SaveJob) → (req == s.given) ≡ is → s.job ≡ now
       → Form s (Confirm o req) (confirm_by s o is now)
-  confirmed_by true (Some job) yes busy = went_on s o req job yes busy job.phase refl
-  confirmed_by true None yes free = Untaken o req (inl free)
-  confirmed_by false now no is = Untaken o req (inr no)
+  confirmed_by true (Some job) same busy = went_on s o req job same busy job.phase refl
+  confirmed_by true None same free = Untaken o req (inl free)
+  confirmed_by false now other is = Untaken o req (inr other)
 
   pub confirm_form : Form s (Confirm o req) (confirm_row s o req)
   confirm_form = confirmed_by (req == s.given) s.job refl refl

@@ -26,7 +26,7 @@ module _ (P : SaveOrder → Type 0) where
     next : IfSome s.next P
 
   -- it holds of the order of a call
-  Tells : SaveCall → Type 0
+  abbrev Tells : SaveCall → Type 0
   Tells (Ask o order) = P order
   Tells (Confirm o req) = Unit {0}
 
@@ -86,7 +86,7 @@ module _ (P : SaveOrder → Type 0) where
   tells_later (Ask o order) cs all = All-tail P order (orders_of cs) all
   tells_later (Confirm o req) cs all = all
 
-  pub known_along : (s : RowSaverState) (calls : List SaveCall) → Knows s → All P (orders_of calls)
+  known_along : (s : RowSaverState) (calls : List SaveCall) → Knows s → All P (orders_of calls)
       → All P (done_along s calls)
   known_along s [] knows all = All-nil P
   known_along s (c ∷ cs) knows all =
@@ -101,9 +101,6 @@ done_was_asked slot which synced calls =
     (All-contains_itself (orders_of calls))
 
 -- What is done is saved by the slot in use.
-IsSavedIn : RowSaverState → SaveOrder → Type 0
-IsSavedIn s order = order.epoch ≤ s.slot.saved
-
 saved_at : (s : RowSaverState) (c : SaveCall) (turn : SaveTurn) → Form s c turn
     → All (λ order. order.epoch ≤ turn.state.slot.saved) (done_in turn.step)
 saved_at s c turn (Saved o order saved) = one (λ order. order.epoch ≤ s.slot.saved) order saved
@@ -128,17 +125,16 @@ pub done_is_saved : WhatIsDoneIsSaved
 done_is_saved s c = saved_at s c (turn_at s c) (form s c)
 
 -- Requests go out one at a time: the one that is out is the last, while a job is on its way.
-out_of : RowSaverState → Option ℕ
+abbrev out_of : RowSaverState → Option ℕ
 out_of s = out_by s.given s.job
 
 -- a turn goes so
-Goes : Option ℕ → ℕ → SaveTurn → Type 0
+abbrev Goes : Option ℕ → ℕ → SaveTurn → Type 0
 Goes left given turn = IsInTurn left given turn.step.ask turn.state.given turn.state.job
 
 -- a save that goes on asks in its turn
 asks_in_turn : (s : RowSaverState) (order : SaveOrder) (turn : SaveTurn) (left : Option ℕ) → left ≡ None
     → Asks s order turn → Goes left s.given turn
-unfolding Goes
 asks_in_turn s order turn left none asks =
     let ask : turn.step.ask ≡ Some asks.ask = ap (λ (step : SaverStep SaveOrder). step.ask) asks.step in
     goes_in_turn left s.given turn.step.ask asks.ask turn.state.given turn.state.job
@@ -146,9 +142,6 @@ asks_in_turn s order turn left none asks =
 
 in_turn : (s : RowSaverState) (c : SaveCall) (turn : SaveTurn) → Form s c turn
     → Goes (left_out (out_of s) c) s.given turn
-unfolding out_of
-
-unfolding Goes
 in_turn s c turn (Saved o order saved) = record { goes = tt; number = refl; out = refl }
 in_turn s c turn (Begun o order turn' free asks) =
     asks_in_turn s order turn' (out_of s) (ap (λ (now : Option SaveJob). out_by s.given now) free) asks
@@ -167,9 +160,6 @@ in_turn s c turn (EndedOn o req job end waiting turn' ended some asks) =
     (taken s.given req s.job job ended.is ended.busy) asks
 
 in_turn_along : (s : RowSaverState) (calls : List SaveCall) → AreOneAtATime (out_of s) s.given s calls
-unfolding out_of
-
-unfolding Goes
 in_turn_along s [] = tt
 in_turn_along s (c ∷ cs) =
     let turn = turn_at s c in
@@ -182,5 +172,4 @@ in_turn_along s (c ∷ cs) =
     )
 
 pub one_at_a_time : OneRequestAtATime
-unfolding out_of
 one_at_a_time slot which synced calls = in_turn_along (fresh_saver slot which synced) calls

@@ -25,57 +25,36 @@ use Rattle.node_saver.proofs.SaveForms.{Told, Untaken, ask_row_by, beside_by, ca
 use Rattle.node_saver.proofs.SaveForms.{writing_by, written_by}
 
 -- where a slot is being written, its calls are out
-StandsIn : List FileSignal → ℕ → ControlSlot → ℕ → SaveOrder → SavePhase → Type 0
+abbrev StandsIn : List FileSignal → ℕ → ControlSlot → ℕ → SaveOrder → SavePhase → Type 0
 StandsIn asked given slot which order (Writing goal) = Unit {0}
 StandsIn asked given slot which order (Syncing end at) = Unit {0}
 StandsIn asked given slot which order (Slot end k) =
     AreOut Lqh CONTROL_FILE asked given (control_bytes (next_slot slot order end)) (1 - which) k
 
-StandsBy : List FileSignal → ℕ → ControlSlot → ℕ → Option SaveJob → Type 0
+abbrev StandsBy : List FileSignal → ℕ → ControlSlot → ℕ → Option SaveJob → Type 0
 StandsBy asked given slot which None = Unit {0}
 StandsBy asked given slot which (Some job) = StandsIn asked given slot which job.order job.phase
 
-Stands : List FileSignal → RowSaverState → Type 0
+abbrev Stands : List FileSignal → RowSaverState → Type 0
 Stands asked s = StandsBy asked s.given s.slot s.which s.job
 
 -- a turn leaves it so, where these requests were made before
-StandsThen : List FileSignal → SaveTurn → Type 0
+abbrev StandsThen : List FileSignal → SaveTurn → Type 0
 StandsThen asked turn = Stands (option_to_list turn.step.ask ++ asked) turn.state
 
 module _ (asked : List FileSignal) where
   written_stands : (s : RowSaverState) (o : OutletState) (order : SaveOrder) → StandsThen asked (written s o order)
-  unfolding StandsIn
-
-  unfolding StandsBy
-
-  unfolding Stands
-
-  unfolding StandsThen
   written_stands s o order =
       written_by (StandsThen asked) s o order (λ more. tt)
       (λ none. first_out Lqh CONTROL_FILE asked s.given (control_bytes (next_slot s.slot order s.flushed)) (1 - s.which))
 
   writing_stands : (s : RowSaverState) (o : OutletState) (order : SaveOrder) (goal : ℕ)
       → StandsThen asked (writing s o order goal)
-  unfolding StandsIn
-
-  unfolding StandsBy
-
-  unfolding Stands
-
-  unfolding StandsThen
   writing_stands s o order goal =
       writing_by (StandsThen asked) s o order goal (λ more. tt) (written_stands s o order)
 
   ended_stands : (s : RowSaverState) (o : OutletState) (order : SaveOrder) (end : ℕ) (next : Option SaveOrder)
       → StandsThen asked (go_on_with (in_use s order end) o order next)
-  unfolding StandsIn
-
-  unfolding StandsBy
-
-  unfolding Stands
-
-  unfolding StandsThen
   ended_stands s o order end None = tt
   ended_stands s o order end (Some waiting) =
       let t = in_use s order end in
@@ -83,13 +62,6 @@ module _ (asked : List FileSignal) where
 
   went_on_stands : (s : RowSaverState) (o : OutletState) (order : SaveOrder) (phase : SavePhase)
       → StandsIn asked s.given s.slot s.which order phase → StandsThen asked (go_on s o order phase)
-  unfolding StandsIn
-
-  unfolding StandsBy
-
-  unfolding Stands
-
-  unfolding StandsThen
   went_on_stands s o order (Writing goal) stands = writing_stands s o order goal
   went_on_stands s o order (Syncing end at) stands =
       synced_by (StandsThen asked) s o order end at (λ more. tt)
@@ -105,7 +77,6 @@ module _ (asked : List FileSignal) where
   -- an order of the same epoch, from another node, leaves the slot as it is
   told_stands : (given : ℕ) (slot : ControlSlot) (which : ℕ) (one other : SaveOrder) (phase : SavePhase)
       → one.epoch ≡ other.epoch → StandsIn asked given slot which one phase → StandsIn asked given slot which other phase
-  unfolding StandsIn
   told_stands given slot which one other (Writing goal) same stands = tt
   told_stands given slot which one other (Syncing end at) same stands = tt
   told_stands given slot which one other (Slot end k) same stands =
@@ -117,13 +88,6 @@ module _ (asked : List FileSignal) where
 
   asked_stands : (s : RowSaverState) (o : OutletState) (order : SaveOrder) (now : Option SaveJob) → s.job ≡ now
       → StandsBy asked s.given s.slot s.which now → StandsThen asked (ask_by s o order now)
-  unfolding StandsIn
-
-  unfolding StandsBy
-
-  unfolding Stands
-
-  unfolding StandsThen
   asked_stands s o order None free stands = writing_stands s o order (end_of o)
   asked_stands s o order (Some job) busy stands =
       beside_by (StandsThen asked) s o order job
@@ -132,28 +96,17 @@ module _ (asked : List FileSignal) where
 
   confirmed_stands : (s : RowSaverState) (o : OutletState) (is : Bool) (now : Option SaveJob) → s.job ≡ now
       → StandsBy asked s.given s.slot s.which now → StandsThen asked (confirm_by s o is now)
-  unfolding StandsIn
-
-  unfolding StandsBy
-
-  unfolding Stands
-
-  unfolding StandsThen
   confirmed_stands s o true (Some job) busy stands = went_on_stands s o job.order job.phase stands
   confirmed_stands s o true None free stands = subst (StandsBy asked s.given s.slot s.which) (sym free) tt
   confirmed_stands s o false now is stands = subst (StandsBy asked s.given s.slot s.which) (sym is) stands
 
   turn_stands : (s : RowSaverState) (c : SaveCall) → Stands asked s → StandsThen asked (turn_at s c)
-  unfolding Stands
-
-  unfolding StandsThen
   turn_stands s (Ask o order) stands =
       ask_row_by (StandsThen asked) s o order (λ saved. stands) (asked_stands s o order s.job refl stands)
   turn_stands s (Confirm o req) stands = confirmed_stands s o (req == s.given) s.job refl stands
 
 stands_along : (asked : List FileSignal) (s : RowSaverState) (calls : List SaveCall) → Stands asked s
     → Stands (asked_along asked s calls) (after_all s calls)
-unfolding StandsThen
 stands_along asked s [] stands = stands
 stands_along asked s (c ∷ cs) stands =
     stands_along (option_to_list (turn_at s c).step.ask ++ asked) (turn_at s c).state cs (turn_stands asked s c stands)
@@ -161,11 +114,6 @@ stands_along asked s (c ∷ cs) stands =
 -- what is known of the slot whose last call is confirmed
 out_at : (asked : List FileSignal) (s : RowSaverState) (job : SaveJob) (end k : ℕ) → Stands asked s → s.job ≡ Some job
     → job.phase ≡ Slot end k → AreOut Lqh CONTROL_FILE asked s.given (control_bytes (next_slot s.slot job.order end)) (1 - s.which) k
-unfolding StandsIn
-
-unfolding StandsBy
-
-unfolding Stands
 out_at asked s job end k stands busy phase =
     let by_job : StandsBy asked s.given s.slot s.which (Some job) =
     subst (StandsBy asked s.given s.slot s.which) busy stands in
@@ -196,12 +144,11 @@ came asked s o req job end t stands ended slot which =
     }
 
 -- the slot in use stays, or another one came
-Keeps : List FileSignal → RowSaverState → SaveCall → RowSaverState → Type 0
+abbrev Keeps : List FileSignal → RowSaverState → SaveCall → RowSaverState → Type 0
 Keeps asked s c t = ((t.slot ≡ s.slot) × (t.which ≡ s.which)) ⊎ CameIntoUse asked s c t
 
 keeps : (asked : List FileSignal) (s : RowSaverState) (c : SaveCall) (turn : SaveTurn) → Stands asked s → Form s c turn
     → Keeps asked s c turn.state
-unfolding Keeps
 keeps asked s c turn stands (Saved o order saved) = inl (refl, refl)
 keeps asked s c turn stands (Begun o order turn' free asks) = inl (asks.slot, asks.which)
 keeps asked s c turn stands (Told o order job busy same) = inl (refl, refl)
@@ -216,11 +163,6 @@ keeps asked s c turn stands (EndedOn o req job end waiting turn' ended some asks
     inr (came asked s o req job end turn'.state stands ended asks.slot asks.which)
 
 pub slots_whole : SlotsComeIntoUseWhole
-unfolding Keeps
-
-unfolding StandsBy
-
-unfolding Stands
 slots_whole slot which synced calls c =
     let fresh = fresh_saver slot which synced in
     let s = after_all fresh calls in

@@ -20,43 +20,30 @@ use Rattle.node_saver.proofs.CopyForms.{Begun, Ended, EndedBoth, EndedOn, Form, 
 use Rattle.node_saver.proofs.CopyForms.{Untaken, form, told_of}
 
 -- where a slot is being written, its calls are out
-StandsBy : List FileSignal → ℕ → SystemSlot → ℕ → Option CopyJob → Type 0
+abbrev StandsBy : List FileSignal → ℕ → SystemSlot → ℕ → Option CopyJob → Type 0
 StandsBy asked given slot which None = Unit {0}
 StandsBy asked given slot which (Some job) =
     AreOut Dih SYSTEM_FILE asked given (system_bytes (next_slot slot job.order)) (1 - which) job.k
 
-Stands : List FileSignal → SystemSaverState → Type 0
+abbrev Stands : List FileSignal → SystemSaverState → Type 0
 Stands asked s = StandsBy asked s.given s.slot s.which s.job
 
 -- a turn leaves it so, where these requests were made before
-StandsThen : List FileSignal → CopyTurn → Type 0
+abbrev StandsThen : List FileSignal → CopyTurn → Type 0
 StandsThen asked turn = Stands (option_to_list turn.step.ask ++ asked) turn.state
 
 -- what is known of the slot that is being written
 out_at : (asked : List FileSignal) (s : SystemSaverState) (job : CopyJob) → Stands asked s → s.job ≡ Some job
     → AreOut Dih SYSTEM_FILE asked s.given (system_bytes (next_slot s.slot job.order)) (1 - s.which) job.k
-unfolding StandsBy
-
-unfolding Stands
 out_at asked s job stands busy = subst (StandsBy asked s.given s.slot s.which) busy stands
 
 begun_stands : (asked : List FileSignal) (s : SystemSaverState) (order : CopyOrder)
     → StandsThen asked (calling s order 0)
-unfolding StandsBy
-
-unfolding Stands
-
-unfolding StandsThen
 begun_stands asked s order =
     first_out Dih SYSTEM_FILE asked s.given (system_bytes (next_slot s.slot order)) (1 - s.which)
 
 stands : (asked : List FileSignal) (s : SystemSaverState) (c : CopyCall) (turn : CopyTurn) → Stands asked s
     → Form s c turn → StandsThen asked turn
-unfolding StandsBy
-
-unfolding Stands
-
-unfolding StandsThen
 stands asked s c turn before (Saved order saved) = before
 stands asked s c turn before (Begun order free) = begun_stands asked s order
 stands asked s c turn before (Told order job busy same) =
@@ -72,7 +59,6 @@ stands asked s c turn before (EndedOn req job waiting ended some) = begun_stands
 
 stands_along : (asked : List FileSignal) (s : SystemSaverState) (calls : List CopyCall) → Stands asked s
     → Stands (asked_along asked s calls) (after_all s calls)
-unfolding StandsThen
 stands_along asked s [] before = before
 stands_along asked s (c ∷ cs) before =
     stands_along (option_to_list (turn_at s c).step.ask ++ asked) (turn_at s c).state cs
@@ -100,12 +86,11 @@ came asked s req job t before ended slot which =
     }
 
 -- the slot in use stays, or another one came
-Keeps : List FileSignal → SystemSaverState → CopyCall → SystemSaverState → Type 0
+abbrev Keeps : List FileSignal → SystemSaverState → CopyCall → SystemSaverState → Type 0
 Keeps asked s c t = ((t.slot ≡ s.slot) × (t.which ≡ s.which)) ⊎ CameIntoUse asked s c t
 
 keeps : (asked : List FileSignal) (s : SystemSaverState) (c : CopyCall) (turn : CopyTurn) → Stands asked s
     → Form s c turn → Keeps asked s c turn.state
-unfolding Keeps
 keeps asked s c turn before (Saved order saved) = inl (refl, refl)
 keeps asked s c turn before (Begun order free) = inl (refl, refl)
 keeps asked s c turn before (Told order job busy same) = inl (refl, refl)
@@ -120,11 +105,6 @@ keeps asked s c turn before (EndedOn req job waiting ended some) =
     inr (came asked s req job (in_use s job.order) before ended refl refl)
 
 pub slots_whole : SlotsComeIntoUseWhole
-unfolding Keeps
-
-unfolding StandsBy
-
-unfolding Stands
 slots_whole slot which calls c =
     let fresh = fresh_saver slot which in
     let s = after_all fresh calls in

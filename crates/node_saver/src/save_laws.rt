@@ -40,7 +40,6 @@ pub fn saver_and_journal_stay_in_step()
 
 /// From the first call of a control slot on, each byte of its redo was written and then synced, from
 /// where the saver began up to the end that the slot names.
-#[tactic(auto, using(crate::proofs::RedoLemmas::redo_first))]
 pub fn redo_is_synced_first()
     ensures { RedoIsSyncedFirst }
 {}
