@@ -102,7 +102,7 @@ keeps asked s c turn before (Ended req job ended none) =
 keeps asked s c turn before (EndedBoth req job waiting ended some saved) =
     inr (came asked s req job (in_use s job.order) before ended refl refl)
 keeps asked s c turn before (EndedOn req job waiting ended some) =
-    inr (came asked s req job (in_use s job.order) before ended refl refl)
+    inr (came asked s req job (calling (in_use s job.order) waiting 0).state before ended refl refl)
 
 pub slots_whole : SlotsComeIntoUseWhole
 slots_whole slot which calls c =

@@ -4,7 +4,6 @@ ghost use Rattle.node_saver.specs.CopyLaws.{OneRequestAtATime, SlotsComeIntoUseW
 ghost use Rattle.node_saver.specs.CopyLaws.{WhatIsDoneWasAsked};
 
 /// What is done was asked for: with its mask, and by the node that is told.
-#[tactic(auto, using(crate::proofs::CopyLawLemmas::done_was_asked))]
 pub fn copies_were_asked_for()
     ensures { WhatIsDoneWasAsked }
 {}
