@@ -7,3 +7,4 @@ pub mod SaveLawLemmas
 pub mod SlotCalls
 pub mod SlotLawLemmas
 pub mod SystemSlotLemmas
+pub mod TurnLemmas

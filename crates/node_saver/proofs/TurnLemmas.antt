@@ -1,0 +1,97 @@
+-- Which of its cases a step comes to, by the test that the code makes.
+use Rattle.std.proofs.Common.{◌≡◌, ◌≤◌, ◌<◌, ℕ, ◌+◌, ◌==◌, ◌&&◌, true, false, nat_le, nat_lt, length, refl, sym, ◌∙◌, ap}
+use Rattle.std.proofs.Common.{subst}
+use Rattle.std.proofs.lemmas.Bool.{and_from, and_left, and_right, cond-false, cond-true, le-leb, le-ltb, lt-leb, lt-ltb}
+use Rattle.std.specs.Prelude.{Result, Ok, Err, IfOk}
+use Rattle.sig_core.specs.declared.no_memory.NoMemory.{NoMemory}
+use Rattle.sig_core.specs.Journal.{OutletState}
+use Rattle.node_saver.specs.declared.order.SaveOrder.{SaveOrder}
+use Rattle.node_saver.specs.declared.step.SaverStep.{SaverStep}
+use Rattle.node_saver.specs.RowSaving.{IsTurn, RowSaverState, SaveTurn, begin, called_on, calling, done_besides, done_both}
+use Rattle.node_saver.specs.RowSaving.{ended, giving_out, next_file, synced_on, syncing, waited_on, writing, written}
+
+-- what came to one turn, whatever the journal has, came to the other that it is
+pub turned : (result : Result (SaverStep SaveOrder) NoMemory) (one other : OutletState → SaveTurn)
+    (now : RowSaverState) → ((o : OutletState) → one o ≡ other o)
+    → IfOk result (λ step. (o : OutletState) → IsTurn (one o) now step o)
+    → IfOk result (λ step. (o : OutletState) → IsTurn (other o) now step o)
+turned (Ok step) one other now same came =
+    λ o. subst (λ (turn : SaveTurn). IsTurn turn now step o) (same o) (came o)
+turned (Err fault) one other now same came = tt
+
+-- what came to a turn at what the journal has came to the one that it is
+pub turned_at : (result : Result (SaverStep SaveOrder) NoMemory) (one other : SaveTurn) (now : RowSaverState)
+    (o : OutletState) → one ≡ other → IfOk result (λ step. IsTurn one now step o)
+    → IfOk result (λ step. IsTurn other now step o)
+turned_at (Ok step) one other now o same came = subst (λ (turn : SaveTurn). IsTurn turn now step o) same came
+turned_at (Err fault) one other now o same came = tt
+
+-- what came to a turn whatever the journal has came to it at what it has
+pub turned_here : (result : Result (SaverStep SaveOrder) NoMemory) (one : OutletState → SaveTurn) (other : SaveTurn)
+    (now : RowSaverState) (o : OutletState) → one o ≡ other
+    → IfOk result (λ step. (o : OutletState) → IsTurn (one o) now step o)
+    → IfOk result (λ step. IsTurn other now step o)
+turned_here (Ok step) one other now o same came = subst (λ (turn : SaveTurn). IsTurn turn now step o) same (came o)
+turned_here (Err fault) one other now o same came = tt
+
+module _ (s : RowSaverState) (o : OutletState) (order : SaveOrder) where
+  pub written_syncs : s.synced < s.flushed → syncing s o order s.flushed s.synced ≡ written s o order
+  unfolding written
+  written_syncs less = sym (cond-true (nat_lt s.synced s.flushed) _ _ (lt-ltb s.synced s.flushed less))
+
+  pub written_calls : s.flushed ≤ s.synced → calling s o order s.flushed 0 ≡ written s o order
+  unfolding written
+  written_calls least = sym (cond-false (nat_lt s.synced s.flushed) _ _ (le-ltb s.synced s.flushed least))
+
+  pub writing_gives : (goal : ℕ) → s.flushed < goal → 0 < length o.left
+      → giving_out s o order goal ≡ writing s o order goal
+  unfolding writing
+  writing_gives goal less some =
+      sym
+      (cond-true (nat_lt s.flushed goal && nat_lt 0 (length o.left)) _ _
+      (and_from (nat_lt s.flushed goal) (nat_lt 0 (length o.left)) (lt-ltb s.flushed goal less)
+      (lt-ltb 0 (length o.left) some)))
+
+  pub writing_full : (goal : ℕ) → goal ≤ s.flushed → written s o order ≡ writing s o order goal
+  unfolding writing
+  writing_full goal least =
+      sym
+      (cond-false (nat_lt s.flushed goal && nat_lt 0 (length o.left)) _ _
+      (and_left (nat_lt s.flushed goal) (nat_lt 0 (length o.left)) (le-ltb s.flushed goal least)))
+
+  pub writing_out : (goal : ℕ) → length o.left ≤ 0 → written s o order ≡ writing s o order goal
+  unfolding writing
+  writing_out goal none =
+      sym
+      (cond-false (nat_lt s.flushed goal && nat_lt 0 (length o.left)) _ _
+      (and_right (nat_lt s.flushed goal) (nat_lt 0 (length o.left)) (le-ltb 0 (length o.left) none)))
+
+  pub synced_syncs : (end at : ℕ) → next_file at < end
+      → syncing s o order end (next_file at) ≡ synced_on s o order end at
+  unfolding synced_on
+  synced_syncs end at less = sym (cond-true (nat_lt (next_file at) end) _ _ (lt-ltb (next_file at) end less))
+
+  pub synced_calls : (end at : ℕ) → end ≤ next_file at
+      → calling (record s { synced = end }) o order end 0 ≡ synced_on s o order end at
+  unfolding synced_on
+  synced_calls end at least = sym (cond-false (nat_lt (next_file at) end) _ _ (le-ltb (next_file at) end least))
+
+  pub called_calls : (end k : ℕ) → k < 5 → calling s o order end (k + 1) ≡ called_on s o order end k
+  unfolding called_on
+  called_calls end k less = sym (cond-true (nat_lt k 5) _ _ (lt-ltb k 5 less))
+
+  pub called_ends : (end k : ℕ) → 5 ≤ k → ended s o order end ≡ called_on s o order end k
+  unfolding called_on
+  called_ends end k least = sym (cond-false (nat_lt k 5) _ _ (le-ltb k 5 least))
+
+  pub waited_both : (waiting : SaveOrder) → waiting.epoch ≤ s.slot.saved
+      → done_both s o order waiting ≡ waited_on s o order waiting
+  unfolding waited_on
+  waited_both waiting least =
+      sym (cond-true (nat_le waiting.epoch s.slot.saved) _ _ (le-leb waiting.epoch s.slot.saved least))
+
+  pub waited_begins : (waiting : SaveOrder) → s.slot.saved < waiting.epoch
+      → done_besides order (begin s o waiting) ≡ waited_on s o order waiting
+  unfolding waited_on
+  waited_begins waiting more =
+      sym (cond-false (nat_le waiting.epoch s.slot.saved) _ _ (lt-leb waiting.epoch s.slot.saved more))
