@@ -2,7 +2,6 @@
 use Rattle.std.proofs.Common.{◌≡◌, ◌≤◌, ◌<◌, ◌⊎◌, ℕ, ◌+◌, ◌-◌, ◌==◌, ◌/◌, ◌&&◌, Bool, true, false, nat_lt, length, List, []}
 use Rattle.std.proofs.Common.{◌∷◌, ◌++◌, refl, sym, ◌∙◌, ap, subst, inl, inr, arith, take}
 use Rattle.std.proofs.lemmas.Bool.{cases_lt, ltb-false, ltb-true}
-use Rattle.std.proofs.lemmas.List.{length-take}
 use Rattle.std.specs.Option.{option_to_list}
 use Rattle.std.specs.Prelude.{Option, None, Some}
 use Rattle.sig_core.specs.declared.place.BlockId.TheVariants.{Lqh}
@@ -21,6 +20,7 @@ use Rattle.node_saver.specs.RedoLaws.{SaverAndJournalStayInStep, outlet_at}
 use Rattle.node_saver.specs.RowSaving.{RowSaverState, SaveTurn, ask_by, confirm_by, fresh_saver, go_on, go_on_with}
 use Rattle.node_saver.specs.RowSaving.{in_use, next_file, writing, written}
 use Rattle.node_saver.specs.SaveLaws.{Ask, Confirm, SaveCall, after_all, asked_along, turn_at}
+use Rattle.node_saver.proofs.TurnLemmas.{next_size}
 use Rattle.node_saver.proofs.SaveForms.{ask_row_by, beside_by, called_by, synced_by, waited_by, writing_by, written_by}
 
 -- positions up to the end of a file lie in it, one behind the other
@@ -35,7 +35,7 @@ covered : (o : OutletState) (parity flushed position : ℕ) → o.flushed ≡ fl
     → flushed ≤ position → position < flushed + next_len o
     → Covers parity position (file_of o.parity o.flushed) (place_of o.flushed) (take (next_len o) o.left)
 covered o parity flushed position is half least most =
-    let size : length (take (next_len o) o.left) ≡ next_len o = simp (length-take) (omega arith) in
+    let size : length (take (next_len o) o.left) ≡ next_len o = next_size o in
     let within : position < next_file o.flushed = omega (arith, is, most) in
     let from : o.flushed ≤ position = omega (arith, is, least) in
     let place : place_of position ≡ place_of o.flushed + (position - o.flushed) = omega (arith, from, within) in

@@ -1,14 +1,17 @@
 -- Which of its cases a step comes to, by the test that the code makes.
 use Rattle.std.proofs.Common.{◌≡◌, ◌≤◌, ◌<◌, ℕ, ◌+◌, ◌==◌, ◌&&◌, true, false, nat_le, nat_lt, length, refl, sym, ◌∙◌, ap}
-use Rattle.std.proofs.Common.{subst}
+use Rattle.std.proofs.Common.{subst, arith}
 use Rattle.std.proofs.lemmas.Bool.{and_from, and_left, and_right, cond-false, cond-true, le-leb, le-ltb, lt-leb, lt-ltb}
-use Rattle.std.specs.Prelude.{Result, Ok, Err, IfOk}
+use Rattle.std.proofs.lemmas.List.{length-take}
+use Rattle.std.specs.Prelude.{Result, Ok, Err, IfOk, Some}
 use Rattle.sig_core.specs.declared.no_memory.NoMemory.{NoMemory}
-use Rattle.sig_core.specs.Journal.{OutletState}
+use Rattle.sig_core.specs.declared.piece.Piece.{Piece}
+use Rattle.sig_core.specs.Journal.{GivesOut, OutletState, given_out, next_len, next_piece}
 use Rattle.node_saver.specs.declared.order.SaveOrder.{SaveOrder}
+use Rattle.node_saver.specs.declared.order.SavePhase.TheVariants.{Writing}
 use Rattle.node_saver.specs.declared.step.SaverStep.{SaverStep}
-use Rattle.node_saver.specs.RowSaving.{IsTurn, RowSaverState, SaveTurn, begin, called_on, calling, done_besides, done_both}
-use Rattle.node_saver.specs.RowSaving.{ended, giving_out, next_file, synced_on, syncing, waited_on, writing, written}
+use Rattle.node_saver.specs.RowSaving.{IsTurn, RowSaverState, SaveTurn, asking, begin, called_on, calling, done_besides}
+use Rattle.node_saver.specs.RowSaving.{done_both, ended, giving_out, next_file, piece_request, synced_on, syncing, waited_on, writing, written}
 
 -- what came to one turn, whatever the journal has, came to the other that it is
 pub turned : (result : Result (SaverStep SaveOrder) NoMemory) (one other : OutletState → SaveTurn)
@@ -95,3 +98,31 @@ module _ (s : RowSaverState) (o : OutletState) (order : SaveOrder) where
   unfolding waited_on
   waited_begins waiting more =
       sym (cond-false (nat_le waiting.epoch s.slot.saved) _ _ (lt-leb waiting.epoch s.slot.saved more))
+
+-- the next piece has so many bytes
+pub next_size : (o : OutletState) → length (next_piece o).bytes ≡ next_len o
+next_size o = simp length-take (omega arith)
+
+-- a piece that the journal gives out goes out
+pub gives : (s : RowSaverState) (o later : OutletState) (order : SaveOrder) (goal : ℕ) (piece : Piece)
+    → s.flushed < goal → GivesOut o (Some piece) later
+    → asking (record s { flushed = s.flushed + length piece.bytes }) later order (Writing goal)
+    (piece_request (s.given + 1) piece)
+    ≡ writing s o order goal
+gives s o later order goal piece less given =
+    ap
+    (λ (p : Piece).
+      asking (record s { flushed = s.flushed + length p.bytes }) later order (Writing goal)
+      (piece_request (s.given + 1) p))
+    given.1
+    ∙ ap
+    (λ (journal : OutletState).
+      asking (record s { flushed = s.flushed + length (next_piece o).bytes }) journal order (Writing goal)
+      (piece_request (s.given + 1) (next_piece o)))
+    given.2
+    ∙ ap
+    (λ (n : ℕ).
+      asking (record s { flushed = s.flushed + n }) (given_out o) order (Writing goal)
+      (piece_request (s.given + 1) (next_piece o)))
+    (next_size o)
+    ∙ writing_gives s o order goal less given.0
