@@ -1,6 +1,7 @@
 pub mod AskLemmas
 pub mod CopyForms
 pub mod CopyLawLemmas
+pub mod CopyTurnLemmas
 pub mod RedoLemmas
 pub mod SaveForms
 pub mod SaveLawLemmas

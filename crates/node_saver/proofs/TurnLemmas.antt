@@ -1,16 +1,19 @@
 -- Which of its cases a step comes to, by the test that the code makes.
-use Rattle.std.proofs.Common.{◌≡◌, ◌≤◌, ◌<◌, ℕ, ◌+◌, ◌==◌, ◌&&◌, true, false, nat_le, nat_lt, length, refl, sym, ◌∙◌, ap}
+use Rattle.std.proofs.Common.{◌≡◌, ◌≤◌, ◌<◌, ℕ, ◌+◌, ◌==◌, ◌&&◌, Bool, true, false, nat_le, nat_lt, length, refl, sym, ◌∙◌, ap}
 use Rattle.std.proofs.Common.{subst, arith}
-use Rattle.std.proofs.lemmas.Bool.{and_from, and_left, and_right, cond-false, cond-true, le-leb, le-ltb, lt-leb, lt-ltb}
+use Rattle.std.proofs.lemmas.Bool.{and_from, and_left, and_right, cond-false, cond-true, cond_both, le-leb, le-ltb, lt-leb}
+use Rattle.std.proofs.lemmas.Bool.{lt-ltb, ne_eqb}
 use Rattle.std.proofs.lemmas.List.{length-take}
-use Rattle.std.specs.Prelude.{Result, Ok, Err, IfOk, Some}
+use Rattle.std.specs.Prelude.{Result, Ok, Err, IfOk, Option, None, Some}
 use Rattle.sig_core.specs.declared.no_memory.NoMemory.{NoMemory}
 use Rattle.sig_core.specs.declared.piece.Piece.{Piece}
 use Rattle.sig_core.specs.Journal.{GivesOut, OutletState, given_out, next_len, next_piece}
+use Rattle.node_saver.specs.declared.order.SaveJob.{SaveJob}
 use Rattle.node_saver.specs.declared.order.SaveOrder.{SaveOrder}
 use Rattle.node_saver.specs.declared.order.SavePhase.TheVariants.{Writing}
 use Rattle.node_saver.specs.declared.step.SaverStep.{SaverStep}
-use Rattle.node_saver.specs.RowSaving.{IsTurn, RowSaverState, SaveTurn, asking, begin, called_on, calling, done_besides}
+use Rattle.node_saver.specs.RowSaving.{IsTurn, RowSaverState, SaveTurn, ask_beside, ask_by, ask_row, asking, begin}
+use Rattle.node_saver.specs.RowSaving.{called_on, calling, confirm_by, confirm_row, done_besides, idle}
 use Rattle.node_saver.specs.RowSaving.{done_both, ended, giving_out, next_file, piece_request, synced_on, syncing, waited_on, writing, written}
 
 -- what came to one turn, whatever the journal has, came to the other that it is
@@ -112,17 +115,59 @@ pub gives : (s : RowSaverState) (o later : OutletState) (order : SaveOrder) (goa
 gives s o later order goal piece less given =
     ap
     (λ (p : Piece).
-      asking (record s { flushed = s.flushed + length p.bytes }) later order (Writing goal)
-      (piece_request (s.given + 1) p))
+    asking (record s { flushed = s.flushed + length p.bytes }) later order (Writing goal)
+    (piece_request (s.given + 1) p))
     given.1
     ∙ ap
     (λ (journal : OutletState).
-      asking (record s { flushed = s.flushed + length (next_piece o).bytes }) journal order (Writing goal)
-      (piece_request (s.given + 1) (next_piece o)))
+    asking (record s { flushed = s.flushed + length (next_piece o).bytes }) journal order (Writing goal)
+    (piece_request (s.given + 1) (next_piece o)))
     given.2
     ∙ ap
     (λ (n : ℕ).
-      asking (record s { flushed = s.flushed + n }) (given_out o) order (Writing goal)
-      (piece_request (s.given + 1) (next_piece o)))
+    asking (record s { flushed = s.flushed + n }) (given_out o) order (Writing goal)
+    (piece_request (s.given + 1) (next_piece o)))
     (next_size o)
     ∙ writing_gives s o order goal less given.0
+
+-- an order waits for a save, or is told of it
+module _ (s : RowSaverState) (o : OutletState) (order : SaveOrder) (job : SaveJob) where
+  -- it asks for nothing, whichever it is
+  abbrev Rests : SaveTurn → Type 0
+  Rests turn = (turn.step ≡ (idle s o).step) × (turn.outlet ≡ o)
+
+  rests : Rests (ask_beside s o order job)
+  unfolding ask_beside
+  rests = cond_both (job.order.epoch == order.epoch) _ _ Rests (λ same. (refl, refl)) (λ other. (refl, refl))
+
+  pub waits : (now : RowSaverState) (answer : SaverStep SaveOrder) → s.slot.saved < order.epoch → s.job ≡ Some job
+      → now ≡ (ask_beside s o order job).state → answer ≡ (idle s o).step
+      → IsTurn (ask_row s o order) now answer o
+  unfolding ask_row
+  waits now answer later busy state step =
+      let row : ask_row s o order ≡ ask_beside s o order job =
+      cond-false (nat_le order.epoch s.slot.saved) _ _ (lt-leb order.epoch s.slot.saved later)
+      ∙ ap (λ (at : Option SaveJob). ask_by s o order at) busy in
+      let came : IsTurn (ask_beside s o order job) now answer o =
+      record { state = state; step = step ∙ sym rests.0; outlet = sym rests.1 } in
+      subst (λ (turn : SaveTurn). IsTurn turn now answer o) (sym row) came
+
+-- a confirmation isn't taken where no save is on its way
+pub no_taker : (s : RowSaverState) (o : OutletState) (req : ℕ) (answer : SaverStep SaveOrder) → s.job ≡ None
+    → answer ≡ (idle s o).step → IsTurn (confirm_row s o req) s answer o
+no_taker s o req answer free step =
+    let row : idle s o ≡ confirm_row s o req =
+    by (req == s.given) ∙ sym (ap (λ (at : Option SaveJob). confirm_by s o (req == s.given) at) free) in
+    subst (λ (turn : SaveTurn). IsTurn turn s answer o) row (record { state = refl; step = step; outlet = refl })
+  where
+    by : (is : Bool) → idle s o ≡ confirm_by s o is None
+    by true = refl
+    by false = refl
+
+-- nor is one of another request than the last
+pub not_the_last : (s : RowSaverState) (o : OutletState) (req : ℕ) (answer : SaverStep SaveOrder)
+    → (req ≡ s.given → ⊥) → answer ≡ (idle s o).step → IsTurn (confirm_row s o req) s answer o
+not_the_last s o req answer other step =
+    subst (λ (turn : SaveTurn). IsTurn turn s answer o)
+    (sym (ap (λ (is : Bool). confirm_by s o is s.job) (ne_eqb req s.given other)))
+    (record { state = refl; step = step; outlet = refl })

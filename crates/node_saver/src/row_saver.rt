@@ -3,7 +3,7 @@ ghost use Rattle.std.specs.Prelude.{◌≡◌, ◌≤◌, ◌+◌, IfOk, length}
 ghost use Rattle.sig_core.specs.Journal.{OutletState};
 ghost use Rattle.node_saver.specs.declared.order.SavePhase.TheVariants as phase;
 ghost use Rattle.node_saver.specs.RowSaving.{IsTurn, RowSaverState, ask_beside, ask_row, asking, begin, called_on};
-ghost use Rattle.node_saver.specs.RowSaving.{calling, confirm_row, ended, fresh_saver, idle, next_slot, piece_request};
+ghost use Rattle.node_saver.specs.RowSaving.{calling, confirm_row, ended, fresh_saver, go_on, idle, next_slot, piece_request};
 ghost use Rattle.node_saver.specs.RowSaving.{synced_on, syncing, waited_on, writing, written};
 
 use crate::order::{SaveJob, SaveOrder, SavePhase};
@@ -71,12 +71,7 @@ impl RowSaver {
         self.slot
     }
 
-    /// Whether a save is on its way.
-    pub fn is_busy(&self) -> bool {
-        self.job.is_some()
-    }
-
-    /// An order to save an epoch, from this node. One whose epoch is saved is done at once; one of
+    /// An order to save an epoch, from a node. One whose epoch is saved is done at once; one of
     /// the epoch that is being saved is told then; another one waits for the save on its way, in
     /// place of one that waited before.
     ///
@@ -122,12 +117,30 @@ impl RowSaver {
         ensures used { J.used_of journal.new ≡ J.used_of journal.old }
     {
         match self.job {
-            Some(job) if req == self.given => match job.phase {
-                SavePhase::Writing { goal } => self.write_on(alloc, job.order, goal, journal),
-                SavePhase::Syncing { end, at } => self.sync_on(alloc, job.order, end, at),
-                SavePhase::Slot { end, k } => self.call_on(alloc, job.order, end, k, journal),
-            },
-            _ => Ok(idle()),
+            None => Ok(idle()),
+            Some(job) => {
+                if req != self.given {
+                    return Ok(idle());
+                }
+                self.go_on(alloc, job, journal)
+            }
+        }
+    }
+
+    // A save goes on, whose last request is confirmed.
+    fn go_on<J: Journal>(
+        &mut self,
+        alloc: Global,
+        job: SaveJob,
+        journal: &mut J,
+    ) -> Result<SaverStep<SaveOrder>, NoMemory>
+        ensures row { IfOk result (λ step. IsTurn (go_on self.old (J.outlet_of journal.old) job.order job.phase) self.new step (J.outlet_of journal.new)) }
+        ensures used { J.used_of journal.new ≡ J.used_of journal.old }
+    {
+        match job.phase {
+            SavePhase::Writing { goal } => self.write_on(alloc, job.order, goal, journal),
+            SavePhase::Syncing { end, at } => self.sync_on(alloc, job.order, end, at),
+            SavePhase::Slot { end, k } => self.call_on(alloc, job.order, end, k, journal),
         }
     }
 

@@ -93,8 +93,13 @@ impl SystemSaver {
         ensures { IfOk result (λ step. IsTurn (confirm_row self.old req) self.new step) }
     {
         match self.job {
-            Some(job) if req == self.given => self.call_on(alloc, job.order, job.k),
-            _ => Ok(idle()),
+            None => Ok(idle()),
+            Some(job) => {
+                if req != self.given {
+                    return Ok(idle());
+                }
+                self.call_on(alloc, job.order, job.k)
+            }
         }
     }
 

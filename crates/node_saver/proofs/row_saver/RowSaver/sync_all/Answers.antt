@@ -12,7 +12,7 @@ returns-then-at-end c =
     turned c.sync_file.result (λ o. syncing s o order c.self.inside.flushed c.self.inside.synced)
     (λ o. written s o order) c.sync_file.new.self
     (λ o.
-      ap (λ (t : RowSaverState). syncing s o order t.flushed t.synced) c.self.view_is ∙ written_syncs s o order less)
+    ap (λ (t : RowSaverState). syncing s o order t.flushed t.synced) c.self.view_is ∙ written_syncs s o order less)
     c.sync_file.ensures
 
 pub returns-else-at-end : goal.returns-else-at-end

@@ -10,16 +10,16 @@ pub returns : goal.returns
 returns c =
     let s = c.args.self.now in
     let file : c.file_of.result ≡ file_of s.slot.parity c.args.at =
-        c.file_of.ensures ∙ ap (λ (t : RowSaverState). file_of t.slot.parity c.args.at) c.self.view_is in
+    c.file_of.ensures ∙ ap (λ (t : RowSaverState). file_of t.slot.parity c.args.at) c.self.view_is in
     let number : c.in_ok-req.req ≡ s.given + 1 = c.in_ok-req.ensures in
     λ o.
     subst
     (λ (n : ℕ).
-      IsTurn (asking s o c.args.order (Syncing c.args.end c.args.at) (FsSyncReq Lqh n (file_of s.slot.parity c.args.at)))
-      c.asking.new.self c.asking.result o)
+    IsTurn (asking s o c.args.order (Syncing c.args.end c.args.at) (FsSyncReq Lqh n (file_of s.slot.parity c.args.at)))
+    c.asking.new.self c.asking.result o)
     number
     (subst
     (λ (n : ℕ).
-      IsTurn (asking s o c.args.order (Syncing c.args.end c.args.at) (FsSyncReq Lqh c.in_ok-req.req n))
-      c.asking.new.self c.asking.result o)
+    IsTurn (asking s o c.args.order (Syncing c.args.end c.args.at) (FsSyncReq Lqh c.in_ok-req.req n))
+    c.asking.new.self c.asking.result o)
     file (c.asking.ensures o))

@@ -27,14 +27,19 @@ returns-else-at-end c =
     let inside = c.self.inside in
     turned c.call.result
     (λ o.
-      calling
-      (record {
-        slot = inside.slot; which = inside.which; flushed = inside.flushed; synced = end; given = inside.given;
-        job = inside.job; next = inside.next
-      })
-      o order end 0)
+    calling
+    (record {
+      slot = inside.slot;
+      which = inside.which;
+      flushed = inside.flushed;
+      synced = end;
+      given = inside.given;
+      job = inside.job;
+      next = inside.next;
+    })
+    o order end 0)
     (λ o. synced_on s o order end at) c.call.new.self
     (λ o.
-      ap (λ (t : RowSaverState). calling (record t { synced = end }) o order end 0) c.self.view_is
-      ∙ synced_calls s o order end at least)
+    ap (λ (t : RowSaverState). calling (record t { synced = end }) o order end 0) c.self.view_is
+    ∙ synced_calls s o order end at least)
     c.call.ensures

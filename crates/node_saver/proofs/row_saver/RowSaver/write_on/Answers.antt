@@ -17,10 +17,10 @@ returns-in-Some-clause-row g c =
     let later = g.J.Journal.outlet_of c.flush_step.new.self in
     let less = subst (λ (t : RowSaverState). t.flushed < goal) c.self.view_is c.if-self-goal.true in
     let given =
-        subst (λ (one : Option Piece). GivesOut journal one later) c.in-Some.is c.in_ok-piece.ensures.piece in
+    subst (λ (one : Option Piece). GivesOut journal one later) c.in-Some.is c.in_ok-piece.ensures.piece in
     turned_here c.give_out.result
     (λ o.
-      asking (record s { flushed = s.flushed + length piece.bytes }) o order (Writing goal)
-      (piece_request (s.given + 1) piece))
+    asking (record s { flushed = s.flushed + length piece.bytes }) o order (Writing goal)
+    (piece_request (s.given + 1) piece))
     (writing s journal order goal) c.give_out.new.self later (gives s journal later order goal piece less given)
     c.give_out.ensures
