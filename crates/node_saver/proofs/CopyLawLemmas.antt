@@ -1,5 +1,5 @@
 -- What is done was asked for and is noted, and requests go out one at a time: call by call, and along calls.
-use Rattle.std.proofs.Common.{◌≡◌, ◌≤◌, ◌⊎◌, ℕ, ◌+◌, ◌-◌, ◌==◌, true, false, List, [], ◌∷◌, ◌++◌, refl, sym, ◌∙◌, ap}
+use Rattle.std.proofs.Common.{◌≡◌, ◌≤◌, ℕ, ◌+◌, List, [], ◌∷◌, refl, sym, ap}
 use Rattle.std.proofs.Common.{subst, arith, get_or}
 use Rattle.std.proofs.lemmas.List.Elements.{All-nil, All-cons, All-head, All-tail, All-append, Contains-get_or}
 use Rattle.std.specs.List.{All, Any}
@@ -10,7 +10,7 @@ use Rattle.node_saver.specs.declared.order.CopyOrder.{CopyOrder}
 use Rattle.node_saver.specs.CopyLaws.{AreOneAtATime, Ask, Confirm, CopyCall, IsAsked, OneRequestAtATime}
 use Rattle.node_saver.specs.CopyLaws.{WhatIsDoneIsNoted, WhatIsDoneWasAsked, done_along, done_in, left_out, orders_of}
 use Rattle.node_saver.specs.CopyLaws.{turn_at}
-use Rattle.node_saver.specs.Requests.{GoesOut, given_with, left_by, number_of, out_with}
+use Rattle.node_saver.specs.Requests.{given_with, left_by}
 use Rattle.node_saver.specs.SystemSaving.{CopyTurn, SystemSaverState, calling, fresh_saver, in_use}
 use Rattle.node_saver.proofs.AskLemmas.{IsInTurn, goes_in_turn, out_by, taken, untaken}
 use Rattle.node_saver.proofs.CopyForms.{Begun, Ended, EndedBoth, EndedOn, Form, GoneOn, Held, Saved, Told, Untaken}

@@ -1,14 +1,13 @@
 -- The redo is written and synced before a control slot is.
-use Rattle.std.proofs.Common.{◌≡◌, ◌≤◌, ◌<◌, ◌⊎◌, ℕ, ◌+◌, ◌-◌, ◌==◌, ◌/◌, ◌&&◌, Bool, true, false, nat_lt, length, List, []}
+use Rattle.std.proofs.Common.{◌≡◌, ◌≤◌, ◌<◌, ℕ, ◌+◌, ◌-◌, ◌==◌, ◌/◌, Bool, true, false, length, List, []}
 use Rattle.std.proofs.Common.{◌∷◌, ◌++◌, refl, sym, ◌∙◌, ap, subst, inl, inr, arith, take}
-use Rattle.std.proofs.lemmas.Bool.{cases_lt, ltb-false, ltb-true}
+use Rattle.std.proofs.lemmas.Bool.{cases_lt, ltb-false}
 use Rattle.std.specs.Option.{option_to_list}
 use Rattle.std.specs.Prelude.{Option, None, Some}
 use Rattle.sig_core.specs.declared.place.BlockId.TheVariants.{Lqh}
 use Rattle.sig_core.specs.declared.ring.TheConstants.{LOG_FILE_BYTES}
 use Rattle.sig_core.specs.declared.signal.file.FileSignal.{FileSignal}
 use Rattle.sig_core.specs.declared.signal.file.FileSignal.TheVariants.{FsWriteReq, FsSyncReq, FsConf}
-use Rattle.sig_core.specs.declared.slots.ControlSlot.{ControlSlot}
 use Rattle.sig_core.specs.Journal.{OutletState, end_of, next_len}
 use Rattle.sig_core.specs.Ring.{file_of, place_of}
 use Rattle.node_saver.specs.declared.order.SaveJob.{SaveJob}

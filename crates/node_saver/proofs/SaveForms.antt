@@ -1,6 +1,6 @@
 -- The forms of what a saver does at a call.
 use Rattle.std.proofs.Common.{◌≡◌, ◌≤◌, ◌⊎◌, ℕ, ◌+◌, ◌-◌, ◌==◌, ◌&&◌, Bool, true, false, nat_le, nat_lt, length, refl}
-use Rattle.std.proofs.Common.{inl, inr, ap, sym, subst}
+use Rattle.std.proofs.Common.{inl, inr}
 use Rattle.std.proofs.lemmas.Bool.{cond_both, eqb-true, leb-true, ltb-false}
 use Rattle.std.specs.Prelude.{Option, None, Some}
 use Rattle.sig_core.specs.declared.place.BlockId.TheVariants.{Lqh}

@@ -1,16 +1,15 @@
 -- What is done was asked for and is saved, and requests go out one at a time: call by call, and along calls.
-use Rattle.std.proofs.Common.{◌≡◌, ◌≤◌, ◌⊎◌, ℕ, ◌+◌, ◌==◌, true, false, List, [], ◌∷◌, ◌++◌, refl, sym, ◌∙◌, ap}
-use Rattle.std.proofs.Common.{subst, inl, inr, arith, cond}
+use Rattle.std.proofs.Common.{◌≡◌, ◌≤◌, ℕ, List, [], ◌∷◌, refl, sym, ap}
+use Rattle.std.proofs.Common.{subst, arith}
 use Rattle.std.proofs.lemmas.List.Elements.{All-nil, All-cons, All-head, All-tail, All-append, All-contains_itself}
 use Rattle.std.specs.List.{All, Contains}
 use Rattle.std.specs.Option.{IfSome}
 use Rattle.std.specs.Prelude.{Option, None, Some}
-use Rattle.sig_core.specs.declared.signal.file.FileSignal.{FileSignal}
 use Rattle.sig_core.specs.declared.slots.ControlSlot.{ControlSlot}
 use Rattle.node_saver.specs.declared.order.SaveJob.{SaveJob}
 use Rattle.node_saver.specs.declared.order.SaveOrder.{SaveOrder}
 use Rattle.node_saver.specs.declared.step.SaverStep.{SaverStep}
-use Rattle.node_saver.specs.Requests.{GoesOut, given_with, left_by, number_of, out_with}
+use Rattle.node_saver.specs.Requests.{given_with, left_by}
 use Rattle.node_saver.specs.RowSaving.{RowSaverState, SaveTurn, fresh_saver, in_use}
 use Rattle.node_saver.specs.SaveLaws.{AreOneAtATime, Ask, Confirm, OneRequestAtATime, SaveCall, WhatIsDoneIsSaved}
 use Rattle.node_saver.specs.SaveLaws.{WhatIsDoneWasAsked, done_along, done_in, left_out, orders_of, turn_at}

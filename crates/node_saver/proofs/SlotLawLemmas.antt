@@ -1,6 +1,6 @@
 -- A control slot comes into use only once the six calls that write it were made, one behind the other.
-use Rattle.std.proofs.Common.{◌≡◌, ◌≤◌, ◌⊎◌, ℕ, suc, ◌+◌, ◌-◌, ◌==◌, Bool, true, false, ◌<◌, List, [], ◌∷◌}
-use Rattle.std.proofs.Common.{◌++◌, refl, sym, ◌∙◌, ap, subst, inl, inr, arith, add-zero}
+use Rattle.std.proofs.Common.{◌≡◌, ◌⊎◌, ℕ, ◌+◌, ◌-◌, ◌==◌, Bool, true, false, ◌<◌, List, [], ◌∷◌}
+use Rattle.std.proofs.Common.{◌++◌, refl, sym, ◌∙◌, ap, subst, inl, inr, arith}
 use Rattle.std.proofs.lemmas.Bool.{eqb-true, ltb-true}
 use Rattle.std.specs.Option.{option_to_list}
 use Rattle.std.specs.Prelude.{Option, None, Some}
@@ -20,7 +20,7 @@ use Rattle.node_saver.specs.RowSaving.{in_use, next_slot, writing, written}
 use Rattle.node_saver.specs.SaveLaws.{Ask, CameIntoUse, Confirm, SaveCall, SlotsComeIntoUseWhole, after_all, asked_along}
 use Rattle.node_saver.specs.SaveLaws.{turn_at}
 use Rattle.node_saver.proofs.SlotCalls.{AreOut, all_out, first_out, next_out}
-use Rattle.node_saver.proofs.SaveForms.{Asks, Begun, Ended, EndedBoth, EndedOn, Form, GoneOn, HasEnded, Held, Saved}
+use Rattle.node_saver.proofs.SaveForms.{Begun, Ended, EndedBoth, EndedOn, Form, GoneOn, HasEnded, Held, Saved}
 use Rattle.node_saver.proofs.SaveForms.{Told, Untaken, ask_row_by, beside_by, called_by, form, synced_by, waited_by}
 use Rattle.node_saver.proofs.SaveForms.{writing_by, written_by}
 

@@ -1,5 +1,5 @@
 -- A system slot comes into use only once the six calls that write it were made, one behind the other.
-use Rattle.std.proofs.Common.{◌≡◌, ◌≤◌, ◌<◌, ◌⊎◌, ℕ, ◌+◌, ◌-◌, List, [], ◌∷◌, ◌++◌, refl, sym, ◌∙◌, ap, subst, inl, inr}
+use Rattle.std.proofs.Common.{◌≡◌, ◌⊎◌, ℕ, ◌+◌, ◌-◌, List, [], ◌∷◌, ◌++◌, refl, sym, ◌∙◌, ap, subst, inl, inr}
 use Rattle.std.proofs.Common.{arith}
 use Rattle.std.proofs.lemmas.Bool.{eqb-true}
 use Rattle.std.specs.Option.{option_to_list}
@@ -11,13 +11,13 @@ use Rattle.sysfile_core.specs.declared.place.TheConstants.{SYSTEM_FILE}
 use Rattle.sysfile_core.specs.Slots.{system_bytes}
 use Rattle.node_saver.specs.declared.order.CopyJob.{CopyJob}
 use Rattle.node_saver.specs.declared.order.CopyOrder.{CopyOrder}
-use Rattle.node_saver.specs.CopyLaws.{Ask, CameIntoUse, Confirm, CopyCall, SlotsComeIntoUseWhole, after_all, asked_along}
+use Rattle.node_saver.specs.CopyLaws.{CameIntoUse, Confirm, CopyCall, SlotsComeIntoUseWhole, after_all, asked_along}
 use Rattle.node_saver.specs.CopyLaws.{turn_at}
 use Rattle.node_saver.specs.Requests.{slot_requests}
 use Rattle.node_saver.specs.SystemSaving.{CopyTurn, SystemSaverState, calling, fresh_saver, in_use, next_slot}
 use Rattle.node_saver.proofs.SlotCalls.{AreOut, all_out, first_out, next_out}
 use Rattle.node_saver.proofs.CopyForms.{Begun, Ended, EndedBoth, EndedOn, Form, GoneOn, HasEnded, Held, Saved, Told}
-use Rattle.node_saver.proofs.CopyForms.{Untaken, form, told_of}
+use Rattle.node_saver.proofs.CopyForms.{Untaken, form}
 
 -- where a slot is being written, its calls are out
 abbrev StandsBy : List FileSignal → ℕ → SystemSlot → ℕ → Option CopyJob → Type 0

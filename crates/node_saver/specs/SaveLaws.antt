@@ -1,7 +1,7 @@
 -- What is true of all that the saver of redo and control slots asks for and answers, whatever it is told, in whatever
 -- order.
-use Rattle.std.specs.Prelude.{◌≡◌, ◌≤◌, ◌<◌, ◌⊎◌, ℕ, ◌+◌, ◌-◌, ◌==◌, List, [], ◌∷◌, ◌++◌, All, Contains}
-use Rattle.std.specs.Prelude.{Option, None, Some, if◌then◌else◌}
+use Rattle.std.specs.Prelude.{◌≡◌, ◌≤◌, ◌⊎◌, ℕ, ◌+◌, ◌-◌, List, [], ◌∷◌, ◌++◌, All, Contains}
+use Rattle.std.specs.Prelude.{Option, None}
 use Rattle.std.specs.Option.{option_to_list}
 use Rattle.sig_core.specs.declared.place.BlockId.TheVariants.{Lqh}
 use Rattle.sig_core.specs.declared.signal.file.FileSignal.{FileSignal}
@@ -12,7 +12,7 @@ use Rattle.sysfile_core.specs.Slots.{control_bytes}
 use Rattle.node_saver.specs.declared.order.SaveOrder.{SaveOrder}
 use Rattle.node_saver.specs.declared.step.SaverStep.{SaverStep}
 use Rattle.node_saver.specs.Requests.{GoesOut, given_with, left_by, out_with, slot_requests}
-use Rattle.node_saver.specs.RowSaving.{RowSaverState, SaveTurn, ask_row, confirm_row, fresh_saver, next_slot}
+use Rattle.node_saver.specs.RowSaving.{RowSaverState, SaveTurn, ask_row, confirm_row, fresh_saver}
 
 -- what a saver is told: an order, or a confirmation, with what its journal has to give out then
 pub data SaveCall : Type 0 where

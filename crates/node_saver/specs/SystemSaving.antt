@@ -1,5 +1,5 @@
 -- What the saver of system slots does at an order, and at a confirmation.
-use Rattle.std.specs.Prelude.{◌≡◌, ◌≤◌, ℕ, ◌+◌, ◌-◌, ◌==◌, Bool, true, false, nat_le, nat_lt}
+use Rattle.std.specs.Prelude.{◌≡◌, ℕ, ◌+◌, ◌-◌, ◌==◌, Bool, true, false, nat_le, nat_lt}
 use Rattle.std.specs.Prelude.{Option, None, Some, if◌then◌else◌}
 use Rattle.sig_core.specs.declared.place.BlockId.TheVariants.{Dih}
 use Rattle.sig_core.specs.declared.slots.SystemSlot.{SystemSlot}

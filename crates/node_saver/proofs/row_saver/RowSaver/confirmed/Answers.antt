@@ -1,4 +1,4 @@
-use Rattle.std.proofs.Common.{◌≡◌, ◌∙◌, ap, sym}
+use Rattle.std.proofs.Common.{◌∙◌, ap, sym}
 use Rattle.node_saver.specs.RowSaving.{RowSaverState}
 use Rattle.node_saver.proofs.TurnLemmas.{no_taker, not_the_last}
 use Rattle.node_saver.proofs.row_saver.RowSaver.confirmed.Goals as goal

@@ -1,5 +1,4 @@
 use Rattle.std.proofs.Common.{◌≤◌, ◌<◌, ◌∙◌, ap, subst}
-use Rattle.sig_core.specs.Journal.{OutletState}
 use Rattle.node_saver.specs.RowSaving.{RowSaverState, calling, syncing, written}
 use Rattle.node_saver.proofs.TurnLemmas.{turned, written_calls, written_syncs}
 use Rattle.node_saver.proofs.row_saver.RowSaver.sync_all.Goals as goal

@@ -1,5 +1,4 @@
 use Rattle.std.proofs.Common.{◌≡◌, ◌≤◌, ◌<◌, ◌∙◌, ap, subst, arith, ℕ}
-use Rattle.sig_core.specs.Journal.{OutletState}
 use Rattle.node_saver.specs.RowSaving.{RowSaverState, calling, next_file, synced_on, syncing}
 use Rattle.node_saver.proofs.TurnLemmas.{turned, synced_calls, synced_syncs}
 use Rattle.node_saver.proofs.row_saver.RowSaver.sync_on.Goals as goal

@@ -1,4 +1,4 @@
-use Rattle.std.proofs.Common.{◌≡◌, ◌∙◌, ap, sym}
+use Rattle.std.proofs.Common.{◌∙◌, ap, sym}
 use Rattle.node_saver.specs.SystemSaving.{SystemSaverState}
 use Rattle.node_saver.proofs.CopyTurnLemmas.{no_taker, not_the_last}
 use Rattle.node_saver.proofs.system_saver.SystemSaver.confirmed.Goals as goal
