@@ -11,6 +11,10 @@ mod linear_hash_calls;
 #[cfg(test)]
 mod linear_hash_worked;
 #[cfg(test)]
+mod node_saver_copies;
+#[cfg(test)]
+mod node_saver_saves;
+#[cfg(test)]
 mod redo_format_bytes;
 #[cfg(test)]
 mod redo_log_log;

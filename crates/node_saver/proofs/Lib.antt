@@ -1,0 +1,11 @@
+pub mod AskLemmas
+pub mod CopyForms
+pub mod CopyLawLemmas
+pub mod CopyTurnLemmas
+pub mod RedoLemmas
+pub mod SaveForms
+pub mod SaveLawLemmas
+pub mod SlotCalls
+pub mod SlotLawLemmas
+pub mod SystemSlotLemmas
+pub mod TurnLemmas
