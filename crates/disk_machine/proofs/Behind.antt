@@ -1,5 +1,5 @@
--- What a host with a disk has taken from a link, beside what it has taken without: the same, or one signal more, which it
--- has put off, or never handled since it cut off the sender.
+-- What a host with a disk has taken from a link, beside what it has taken without: the same, or one signal more, which
+-- it has put off, or never handled since it cut off the sender.
 use Rattle.std.proofs.Common.{◌≡◌, ◌==◌, ◌&&◌, ◌||◌, ℕ, Bool, true, false, List, [], ◌∷◌, refl, sym, ◌∙◌, ap, eq-eqb, subst}
 use Rattle.std.specs.Prelude.{if◌then◌else◌, not, Option, None, Some}
 use Rattle.std.proofs.lemmas.Bool.{eqb-true, true≢false}
@@ -119,7 +119,8 @@ module _ (rule : DiskRule) (start : Start) (i h : ℕ) where
         by (level none same) = level refl (unchanged work ∙ same)
         by (one z at from same) =
             let own : y ≡ z = let both = sym is ∙ at in cc in
-            lost (arriving h z) (subst (λ k. has_cut start h (left log) k ≡ true) (ap (λ (w : Signal). w.from.0) own ∙ from) gone)
+            lost (arriving h z) (subst (λ k. has_cut start h (left log) k ≡ true)
+            (ap (λ (w : Signal). w.from.0) own ∙ from) gone)
             refl (unchanged work ∙ same)
         by (lost z gone none same) = lost z gone refl (unchanged work ∙ same)
 
@@ -165,7 +166,8 @@ module _ (rule : DiskRule) (start : Start) (i h : ℕ) where
             ∙ ap (λ b. if b then arriving h x ∷ all else all) at
 
         by : (from : Bool) → (x.from.0 == i) ≡ from → Behind i h (waiting log) cut all some → Comes None (Some x)
-        by true at (level none same) = one x refl (eqb-true x.from.0 i at) (added true at ∙ ap (λ ys. arriving h x ∷ ys) same)
+        by true at (level none same) =
+            one x refl (eqb-true x.from.0 i at) (added true at ∙ ap (λ ys. arriving h x ∷ ys) same)
         by true at (one z is from same) = absurd (let both : None ≡ Some z = sym alone ∙ is in cc)
         by true at (lost z gone none same) =
             absurd (true≢false (sym gone ∙ subst (λ k. has_cut start h (left log) k ≡ false) (eqb-true x.from.0 i at)
@@ -202,7 +204,8 @@ module _ (rule : DiskRule) (start : Start) (i h : ℕ) where
             level none (more_is asked from a f ∙ all_is ∙ same ∙ sym (some_is asked from a f ∙ some_was))
         same_lists asked from a f all_is some_was (one z is at same) =
             one z is at
-            (more_is asked from a f ∙ all_is ∙ same ∙ ap (λ ys. arriving h z ∷ ys) (sym (some_is asked from a f ∙ some_was)))
+            (more_is asked from a f ∙ all_is ∙ same
+            ∙ ap (λ ys. arriving h z ∷ ys) (sym (some_is asked from a f ∙ some_was)))
         same_lists asked from a f all_is some_was (lost z gone none same) =
             lost z (cut_stays start h (left log) e i gone) none
             (more_is asked from a f ∙ all_is ∙ same ∙ ap (λ ys. z ∷ ys) (sym (some_is asked from a f ∙ some_was)))

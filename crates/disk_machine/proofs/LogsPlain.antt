@@ -203,7 +203,8 @@ module _ (rule : DiskRule) (start : Start) where
   stamped : IsStamped d
   stamped = record {
     sends = λ h log e.
-        entry rule start h log e (λ p o. Each (λ x. x.signal.stamp ≡ e.step.stamp) (sends_by rule start h log p)) (record {
+        entry rule start h log e (λ p o. Each (λ x. x.signal.stamp ≡ e.step.stamp) (sends_by rule start h log p))
+        (record {
           idle = λ work is. tt;
           works = λ y work is. tt;
           drops = λ y work is gone. tt;

@@ -1,8 +1,8 @@
 -- Logs of hosts with disks, and what is left of them without.
 --
--- A host takes a signal that its disk is to answer for, and puts it off. It asks its disk for one thing after the other,
--- each in a step of its own; by the last of them it handles the signal, as it then stands, unless it has cut off the
--- sender meanwhile. So long it takes nothing more from that host. Without its disk it takes the signal only then.
+-- A host takes a signal that its disk is to answer for, and puts it off. It asks its disk for one thing after the
+-- other, each in a step of its own; by the last of them it handles the signal, as it then stands, unless it has cut off
+-- the sender meanwhile. So long it takes nothing more from that host. Without its disk it takes the signal only then.
 use Rattle.std.specs.Prelude.{ℕ, ◌==◌, ◌&&◌, if◌then◌else◌, Bool, true, false, not, List, [], ◌∷◌, Option, None, Some}
 use Rattle.sig_core.specs.declared.signal.Body.{Body}
 use Rattle.sig_core.specs.declared.signal.Body.TheVariants.{File}

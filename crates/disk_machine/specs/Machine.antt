@@ -21,7 +21,8 @@ module _ (rule : DiskRule) (start : Start) where
   pub record IsWork (h : ℕ) (log : List HostStep) (e : HostStep) : Type 0 where
     pub waiting : Signal
     pub put_off : pending rule start h log ≡ Some waiting
-    pub is : e.step.taken ≡ own_signal (made start) h (last_stamp log) (after start h (erased rule start h log)).standing.view
+    pub is : e.step.taken ≡ own_signal (made start) h (last_stamp log)
+        (after start h (erased rule start h log)).standing.view
         (File (rule.request h log waiting))
 
   -- it puts the signal off, which it takes rightly, and none is put off already

@@ -28,7 +28,8 @@ use Rattle.commit_laws.proofs.led.CutLaws.{resting_rows}
 use Rattle.commit_laws.proofs.views.Greatest.{greatest_viable}
 use Rattle.shell_top.specs.Safe.{AreSafe, IsSafe}
 
-module _ (start : Start) (logs : ℕ → List HostStep) (begins : start.start_epoch < start.epoch) (shape : IsShape start.shape)
+module _ (start : Start) (logs : ℕ → List HostStep) (begins : start.start_epoch < start.epoch)
+    (shape : IsShape start.shape)
     (within : IsWithin (hosts start) logs) (right : AreLogs (machine start) logs)
   where
     of_cluster : (inside : ℕ → List HostStep) → IsCut inside logs → IsClosed (machine start) inside

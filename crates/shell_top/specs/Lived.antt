@@ -40,8 +40,8 @@ AreAskedFor start ending commands log = AreAsked start (reverse commands) log
 
 -- The logs of a life in which the shell asked for the commands, each at quiet, as far as the session came. There is one
 -- for each host, it says which host's it is, and it skips no stamp. At its end nothing was under way, unless memory was
--- wanting. No host stopped by itself, unless for want of memory or of stamps, and then it had no stamp left, nor cut off a
--- node. Where none did so, and no command kills or cuts anything, the logs came about in peace.
+-- wanting. No host stopped by itself, unless for want of memory or of stamps, and then it had no stamp left, nor cut
+-- off a node. Where none did so, and no command kills or cuts anything, the logs came about in peace.
 pub record AreLived (start : Start) (ending : Ending) (commands : List Command) (logs : List HostLog) : Type 0 where
   pub labelled : AreLabelled start logs
   pub right : AreLogs (machine start) (logs_at logs)

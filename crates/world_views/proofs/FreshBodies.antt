@@ -12,7 +12,8 @@ use Rattle.world_core.specs.Start.{Start, made}
 use Rattle.world_views.specs.Hosts.{part_started, started}
 
 -- the first of all is put behind none
-pub first_put : (none items : List HostBody) (host first : HostBody) → items ≡ none ++ host ∷ [] → none ≡ [] → host ≡ first
+pub first_put : (none items : List HostBody) (host first : HostBody) → items ≡ none ++ host ∷ [] → none ≡ []
+    → host ≡ first
     → items ≡ first ∷ []
 first_put none items host first put are is = put ∙ ap (λ hosts. hosts ++ host ∷ []) are ∙ ap (λ h. h ∷ []) is
 
@@ -23,7 +24,8 @@ module _ (start : Start) where
   started_behind k = refl
 
   -- the shell's host
-  pub shell_begins : (layout : Layout) (shell : HostBody) → layout ≡ first_layout start.shape → shell ≡ fresh_shell layout
+  pub shell_begins : (layout : Layout) (shell : HostBody) → layout ≡ first_layout start.shape
+      → shell ≡ fresh_shell layout
       → shell ≡ started start 0
   unfolding started
   shell_begins layout shell first is = is ∙ ap fresh_shell first

@@ -136,7 +136,8 @@ module _ (start : Start) where
   fresh_quiet i j = ap (λ (l : LinkState). l.signals) (inbox_idle (hosts start) j i (cases_lt j (hosts start)))
 
 -- a world of what each part of it begins as
-pub begins : (start : Start) (made_now : List Member) (n : ℕ) (bodies : List HostBody) (stopped : List Bool) (links : Links)
+pub begins : (start : Start) (made_now : List Member) (n : ℕ) (bodies : List HostBody) (stopped : List Bool)
+    (links : Links)
     (stamps : List ℕ) (logs : List HostLog) (replies : List ApiReply) → made_now ≡ made start
     → n ≡ length made_now * 3 + 1
     → bodies ≡ for_each (hosts start) (started start) → stopped ≡ replicate n false

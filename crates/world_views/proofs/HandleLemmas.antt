@@ -53,7 +53,8 @@ pub row_taken : (w : Whole) (x : Addressed) (s : HostBody) (out : Effects) → x
     → record { state = body_at (slice_set w.bodies x.to s) x.to; effects = out }
     ≡ step_by x.to (body_at w.bodies x.to) x.signal
 row_taken w x s out there taken plain =
-    ap (λ (b : HostBody). record { state = b; effects = out }) (get_or-set_same w.bodies x.to s nobody there ∙ taken.state)
+    ap (λ (b : HostBody). record { state = b; effects = out })
+    (get_or-set_same w.bodies x.to s nobody there ∙ taken.state)
     ∙ ap (λ (e : Effects). record { state = (host_row (body_at w.bodies x.to) x.signal).state; effects = e })
     taken.effects
     ∙ sym (ap (λ (o : Option StopCause). step_if (body_at w.bodies x.to) x.signal o) plain)
@@ -191,12 +192,14 @@ pub has_told : (w : Whole) (x : Addressed) (t : Step HostBody) (host : HostBody)
     → replies ≡ w.replies ++ replies_at x.to (stay t.state)
     → record w { bodies = slice_set w.bodies x.to host; replies = replies } ≡ telling w x t
 has_told w x t host replies is told_all =
-    ap (λ (s : HostBody). record w { bodies = slice_set w.bodies x.to s; replies = replies }) (is ∙ told_by_state x.to t)
+    ap (λ (s : HostBody). record w { bodies = slice_set w.bodies x.to s; replies = replies })
+    (is ∙ told_by_state x.to t)
     ∙ ap (λ rs. record w { bodies = slice_set w.bodies x.to (told x.to t); replies = rs })
     (told_all ∙ ap (λ rs. w.replies ++ rs) (replies_by_state x.to t))
 
 -- The world where the step is logged.
-pub enters_ok : (result : Result (Unit {0}) NoMemory) (w s v : Whole) (x : Addressed) (t : Step HostBody) (stamp lost : ℕ)
+pub enters_ok : (result : Result (Unit {0}) NoMemory) (w s v : Whole) (x : Addressed) (t : Step HostBody)
+    (stamp lost : ℕ)
     (cause : Option StopCause) (b : Bool) (marks : List Mark) (logs : List HostLog)
     → stamp ≡ next_stamp w.stamps x.to x.signal.stamp → marks ≡ t.effects.marks → is_some cause ≡ stops_by marks
     → IfSome cause (λ c. c ≡ cause_in marks) → b ≡ is_some cause

@@ -105,7 +105,8 @@ module _ (start : Start) (given : List ApiReply) (w : Whole) (lost : ℕ) (x : A
     where
       go : (b : Bool) → (x.to == k) ≡ b → HaveNextStamps (grown b k)
       go true same = (
-        subst (λ n. e.step.stamp ≡ max (last_stamp (logs_at w.logs n)) x.signal.stamp + 1) (eqb-true x.to k same) own_next,
+        subst (λ n. e.step.stamp ≡ max (last_stamp (logs_at w.logs n)) x.signal.stamp + 1) (eqb-true x.to k same)
+            own_next,
         ready.next k,
       )
       go false differs = ready.next k

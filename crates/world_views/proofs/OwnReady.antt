@@ -58,7 +58,8 @@ stopping_is zero s left cause some cut view = absurd (omega (arith, some))
 stopping_is (suc h) s left cause some cut view =
     record { effects = refl; cut = cut; view = view; same = λ runs. absurd (true≢false runs); replies = refl }
 
-pub stop_step : (h : ℕ) (s left : HostBody) (x : Signal) (cause : StopCause) → 1 ≤ h → left.standing.cut ≡ s.standing.cut
+pub stop_step : (h : ℕ) (s left : HostBody) (x : Signal) (cause : StopCause) → 1 ≤ h
+    → left.standing.cut ≡ s.standing.cut
     → left.standing.view ≡ s.standing.view → own_stop h x ≡ Some cause
     → IsStepOf h (step_by h s x) (stopping left cause)
 stop_step h s left x cause some cut view own =
@@ -79,7 +80,8 @@ module _ (start : Start) (given : List ApiReply) (w : Whole) (right : IsRight st
       record {
         is = ap (λ ms. own_signal ms h (slice_index_or w.stamps h 0) view work) right.made
             ∙ ap (λ n. own_signal (made start) h n view work) (right.stamps h there)
-            ∙ ap (λ (s : HostBody). own_signal (made start) h (last_stamp (logs_at w.logs h)) s.standing.view work) body_is;
+            ∙ ap (λ (s : HostBody). own_signal (made start) h (last_stamp (logs_at w.logs h)) s.standing.view work)
+            body_is;
         work = own;
       }
 

@@ -45,24 +45,25 @@ pub record IsLinkedTo (start : Start) (i j : ℕ) (sender taker next : List Host
   pub held : IsOpen start i j taker → IsHeld start i j sender (on_link j l ++ taken (machine start) i next)
 
 -- The world is right but for a signal, by which its host makes this step.
-pub record IsReady (start : Start) (given : List ApiReply) (w : Whole) (x : Addressed) (t : Step HostBody) : Type 0 where
-  pub shape : w.shape ≡ start.shape
-  pub made : w.made ≡ made start
-  pub sizes : IsOf (hosts start) w
-  pub there : x.to < hosts start
-  pub runs : has_stopped (logs_at w.logs x.to) ≡ false
-  pub step : IsStepOf x.to (step_by x.to (after start x.to (logs_at w.logs x.to)) x.signal) t
-  pub comes : comes_rightly (is_asked x.to x.signal) start x.to (logs_at w.logs x.to) x.signal
-  pub local : (h : ℕ) → h < hosts start → IsLog (machine start) h (logs_at w.logs h)
-  pub next : (h : ℕ) → HaveNextStamps (logs_at w.logs h)
-  pub stamps : (h : ℕ) → h < hosts start → slice_index_or w.stamps h 0 ≡ last_stamp (logs_at w.logs h)
-  pub labels : (h : ℕ) → h < hosts start → IsLabelled h (slice_index_or w.logs h (no_steps 0))
-  pub stopped : (h : ℕ) → h < hosts start → slice_index_or w.stopped h true ≡ has_stopped (logs_at w.logs h)
-  pub bodies : (h : ℕ) → h < hosts start → (x.to == h) ≡ false → has_stopped (logs_at w.logs h) ≡ false
-      → body_at w.bodies h ≡ after start h (logs_at w.logs h)
-  pub counts : (i j : ℕ) → i < hosts start → j < hosts start
-      → (link w.links i j).sent ≡ sent_count start i (logs_at w.logs i) j
-  pub linked : (i j : ℕ) → i < hosts start → j < hosts start
-      → IsLinkedTo start i j (logs_at w.logs i) (logs_at w.logs j) (log_with w x t j) (link w.links i j)
-  pub no_others : (i j : ℕ) → hosts start ≤ i → taken (machine start) i (log_with w x t j) ≡ []
-  pub replies : replies_in start 0 (logs_at w.logs 0) ≡ given ++ w.replies
+pub record IsReady (start : Start) (given : List ApiReply) (w : Whole) (x : Addressed) (t : Step HostBody) : Type 0
+  where
+    pub shape : w.shape ≡ start.shape
+    pub made : w.made ≡ made start
+    pub sizes : IsOf (hosts start) w
+    pub there : x.to < hosts start
+    pub runs : has_stopped (logs_at w.logs x.to) ≡ false
+    pub step : IsStepOf x.to (step_by x.to (after start x.to (logs_at w.logs x.to)) x.signal) t
+    pub comes : comes_rightly (is_asked x.to x.signal) start x.to (logs_at w.logs x.to) x.signal
+    pub local : (h : ℕ) → h < hosts start → IsLog (machine start) h (logs_at w.logs h)
+    pub next : (h : ℕ) → HaveNextStamps (logs_at w.logs h)
+    pub stamps : (h : ℕ) → h < hosts start → slice_index_or w.stamps h 0 ≡ last_stamp (logs_at w.logs h)
+    pub labels : (h : ℕ) → h < hosts start → IsLabelled h (slice_index_or w.logs h (no_steps 0))
+    pub stopped : (h : ℕ) → h < hosts start → slice_index_or w.stopped h true ≡ has_stopped (logs_at w.logs h)
+    pub bodies : (h : ℕ) → h < hosts start → (x.to == h) ≡ false → has_stopped (logs_at w.logs h) ≡ false
+        → body_at w.bodies h ≡ after start h (logs_at w.logs h)
+    pub counts : (i j : ℕ) → i < hosts start → j < hosts start
+        → (link w.links i j).sent ≡ sent_count start i (logs_at w.logs i) j
+    pub linked : (i j : ℕ) → i < hosts start → j < hosts start
+        → IsLinkedTo start i j (logs_at w.logs i) (logs_at w.logs j) (log_with w x t j) (link w.links i j)
+    pub no_others : (i j : ℕ) → hosts start ≤ i → taken (machine start) i (log_with w x t j) ≡ []
+    pub replies : replies_in start 0 (logs_at w.logs 0) ≡ given ++ w.replies

@@ -135,7 +135,8 @@ abbrev pub with_both : Whole → List HostBody → Links → Whole
 with_both w bodies links = record w { bodies = bodies; links = links }
 
 -- a step by a signal that is on no link any more, whichever that is
-pub entered_driven : (start : Start) (given : List ApiReply) (w : Whole) (bodies : List HostBody) (links : Links) (lost : ℕ)
+pub entered_driven : (start : Start) (given : List ApiReply) (w : Whole) (bodies : List HostBody) (links : Links)
+    (lost : ℕ)
     (x : Addressed) (t : Step HostBody) → IsRight start given w
     → ((others : List ApiReply) → IsRight start others w → IsReady start others (with_both w bodies links) x t)
     → IsNoWish x

@@ -90,7 +90,8 @@ module _ (start : Start) (given : List ApiReply) (w : Whole) (right : IsRight st
       runs = sym (right.stopped at.to at.to_low) ∙ parts.0
 
       uncut : is_cut (after start at.to log).standing at.signal.from ≡ false
-      uncut = subst (λ (s : HostBody). is_cut s.standing at.signal.from ≡ false) (right.bodies at.to at.to_low runs) parts.1
+      uncut = subst (λ (s : HostBody). is_cut s.standing at.signal.from ≡ false) (right.bodies at.to at.to_low runs)
+          parts.1
 
       takes : has_cut start at.to log at.from ≡ false
       takes = subst (λ n. has_cut start at.to log n ≡ false) sender_is uncut
@@ -101,7 +102,8 @@ module _ (start : Start) (given : List ApiReply) (w : Whole) (right : IsRight st
     where
       uncut : is_cut (body_at w.bodies at.to).standing at.signal.from ≡ false
       uncut =
-          subst (λ (s : HostBody). is_cut s.standing at.signal.from ≡ false) (sym (right.bodies at.to at.to_low takes.runs))
+          subst (λ (s : HostBody). is_cut s.standing at.signal.from ≡ false)
+          (sym (right.bodies at.to at.to_low takes.runs))
           (subst (λ n. has_cut start at.to log n ≡ false) (sym sender_is) takes.takes)
 
   pub discard_right : is_discarded (left_of w t) arrived ≡ true → IsRight start given (left_of w t)

@@ -76,7 +76,8 @@ not_stopped true runs is e = absurd (true≢false (sym e ∙ is))
 not_stopped false runs is e = refl
 
 -- what the shell asks for
-pub wishes : (w : Whole) (view : View) (request : ApiReq) (s : HostBody) → view ≡ s.standing.view → s ≡ body_at w.bodies 0
+pub wishes : (w : Whole) (view : View) (request : ApiReq) (s : HostBody) → view ≡ s.standing.view
+    → s ≡ body_at w.bodies 0
     → arriving 0 (own_signal w.made 0 (slice_index_or w.stamps 0 0) view (request_body request))
     ≡ asking w 0 (request_body request)
 wishes w view request s seen is =
