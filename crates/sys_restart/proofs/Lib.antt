@@ -1,0 +1,9 @@
+pub mod DisksLemmas
+pub mod FaultLemmas
+pub mod FileLemmas
+pub mod GroupsLemmas
+pub mod LatestLemmas
+pub mod OwnLemmas
+pub mod RedoneLemmas
+pub mod RestoredLemmas
+pub mod SeatLemmas

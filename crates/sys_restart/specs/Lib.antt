@@ -1,0 +1,9 @@
+pub mod Answers
+pub mod Checkpoint
+pub mod Files
+pub mod Groups
+pub mod Latest
+pub mod Own
+pub mod Redone
+pub mod Restored
+pub mod SlotRows
