@@ -1,6 +1,5 @@
 -- The sources of the rows of a group, node after node, and the rows of groups, one after the other.
-use Rattle.std.proofs.Common.{◌≡◌, ◌∙◌, ℕ, zero, suc, ◌+◌, ◌-◌, ◌*◌, ◌≤◌, ◌<◌, Bool, true, false, List, [], ◌∷◌, ◌++◌}
-use Rattle.std.proofs.Common.{refl, ap, sym, subst, arith, if◌then◌else◌}
+use Rattle.std.proofs.Common.{◌≡◌, ◌∙◌, ℕ, zero, suc, ◌+◌, ◌-◌, ◌*◌, ◌≤◌, ◌<◌, Bool, true, false, List, [], ◌∷◌, ◌++◌, refl, ap, sym, subst, arith, if◌then◌else◌}
 use Rattle.std.specs.Prelude.{Option, None, Some, Result, Ok, Err}
 use Rattle.sig_core.specs.Table.{Rows}
 use Rattle.sig_core.specs.declared.fault.ReadFault.{ReadFault}
@@ -13,8 +12,7 @@ use Rattle.sysfile_core.specs.declared.place.TheConstants.{CONTROL_FILE}
 use Rattle.sysfile_core.specs.Reading.{control_of_file}
 use Rattle.sys_restart.specs.Answers.{ReadsAll, is_outer, is_outside, of_node, on_node}
 use Rattle.sys_restart.specs.Files.{Disks, Files}
-use Rattle.sys_restart.specs.Groups.{and_rows, control_on, first_listed, is_listed, lacking, rows_by, rows_from}
-use Rattle.sys_restart.specs.Groups.{rows_of_group, source_of, source_or}
+use Rattle.sys_restart.specs.Groups.{and_rows, control_on, first_listed, is_listed, lacking, rows_by, rows_from, rows_of_group, source_of, source_or}
 use Rattle.sys_restart.specs.SlotRows.{rows_of_slot}
 
 -- one less is left behind each, and none behind the last

@@ -1,7 +1,5 @@
 -- Replaying a log gives what is defined of its bytes.
-use Rattle.std.proofs.Common.{◌≡◌, ◌∙◌, ℕ, zero, suc, ◌+◌, ◌-◌, ◌≤◌, ◌<◌, Bool, false, nat_lt, List, [], ◌∷◌, ◌++◌}
-use Rattle.std.proofs.Common.{length, refl, ap, sym, subst, arith, append_assoc, append-nil, length-append, inl, inr}
-use Rattle.std.proofs.Common.{if◌then◌else◌}
+use Rattle.std.proofs.Common.{◌≡◌, ◌∙◌, ℕ, zero, suc, ◌+◌, ◌-◌, ◌≤◌, ◌<◌, Bool, false, nat_lt, List, [], ◌∷◌, ◌++◌, length, refl, ap, sym, subst, arith, append_assoc, append-nil, length-append, inl, inr, if◌then◌else◌}
 use Rattle.std.specs.Prelude.{Result, Ok, Err, slice_index}
 use Rattle.std.proofs.lemmas.Bool.{le-ltb, lt-ltb, true≢false}
 use Rattle.std.proofs.lemmas.List.{drop_at}

@@ -1,6 +1,5 @@
 -- What replaying redo makes of rows.
-use Rattle.std.specs.Prelude.{ℕ, zero, suc, ◌+◌, ◌-◌, nat_lt, Bool, true, false, List, [], ◌∷◌, length, drop}
-use Rattle.std.specs.Prelude.{slice_index, Result, Ok, Err, if◌then◌else◌}
+use Rattle.std.specs.Prelude.{ℕ, zero, suc, ◌+◌, ◌-◌, nat_lt, Bool, true, false, List, [], ◌∷◌, length, drop, slice_index, Result, Ok, Err, if◌then◌else◌}
 use Rattle.sig_core.specs.Ring.{file_of, place_of}
 use Rattle.sig_core.specs.Table.{Rows}
 use Rattle.sig_core.specs.declared.fault.ReadFault.{ReadFault}

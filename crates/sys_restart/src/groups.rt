@@ -4,17 +4,16 @@ ghost use Rattle.frag_map.specs.Shape.{IsShape, groups};
 ghost use Rattle.host_io.specs.Call.{Call};
 ghost use Rattle.redo_log.specs.Stored.{files_of};
 ghost use Rattle.sysfile_core.specs.Found.{HasRedo};
-ghost use Rattle.sys_restart.specs.Answers.{AreSteady, HasCauseAmong, HasCauseOf, IsCauseAmong, IsCauseOf, ReadsAll};
-ghost use Rattle.sys_restart.specs.Answers.{is_outside, on_node};
+ghost use Rattle.sys_restart.specs.Answers.{AreSteady, HasCauseAmong, HasCauseOf, IsCauseAmong, IsCauseOf, ReadsAll, is_outside, on_node};
 ghost use Rattle.sys_restart.specs.Files.{disks_of};
-ghost use Rattle.sys_restart.specs.Groups.{IsSource, control_on, first_listed, is_listed, lacking, rows_of_group};
-ghost use Rattle.sys_restart.specs.Groups.{rows_of_groups, source_of};
+ghost use Rattle.sys_restart.specs.Groups.{IsSource, control_on, first_listed, is_listed, lacking, rows_of_group, rows_of_groups, source_of};
 ghost use Rattle.sys_restart.specs.SlotRows.{rows_of_slot};
 
 use crate::on_node::of_node;
 use crate::slot_rows::rows_of_slot;
 use host_io::{Disk, Failed};
-use sig_core::{ControlSlot, NoMemory, RestartFault, Seq, Shape, SystemSlot, Table};
+use row_map::RowMap;
+use sig_core::{ControlSlot, NoMemory, RestartFault, Seq, Shape, SystemSlot};
 use std::alloc::Global;
 use sysfile_core::{CONTROL_FILE, read_control};
 
@@ -37,7 +36,7 @@ pub(crate) fn rows_of_groups<D: Disk>(
     disks: &mut [D],
     shape: Shape,
     system: &SystemSlot,
-) -> Result<Seq<Table>, RestartFault>
+) -> Result<Seq<RowMap>, RestartFault>
     requires shape { IsShape shape }
     requires nodes { length disks.old ≡ shape.nodes }
     ensures read { (records : List (List Call)) → map D.told disks.old ≡ map Some records → ReadsAll (rows_of_groups shape (disks_of records) system.now) result }
@@ -77,7 +76,7 @@ fn rows_of_group<D: Disk>(
     first: u8,
     count: u8,
     system: &SystemSlot,
-) -> Result<Table, RestartFault>
+) -> Result<RowMap, RestartFault>
     requires first { 1 ≤ first }
     requires last { first + count ≤ length disks.old + 1 }
     requires some { 1 ≤ count }
@@ -103,7 +102,7 @@ fn rows_of_source<D: Disk>(
     disks: &mut [D],
     source: &Source,
     epoch: u64,
-) -> Result<Table, RestartFault>
+) -> Result<RowMap, RestartFault>
     requires first { 1 ≤ source.now.node }
     requires last { source.now.node ≤ length disks.old }
     requires redo { HasRedo source.now.slot }

@@ -1,18 +1,20 @@
 //! The rows that one node's disk has of itself.
-ghost use Rattle.std.specs.Prelude.{◌≡◌, ◌≤◌, ◌==◌, ◌&&◌, List, Ok, Some};
+ghost use Rattle.std.specs.Prelude.{◌≡◌, ◌≤◌, ◌==◌, ◌&&◌, ℕ, List, Ok, Some};
 ghost use Rattle.host_io.specs.Call.{Call};
 ghost use Rattle.redo_log.specs.Stored.{files_of};
 ghost use Rattle.sysfile_core.specs.Found.{HasRedo};
 ghost use Rattle.sys_restart.specs.Answers.{HasCause, Reads};
 ghost use Rattle.sys_restart.specs.Groups.{is_listed};
 ghost use Rattle.sys_restart.specs.Latest.{same_shape};
-ghost use Rattle.sys_restart.specs.Own.{own_by, own_of, own_under};
+ghost use Rattle.sys_restart.specs.Own.{own_by, own_of, own_rows, own_under};
 
 use crate::groups::is_listed;
 use crate::latest::same_shape;
 use crate::slot_rows::rows_of_slot;
+use crate::table::to_table;
 use host_io::Disk;
-use sig_core::{ControlSlot, Own, ReadFault, Shape, SystemSlot};
+use row_map::RowMap;
+use sig_core::{ControlSlot, NoMemory, Own, ReadFault, Shape, SystemSlot};
 use std::alloc::Global;
 use sysfile_core::{read_control, read_system};
 
@@ -94,11 +96,19 @@ fn own_in<D: Disk>(
         return Ok(None);
     }
     match rows_of_slot(alloc, disk, control, system.epoch) {
-        Ok(rows) => Ok(Some(Own {
-            epoch: system.epoch,
-            rows,
-        })),
+        Ok(rows) => own_with(alloc, system.epoch, &rows),
         Err(fault) => Err(fault),
+    }
+}
+
+// These rows as those of an epoch.
+fn own_with(alloc: Global, epoch: u64, rows: &RowMap) -> Result<Option<Own>, ReadFault>
+    ensures read { Reads (own_rows epoch (Ok rows.now)) result }
+    ensures cause { (before now : ℕ) → HasCause before now result }
+{
+    match to_table(alloc, rows) {
+        Ok(rows) => Ok(Some(Own { epoch, rows })),
+        Err(NoMemory) => Err(ReadFault::NoMemory),
     }
 }
 

@@ -11,7 +11,8 @@ use crate::groups::rows_of_groups;
 use crate::latest::latest;
 use crate::restored::Restored;
 use host_io::Disk;
-use sig_core::{NoMemory, RestartFault, Seq, Shape, SystemSlot, Table};
+use row_map::RowMap;
+use sig_core::{NoMemory, RestartFault, Seq, Shape, SystemSlot};
 use std::alloc::Global;
 
 /// What the disks of a cluster of this shape have: the generation and the epoch of the latest system slot that is
@@ -81,12 +82,12 @@ fn nothing(alloc: Global, shape: &Shape) -> Result<Restored, RestartFault>
 }
 
 // So many tables without rows.
-fn without_rows(alloc: Global, count: u8) -> Result<Seq<Table>, NoMemory>
+fn without_rows(alloc: Global, count: u8) -> Result<Seq<RowMap>, NoMemory>
     ensures { IfOk result (λ tables. tables ≡ replicate count rows.empty) }
 {
     let mut tables = Seq::new(alloc);
     for _ in 0..count {
-        tables.push(Table::new(alloc))?;
+        tables.push(RowMap::new(alloc))?;
     }
     Ok(tables)
 }

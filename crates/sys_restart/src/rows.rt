@@ -7,7 +7,8 @@ ghost use Rattle.sys_restart.specs.Checkpoint.{rows_in_size, rows_of_file};
 
 use host_io::{Disk, Failed};
 use lcp_store::rows_in;
-use sig_core::{NoMemory, ReadFault, Table};
+use row_map::RowMap;
+use sig_core::{NoMemory, ReadFault};
 use std::alloc::Global;
 
 /// The rows of a checkpoint of this size, which a file begins with. `saved` is the saved epoch of the
@@ -22,7 +23,7 @@ pub fn read_rows<D: Disk>(
     file: u8,
     size: u64,
     saved: u64,
-) -> Result<Table, ReadFault>
+) -> Result<RowMap, ReadFault>
     ensures read { (calls : List Call) → D.told disk.old ≡ Some calls → Reads (rows_of_file file size saved (files_of calls file)) result }
     ensures unrecorded { D.told disk.new ≡ D.told disk.old }
     ensures cause { HasCause (D.faults disk.old) (D.faults disk.new) result }
@@ -41,7 +42,7 @@ fn rows_in_size(
     size: u64,
     saved: u64,
     bytes: &[u8],
-) -> Result<Table, ReadFault>
+) -> Result<RowMap, ReadFault>
     ensures read { Reads (rows_in_size file size saved bytes.now) result }
     ensures cause { (before now : ℕ) → HasCause before now result }
 {

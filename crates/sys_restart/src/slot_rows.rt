@@ -9,7 +9,8 @@ ghost use Rattle.sys_restart.specs.SlotRows.{rows_of_slot};
 use crate::rows::read_rows;
 use host_io::Disk;
 use redo_log::replay;
-use sig_core::{ControlSlot, ReadFault, Table};
+use row_map::RowMap;
+use sig_core::{ControlSlot, ReadFault};
 use std::alloc::Global;
 
 /// The rows of a control slot up to an epoch: those of its checkpoint, onto which its redo is replayed,
@@ -23,7 +24,7 @@ pub(crate) fn rows_of_slot<D: Disk>(
     disk: &mut D,
     slot: &ControlSlot,
     epoch: u64,
-) -> Result<Table, ReadFault>
+) -> Result<RowMap, ReadFault>
     requires { HasRedo slot.now }
     ensures read { (calls : List Call) → D.told disk.old ≡ Some calls → Reads (rows_of_slot epoch (files_of calls) slot.now) result }
     ensures unrecorded { D.told disk.new ≡ D.told disk.old }

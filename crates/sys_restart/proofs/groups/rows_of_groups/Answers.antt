@@ -89,5 +89,4 @@ pub returns-clause-read : goal.returns-clause-read
 returns-clause-read g c = λ records told.
     sym (c.loop-group.invariant.read records told)
     ∙ rows_end (disks_of records) c.args.system.now c.args.shape.replicas c.loop-group.group
-    (groups c.args.shape - c.loop-group.group) (Ok c.loop-group.rows)
-    (none_left (groups c.args.shape) c.loop-group.group c.loop-group-test.false)
+    (groups c.args.shape - c.loop-group.group) (Ok c.loop-group.rows) (none_left (groups c.args.shape) c.loop-group.group c.loop-group-test.false)
