@@ -3,7 +3,8 @@ ghost use Rattle.std.specs.Prelude.{◌≡◌, ◌≤◌, length, MatchResult};
 ghost use Rattle.lcp_store.specs.Reading.{Reads, damage, version_in};
 
 use crate::row::{Version, row_in};
-use sig_core::{ReadFault, Table};
+use row_map::RowMap;
+use sig_core::ReadFault;
 use std::alloc::Global;
 
 /// The rows of a checkpoint of either version, which are all bytes of this file. Of the rows of one key
@@ -13,7 +14,7 @@ use std::alloc::Global;
 /// `Damaged` exactly where the bytes are no checkpoint, or have a row epoch above the saved one. Where
 /// they end within a row or within the head, the place is behind them. `NoMemory`.
 #[tactic(auto, using(crate::proofs::RowsLemmas::reading))]
-pub fn rows_in(alloc: Global, file: u8, saved: u64, bytes: &[u8]) -> Result<Table, ReadFault>
+pub fn rows_in(alloc: Global, file: u8, saved: u64, bytes: &[u8]) -> Result<RowMap, ReadFault>
     ensures { Reads file saved bytes.now result }
 {
     let (version, head) = match version_in(bytes) {
@@ -21,7 +22,7 @@ pub fn rows_in(alloc: Global, file: u8, saved: u64, bytes: &[u8]) -> Result<Tabl
         Err(left) => return Err(damage(file, bytes, left)),
     };
     let mut rest = &bytes[head..];
-    let mut rows = Table::new(alloc);
+    let mut rows = RowMap::new(alloc);
     'rows: while !rest.is_empty() {
         match row_in(version, saved, rest) {
             Ok((row, taken)) => match rows.insert(row.key, row.value) {

@@ -15,7 +15,8 @@ use crate::prepared::Prepared;
 use crate::stored::read_log;
 use host_io::Disk;
 use redo_format::{FormatFault, decode};
-use sig_core::{Key, NoMemory, ReadFault, Redo, Table, Value, file_of, place_of};
+use row_map::RowMap;
+use sig_core::{Key, NoMemory, ReadFault, Redo, Value, file_of, place_of};
 use std::alloc::Global;
 
 /// Replays a log onto rows, from one position up to another, as a disk has it in the files of this
@@ -28,7 +29,7 @@ use std::alloc::Global;
 /// been replayed. `NoMemory`.
 pub fn replay<D: Disk>(
     alloc: Global,
-    rows: &mut Table,
+    rows: &mut RowMap,
     disk: &mut D,
     parity: u8,
     from: u64,
@@ -61,7 +62,7 @@ pub fn replay<D: Disk>(
 #[tactic(auto, using(crate::proofs::ReplayLemmas::replays))]
 pub fn replay_bytes(
     alloc: Global,
-    rows: &mut Table,
+    rows: &mut RowMap,
     parity: u8,
     from: u64,
     bytes: &[u8],
@@ -123,7 +124,12 @@ fn damage(parity: u8, from: u64, bytes: &[u8], behind: usize) -> ReadFault
 }
 
 // Replays one more record.
-fn apply(rows: &mut Table, prepared: &mut Prepared, redo: &Redo, epoch: u64) -> Result<(), NoMemory>
+fn apply(
+    rows: &mut RowMap,
+    prepared: &mut Prepared,
+    redo: &Redo,
+    epoch: u64,
+) -> Result<(), NoMemory>
     ensures rows { OnOk result (rows.new ≡ applied epoch redo.now (image_at prepared.old (id_of redo.now)) rows.old) }
     ensures prepared { OnOk result ((q : ImageId) → image_at prepared.new q ≡ cond (same_id (id_of redo.now) q) (prepared_by redo.now) (image_at prepared.old q)) }
 {
@@ -146,7 +152,7 @@ fn apply(rows: &mut Table, prepared: &mut Prepared, redo: &Redo, epoch: u64) -> 
 }
 
 // Makes an image the row, if that is wanted.
-fn commit(rows: &mut Table, key: &Key, image: &Option<Value>, wanted: bool) -> Result<(), NoMemory>
+fn commit(rows: &mut RowMap, key: &Key, image: &Option<Value>, wanted: bool) -> Result<(), NoMemory>
     ensures { OnOk result (rows.new ≡ cond wanted (with_image rows.old key.now image.now) rows.old) }
 {
     if !wanted {

@@ -1,6 +1,7 @@
 //! Rows worked out by hand, cut short at every length and with every byte changed.
 use lcp_store::{ROW_BYTES, Version, put_head, put_row, put_row2, row_in, rows_in};
-use sig_core::{Key, ReadFault, StoredRow, Table, Value};
+use row_map::RowMap;
+use sig_core::{Key, ReadFault, StoredRow, Value};
 use std::alloc::Global;
 use std::process::Abort;
 use std::test::Fail;
@@ -13,7 +14,7 @@ const SECOND: [u8; 25] = [
     0, 2, 1, b'a', 0, 0, 0, 0, 0, 0, 0, 1, 1, b'1', 1, b'b', 0, 0, 0, 0, 0, 0, 1, 2, 0,
 ];
 
-fn value_of(table: &Table, key: &[u8]) -> Result<Option<Value>, Fail> {
+fn value_of(table: &RowMap, key: &[u8]) -> Result<Option<Value>, Fail> {
     Ok(table.get(&Key::new(key)?))
 }
 

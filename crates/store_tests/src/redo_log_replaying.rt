@@ -1,5 +1,6 @@
 use redo_log::replay_bytes;
-use sig_core::{Key, ReadFault, Table};
+use row_map::RowMap;
+use sig_core::{Key, ReadFault};
 use std::alloc::Global;
 use std::test::Fail;
 
@@ -28,7 +29,7 @@ fn leaves(alloc: Global, bytes: &[u8], epoch: u64, value: &[u8]) -> bool {
     let Ok(key) = Key::new(b"a") else {
         return false;
     };
-    let mut rows = Table::new(alloc);
+    let mut rows = RowMap::new(alloc);
     if bytes.len() > 100 || replay_bytes(alloc, &mut rows, 0, 0, bytes, epoch).is_err() {
         return false;
     }
@@ -40,7 +41,7 @@ fn leaves(alloc: Global, bytes: &[u8], epoch: u64, value: &[u8]) -> bool {
 
 // The place at which replay finds the bytes damaged, and the byte there.
 fn damage_of(alloc: Global, bytes: &[u8]) -> Option<(u64, u8)> {
-    let mut rows = Table::new(alloc);
+    let mut rows = RowMap::new(alloc);
     if bytes.len() > 100 {
         return None;
     }
@@ -103,7 +104,7 @@ fn a_log_cut_or_flipped_is_damaged_there_or_behind(rt: HostRuntime) {
 
 #[test]
 fn damage_is_named_in_the_ring(rt: HostRuntime) -> Result<(), Fail> {
-    let mut rows = Table::new(rt.alloc());
+    let mut rows = RowMap::new(rt.alloc());
     let fault = replay_bytes(
         rt.alloc(),
         &mut rows,

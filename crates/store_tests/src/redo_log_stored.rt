@@ -4,7 +4,8 @@ use crate::redo_log_log::{pair, put};
 use crate::redo_log_replaying::PAIR;
 use host_io::{Disk, MemDisk};
 use redo_log::{Log, replay};
-use sig_core::{Journal, Key, ReadFault, Redo, Table, Value};
+use row_map::RowMap;
+use sig_core::{Journal, Key, ReadFault, Redo, Value};
 use std::test::Fail;
 
 // A disk whose calls with these numbers fail, and of which a crash leaves nothing that isn't synced.
@@ -59,7 +60,7 @@ fn what_went_round_the_ring_is_replayed(rt: HostRuntime) -> Result<(), Fail> {
     let last = pair(other, Value::new(b"1")?);
     assert!(rt; put(&mut log, &last.0, &last.1));
     assert!(rt; save(&mut log, &mut disk));
-    let mut rows = Table::new(rt.alloc());
+    let mut rows = RowMap::new(rt.alloc());
     let done = replay(
         rt.alloc(),
         &mut rows,
@@ -85,7 +86,7 @@ fn what_is_synced_is_replayed_after_a_crash(rt: HostRuntime) -> Result<(), Fail>
     assert_eq!(rt; disk.sync(8), Ok(()));
     assert!(rt; put(&mut log, &second.0, &second.1) && save(&mut log, &mut disk));
     disk.cut_power();
-    let mut rows = Table::new(rt.alloc());
+    let mut rows = RowMap::new(rt.alloc());
     let synced = replay(rt.alloc(), &mut rows, &mut disk, 1, 0, 48, 1);
     assert_eq!(rt; synced, Ok(()));
     assert!(rt; rows.get(&Key::new(b"a")?).is_some());
@@ -110,7 +111,7 @@ fn replayed(
     requires parity { parity ≤ 1 }
     requires order { from ≤ to }
 {
-    let mut rows = Table::new(rt.alloc());
+    let mut rows = RowMap::new(rt.alloc());
     let done = replay(rt.alloc(), &mut rows, disk, parity, from, to, 1);
     Ok((done, rows.get(&Key::new(b"a")?).is_some()))
 }

@@ -3,7 +3,8 @@ use crate::watch::{Watch, a_second};
 use lcp_store::{put_head, put_row2, rows_in};
 use redo_format::{decode, encode};
 use redo_log::replay_bytes;
-use sig_core::{Key, Redo, Table, TxId, Value};
+use row_map::RowMap;
+use sig_core::{Key, Redo, TxId, Value};
 use std::alloc::Global;
 use std::test::Fail;
 
@@ -99,7 +100,7 @@ fn time_redo(rt: &HostRuntime, rows: &[Row]) -> Result<bool, Fail> {
     if bytes.len() > MANY {
         return Ok(false);
     }
-    let mut table = Table::new(rt.alloc());
+    let mut table = RowMap::new(rt.alloc());
     let watch = Watch::start(rt)?;
     let replayed = replay_bytes(rt.alloc(), &mut table, 0, 0, &bytes, 1).is_ok();
     tell(rt, "replay", bytes.len(), &watch)?;

@@ -1,7 +1,8 @@
 //! What was committed, as a plain list.
 
 use crate::fault::RunFault;
-use sig_core::{Key, NoMemory, Table, Value};
+use row_map::RowMap;
+use sig_core::{Key, NoMemory, Value};
 use std::alloc::Global;
 
 /// A commit of a row.
@@ -13,8 +14,8 @@ pub struct Commit {
 }
 
 /// The rows that commits up to an epoch leave, one after the other.
-pub fn rows_up_to(alloc: Global, commits: &[Commit], epoch: u64) -> Result<Table, NoMemory> {
-    let mut rows = Table::new(alloc);
+pub fn rows_up_to(alloc: Global, commits: &[Commit], epoch: u64) -> Result<RowMap, NoMemory> {
+    let mut rows = RowMap::new(alloc);
     for commit in commits {
         if commit.epoch <= epoch {
             match commit.image {
@@ -30,7 +31,7 @@ pub fn rows_up_to(alloc: Global, commits: &[Commit], epoch: u64) -> Result<Table
 ///
 /// # Errors
 /// `Rows` where they haven't.
-pub fn compare(one: &Table, other: &Table, keys: &[Key]) -> Result<(), RunFault> {
+pub fn compare(one: &RowMap, other: &RowMap, keys: &[Key]) -> Result<(), RunFault> {
     for key in keys {
         if one.get(key) != other.get(key) {
             return Err(RunFault::Rows);

@@ -7,7 +7,8 @@ use crate::plain::{compare, rows_up_to};
 use lcp_store::rows_in;
 use local_ckpt::Ckpt;
 use redo_log::replay_bytes;
-use sig_core::{Finished, ReadFault, Table, Walk};
+use row_map::RowMap;
+use sig_core::{Finished, ReadFault, Walk};
 use std::alloc::Global;
 
 /// How many keys there are at most.
@@ -107,7 +108,7 @@ fn check(
     compare(&rows, &plain, &node.keys)
 }
 
-fn read(alloc: Global, finished: &Finished, written: &[u8]) -> Result<Table, RunFault> {
+fn read(alloc: Global, finished: &Finished, written: &[u8]) -> Result<RowMap, RunFault> {
     match rows_in(alloc, finished.file, finished.epoch, written) {
         Ok(rows) => Ok(rows),
         Err(ReadFault::NoMemory) => Err(RunFault::NoMemory),

@@ -1,0 +1,140 @@
+//! Two nodes that were stopped in their first life: epoch 5 is durable, and something of epoch 6 is
+//! logged.
+use crate::layout::{Layout, Logged, PAIR, checkpoint, redo};
+use crate::trouble::Trouble;
+use host_io::MemDisk;
+use row_map::RowMap;
+use sig_core::{ControlSlot, Key, Value};
+use std::alloc::Global;
+use sys_restart::{Restored, restore};
+
+/// The rows that are restored, in the order of their keys.
+pub const ROWS: [(u8, u8); 3] = [(b'a', b'9'), (b'c', b'3'), (b'd', b'4')];
+
+const LOG: [Logged; 6] = [
+    Logged {
+        key: b'd',
+        value: Some(b'4'),
+        epoch: Some(4),
+    },
+    Logged {
+        key: b'a',
+        value: Some(b'9'),
+        epoch: Some(5),
+    },
+    Logged {
+        key: b'c',
+        value: Some(b'7'),
+        epoch: None,
+    },
+    Logged {
+        key: b'b',
+        value: None,
+        epoch: Some(5),
+    },
+    Logged {
+        key: b'e',
+        value: Some(b'5'),
+        epoch: Some(6),
+    },
+    Logged {
+        key: b'a',
+        value: Some(b'8'),
+        epoch: Some(6),
+    },
+];
+
+/// The disk of a node. Of node 1 the system slot of epoch 5 is in use, of node 2 that of epoch 4.
+pub fn disk_of(alloc: Global, node: u8) -> Result<Layout, Trouble> {
+    let mut layout = Layout::new(alloc);
+    let rows = checkpoint(alloc, &[(b'a', b'1', 1), (b'b', b'2', 2), (b'c', b'3', 3)])?;
+    let log = redo(alloc, &LOG)?;
+    layout.put(2, 0, &rows)?;
+    layout.put(4, 0, &log)?;
+    let older = ControlSlot {
+        ckpt_file: 3,
+        parity: 0,
+        generation: 1,
+        serial: 2,
+        saved: 4,
+        redo_start: 0,
+        redo_end: 0,
+        ckpt_size: 0,
+    };
+    let newer = ControlSlot {
+        ckpt_file: 2,
+        parity: 0,
+        generation: 1,
+        serial: 3,
+        saved: 5,
+        redo_start: 0,
+        redo_end: log.len() as u64,
+        ckpt_size: rows.len() as u64,
+    };
+    layout.control(0, &newer)?;
+    layout.control(4_096, &older)?;
+    layout.system(0, 1, 4, 3)?;
+    if node == 1 {
+        layout.system(4_096, 1, 5, 3)?;
+    }
+    Ok(layout)
+}
+
+/// What is restored is of one of these generations, and has the epoch and the rows of the pair.
+pub fn check(restored: &Restored, least: u64, most: u64) -> Result<(), Trouble> {
+    if restored.generation < least || most < restored.generation || restored.epoch != 5 {
+        return Err(Trouble::Other);
+    }
+    have_rows(restored.groups.as_slice(), &ROWS)
+}
+
+/// A table has these rows, and of the letters no others.
+pub fn has_rows(table: &RowMap, rows: &[(u8, u8)]) -> Result<(), Trouble> {
+    for key in b'a'..=b'z' {
+        if table.get(&Key::new(&[key])?) != value_in(rows, key)? {
+            return Err(Trouble::Other);
+        }
+    }
+    Ok(())
+}
+
+/// The value of the last row of a letter, among rows.
+pub fn value_in(rows: &[(u8, u8)], key: u8) -> Result<Option<Value>, Trouble> {
+    let mut wanted = None;
+    for row in rows {
+        if row.0 == key {
+            wanted = Some(Value::new(&[row.1])?);
+        }
+    }
+    Ok(wanted)
+}
+
+/// Groups have these rows between them, and of the letters no others. None has a row that another has.
+pub fn have_rows(groups: &[RowMap], rows: &[(u8, u8)]) -> Result<(), Trouble> {
+    for key in b'a'..=b'z' {
+        let mut found = None;
+        for group in groups {
+            let value = group.get(&Key::new(&[key])?);
+            if found.is_some() && value.is_some() {
+                return Err(Trouble::Other);
+            }
+            found = value.or(found);
+        }
+        if found != value_in(rows, key)? {
+            return Err(Trouble::Other);
+        }
+    }
+    Ok(())
+}
+
+/// Restores the pair, which has to have its epoch and rows.
+pub fn restore_pair(
+    alloc: Global,
+    disks: &mut [MemDisk; 2],
+    least: u64,
+    most: u64,
+) -> Result<Restored, Trouble> {
+    let restored = restore(alloc, disks, PAIR)?;
+    check(&restored, least, most)?;
+    Ok(restored)
+}

@@ -1,0 +1,6 @@
+//! Rows by their keys, which are listed in the order of the keys: what is read from disks.
+#![tactic(auto)]
+
+mod rows;
+
+pub use rows::RowMap;

@@ -1,0 +1,83 @@
+//! Rows by their keys.
+ghost use Rattle.std.specs.Prelude.{◌≡◌, IfOk, OnOk, OnErr};
+ghost use Rattle.std.specs.FinMap as map;
+
+use sig_core::{Key, NoMemory, Value};
+use std::alloc::Global;
+use std::collections::BTreeMap;
+use std::marker::Model;
+
+/// Rows by their keys. Contracts see a finite map.
+#[derive(Drop)]
+pub struct RowMap {
+    rows: BTreeMap<Key, Value>,
+}
+
+impl Model for RowMap {
+    ghost use Rattle.std.specs.Prelude.{List, ℕ};
+    ghost use Rattle.std.specs.Ordering.{nat_cmp};
+    ghost use Rattle.std.specs.Cmp.Lexicographic.{slice_cmp};
+    ghost use Rattle.std.specs.Coded.{coded_list, coded_ℕ};
+    ghost use Rattle.std.specs.FinMap as map;
+
+    ghost Value = { map.FinMap (slice_cmp nat_cmp) (List ℕ) };
+
+    ghost coded = { map.code (coded_list coded_ℕ) (coded_list coded_ℕ) };
+
+    ghost view = { λ t. map.from_entries t.rows.entries };
+}
+
+impl RowMap {
+    /// No rows.
+    pub fn new(alloc: Global) -> RowMap
+        ensures { result ≡ map.empty }
+    {
+        RowMap {
+            rows: BTreeMap::new(alloc),
+        }
+    }
+
+    /// The row of the key.
+    #[tactic(auto, using(sig_core::proofs::TableLemmas::tables))]
+    pub fn get(&self, key: &Key) -> Option<Value>
+        ensures { result ≡ map.get self.now key.now }
+    {
+        self.rows.get(key).copied()
+    }
+
+    /// Stores a row, in place of the one that the key had.
+    ///
+    /// # Errors
+    /// `NoMemory`, and then the rows are as they were.
+    #[tactic(auto, using(sig_core::proofs::TableLemmas::tables))]
+    pub fn insert(&mut self, key: Key, value: Value) -> Result<(), NoMemory>
+        ensures ok { OnOk result (self.new ≡ map.insert self.old key value) }
+        ensures err { OnErr result (self.new ≡ self.old) }
+    {
+        self.rows.insert(key, value)?;
+        Ok(())
+    }
+
+    /// Removes the row of the key, if it is there.
+    #[tactic(auto, using(sig_core::proofs::TableLemmas::tables))]
+    pub fn remove(&mut self, key: &Key)
+        ensures { self.new ≡ map.remove self.old key.now }
+    {
+        self.rows.remove(key);
+    }
+
+    /// The rows, in byte order of the keys.
+    ///
+    /// # Errors
+    /// `NoMemory`.
+    #[tactic(auto, using(crate::proofs::ListingLemmas::listing))]
+    pub fn to_rows(&self, alloc: Global) -> Result<Vec<(Key, Value)>, NoMemory>
+        ensures { IfOk result (λ rows. rows.items ≡ map.entries self.now) }
+    {
+        let mut rows = Vec::with_capacity(alloc, self.rows.len())?;
+        for (key, value) in self.rows.iter() {
+            rows.push((*key, *value))?;
+        }
+        Ok(rows)
+    }
+}

@@ -1,0 +1,194 @@
+-- Disks that a restart can't tell apart.
+use Rattle.std.proofs.Common.{◌≡◌, ◌∙◌, ℕ, zero, suc, ◌+◌, ◌*◌, Bool, true, false, List, [], ◌∷◌, ◌++◌, refl, ap, sym, subst, if◌then◌else◌}
+use Rattle.std.specs.Prelude.{Option, None, Some, Result, Ok, Err}
+use Rattle.frag_map.specs.Shape.{groups}
+use Rattle.sig_core.specs.Table.{Rows}
+use Rattle.sig_core.specs.declared.fault.ReadFault.{ReadFault}
+use Rattle.sig_core.specs.declared.fault.RestartFault.{RestartFault}
+use Rattle.sig_core.specs.declared.slots.ControlSlot.{ControlSlot}
+use Rattle.sig_core.specs.declared.slots.SystemSlot.{SystemSlot}
+use Rattle.sig_core.specs.declared.view.Shape.{Shape}
+use Rattle.sysfile_core.specs.declared.place.TheConstants.{CONTROL_FILE}
+use Rattle.sysfile_core.specs.Reading.{control_of_file}
+use Rattle.sys_restart.specs.declared.groups.Source.{Source}
+use Rattle.sys_restart.specs.declared.restored.Restored.{Restored}
+use Rattle.sys_restart.specs.Answers.{on_node}
+use Rattle.sys_restart.specs.Files.{Disks, Files}
+use Rattle.sys_restart.specs.Groups.{and_rows, control_on, first_listed, is_listed, rows_by, rows_from, rows_of_group, rows_of_groups, source_of, source_or}
+use Rattle.sys_restart.specs.Latest.{later, latest_from, latest_of, latest_on}
+use Rattle.sys_restart.specs.Restored.{restored_by, restored_of, with_rows}
+use Rattle.sys_restart.specs.SlotRows.{rows_of_slot}
+use Rattle.sys_restart.proofs.GroupsLemmas.{rows_fail}
+
+pub same_answer : {A E : Type 0} (a b : A) (r : Result A E) → r ≡ Ok a → r ≡ Ok b → a ≡ b
+same_answer a b r one other = cc
+
+pub no_answer : {A E : Type 0} (fault : E) (a : A) (r : Result A E) → r ≡ Err fault → r ≡ Ok a → ⊥
+no_answer fault a r one other = cc
+
+pub same_some : {A : Type 0} (a b : A) (x : Option A) → x ≡ Some a → x ≡ Some b → a ≡ b
+same_some a b x one other = cc
+
+pub not_none : {A : Type 0} (a : A) (x : Option A) → x ≡ None → x ≡ Some a → ⊥
+not_none a x one other = cc
+
+-- A restart of a generation reads the same of two disks of a node: the latest system slot; the control slot in use,
+-- where it can be read; and the rows of that slot.
+pub record AreAlike (shape : Shape) (node generation : ℕ) (one two : Files) : Type 0 where
+  pub system : latest_on shape node two ≡ latest_on shape node one
+  pub slots :
+      (slot : Option ControlSlot) → control_of_file generation (one CONTROL_FILE) ≡ Ok slot
+      → control_of_file generation (two CONTROL_FILE) ≡ Ok slot
+  pub rows :
+      (slot : ControlSlot) (epoch : ℕ) → control_of_file generation (one CONTROL_FILE) ≡ Ok (Some slot)
+      → rows_of_slot epoch two slot ≡ rows_of_slot epoch one slot
+
+pub alike_itself : (shape : Shape) (node generation : ℕ) (files : Files) → AreAlike shape node generation files files
+alike_itself shape node generation files =
+    record { system = refl; slots = λ slot is. is; rows = λ slot epoch is. refl }
+
+abbrev pub AllAlike : Shape → ℕ → Disks → Disks → Type 0
+AllAlike shape generation one two = (node : ℕ) → AreAlike shape node generation (one node) (two node)
+
+pub latest_alike : (shape : Shape) (generation : ℕ) (one two : Disks) → AllAlike shape generation one two
+    → (node more : ℕ) (found : Result (Option SystemSlot) RestartFault)
+    → latest_from shape two node more found ≡ latest_from shape one node more found
+unfolding latest_from
+latest_alike shape generation one two alike node zero found = refl
+latest_alike shape generation one two alike node (suc more) found =
+    ap (λ slot. latest_from shape two (node + 1) more (later found slot)) (alike node).system
+    ∙ latest_alike shape generation one two alike (node + 1) more (later found (latest_on shape node (one node)))
+
+-- what is read of a control slot, where it is known whether the node is listed and what the file has
+pub control_as : (system : SystemSlot) (node : ℕ) (files : Files) (listed : Bool)
+    (found : Result (Option ControlSlot) ReadFault) → is_listed system.mask node ≡ listed
+    → control_of_file system.generation (files CONTROL_FILE) ≡ found
+    → control_on system node files ≡ (if listed then on_node node found else Ok None)
+control_as system node files listed found is so =
+    ap (λ (b : Bool). if b then on_node node (control_of_file system.generation (files CONTROL_FILE)) else Ok None) is
+    ∙ ap (λ read. if listed then on_node node read else Ok None) so
+
+-- the source is found on the disk of its node
+abbrev pub IsThere : SystemSlot → Disks → Source → Type 0
+IsThere system disks source =
+    control_of_file system.generation (disks source.node CONTROL_FILE) ≡ Ok (Some source.slot)
+
+module _ (shape : Shape) (system : SystemSlot) (one two : Disks)
+    (alike : AllAlike shape system.generation one two) where
+  unlisted : (node more : ℕ) (disks : Disks) (found : Result (Option ControlSlot) ReadFault) (listed : Bool)
+      → is_listed system.mask node ≡ listed → control_of_file system.generation (disks node CONTROL_FILE) ≡ found
+      → source_of disks system node (suc more)
+      ≡ source_or (source_of disks system (node + 1) more) node (if listed then on_node node found else Ok None)
+  unfolding source_of
+  unlisted node more disks found listed is so =
+      ap (source_or (source_of disks system (node + 1) more) node)
+      (control_as system node (disks node) listed found is so)
+
+  pub sources_alike : (node more : ℕ) (source : Source) → source_of one system node more ≡ Ok (Some source)
+      → (source_of two system node more ≡ Ok (Some source)) × IsThere system one source
+  unfolding source_of
+  sources_alike node zero source is = absurd (none_there source is)
+    where
+      none_there : (source : Source) → ◌≡◌ {A = Result (Option Source) RestartFault} (Ok None) (Ok (Some source)) → ⊥
+      none_there source is = cc
+  sources_alike node (suc more) source is =
+      by (is_listed system.mask node) (control_of_file system.generation (one node CONTROL_FILE))
+      (sources_alike (node + 1) more source) refl refl
+    where
+      by : (listed : Bool) (found : Result (Option ControlSlot) ReadFault)
+          → (source_of one system (node + 1) more ≡ Ok (Some source)
+          → (source_of two system (node + 1) more ≡ Ok (Some source)) × IsThere system one source)
+          → is_listed system.mask node ≡ listed
+          → control_of_file system.generation (one node CONTROL_FILE) ≡ found
+          → (source_of two system node (suc more) ≡ Ok (Some source)) × IsThere system one source
+      by false found again e f =
+          let first = sym (unlisted node more one found false e f) ∙ is in
+          let behind = again first in
+          (unlisted node more two _ false e refl ∙ behind.0, behind.1)
+      by true (Ok None) again e f =
+          let first = sym (unlisted node more one (Ok None) true e f) ∙ is in
+          let behind = again first in
+          (unlisted node more two (Ok None) true e ((alike node).slots None f) ∙ behind.0, behind.1)
+      by true (Ok (Some slot)) again e f =
+          let it : Source = record { node = node; slot = slot } in
+          let first : ◌≡◌ {A = Result (Option Source) RestartFault} (Ok (Some it)) (Ok (Some source)) =
+          sym (unlisted node more one (Ok (Some slot)) true e f) ∙ is in
+          let same : it ≡ source = cc in (
+            unlisted node more two (Ok (Some slot)) true e ((alike node).slots (Some slot) f) ∙ first,
+            subst (IsThere system one) same f,
+          )
+      by true (Err fault) again e f =
+          absurd (no_answer _ (Some source) _ (unlisted node more one (Err fault) true e f) is)
+
+  pub group_alike : (first count : ℕ) (part : Rows) → rows_of_group one system first count ≡ Ok part
+      → rows_of_group two system first count ≡ Ok part
+  group_alike first count part is = by (source_of one system first count) refl
+    where
+      node : ℕ
+      node = first_listed system.mask first first count
+
+      by : (found : Result (Option Source) RestartFault) → source_of one system first count ≡ found
+          → rows_of_group two system first count ≡ Ok part
+      by (Err fault) e = absurd (no_answer fault part _ (ap (rows_by one system.epoch node) e) is)
+      by (Ok None) e = absurd (no_answer _ part _ (ap (rows_by one system.epoch node) e) is)
+      by (Ok (Some source)) e =
+          let both = sources_alike first count source e in
+          ap (rows_by two system.epoch node) both.0
+          ∙ ap (on_node source.node) ((alike source.node).rows source.slot system.epoch both.1)
+          ∙ sym (ap (rows_by one system.epoch node) e) ∙ is
+
+  pub groups_alike : (replicas group more : ℕ) (before all : List Rows)
+      → rows_from one system replicas group more (Ok before) ≡ Ok all
+      → rows_from two system replicas group more (Ok before) ≡ Ok all
+  unfolding rows_from
+  groups_alike replicas group zero before all is = is
+  groups_alike replicas group (suc more) before all is =
+      by (rows_of_group one system (group * replicas + 1) replicas)
+      (λ part. groups_alike replicas (group + 1) more (before ++ part ∷ []) all) refl
+    where
+      by : (part : Result Rows RestartFault)
+          → ((part : Rows) → rows_from one system replicas (group + 1) more (Ok (before ++ part ∷ [])) ≡ Ok all
+          → rows_from two system replicas (group + 1) more (Ok (before ++ part ∷ [])) ≡ Ok all)
+          → rows_of_group one system (group * replicas + 1) replicas ≡ part
+          → rows_from two system replicas group (suc more) (Ok before) ≡ Ok all
+      by (Err fault) again e =
+          absurd (no_answer fault all _
+          (ap (λ part. rows_from one system replicas (group + 1) more (and_rows (Ok before) part)) e
+          ∙ rows_fail one system replicas (group + 1) more fault)
+          is)
+      by (Ok part) again e =
+          let rest : rows_from one system replicas (group + 1) more (Ok (before ++ part ∷ [])) ≡ Ok all =
+          sym (ap (λ part. rows_from one system replicas (group + 1) more (and_rows (Ok before) part)) e) ∙ is in
+          ap (λ part. rows_from two system replicas (group + 1) more (and_rows (Ok before) part))
+          (group_alike (group * replicas + 1) replicas part e)
+          ∙ again part rest
+
+-- a restart from one is that from the other
+pub restored_alike : (shape : Shape) (one two : Disks) (r : Restored) → AllAlike shape r.generation one two
+    → restored_of shape one ≡ Ok r → restored_of shape two ≡ Ok r
+unfolding restored_of
+restored_alike shape one two r alike is = by (latest_of shape one) refl
+  where
+    latest : latest_of shape two ≡ latest_of shape one
+    latest = latest_alike shape r.generation one two alike 1 shape.nodes (Ok None)
+
+    rows_by_slot : (system : SystemSlot) (rows : Result (List Rows) RestartFault)
+        → latest_of shape one ≡ Ok (Some system)
+        → rows_of_groups shape one system ≡ rows → restored_by shape two (latest_of shape two) ≡ Ok r
+    rows_by_slot system (Err fault) e f =
+        absurd (no_answer fault r _ (ap (restored_by shape one) e ∙ ap (with_rows system) f) is)
+    rows_by_slot system (Ok rows) e f =
+        let made : Restored = record { generation = system.generation; epoch = system.epoch; groups = rows } in
+        let same : made ≡ r = same_answer made r _ (ap (restored_by shape one) e ∙ ap (with_rows system) f) is in
+        let generation : r.generation ≡ system.generation = ap (λ (s : Restored). s.generation) (sym same) in
+        let here : AllAlike shape system.generation one two =
+        subst (λ (g : ℕ). AllAlike shape g one two) generation alike in
+        let again : rows_of_groups shape two system ≡ Ok rows =
+        groups_alike shape system one two here shape.replicas 0 (groups shape) [] rows f in
+        ap (restored_by shape two) (latest ∙ e) ∙ ap (with_rows system) again ∙ ap Ok same
+
+    by : (found : Result (Option SystemSlot) RestartFault) → latest_of shape one ≡ found
+        → restored_by shape two (latest_of shape two) ≡ Ok r
+    by (Err fault) e = absurd (no_answer fault r _ (ap (restored_by shape one) e) is)
+    by (Ok None) e = ap (restored_by shape two) (latest ∙ e) ∙ sym (ap (restored_by shape one) e) ∙ is
+    by (Ok (Some system)) e = rows_by_slot system (rows_of_groups shape one system) e refl

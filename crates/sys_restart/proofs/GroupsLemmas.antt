@@ -1,0 +1,177 @@
+-- The sources of the rows of a group, node after node, and the rows of groups, one after the other.
+use Rattle.std.proofs.Common.{◌≡◌, ◌∙◌, ℕ, zero, suc, ◌+◌, ◌-◌, ◌*◌, ◌≤◌, ◌<◌, Bool, true, false, List, [], ◌∷◌, ◌++◌, refl, ap, sym, subst, arith, if◌then◌else◌}
+use Rattle.std.specs.Prelude.{Option, None, Some, Result, Ok, Err}
+use Rattle.sig_core.specs.Table.{Rows}
+use Rattle.sig_core.specs.declared.fault.ReadFault.{ReadFault}
+use Rattle.sig_core.specs.declared.fault.ReadFault.TheVariants as read
+use Rattle.sig_core.specs.declared.fault.RestartFault.{RestartFault}
+use Rattle.sig_core.specs.declared.slots.ControlSlot.{ControlSlot}
+use Rattle.sig_core.specs.declared.slots.SystemSlot.{SystemSlot}
+use Rattle.sys_restart.specs.declared.groups.Source.{Source}
+use Rattle.sysfile_core.specs.declared.place.TheConstants.{CONTROL_FILE}
+use Rattle.sysfile_core.specs.Reading.{control_of_file}
+use Rattle.sys_restart.specs.Answers.{ReadsAll, is_outer, is_outside, of_node, on_node}
+use Rattle.sys_restart.specs.Files.{Disks, Files}
+use Rattle.sys_restart.specs.Groups.{and_rows, control_on, first_listed, is_listed, lacking, rows_by, rows_from, rows_of_group, source_of, source_or}
+use Rattle.sys_restart.specs.SlotRows.{rows_of_slot}
+
+-- one less is left behind each, and none behind the last
+pub one_less : (all done : ℕ) → done < all → all - done ≡ suc (all - (done + 1))
+one_less all done below = omega (arith, below)
+
+pub none_left : (all done : ℕ) → all ≤ done → all - done ≡ 0
+none_left all done over = omega (arith, over)
+
+-- the control slot of a node that is listed, and of one that isn't
+pub control_listed : (system : SystemSlot) (node : ℕ) (files : Files) (found : Result (Option ControlSlot) RestartFault)
+    → is_listed system.mask node ≡ true
+    → on_node node (control_of_file system.generation (files CONTROL_FILE)) ≡ found
+    → control_on system node files ≡ found
+control_listed system node files found so is =
+    ap (λ (b : Bool). if b then on_node node (control_of_file system.generation (files CONTROL_FILE)) else Ok None) so
+    ∙ is
+
+pub control_unlisted : (system : SystemSlot) (node : ℕ) (files : Files) → is_listed system.mask node ≡ false
+    → control_on system node files ≡ Ok None
+control_unlisted system node files not_so =
+    ap (λ (b : Bool). if b then on_node node (control_of_file system.generation (files CONTROL_FILE)) else Ok None)
+    not_so
+
+next_source : (disks : Disks) (system : SystemSlot) (node more less : ℕ)
+    (answer : Result (Option ControlSlot) RestartFault)
+    → more ≡ suc less → control_on system node (disks node) ≡ answer
+    → source_of disks system node more ≡ source_or (source_of disks system (node + 1) less) node answer
+unfolding source_of
+next_source disks system node zero less answer size is = absurd (omega (arith, size))
+next_source disks system node (suc more) less answer size is =
+    let same : more ≡ less = omega (arith, size) in
+    ap (λ (n : ℕ). source_or (source_of disks system (node + 1) n) node (control_on system node (disks node))) same
+    ∙ ap (source_or (source_of disks system (node + 1) less) node) is
+
+-- a node that has none
+pub source_more : (disks : Disks) (system : SystemSlot) (node more less : ℕ) → more ≡ suc less
+    → control_on system node (disks node) ≡ Ok None
+    → source_of disks system (node + 1) less ≡ source_of disks system node more
+source_more disks system node more less size is = sym (next_source disks system node more less (Ok None) size is)
+
+-- a node that has one
+pub source_found : (disks : Disks) (system : SystemSlot) (node more less : ℕ) (slot : ControlSlot)
+    (all : Result (Option Source) RestartFault) → more ≡ suc less
+    → control_on system node (disks node) ≡ Ok (Some slot) → source_of disks system node more ≡ all
+    → all ≡ Ok (Some (record { node = node; slot = slot }))
+source_found disks system node more less slot all size is whole =
+    sym whole ∙ next_source disks system node more less (Ok (Some slot)) size is
+
+-- a node of which it can't be read
+pub source_stops : (disks : Disks) (system : SystemSlot) (node more less : ℕ) (fault : RestartFault)
+    (all : Result (Option Source) RestartFault) → more ≡ suc less
+    → (is_outside fault ≡ false → control_on system node (disks node) ≡ Err fault)
+    → source_of disks system node more ≡ all → is_outside fault ≡ false → all ≡ Err fault
+source_stops disks system node more less fault all size is whole inside =
+    sym whole ∙ next_source disks system node more less (Err fault) size (is inside)
+
+pub source_ends : (disks : Disks) (system : SystemSlot) (node more : ℕ) → more ≡ 0
+    → source_of disks system node more ≡ Ok None
+unfolding source_of
+source_ends disks system node zero none = refl
+source_ends disks system node (suc more) none = absurd (omega (arith, none))
+
+-- the first node that is listed
+pub listed_here : (mask other node more less : ℕ) → more ≡ suc less → is_listed mask node ≡ true
+    → first_listed mask other node more ≡ node
+unfolding first_listed
+listed_here mask other node zero less size is = absurd (omega (arith, size))
+listed_here mask other node (suc more) less size is =
+    ap (λ (b : Bool). if b then node else first_listed mask other (node + 1) more) is
+
+pub listed_behind : (mask other node more less : ℕ) → more ≡ suc less → is_listed mask node ≡ false
+    → first_listed mask other (node + 1) less ≡ first_listed mask other node more
+unfolding first_listed
+listed_behind mask other node zero less size is = absurd (omega (arith, size))
+listed_behind mask other node (suc more) less size is =
+    let same : less ≡ more = omega (arith, size) in
+    ap (λ (n : ℕ). first_listed mask other (node + 1) n) same
+    ∙ sym (ap (λ (b : Bool). if b then node else first_listed mask other (node + 1) more) is)
+
+pub listed_ends : (mask other node more : ℕ) → more ≡ 0 → first_listed mask other node more ≡ other
+unfolding first_listed
+listed_ends mask other node zero none = refl
+listed_ends mask other node (suc more) none = absurd (omega (arith, none))
+
+-- the rows of a group whose source was found, those of one that has none, and what is wrong with a source
+pub group_found : (disks : Disks) (system : SystemSlot) (first count : ℕ) (source : Source)
+    (result : Result Rows RestartFault) → source_of disks system first count ≡ Ok (Some source)
+    → ReadsAll (on_node source.node (rows_of_slot system.epoch (disks source.node) source.slot)) result
+    → ReadsAll (rows_of_group disks system first count) result
+group_found disks system first count source result is reads =
+    subst
+    (λ (found : Result (Option Source) RestartFault). ReadsAll
+    (rows_by disks system.epoch (first_listed system.mask first first count) found) result)
+    (sym is) reads
+
+pub group_lacks : (disks : Disks) (system : SystemSlot) (first count node : ℕ) (fault : RestartFault)
+    → source_of disks system first count ≡ Ok None → node ≡ first_listed system.mask first first count
+    → (is_outside fault ≡ false → fault ≡ lacking node (disks node))
+    → is_outside fault ≡ false → rows_of_group disks system first count ≡ Err fault
+group_lacks disks system first count node fault is at lacks inside =
+    ap (rows_by disks system.epoch (first_listed system.mask first first count)) is
+    ∙ ap (λ (n : ℕ). rows_by disks system.epoch n (Ok None)) (sym at)
+    ∙ ap Err (sym (lacks inside))
+
+pub group_fails : (disks : Disks) (system : SystemSlot) (first count : ℕ) (fault : RestartFault)
+    → (is_outside fault ≡ false → source_of disks system first count ≡ Err fault)
+    → is_outside fault ≡ false → rows_of_group disks system first count ≡ Err fault
+group_fails disks system first count fault is inside =
+    ap (rows_by disks system.epoch (first_listed system.mask first first count)) (is inside)
+
+-- one more group
+pub rows_fail : (disks : Disks) (system : SystemSlot) (replicas group more : ℕ) (fault : RestartFault)
+    → rows_from disks system replicas group more (Err fault) ≡ Err fault
+unfolding rows_from
+rows_fail disks system replicas group zero fault = refl
+rows_fail disks system replicas group (suc more) fault = rows_fail disks system replicas (group + 1) more fault
+
+next_rows : (disks : Disks) (system : SystemSlot) (replicas group more less : ℕ)
+    (rows : Result (List Rows) RestartFault) (answer : Result Rows RestartFault)
+    → more ≡ suc less → rows_of_group disks system (group * replicas + 1) replicas ≡ answer
+    → rows_from disks system replicas group more rows
+    ≡ rows_from disks system replicas (group + 1) less (and_rows rows answer)
+unfolding rows_from
+next_rows disks system replicas group zero less rows answer size is = absurd (omega (arith, size))
+next_rows disks system replicas group (suc more) less rows answer size is =
+    let same : more ≡ less = omega (arith, size) in
+    ap
+    (λ (n : ℕ). rows_from disks system replicas (group + 1) n
+    (and_rows rows (rows_of_group disks system (group * replicas + 1) replicas)))
+    same
+    ∙ ap (λ part. rows_from disks system replicas (group + 1) less (and_rows rows part)) is
+
+pub rows_more : (disks : Disks) (system : SystemSlot) (replicas group more less : ℕ) (rows all : List Rows)
+    (part : Rows)
+    → more ≡ suc less → rows_of_group disks system (group * replicas + 1) replicas ≡ Ok part
+    → all ≡ rows ++ part ∷ []
+    → rows_from disks system replicas (group + 1) less (Ok all) ≡ rows_from disks system replicas group more (Ok rows)
+rows_more disks system replicas group more less rows all part size is put =
+    ap (λ rows. rows_from disks system replicas (group + 1) less (Ok rows)) put
+    ∙ sym (next_rows disks system replicas group more less (Ok rows) (Ok part) size is)
+
+pub rows_stop : (disks : Disks) (system : SystemSlot) (replicas group more less : ℕ) (rows : List Rows)
+    (fault : RestartFault) (all : Result (List Rows) RestartFault) → more ≡ suc less
+    → (is_outside fault ≡ false → rows_of_group disks system (group * replicas + 1) replicas ≡ Err fault)
+    → rows_from disks system replicas group more (Ok rows) ≡ all → is_outside fault ≡ false → all ≡ Err fault
+rows_stop disks system replicas group more less rows fault all size is whole inside =
+    sym whole
+    ∙ next_rows disks system replicas group more less (Ok rows) (Err fault) size (is inside)
+    ∙ rows_fail disks system replicas (group + 1) less fault
+
+pub rows_end : (disks : Disks) (system : SystemSlot) (replicas group more : ℕ) (rows : Result (List Rows) RestartFault)
+    → more ≡ 0 → rows_from disks system replicas group more rows ≡ rows
+unfolding rows_from
+rows_end disks system replicas group zero rows none = refl
+rows_end disks system replicas group (suc more) rows none = absurd (omega (arith, none))
+
+-- a fault of reading a node's disk is one of what the files hold exactly where it is so with the node
+pub inside_of : (node : ℕ) (fault : ReadFault) → is_outside (of_node node fault) ≡ is_outer fault
+inside_of node (read.DiskFault count) = refl
+inside_of node (read.Damaged file at byte) = refl
+inside_of node read.NoMemory = refl

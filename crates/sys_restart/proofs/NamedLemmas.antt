@@ -1,0 +1,120 @@
+-- Disks on which a life is named.
+use Rattle.std.proofs.Common.{◌≡◌, ◌∙◌, ◌⊎◌, ℕ, zero, suc, ◌+◌, ◌-◌, ◌*◌, ◌≤◌, ◌<◌, true, length, take, get_or, refl, ap, sym, subst, arith, inl, inr}
+use Rattle.std.specs.Prelude.{Option, Some, Ok}
+use Rattle.std.specs.FinMap as finmap
+use Rattle.std.proofs.lemmas.Bool.{cases_lt}
+use Rattle.std.proofs.lemmas.List.{take_all, take_more}
+use Rattle.frag_map.specs.Shape.{IsShape, groups}
+use Rattle.sig_core.specs.declared.slots.ControlSlot.{ControlSlot}
+use Rattle.sig_core.specs.declared.slots.SystemSlot.{SystemSlot}
+use Rattle.sig_core.specs.declared.view.Shape.{Shape}
+use Rattle.sysfile_core.specs.Reading.{later_system}
+use Rattle.sys_restart.specs.declared.restored.Restored.{Restored}
+use Rattle.sys_restart.specs.Answers.{on_node}
+use Rattle.sys_restart.specs.Calls.{next_system}
+use Rattle.sys_restart.specs.Files.{Disks}
+use Rattle.sys_restart.specs.Groups.{and_rows, first_listed, rows_by, rows_from, rows_of_group, source_of}
+use Rattle.sys_restart.specs.Latest.{later, latest_from, latest_of, latest_on}
+use Rattle.sys_restart.specs.Prepared.{HasSlot, IsNamedOrBelow}
+use Rattle.sys_restart.specs.Restored.{restored_by, restored_of, with_rows}
+use Rattle.sys_restart.proofs.AlikeLemmas.{control_as, same_answer}
+use Rattle.sys_restart.proofs.GroupsLemmas.{source_found}
+use Rattle.sys_restart.proofs.ListedLemmas.{listed_all}
+use Rattle.sys_restart.proofs.NameLemmas.{first_named, later_either, second_named}
+use Rattle.sys_restart.proofs.SeatLemmas.{first_of_group, group_fits}
+
+-- each of so many nodes names the life by its latest slot, or none as late
+abbrev pub EachNamedOrBelow : Shape → Restored → Disks → ℕ → ℕ → Type 0
+EachNamedOrBelow shape r disks node count =
+    (k : ℕ) → node ≤ k → k < node + count
+    → (slot : Option SystemSlot) × ((latest_on shape k (disks k) ≡ Ok slot) × IsNamedOrBelow shape r slot)
+
+-- one of them names it
+abbrev pub OneNames : Shape → Restored → Disks → ℕ → ℕ → Type 0
+OneNames shape r disks node count =
+    (k : ℕ)
+    × ((node ≤ k) × ((k < node + count) × (latest_on shape k (disks k) ≡ Ok (Some (next_system shape r)))))
+
+-- then the latest slot names it
+pub latest_named : (shape : Shape) (r : Restored) (disks : Disks) (node more : ℕ) (found : Option SystemSlot)
+    → IsNamedOrBelow shape r found → EachNamedOrBelow shape r disks node more
+    → (found ≡ Some (next_system shape r)) ⊎ OneNames shape r disks node more
+    → latest_from shape disks node more (Ok found) ≡ Ok (Some (next_system shape r))
+unfolding latest_from
+latest_named shape r disks node zero found either each (inl named) = ap Ok named
+latest_named shape r disks node zero found either each (inr (k, (low, (high, at)))) = absurd (omega (arith, low, high))
+latest_named shape r disks node (suc more) found either each names =
+    let here = each node (omega arith) (omega arith) in
+    ap (λ slot. latest_from shape disks (node + 1) more (later (Ok found) slot)) here.1.0
+    ∙ latest_named shape r disks (node + 1) more (later_system found here.0)
+    (later_either shape r found here.0 either here.1.1)
+    (λ k low high. each k (omega (arith, low)) (omega (arith, high)))
+    (goes_on here.0 here.1.0 here.1.1 names)
+  where
+    goes_on : (slot : Option SystemSlot) → latest_on shape node (disks node) ≡ Ok slot → IsNamedOrBelow shape r slot
+        → (found ≡ Some (next_system shape r)) ⊎ OneNames shape r disks node (suc more)
+        → (later_system found slot ≡ Some (next_system shape r)) ⊎ OneNames shape r disks (node + 1) more
+    goes_on slot is other (inl named) =
+        inl (ap (λ (x : Option SystemSlot). later_system x slot) named ∙ first_named shape r slot other)
+    goes_on slot is other (inr (k, (low, (high, at)))) =
+        elim (cases_lt node k) [
+          | inl less ↦ inr (k, (omega (arith, less), (omega (arith, high), at)))
+          | inr most ↦
+              let here : k ≡ node = omega (arith, low, most) in
+              let now : latest_on shape node (disks node) ≡ Ok (Some (next_system shape r)) =
+              subst (λ (n : ℕ). latest_on shape n (disks n) ≡ Ok (Some (next_system shape r))) here at in
+              let same : slot ≡ Some (next_system shape r) =
+              same_answer slot (Some (next_system shape r)) _ is now in
+              inl (ap (later_system found) same ∙ second_named shape r found either)
+        ]
+
+-- each node is prepared
+abbrev pub EachHasSlot : Shape → Restored → Disks → Type 0
+EachHasSlot shape r disks =
+    (node : ℕ) → 1 ≤ node → node ≤ shape.nodes → (slot : ControlSlot) × HasSlot shape node r (disks node) slot
+
+module _ (shape : Shape) (r : Restored) (disks : Disks) (is : IsShape shape) (each : EachHasSlot shape r disks)
+    (many : length r.groups ≡ groups shape) where
+  -- the rows of a group are those of its first node
+  one_group : (group less : ℕ) → group < groups shape → shape.replicas ≡ suc less
+      → rows_of_group disks (next_system shape r) (group * shape.replicas + 1) shape.replicas
+      ≡ Ok (get_or r.groups group finmap.empty)
+  one_group group less below size =
+      let first = group * shape.replicas + 1 in
+      let fits = group_fits shape.nodes shape.replicas group is.replicas_some is.replicas_few below in
+      let within : first ≤ shape.nodes = omega (arith, fits, is.replicas_some) in
+      let has = each first (omega arith) within in
+      let there =
+      control_as (next_system shape r) first (disks first) true (Ok (Some has.0))
+      (listed_all shape.nodes first (omega arith) within is.nodes_few) has.1.in_use in
+      let found : source_of disks (next_system shape r) first shape.replicas
+      ≡ Ok (Some (record { node = first; slot = has.0 })) =
+      source_found disks (next_system shape r) first shape.replicas less has.0
+      (source_of disks (next_system shape r) first shape.replicas) size there refl in
+      ap (rows_by disks r.epoch (first_listed (next_system shape r).mask first first shape.replicas)) found
+      ∙ ap (on_node first) has.1.has_rows
+      ∙ ap (λ (g : ℕ). Ok (get_or r.groups g finmap.empty))
+      (first_of_group shape.replicas group is.replicas_some is.replicas_few)
+
+  groups_named : (group more less : ℕ) → group + more ≡ groups shape → shape.replicas ≡ suc less
+      → rows_from disks (next_system shape r) shape.replicas group more (Ok (take group r.groups)) ≡ Ok r.groups
+  unfolding rows_from
+  groups_named group zero less all size = ap Ok (take_all group r.groups (omega (arith, all, many)))
+  groups_named group (suc more) less all size =
+      ap
+      (λ part. rows_from disks (next_system shape r) shape.replicas (group + 1) more
+      (and_rows (Ok (take group r.groups)) part))
+      (one_group group less (omega (arith, all)) size)
+      ∙ ap (λ rows. rows_from disks (next_system shape r) shape.replicas (group + 1) more (Ok rows))
+      (sym (take_more r.groups group finmap.empty (omega (arith, all, many))))
+      ∙ groups_named (group + 1) more less (omega (arith, all)) size
+
+  -- so a restart is of the life that is named
+  pub restored_named : latest_of shape disks ≡ Ok (Some (next_system shape r))
+      → restored_of shape disks
+      ≡ Ok (record { generation = r.generation + 1; epoch = r.epoch; groups = r.groups })
+  unfolding restored_of
+  restored_named latest =
+      ap (restored_by shape disks) latest
+      ∙ ap (with_rows (next_system shape r))
+      (groups_named 0 (groups shape) (shape.replicas - 1) (omega arith) (omega (arith, is.replicas_some)))

@@ -1,0 +1,29 @@
+use Rattle.std.proofs.Common.{◌-◌, ◌<◌, [], get_or, length, map, refl, arith}
+use Rattle.sys_restart.proofs.DisksLemmas.{node_cause, one_steady, same_told, steady_itself, told_at}
+use Rattle.sys_restart.proofs.groups.lacking_at.Goals as goal
+
+pub returns-clause-read : goal.returns-clause-read
+returns-clause-read g c =
+    let below : c.args.node - 1 < length c.args.disks.now = omega (arith, c.requires.first, c.requires.last) in
+    λ records told.
+    c.lacking.ensures.read (get_or records (c.args.node - 1) [])
+    (told_at g.D.Disk.told c.args.disks.now records (c.args.node - 1) c.index-disks-index.result told below)
+
+pub returns-clause-unrecorded : goal.returns-clause-unrecorded
+returns-clause-unrecorded g c =
+    let below : c.args.node - 1 < length c.args.disks.now = omega (arith, c.requires.first, c.requires.last) in
+    same_told g.D.Disk.told c.args.disks.now (c.args.node - 1) c.index-disks-index.result c.lacking.new.disk below
+    c.lacking.ensures.unrecorded
+
+pub returns-clause-steady : goal.returns-clause-steady
+returns-clause-steady g c =
+    let below : c.args.node - 1 < length c.args.disks.now = omega (arith, c.requires.first, c.requires.last) in
+    one_steady g.D.Disk.faults c.args.disks.now (c.args.node - 1) c.index-disks-index.result c.lacking.new.disk below
+    c.lacking.ensures.steady
+
+pub returns-clause-cause : goal.returns-clause-cause
+returns-clause-cause g c =
+    let below : c.args.node - 1 < length c.args.disks.now = omega (arith, c.requires.first, c.requires.last) in
+    node_cause g.D.Disk.faults c.args.disks.now c.args.disks.now c.args.node (c.args.node - 1)
+    c.index-disks-index.result c.lacking.new.disk c.lacking.result (omega (arith, c.requires.first)) below refl
+    (steady_itself (map g.D.Disk.faults c.args.disks.now)) c.lacking.ensures.cause

@@ -1,0 +1,17 @@
+use Rattle.std.proofs.Common.{◌∙◌}
+use Rattle.redo_log.specs.Stored.{files_of}
+use Rattle.sysfile_core.specs.declared.place.TheConstants.{CONTROL_FILE}
+use Rattle.sys_restart.proofs.PlacesLemmas.{count_after, places_read}
+use Rattle.sys_restart.proofs.places.control_places.Goals as goal
+
+pub returns-in-Ok-clause-read : goal.returns-in-Ok-clause-read
+returns-in-Ok-clause-read g c = λ calls told.
+    places_read c.args.generation (files_of calls CONTROL_FILE) c.in-Ok.one c.places_beside.result
+    (c.in-Ok.ensures.read calls told)
+    (c.places_beside.ensures.read calls (c.in-Ok.ensures.unrecorded ∙ told))
+
+pub returns-in-Ok-clause-cause : goal.returns-in-Ok-clause-cause
+returns-in-Ok-clause-cause g c =
+    count_after (g.D.Disk.faults c.args.disk.now) (g.D.Disk.faults c.usable_control.new.disk)
+    (g.D.Disk.faults c.places_beside.new.disk) c.places_beside.result c.in-Ok.ensures.steady
+    c.places_beside.ensures.cause

@@ -1,0 +1,14 @@
+pub mod Answers
+pub mod Calls
+pub mod Checkpoint
+pub mod Files
+pub mod Groups
+pub mod Latest
+pub mod LifeCalls
+pub mod Own
+pub mod Places
+pub mod Prepared
+pub mod ReadyDisks
+pub mod Redone
+pub mod Restored
+pub mod SlotRows

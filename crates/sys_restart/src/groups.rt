@@ -1,0 +1,231 @@
+//! The rows of each group of nodes.
+ghost use Rattle.std.specs.Prelude.{◌≡◌, ◌≤◌, ◌<◌, ◌+◌, ◌*◌, false, List, Some, IfOk, IfSome, length, map};
+ghost use Rattle.frag_map.specs.Shape.{IsShape, groups};
+ghost use Rattle.host_io.specs.Call.{Call};
+ghost use Rattle.redo_log.specs.Stored.{files_of};
+ghost use Rattle.sysfile_core.specs.Found.{HasRedo};
+ghost use Rattle.sys_restart.specs.Answers.{AreSteady, HasCauseAmong, HasCauseOf, IsCauseAmong, IsCauseOf, ReadsAll, is_outside, on_node};
+ghost use Rattle.sys_restart.specs.Files.{disks_of};
+ghost use Rattle.sys_restart.specs.Groups.{IsSource, control_on, first_listed, is_listed, lacking, rows_of_group, rows_of_groups, source_of};
+ghost use Rattle.sys_restart.specs.SlotRows.{rows_of_slot};
+
+use crate::on_node::of_node;
+use crate::slot_rows::rows_of_slot;
+use host_io::{Disk, Failed};
+use row_map::RowMap;
+use sig_core::{ControlSlot, NoMemory, RestartFault, Seq, Shape, SystemSlot};
+use std::alloc::Global;
+use sysfile_core::{CONTROL_FILE, read_control};
+
+/// The node whose disk has the rows of a group, and the control slot there that names them.
+#[derive(Clone, Copy)]
+pub(crate) struct Source {
+    pub node: u8,
+    pub slot: ControlSlot,
+}
+
+/// The rows of each group, the first group first: those of its first node that the system slot lists and that
+/// has a control slot of its generation, up to the epoch of the system slot. What other nodes have isn't read.
+///
+/// # Errors
+/// `Damaged` where a group has no such node, at its first node that is listed, or else at its first, at
+/// the first byte of the control file; and where a control slot, a checkpoint or redo is damaged. The
+/// first of them by group and node. `DiskFault`, `NoMemory`.
+pub(crate) fn rows_of_groups<D: Disk>(
+    alloc: Global,
+    disks: &mut [D],
+    shape: Shape,
+    system: &SystemSlot,
+) -> Result<Seq<RowMap>, RestartFault>
+    requires shape { IsShape shape }
+    requires nodes { length disks.old ≡ shape.nodes }
+    ensures read { (records : List (List Call)) → map D.told disks.old ≡ map Some records → ReadsAll (rows_of_groups shape (disks_of records) system.now) result }
+    ensures unrecorded { map D.told disks.new ≡ map D.told disks.old }
+    ensures cause { HasCauseAmong (map D.faults disks.old) (map D.faults disks.new) result }
+    ensures steady { AreSteady (map D.faults disks.old) (map D.faults disks.new) }
+{
+    let mut rows = Seq::new(alloc);
+    for group in 0..shape.nodes / shape.replicas {
+        let first = first_of(group, &shape);
+        match rows_of_group(alloc, disks, first, shape.replicas, system) {
+            Err(fault) => return Err(fault),
+            Ok(part) => match rows.push(part) {
+                Ok(()) => {}
+                Err(NoMemory) => return Err(RestartFault::NoMemory),
+            },
+        }
+    }
+    Ok(rows)
+}
+
+// The first node of a group.
+#[tactic(auto, using(crate::proofs::SeatLemmas::seats))]
+fn first_of(group: u8, shape: &Shape) -> u8
+    requires shape { IsShape shape.now }
+    requires group { group < groups shape.now }
+    ensures value { result ≡ group * shape.now.replicas + 1 }
+    ensures last { result + shape.now.replicas ≤ shape.now.nodes + 1 }
+{
+    group * shape.replicas + 1
+}
+
+// The rows of the group of so many nodes from this one on.
+fn rows_of_group<D: Disk>(
+    alloc: Global,
+    disks: &mut [D],
+    first: u8,
+    count: u8,
+    system: &SystemSlot,
+) -> Result<RowMap, RestartFault>
+    requires first { 1 ≤ first }
+    requires last { first + count ≤ length disks.old + 1 }
+    requires some { 1 ≤ count }
+    requires few { length disks.old ≤ 8 }
+    ensures read { (records : List (List Call)) → map D.told disks.old ≡ map Some records → ReadsAll (rows_of_group (disks_of records) system.now first count) result }
+    ensures unrecorded { map D.told disks.new ≡ map D.told disks.old }
+    ensures cause { HasCauseAmong (map D.faults disks.old) (map D.faults disks.new) result }
+    ensures steady { AreSteady (map D.faults disks.old) (map D.faults disks.new) }
+{
+    match source_of(disks, first, count, system) {
+        Ok(Some(source)) => rows_of_source(alloc, disks, &source, system.epoch),
+        Ok(None) => {
+            let node = first_listed(system.mask, first, count);
+            Err(lacking_at(disks, node))
+        }
+        Err(fault) => Err(fault),
+    }
+}
+
+// The rows that a source names.
+fn rows_of_source<D: Disk>(
+    alloc: Global,
+    disks: &mut [D],
+    source: &Source,
+    epoch: u64,
+) -> Result<RowMap, RestartFault>
+    requires first { 1 ≤ source.now.node }
+    requires last { source.now.node ≤ length disks.old }
+    requires redo { HasRedo source.now.slot }
+    ensures read { (records : List (List Call)) → map D.told disks.old ≡ map Some records → ReadsAll (on_node source.now.node (rows_of_slot epoch (disks_of records source.now.node) source.now.slot)) result }
+    ensures unrecorded { map D.told disks.new ≡ map D.told disks.old }
+    ensures cause { HasCauseAmong (map D.faults disks.old) (map D.faults disks.new) result }
+    ensures steady { AreSteady (map D.faults disks.old) (map D.faults disks.new) }
+{
+    let index = source.node as usize - 1;
+    match rows_of_slot(alloc, &mut disks[index], &source.slot, epoch) {
+        Ok(rows) => Ok(rows),
+        Err(fault) => Err(of_node(source.node, fault)),
+    }
+}
+
+// The first of so many nodes that is listed and has a control slot of the generation.
+fn source_of<D: Disk>(
+    disks: &mut [D],
+    first: u8,
+    count: u8,
+    system: &SystemSlot,
+) -> Result<Option<Source>, RestartFault>
+    requires first { 1 ≤ first }
+    requires last { first + count ≤ length disks.old + 1 }
+    requires few { length disks.old ≤ 8 }
+    ensures read { (records : List (List Call)) → map D.told disks.old ≡ map Some records → ReadsAll (source_of (disks_of records) system.now first count) result }
+    ensures source { IfOk result (λ found. IfSome found (IsSource (length disks.old))) }
+    ensures unrecorded { map D.told disks.new ≡ map D.told disks.old }
+    ensures cause { HasCauseAmong (map D.faults disks.old) (map D.faults disks.new) result }
+    ensures steady { AreSteady (map D.faults disks.old) (map D.faults disks.new) }
+{
+    for more in 0..count {
+        let node = first + more;
+        let index = node as usize - 1;
+        match control_on(&mut disks[index], node, system) {
+            Ok(None) => {}
+            Ok(Some(slot)) => return Ok(Some(Source { node, slot })),
+            Err(fault) => return Err(fault),
+        }
+    }
+    Ok(None)
+}
+
+// The control slot in use on a node's disk, if the node is listed.
+fn control_on<D: Disk>(
+    disk: &mut D,
+    node: u8,
+    system: &SystemSlot,
+) -> Result<Option<ControlSlot>, RestartFault>
+    requires first { 1 ≤ node }
+    requires few { node ≤ 8 }
+    ensures read { (calls : List Call) → D.told disk.old ≡ Some calls → ReadsAll (control_on system.now node (files_of calls)) result }
+    ensures redo { IfOk result (λ slot. IfSome slot HasRedo) }
+    ensures unrecorded { D.told disk.new ≡ D.told disk.old }
+    ensures cause { HasCauseOf node (D.faults disk.old) (D.faults disk.new) result }
+    ensures steady { D.faults disk.old ≤ D.faults disk.new }
+{
+    if !is_listed(system.mask, node) {
+        return Ok(None);
+    }
+    match read_control(disk, system.generation) {
+        Ok(slot) => Ok(slot),
+        Err(fault) => Err(of_node(node, fault)),
+    }
+}
+
+/// Whether a mask of full members lists a node.
+pub(crate) fn is_listed(mask: u8, node: u8) -> bool
+    requires first { 1 ≤ node }
+    requires few { node ≤ 8 }
+    ensures { result ≡ is_listed mask node }
+{
+    (mask >> (node - 1)) % 2 == 1
+}
+
+// The first of so many nodes that a mask lists, or else the first.
+fn first_listed(mask: u8, first: u8, count: u8) -> u8
+    requires first { 1 ≤ first }
+    requires few { first + count ≤ 9 }
+    requires some { 1 ≤ count }
+    ensures value { result ≡ first_listed mask first first count }
+    ensures least { first ≤ result }
+    ensures most { result < first + count }
+{
+    for more in 0..count {
+        if is_listed(mask, first + more) {
+            return first + more;
+        }
+    }
+    first
+}
+
+// What is wrong on the disk of a node that has no control slot, of the disks of all nodes.
+fn lacking_at<D: Disk>(disks: &mut [D], node: u8) -> RestartFault
+    requires first { 1 ≤ node }
+    requires last { node ≤ length disks.old }
+    ensures read { (records : List (List Call)) → map D.told disks.old ≡ map Some records → is_outside result ≡ false → result ≡ lacking node (disks_of records node) }
+    ensures unrecorded { map D.told disks.new ≡ map D.told disks.old }
+    ensures cause { IsCauseAmong (map D.faults disks.old) (map D.faults disks.new) result }
+    ensures steady { AreSteady (map D.faults disks.old) (map D.faults disks.new) }
+{
+    let index = node as usize - 1;
+    lacking(&mut disks[index], node)
+}
+
+// The same, of its disk.
+fn lacking<D: Disk>(disk: &mut D, node: u8) -> RestartFault
+    ensures read { (calls : List Call) → D.told disk.old ≡ Some calls → is_outside result ≡ false → result ≡ lacking node (files_of calls) }
+    ensures unrecorded { D.told disk.new ≡ D.told disk.old }
+    ensures cause { IsCauseOf node (D.faults disk.old) (D.faults disk.new) result }
+    ensures steady { D.faults disk.old ≤ D.faults disk.new }
+{
+    let mut gate = [0];
+    match disk.read(CONTROL_FILE, 0, &mut gate) {
+        Ok(_) => RestartFault::Damaged {
+            node,
+            file: CONTROL_FILE,
+            at: 0,
+            byte: gate[0],
+        },
+        Err(Failed) => RestartFault::DiskFault {
+            node,
+            count: disk.faults(),
+        },
+    }
+}
