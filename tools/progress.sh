@@ -47,7 +47,7 @@ tell_progress() {
     begun=$SECONDS
     read -r proved left < <(left_of "${crates[@]}")
     echo "ndb: proving the program, crate by crate, and building it: $proved of ${#crates[@]} crates are proved," \
-        "and the others take $(in_words "$left"). ./try runs it unproved in one." >&2
+        "and the others take $(in_words "$left"). ./try runs a script unproved meanwhile." >&2
     while IFS= read -r line; do
         case $line in
             *': proved') ;;

@@ -11,7 +11,8 @@ usage() {
     cat <<END
 ndb [--nodes N] [--replicas R] [--fragments F] [FILE]
     A cluster of N nodes, 1 to 8 (2), with R replicas of each row, 1 to 4 (2), which divide N, and
-    F fragments, 1 to 32 (4). It runs the script in FILE, or on standard input.
+    F fragments, 1 to 32 (4). It runs the script in FILE, or on standard input; at a terminal it is a
+    console, where \`help\` tells more.
 ndb --help, ndb --version
 
 status   0 the input was read to its end, or to \`quit\`    1 words refused     2 a line refused
@@ -64,11 +65,41 @@ take_words() {
     done
 }
 
+# Leaves in `crate` that of the program that these words want: the console at a terminal, and else the plain one.
+choose_crate() {
+    crate=ndb_shell
+    if [ -z "$script" ] && [ -t 0 ]; then crate=ndb_console; fi
+}
+
+# Runs the console at the terminal. ^C gives up the line that is being typed, and ^\ ends the program at once.
+run_console() {
+    local program=$1 status=0 manner=--plain around=()
+    if [ -z "${NO_COLOR:-}" ] && [ "${TERM:-dumb}" != dumb ] && [ -t 1 ] && [ -t 2 ]; then manner=--colours; fi
+    saved=$(stty -g)
+    trap 'stty "$saved"' EXIT
+    trap : QUIT
+    if [ "${TERM:-dumb}" != dumb ] && [ -t 1 ] && command -v rlwrap >/dev/null; then
+        export INPUTRC=$top/tools/inputrc
+        around=(rlwrap -C ndb -f "$top/tools/commands")
+        stty intr undef
+    else
+        command -v rlwrap >/dev/null ||
+            echo 'ndb: with rlwrap installed, arrows would edit the line and bring back earlier ones' >&2
+        stty intr undef kill '^C'
+    fi
+    "${around[@]}" "$program" "$manner" "${words[@]}" || status=$?
+    stty "$saved"
+    trap - EXIT QUIT
+    return "$status"
+}
+
 # Runs a program on the words, and tells its status where it is seen.
 run_program() {
     local program=$1 status=0
     . "$top/crates/ndb_shell/settings.sh"
-    if [ -n "$script" ]; then
+    if [ "$crate" = ndb_console ]; then
+        run_console "$program" || status=$?
+    elif [ -n "$script" ]; then
         "$program" "${words[@]}" <"$script" || status=$?
     else
         [ -t 1 ] || [ -t 2 ] || exec "$program" "${words[@]}"

@@ -1,0 +1,3 @@
+mod LinesLemmas
+mod PieceLemmas
+mod SplitLemmas
