@@ -1,18 +1,69 @@
+//! Calls of disks by hand, and what each is to answer.
 use host_io::{Disk, Failed, MemDisk};
 use std::test::Fail;
+
+// A call on a file, and what it is to answer: what stands there, how many, or whether it is done.
+// Nothing where it is to fail.
+#[derive(Clone, Copy)]
+pub(crate) enum Call {
+    // At a place.
+    Write(u8, u64, &'static [u8], bool),
+    // Four bytes at most, from a place on.
+    Read(u8, u64, Option<&'static [u8]>),
+    Sync(u8, bool),
+    Size(u8, Option<u64>),
+    CutPower,
+    Faults(u64),
+}
+
+fn reads<D: Disk>(disk: &mut D, file: u8, at: u64, bytes: Option<&[u8]>) -> bool {
+    let mut buf = [7; 4];
+    match (disk.read(file, at, &mut buf), bytes) {
+        (Ok(count), Some(bytes)) => count <= buf.len() && &buf[..count] == bytes,
+        (Err(Failed), None) => true,
+        _ => false,
+    }
+}
+
+fn cuts_power<D: Disk>(disk: &mut D) -> bool {
+    disk.cut_power();
+    true
+}
+
+fn fits<D: Disk>(disk: &mut D, call: Call) -> bool {
+    match call {
+        Call::Write(file, at, bytes, done) => disk.write(file, at, bytes).is_ok() == done,
+        Call::Read(file, at, bytes) => reads(disk, file, at, bytes),
+        Call::Sync(file, done) => disk.sync(file).is_ok() == done,
+        Call::Size(file, size) => disk.size(file).ok() == size,
+        Call::CutPower => cuts_power(disk),
+        Call::Faults(count) => disk.faults() == count,
+    }
+}
+
+// The first call that isn't answered so.
+pub(crate) fn first_wrong<D: Disk>(disk: &mut D, calls: &[Call]) -> Option<usize> {
+    for (at, call) in calls.iter().enumerate() {
+        if !fits(disk, *call) {
+            return Some(at);
+        }
+    }
+    None
+}
 
 #[test]
 fn a_disk_keeps_what_is_written(rt: HostRuntime) -> Result<(), Fail> {
     let mut disk = MemDisk::new(rt.alloc(), vec![in rt.alloc(); 5]?, Vec::new(rt.alloc()))?;
-    let mut buf = [7; 4];
-    assert_eq!(rt; disk.size(1), Ok(0));
-    assert_eq!(rt; disk.write(1, 2, b"abc"), Ok(()));
-    assert_eq!(rt; disk.sync(1), Ok(()));
-    assert_eq!(rt; disk.read(1, 1, &mut buf), Ok(4));
-    assert_eq!(rt; buf, *b"\0abc");
-    assert_eq!(rt; disk.read(1, 4, &mut buf), Ok(1));
-    assert_eq!(rt; disk.sync(1), Err(Failed));
-    assert_eq!(rt; disk.faults(), 1);
+    let calls = [
+        Call::Size(1, Some(0)),
+        Call::Write(1, 2, b"abc", true),
+        Call::Sync(1, true),
+        Call::Read(1, 1, Some(b"\0abc")),
+        Call::Read(1, 4, Some(b"c")),
+        Call::Sync(1, false),
+        Call::Faults(1),
+    ];
+    assert_eq!(rt; first_wrong(&mut disk, &calls), None);
     assert_eq!(rt; disk.calls(), 6);
     Ok(())
 }
@@ -20,17 +71,19 @@ fn a_disk_keeps_what_is_written(rt: HostRuntime) -> Result<(), Fail> {
 #[test]
 fn places_that_no_disk_has_are_refused(rt: HostRuntime) -> Result<(), Fail> {
     let mut disk = MemDisk::new(rt.alloc(), Vec::new(rt.alloc()), Vec::new(rt.alloc()))?;
-    let mut buf = [7; 4];
-    assert_eq!(rt; disk.write(16, 0, b"a"), Err(Failed));
-    assert_eq!(rt; disk.write(0, 1 << 32, b"a"), Err(Failed));
-    assert_eq!(rt; disk.write(0, u64::MAX, b"a"), Err(Failed));
-    assert_eq!(rt; disk.write(0, 1 << 32, b""), Ok(()));
-    assert_eq!(rt; disk.read(0, 1 << 32, &mut buf), Ok(0));
-    assert_eq!(rt; disk.read(0, (1 << 32) + 1, &mut buf), Err(Failed));
-    assert_eq!(rt; disk.sync(16), Err(Failed));
-    assert_eq!(rt; disk.size(16), Err(Failed));
-    assert_eq!(rt; disk.size(0), Ok(0));
-    assert_eq!(rt; disk.faults(), 6);
+    let calls = [
+        Call::Write(16, 0, b"a", false),
+        Call::Write(0, 1 << 32, b"a", false),
+        Call::Write(0, u64::MAX, b"a", false),
+        Call::Write(0, 1 << 32, b"", true),
+        Call::Read(0, 1 << 32, Some(b"")),
+        Call::Read(0, (1 << 32) + 1, None),
+        Call::Sync(16, false),
+        Call::Size(16, None),
+        Call::Size(0, Some(0)),
+        Call::Faults(6),
+    ];
+    assert_eq!(rt; first_wrong(&mut disk, &calls), None);
     Ok(())
 }
 
@@ -38,18 +91,26 @@ fn places_that_no_disk_has_are_refused(rt: HostRuntime) -> Result<(), Fail> {
 fn torn(rt: &HostRuntime, picks: &[u8], read: &[u8], left: &[u8]) -> Result<bool, Fail> {
     let fails = vec![in rt.alloc(); 2]?;
     let mut disk = MemDisk::new(rt.alloc(), fails, picks.to_vec(rt.alloc())?)?;
+    Ok(tears(&mut disk) && holds(&mut disk, read) && keeps(&mut disk, left))
+}
+
+// Makes the write, and says whether it fails.
+fn tears(disk: &mut MemDisk) -> bool {
     let begun = disk.write(0, 0, b"ab").is_ok() && disk.sync(0).is_ok();
-    let failed = disk.write(0, 2, b"cdef").is_err();
-    let mut buf = [0; 8];
-    let torn = holds(&mut disk, &mut buf, read);
+    begun && disk.write(0, 2, b"cdef").is_err()
+}
+
+// Cuts power twice, and says whether file 0 then reads so.
+fn keeps(disk: &mut MemDisk, bytes: &[u8]) -> bool {
     disk.cut_power();
     disk.cut_power();
-    Ok(begun && failed && torn && holds(&mut disk, &mut buf, left))
+    holds(disk, bytes)
 }
 
 // Whether file 0 reads so.
-fn holds(disk: &mut MemDisk, buf: &mut [u8; 8], bytes: &[u8]) -> bool {
-    match disk.read(0, 0, buf) {
+fn holds(disk: &mut MemDisk, bytes: &[u8]) -> bool {
+    let mut buf = [0; 8];
+    match disk.read(0, 0, &mut buf) {
         Ok(count) => count <= buf.len() && &buf[..count] == bytes,
         Err(Failed) => false,
     }
@@ -67,11 +128,14 @@ fn a_torn_write_leaves_what_the_picks_say(rt: HostRuntime) -> Result<(), Fail> {
 #[test]
 fn a_fuse_burns_until_power_is_cut(rt: HostRuntime) -> Result<(), Fail> {
     let mut disk = MemDisk::fused(rt.alloc(), 1, Vec::new(rt.alloc()))?;
-    assert_eq!(rt; disk.write(0, 0, b"a"), Ok(()));
-    assert_eq!(rt; disk.sync(0), Err(Failed));
-    assert_eq!(rt; disk.size(0), Err(Failed));
-    disk.cut_power();
-    assert_eq!(rt; disk.size(0), Ok(0));
+    let calls = [
+        Call::Write(0, 0, b"a", true),
+        Call::Sync(0, false),
+        Call::Size(0, None),
+        Call::CutPower,
+        Call::Size(0, Some(0)),
+    ];
+    assert_eq!(rt; first_wrong(&mut disk, &calls), None);
     Ok(())
 }
 

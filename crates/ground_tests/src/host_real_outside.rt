@@ -1,28 +1,38 @@
-use host_io::{Disk, Failed, Sink, Source};
+//! A folder as a disk, and readers and writers as sources and sinks.
+use crate::host_io_disk::{Call, first_wrong};
+use host_io::{Sink, Source};
 use host_real::{FolderDisk, StdSink, StdSource};
 use std::fs;
 use std::test::Fail;
 
+const FOLDER: &str = "folder_disk_test";
+
+// Takes away the folder that an earlier run may have left.
+fn clear(rt: &HostRuntime) -> Result<(), Fail> {
+    if fs::exists(rt, FOLDER)? {
+        fs::remove_dir_all(rt, FOLDER)?;
+    }
+    Ok(())
+}
+
 #[test]
 fn a_folder_keeps_what_is_written(rt: HostRuntime) -> Result<(), Fail> {
-    if fs::exists(&rt, "folder_disk_test")? {
-        fs::remove_dir_all(&rt, "folder_disk_test")?;
-    }
-    let mut disk = FolderDisk::new(rt.alloc(), &rt, "folder_disk_test")?;
-    let mut buf = [7; 4];
-    assert_eq!(rt; disk.size(1), Ok(0));
-    assert_eq!(rt; disk.read(1, 0, &mut buf), Ok(0));
-    assert_eq!(rt; disk.write(1, 2, b"abc"), Ok(()));
-    assert_eq!(rt; disk.sync(1), Ok(()));
-    disk.cut_power();
-    assert_eq!(rt; disk.size(1), Ok(5));
-    assert_eq!(rt; disk.read(1, 1, &mut buf), Ok(4));
-    assert_eq!(rt; buf, *b"\0abc");
-    assert_eq!(rt; disk.write(16, 0, b"a"), Err(Failed));
-    assert_eq!(rt; disk.faults(), 1);
+    clear(&rt)?;
+    let calls = [
+        Call::Size(1, Some(0)),
+        Call::Read(1, 0, Some(b"")),
+        Call::Write(1, 2, b"abc", true),
+        Call::Sync(1, true),
+        Call::CutPower,
+        Call::Size(1, Some(5)),
+        Call::Read(1, 1, Some(b"\0abc")),
+        Call::Write(16, 0, b"a", false),
+        Call::Faults(1),
+    ];
+    let mut disk = FolderDisk::new(rt.alloc(), &rt, FOLDER)?;
+    assert_eq!(rt; first_wrong(&mut disk, &calls), None);
     assert!(rt; fs::exists(&rt, "folder_disk_test/f01")?);
-    fs::remove_dir_all(&rt, "folder_disk_test")?;
-    Ok(())
+    clear(&rt)
 }
 
 #[test]

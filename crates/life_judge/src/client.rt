@@ -244,15 +244,29 @@ fn is_later(stamp: u64, than: Option<u64>) -> bool {
     }
 }
 
+/// What an operation does with its row.
+#[derive(Clone, Copy, PartialEq, Eq)]
+enum Kind {
+    Get,
+    GetX,
+    Put,
+    Ins,
+    Upd,
+    Del,
+}
+
+fn kind_of(op: &Op) -> Kind {
+    match op {
+        Op::Get(_) => Kind::Get,
+        Op::GetX(_) => Kind::GetX,
+        Op::Put(_, _) => Kind::Put,
+        Op::Ins(_, _) => Kind::Ins,
+        Op::Upd(_, _) => Kind::Upd,
+        Op::Del(_) => Kind::Del,
+    }
+}
+
 /// Whether two operations are the same.
 pub fn is_same(one: &Op, other: &Op) -> bool {
-    match (one, other) {
-        (Op::Get(a), Op::Get(b)) => a == b,
-        (Op::GetX(a), Op::GetX(b)) => a == b,
-        (Op::Del(a), Op::Del(b)) => a == b,
-        (Op::Put(a, v), Op::Put(b, w)) => a == b && v == w,
-        (Op::Ins(a, v), Op::Ins(b, w)) => a == b && v == w,
-        (Op::Upd(a, v), Op::Upd(b, w)) => a == b && v == w,
-        _ => false,
-    }
+    kind_of(one) == kind_of(other) && one.key() == other.key() && one.image() == other.image()
 }

@@ -10,11 +10,11 @@ use sig_core::Entry;
 /// # Errors
 /// The first of these laws that is broken.
 pub fn judge_growth(epochs: &Epochs, earlier: &[Entry], later: &[Entry]) -> Result<(), Fault> {
-    let mut at = 0;
+    let mut at = 0usize;
     for entry in later {
-        if at < earlier.len() && earlier[at].tx == entry.tx {
-            at += 1;
-        } else if are_writing(entry.ops.as_slice()) && epochs.has_ended(entry.epoch, u64::MAX) {
+        if is_at(earlier, at, entry) {
+            at = at.saturating_add(1);
+        } else if is_late(epochs, entry) {
             return Err(Fault::Broken(Law::ClosedIsWhole));
         }
     }
@@ -22,4 +22,17 @@ pub fn judge_growth(epochs: &Epochs, earlier: &[Entry], later: &[Entry]) -> Resu
         return Err(Fault::Broken(Law::HistoriesGrow));
     }
     Ok(())
+}
+
+// Whether the entry at this place is of the same transaction.
+fn is_at(entries: &[Entry], at: usize, entry: &Entry) -> bool {
+    match entries.get(at) {
+        Some(other) => other.tx == entry.tx,
+        None => false,
+    }
+}
+
+// Whether the entry writes in an epoch that has ended.
+fn is_late(epochs: &Epochs, entry: &Entry) -> bool {
+    are_writing(entry.ops.as_slice()) && epochs.has_ended(entry.epoch, u64::MAX)
 }

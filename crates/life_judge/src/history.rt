@@ -19,16 +19,30 @@ struct Order {
 /// # Errors
 /// `NoMemory`.
 pub fn history_of(alloc: Global, facts: &Facts) -> Result<Vec<Entry>, Fault> {
+    let orders = orders_of(alloc, facts)?;
+    entries_of(alloc, facts, orders.as_slice())
+}
+
+// Where the entries stand, in their order.
+fn orders_of(alloc: Global, facts: &Facts) -> Result<Vec<Order>, NoMemory> {
     let mut orders = Vec::new(alloc);
     for at in 0..facts.decisions.decided.len() {
-        if let Some((tx, decision)) = facts.decisions.decided.get_index(at) {
-            if is_kept(facts, tx) {
-                orders.push(order_of(decision, at))?;
-            }
+        if let Some(order) = order_at(facts, at) {
+            orders.push(order)?;
         }
     }
     orders.sort()?;
-    entries_of(alloc, facts, orders.as_slice())
+    Ok(orders)
+}
+
+// Where the decided transaction at this place stands, if the history has it.
+fn order_at(facts: &Facts, at: usize) -> Option<Order> {
+    let (tx, decision) = facts.decisions.decided.get_index(at)?;
+    if is_kept(facts, tx) {
+        Some(order_of(decision, at))
+    } else {
+        None
+    }
 }
 
 fn order_of(decision: &Decision, at: usize) -> Order {
@@ -54,11 +68,22 @@ fn entries_of(alloc: Global, facts: &Facts, orders: &[Order]) -> Result<Vec<Entr
     let mut entries = Vec::new(alloc);
     for order in orders {
         if let Some((tx, decision)) = facts.decisions.decided.get_index(order.at) {
-            let ops = ops_of(alloc, facts, tx)?;
-            entries.push(entry_of(tx, decision, ops))?;
+            add_entry(alloc, facts, &mut entries, tx, decision)?;
         }
     }
     Ok(entries)
+}
+
+fn add_entry(
+    alloc: Global,
+    facts: &Facts,
+    entries: &mut Vec<Entry>,
+    tx: &TxId,
+    decision: &Decision,
+) -> Result<(), NoMemory> {
+    let ops = ops_of(alloc, facts, tx)?;
+    entries.push(entry_of(tx, decision, ops))?;
+    Ok(())
 }
 
 fn entry_of(tx: &TxId, decision: &Decision, ops: Seq<(Op, Answer)>) -> Entry {

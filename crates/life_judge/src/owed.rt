@@ -4,7 +4,7 @@ use crate::facts::Facts;
 use crate::law::{Fault, Law};
 use crate::logs::stops;
 use crate::views::node_of;
-use sig_core::{Life, Mark, Outcome, TxId};
+use sig_core::{Life, LogStep, Mark, Outcome, TxId};
 
 /// Judges a life that came to rest after its last requests, and more rounds than a wait may last: where
 /// no host cut off another one, each operation that a coordinator took was answered, or its transaction
@@ -51,12 +51,17 @@ fn goes_on(life: &Life, host: u32) -> bool {
 // Whether a host cut off another one.
 fn cuts(life: &Life) -> bool {
     for log in life.logs.as_slice() {
-        for step in log.steps.as_slice() {
-            for mark in step.marks.as_slice() {
-                if let Mark::CutOff { host: _ } = mark {
-                    return true;
-                }
-            }
+        if log.steps.as_slice().iter().any(cuts_off) {
+            return true;
+        }
+    }
+    false
+}
+
+fn cuts_off(step: &LogStep) -> bool {
+    for mark in step.marks.as_slice() {
+        if let Mark::CutOff { host: _ } = mark {
+            return true;
         }
     }
     false

@@ -1,5 +1,5 @@
 //! What is reported, asked for and answered, against the history.
-use crate::client::{Client, Report, is_same};
+use crate::client::{Asked, Client, Report, is_same};
 use crate::facts::Facts;
 use crate::history::is_kept;
 use crate::law::{Fault, Law};
@@ -78,16 +78,24 @@ fn judge_entry(client: &Client, entry: &Entry) -> Result<(), Fault> {
 
 // Whether these are the operations that were asked for, in their order.
 fn are_asked(client: &Client, tx: &TxId, ops: &[(Op, Answer)]) -> bool {
-    let mut at = 0;
+    let mut at = 0usize;
     for asked in client.asked.as_slice() {
         if asked.tx == *tx {
-            if at >= ops.len() || !is_same(&ops[at].0, &asked.op) || !client.is_wished(asked) {
+            if !is_asked(client, asked, ops.get(at)) {
                 return false;
             }
-            at += 1;
+            at = at.saturating_add(1);
         }
     }
     at == ops.len()
+}
+
+// Whether there is an operation, which is the one that was asked for.
+fn is_asked(client: &Client, asked: &Asked, op: Option<&(Op, Answer)>) -> bool {
+    match op {
+        Some(op) => is_same(&op.0, &asked.op) && client.is_wished(asked),
+        None => false,
+    }
 }
 
 // Whether they have the answers that were given, in their order.

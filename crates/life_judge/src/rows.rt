@@ -86,14 +86,18 @@ fn differs(views: &Views, shape: &Shape, table: &Table, nodes: &[NodeRows], key:
 {
     let row = table.get(key);
     for node in nodes {
-        let is_mine = node.told
-            && views.is_live(u32::from(node.node))
-            && holds(node.node, key, shape);
-        if is_mine && row_of(node.rows.as_slice(), key) != row {
+        if tells(views, shape, node, key) && row_of(node.rows.as_slice(), key) != row {
             return true;
         }
     }
     false
+}
+
+// Whether a node is live, has the key, and told of its rows.
+fn tells(views: &Views, shape: &Shape, node: &NodeRows, key: &Key) -> bool
+    requires shape { IsShape shape.now }
+{
+    node.told && views.is_live(u32::from(node.node)) && holds(node.node, key, shape)
 }
 
 // Whether no live node holds a record on the key.

@@ -22,6 +22,13 @@ use std::alloc::Global;
 /// How many cuts of a life are judged besides the whole.
 const CUTS: u32 = 4;
 
+// A cut that was judged, and its history.
+#[derive(Drop)]
+struct Judged {
+    cut: Cut,
+    history: Vec<Entry>,
+}
+
 /// Judges a life, with the rows that its nodes told of at its end, and some closed cuts of it, each
 /// inside the one before. At a life that rests, no request may be left.
 ///
@@ -39,40 +46,107 @@ pub fn judge(
     requires shape { IsShape shape.now }
 {
     judge_logs(life)?;
-    let whole = Cut::whole(alloc, life)?;
-    let facts = facts_of(alloc, life, &whole)?;
-    let history = judge_cut(alloc, shape, &facts)?;
-    let table = table_of(alloc, history.as_slice())?;
-    judge_rows(&facts, shape, &table, nodes, keys)?;
-    if rests {
-        judge_owed(life, &facts)?;
-    }
-    judge_records(&facts, history.as_slice())?;
-    judge_cuts(alloc, dice, life, shape, whole, history.as_slice())
-}
-
-// Judges cuts of a life that has this history.
-fn judge_cuts(
-    alloc: Global,
-    dice: &mut Dice,
-    life: &Life,
-    shape: &Shape,
-    whole: Cut,
-    whole_history: &[Entry],
-) -> Result<(), Fault>
-    requires shape { IsShape shape.now }
-{
-    let mut cut = whole.smaller(alloc, dice, life)?;
-    let mut history = judge_inside(alloc, life, shape, &cut, whole_history, whole_history)?;
+    let whole = judge_whole(alloc, life, shape, nodes, keys, rests)?;
+    let history = whole.history.as_slice();
+    let mut inner = judge_inside(alloc, dice, life, shape, &whole, history)?;
     for _ in 1..CUTS {
-        cut = cut.smaller(alloc, dice, life)?;
-        history = judge_inside(alloc, life, shape, &cut, history.as_slice(), whole_history)?;
+        inner = judge_inside(alloc, dice, life, shape, &inner, history)?;
     }
     Ok(())
 }
 
-// Judges a cut inside a later one with this history, in a life with that history. Gives its own.
+// Judges a life without its cuts.
+fn judge_whole(
+    alloc: Global,
+    life: &Life,
+    shape: &Shape,
+    nodes: &[NodeRows],
+    keys: &[Key],
+    rests: bool,
+) -> Result<Judged, Fault>
+    requires shape { IsShape shape.now }
+{
+    let cut = Cut::whole(alloc, life)?;
+    let history = whole_history(alloc, life, shape, &cut, nodes, keys, rests)?;
+    Ok(Judged { cut, history })
+}
+
+// Judges the cut that is all of a life, and gives its history.
+fn whole_history(
+    alloc: Global,
+    life: &Life,
+    shape: &Shape,
+    cut: &Cut,
+    nodes: &[NodeRows],
+    keys: &[Key],
+    rests: bool,
+) -> Result<Vec<Entry>, Fault>
+    requires shape { IsShape shape.now }
+{
+    let facts = facts_of(alloc, life, cut)?;
+    judge_all(alloc, life, shape, &facts, nodes, keys, rests)
+}
+
+// Judges what it tells.
+fn judge_all(
+    alloc: Global,
+    life: &Life,
+    shape: &Shape,
+    facts: &Facts,
+    nodes: &[NodeRows],
+    keys: &[Key],
+    rests: bool,
+) -> Result<Vec<Entry>, Fault>
+    requires shape { IsShape shape.now }
+{
+    let history = judge_cut(alloc, shape, facts)?;
+    judge_table(alloc, shape, facts, history.as_slice(), nodes, keys)?;
+    judge_end(life, facts, history.as_slice(), rests)?;
+    Ok(history)
+}
+
+// Judges the rows that nodes told of.
+fn judge_table(
+    alloc: Global,
+    shape: &Shape,
+    facts: &Facts,
+    history: &[Entry],
+    nodes: &[NodeRows],
+    keys: &[Key],
+) -> Result<(), Fault>
+    requires shape { IsShape shape.now }
+{
+    let table = table_of(alloc, history)?;
+    judge_rows(facts, shape, &table, nodes, keys)
+}
+
+// Judges what is left at the end.
+fn judge_end(life: &Life, facts: &Facts, history: &[Entry], rests: bool) -> Result<(), Fault> {
+    if rests {
+        judge_owed(life, facts)?;
+    }
+    judge_records(facts, history)
+}
+
+// Judges a cut inside another one, in a life with this history.
 fn judge_inside(
+    alloc: Global,
+    dice: &mut Dice,
+    life: &Life,
+    shape: &Shape,
+    outer: &Judged,
+    whole_history: &[Entry],
+) -> Result<Judged, Fault>
+    requires shape { IsShape shape.now }
+{
+    let cut = outer.cut.smaller(alloc, dice, life)?;
+    let later = outer.history.as_slice();
+    let history = part_history(alloc, life, shape, &cut, later, whole_history)?;
+    Ok(Judged { cut, history })
+}
+
+// Judges a cut inside a later one with this history, in a life with that history. Gives its own.
+fn part_history(
     alloc: Global,
     life: &Life,
     shape: &Shape,
@@ -83,9 +157,22 @@ fn judge_inside(
     requires shape { IsShape shape.now }
 {
     let facts = facts_of(alloc, life, cut)?;
-    let history = judge_cut(alloc, shape, &facts)?;
+    judge_part(alloc, shape, &facts, later, whole_history)
+}
+
+// Judges what such a cut tells.
+fn judge_part(
+    alloc: Global,
+    shape: &Shape,
+    facts: &Facts,
+    later: &[Entry],
+    whole_history: &[Entry],
+) -> Result<Vec<Entry>, Fault>
+    requires shape { IsShape shape.now }
+{
+    let history = judge_cut(alloc, shape, facts)?;
     judge_growth(&facts.epochs, history.as_slice(), later)?;
-    judge_records(&facts, whole_history)?;
+    judge_records(facts, whole_history)?;
     Ok(history)
 }
 
@@ -93,17 +180,27 @@ fn judge_inside(
 fn judge_cut(alloc: Global, shape: &Shape, facts: &Facts) -> Result<Vec<Entry>, Fault>
     requires shape { IsShape shape.now }
 {
-    judge_views(&facts.views, shape)?;
-    judge_reports(facts)?;
+    judge_facts(shape, facts)?;
     let history = history_of(alloc, facts)?;
     judge_history(alloc, facts, history.as_slice())?;
     Ok(history)
+}
+
+fn judge_facts(shape: &Shape, facts: &Facts) -> Result<(), Fault>
+    requires shape { IsShape shape.now }
+{
+    judge_views(&facts.views, shape)?;
+    judge_reports(facts)
 }
 
 fn judge_history(alloc: Global, facts: &Facts, history: &[Entry]) -> Result<(), Fault> {
     judge_order(&facts.client, history)?;
     judge_entries(&facts.client, history)?;
     judge_epochs(&facts.epochs, &facts.decisions, history)?;
+    judge_legal(alloc, history)
+}
+
+fn judge_legal(alloc: Global, history: &[Entry]) -> Result<(), Fault> {
     table_of(alloc, history)?;
     Ok(())
 }

@@ -57,13 +57,19 @@ impl Views {
         let mut number = before;
         for mark in step.marks.as_slice() {
             if let Mark::Installed { view } = mark {
-                if !may_stand(log, view.get()) {
-                    return Err(Fault::Broken(Law::HostsAreOfTheirViews));
-                }
-                number = self.add_view(number, step.stamp, view.get())?;
+                number = self.stand(log, number, step.stamp, view.get())?;
             }
         }
         Ok(number)
+    }
+
+    // A host stands in a view from now on.
+    fn stand(&mut self, log: &HostLog, before: u64, stamp: u64, view: &View) -> Result<u64, Fault> {
+        if may_stand(log, view) {
+            self.add_view(before, stamp, view)
+        } else {
+            Err(Fault::Broken(Law::HostsAreOfTheirViews))
+        }
     }
 
     fn add_view(&mut self, before: u64, stamp: u64, view: &View) -> Result<u64, Fault> {
@@ -73,10 +79,15 @@ impl Views {
         if self.has_other(view) {
             return Err(Fault::Broken(Law::OneViewANumber));
         }
+        self.put_view(stamp, view)?;
+        Ok(view.number)
+    }
+
+    fn put_view(&mut self, stamp: u64, view: &View) -> Result<(), Fault> {
         self.installed.insert(view.number, *view)?;
         let first = self.first_of(view.number).min(stamp);
         self.first.insert(view.number, first)?;
-        Ok(view.number)
+        Ok(())
     }
 
     /// The view in the header of a signal that was taken. Where another header has another view of the

@@ -1,6 +1,7 @@
 //! Calls by hand, and what the store tells after each.
 use frag_store::Store;
 use sig_core::{Answer, HashedKey, Key, Op, Rows, TxId, Value};
+use std::alloc::Global;
 use std::test::Fail;
 
 const TX: TxId = TxId {
@@ -76,9 +77,14 @@ fn first_wrong(rows: &mut Store, lines: &[Line]) -> Result<Option<usize>, Fail> 
     Ok(None)
 }
 
+// That of calls on a new store.
+fn wrong_in(alloc: Global, lines: &[Line]) -> Result<Option<usize>, Fail> {
+    let mut rows = Store::new(alloc)?;
+    first_wrong(&mut rows, lines)
+}
+
 #[test]
 fn a_freed_place_is_taken_again(rt: HostRuntime) -> Result<(), Fail> {
-    let mut rows = Store::new(rt.alloc())?;
     let lines = [
         (b'a', Call::Put(1), (Some(0), 0, Some(1))),
         (b'b', Call::Put(2), (Some(0), 0, Some(2))),
@@ -92,27 +98,22 @@ fn a_freed_place_is_taken_again(rt: HostRuntime) -> Result<(), Fail> {
         (b'e', Call::Insert, (Some(0), 1, None)),
         (b'e', Call::Commit(8), (Some(0), 1, Some(8))),
     ];
-    assert_eq!(rt; first_wrong(&mut rows, &lines)?, None);
+    assert_eq!(rt; wrong_in(rt.alloc(), &lines)?, None);
     Ok(())
 }
 
-#[test]
-fn a_transaction_sees_its_own_image(rt: HostRuntime) -> Result<(), Fail> {
-    let mut rows = Store::new(rt.alloc())?;
-    let key = Key::new(b"a")?;
-    let value = Value::new(b"1")?;
-    assert_eq!(rt; rows.prepare(TX, &Op::Put(key, value)), Ok(Answer::Done));
-    assert!(rt; rows.row(&key).is_none());
-    assert!(rt; rows.seen(TX, &key) == Some(value));
-    assert_eq!(rt; rows.record_state(TX, &key), Some(false));
-    rows.commit(TX, &key, 3);
-    assert_eq!(rt; rows.record_state(TX, &key), Some(true));
-    assert!(rt; rows.row(&key).copied() == Some(value));
-    let Some(record) = rows.record_at(0) else {
-        return Err(Fail::from("a record is left"));
-    };
-    assert_eq!(rt; record.epoch, 3);
-    Ok(())
+fn puts(rows: &mut Store, key: &Key, value: Value) -> bool {
+    rows.prepare(TX, &Op::Put(*key, value)) == Ok(Answer::Done)
+}
+
+// Whether the transaction sees this value.
+fn is_seen(rows: &Store, key: &Key, value: Value) -> bool {
+    rows.seen(TX, key) == Some(value)
+}
+
+// Whether this is the row of the key, and the transaction's record on it committed or not.
+fn has(rows: &Store, key: &Key, row: Option<Value>, committed: bool) -> bool {
+    rows.row(key).copied() == row && rows.record_state(TX, key) == Some(committed)
 }
 
 // What is told of the record at a place: whether it is committed, and in which epoch.
@@ -123,24 +124,63 @@ fn record_told(rows: &Store, at: usize) -> Option<(bool, u64)> {
     }
 }
 
+// Puts a row into a store, and says whether the transaction alone sees it until it commits.
+fn shows(rows: &mut Store, key: &Key, value: Value) -> bool {
+    let prepared = puts(rows, key, value)
+        && is_seen(rows, key, value)
+        && has(rows, key, None, false);
+    end(rows, key, Call::Commit(3));
+    prepared && has(rows, key, Some(value), true) && record_told(rows, 0) == Some((true, 3))
+}
+
+// The same, of a new store.
+fn shows_anew(alloc: Global, key: &Key, value: Value) -> Result<bool, Fail> {
+    let mut rows = Store::new(alloc)?;
+    Ok(shows(&mut rows, key, value))
+}
+
+#[test]
+fn a_transaction_sees_its_own_image(rt: HostRuntime) -> Result<(), Fail> {
+    let (key, value) = (Key::new(b"a")?, Value::new(b"1")?);
+    assert!(rt; shows_anew(rt.alloc(), &key, value)?);
+    Ok(())
+}
+
+// What is told of the first three records.
+type Records = [Option<(bool, u64)>; 3];
+
+// What is told of the records behind these calls, each of which comes to what its line says.
+fn records_behind(rows: &mut Store, lines: &[Line]) -> Result<Records, Fail> {
+    if first_wrong(rows, lines)?.is_some() {
+        return Err(Fail::from("the calls come to what is said"));
+    }
+    Ok([
+        record_told(rows, 0),
+        record_told(rows, 1),
+        record_told(rows, 2),
+    ])
+}
+
+fn records_of(alloc: Global, lines: &[Line]) -> Result<Records, Fail> {
+    let mut rows = Store::new(alloc)?;
+    records_behind(&mut rows, lines)
+}
+
 #[test]
 fn a_record_tells_the_epoch_of_its_first_commit(rt: HostRuntime) -> Result<(), Fail> {
-    let mut rows = Store::new(rt.alloc())?;
-    let (a, b, image) = (Key::new(b"a")?, Key::new(b"b")?, Some(Value::new(b"x")?));
-    assert!(rt; rows.prepare_image(TX, &a, &image).is_ok());
-    assert!(rt; rows.prepare_image(TX, &b, &image).is_ok());
-    rows.commit(TX, &a, 6);
-    rows.commit(TX, &a, 7);
-    assert_eq!(rt; rows.records(), 2);
-    assert_eq!(rt; record_told(&rows, 0), Some((true, 6)));
-    assert_eq!(rt; record_told(&rows, 1), Some((false, 0)));
-    assert_eq!(rt; record_told(&rows, 2), None);
+    let lines = [
+        (b'a', Call::Prepare, (None, 1, None)),
+        (b'b', Call::Prepare, (None, 2, None)),
+        (b'a', Call::Commit(6), (Some(0), 2, Some(6))),
+        (b'a', Call::Commit(7), (Some(0), 2, Some(6))),
+    ];
+    let told = records_of(rt.alloc(), &lines)?;
+    assert_eq!(rt; told, [Some((true, 6)), Some((false, 0)), None]);
     Ok(())
 }
 
 #[test]
 fn a_row_has_the_epoch_of_its_last_commit(rt: HostRuntime) -> Result<(), Fail> {
-    let mut rows = Store::new(rt.alloc())?;
     let lines = [
         (b'a', Call::Room, (None, 0, None)),
         (b'a', Call::Put(3), (Some(0), 0, Some(3))),
@@ -153,6 +193,6 @@ fn a_row_has_the_epoch_of_its_last_commit(rt: HostRuntime) -> Result<(), Fail> {
         (b'a', Call::Prepare, (None, 1, None)),
         (b'a', Call::Commit(8), (Some(0), 1, Some(8))),
     ];
-    assert_eq!(rt; first_wrong(&mut rows, &lines)?, None);
+    assert_eq!(rt; wrong_in(rt.alloc(), &lines)?, None);
     Ok(())
 }

@@ -34,6 +34,46 @@ fn key_of(n: u64) -> Result<HashedKey, Fail> {
     Ok(HashedKey::new(&Key::new(&bytes)?))
 }
 
+// Whether both have the same of a key.
+fn agree_on(index: &Index, plain: &BTreeMap<Key, u64>, key: &HashedKey) -> bool {
+    index.find(key) == plain.get(&key.key).copied()
+}
+
+// Puts a key into the index, where it isn't there, and says whether it wasn't.
+fn puts(index: &mut Index, key: &HashedKey, at: u64) -> Result<bool, Fail> {
+    if index.find(key).is_some() {
+        return Ok(false);
+    }
+    index.insert(key, at)?;
+    Ok(true)
+}
+
+// How many buckets there are to be with so many keys, where there were so many before the last.
+fn buckets_with(before: u64, keys: usize) -> u64 {
+    let crowded = before.saturating_mul(4) < keys as u64;
+    before.saturating_add(if crowded { 1 } else { 0 })
+}
+
+// Puts a key into both.
+fn put(
+    index: &mut Index,
+    plain: &mut BTreeMap<Key, u64>,
+    key: &HashedKey,
+    at: u64,
+) -> Result<bool, Fail> {
+    let before = index.buckets();
+    let is_new = puts(index, key, at)?;
+    plain.insert(key.key, at)?;
+    Ok(is_new && index.buckets() == buckets_with(before, plain.len()))
+}
+
+// Takes a key out of both.
+fn take(index: &mut Index, plain: &mut BTreeMap<Key, u64>, key: &HashedKey) -> bool {
+    let before = index.buckets();
+    let taken = index.remove(key);
+    taken == plain.remove(&key.key) && index.buckets() == before
+}
+
 // One call on a key: it is put in where it isn't there, and else found or taken out.
 fn call(
     index: &mut Index,
@@ -42,29 +82,19 @@ fn call(
     at: u64,
     takes: bool,
 ) -> Result<bool, Fail> {
-    let before = index.buckets();
-    let found = index.find(key);
-    if found != plain.get(&key.key).copied() {
-        return Ok(false);
+    if !agree_on(index, plain, key) {
+        Ok(false)
+    } else if index.find(key).is_none() {
+        put(index, plain, key, at)
+    } else {
+        Ok(!takes || take(index, plain, key))
     }
-    if found.is_none() {
-        index.insert(key, at)?;
-        plain.insert(key.key, at)?;
-        let crowded = before.saturating_mul(4) < plain.len() as u64;
-        return Ok(index.buckets() == if crowded { before + 1 } else { before });
-    }
-    if takes {
-        let taken = index.remove(key);
-        return Ok(taken == plain.remove(&key.key) && index.buckets() == before);
-    }
-    Ok(true)
 }
 
 // Whether both have the same of each key.
 fn agree(index: &Index, plain: &BTreeMap<Key, u64>) -> Result<bool, Fail> {
     for n in 0..KEYS {
-        let key = key_of(n)?;
-        if index.find(&key) != plain.get(&key.key).copied() {
+        if !agree_on(index, plain, &key_of(n)?) {
             return Ok(false);
         }
     }

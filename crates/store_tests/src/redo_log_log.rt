@@ -1,5 +1,5 @@
 use redo_log::Log;
-use sig_core::{Journal, Key, Redo, TxId, Value};
+use sig_core::{Journal, Key, NoMemory, Redo, TxId, Value};
 use std::test::Fail;
 
 // A prepare of transaction (1, 0, 1) of this key and value, and its commit in epoch 1.
@@ -31,44 +31,75 @@ pub(crate) fn put(log: &mut Log, prepare: &Redo, commit: &Redo) -> bool {
     }
 }
 
+// The file and the place of the next piece, and how many bytes it has.
+fn next_piece(log: &mut Log) -> Result<Option<(u8, u64, usize)>, NoMemory> {
+    Ok(match log.flush_step()? {
+        Some(piece) => Some((piece.file, piece.at, piece.bytes.len())),
+        None => None,
+    })
+}
+
+// How many bytes are used once a log that has no piece left is cut at this place; nothing where it can't be.
+fn used_from(log: &mut Log, at: u64) -> Result<Option<u64>, NoMemory> {
+    if log.flush_step()?.is_some() {
+        return Ok(None);
+    }
+    let end = log.end();
+    if at > end || end - at > log.used() {
+        return Ok(None);
+    }
+    log.cut_to(at);
+    Ok(Some(log.used()))
+}
+
 #[test]
 fn a_pair_is_given_out_at_its_place(rt: HostRuntime) -> Result<(), Fail> {
     let mut log = Log::new(rt.alloc(), 3, 1)?;
     log.make_room(48)?;
     let (prepare, commit) = pair(Key::new(b"a")?, Value::new(b"1")?);
     assert!(rt; put(&mut log, &prepare, &commit));
-    assert_eq!(rt; log.end(), 48);
-    assert_eq!(rt; log.used(), 48);
-    let Some(piece) = log.flush_step()? else {
-        return Err(Fail::from("a piece is left"));
-    };
-    assert_eq!(rt; piece.file, 8);
-    assert_eq!(rt; piece.at, 0);
-    assert_eq!(rt; piece.bytes.len(), 48);
-    assert!(rt; log.flush_step()?.is_none());
-    log.cut_to(22);
-    assert_eq!(rt; log.used(), 26);
-    assert_eq!(rt; log.generation(), 3);
-    assert_eq!(rt; log.parity(), 1);
+    assert_eq!(rt; (log.end(), log.used()), (48, 48));
+    assert_eq!(rt; next_piece(&mut log)?, Some((8, 0, 48)));
+    assert_eq!(rt; next_piece(&mut log)?, None);
+    assert_eq!(rt; used_from(&mut log, 22)?, Some(26));
+    assert_eq!(rt; (log.generation(), log.parity()), (3, 1));
     Ok(())
 }
 
-// Appends 10,000 pairs, takes all pieces, and cuts the log at its end.
-fn round(log: &mut Log, prepare: &Redo, commit: &Redo) -> bool {
+// Appends 10,000 pairs.
+fn put_many(log: &mut Log, prepare: &Redo, commit: &Redo) -> bool {
     for _ in 0..10_000 {
         if !put(log, prepare, commit) {
             return false;
         }
     }
+    true
+}
+
+// Takes the next piece; where there is none the log is cut at its end. Says whether there was one; nothing
+// where there was no memory.
+fn take_next(log: &mut Log) -> Option<bool> {
+    match log.flush_step() {
+        Ok(Some(_)) => Some(true),
+        Ok(None) => {
+            let end = log.end();
+            log.cut_to(end);
+            Some(false)
+        }
+        Err(_) => None,
+    }
+}
+
+// Appends 10,000 pairs, takes all pieces, and cuts the log at its end.
+fn round(log: &mut Log, prepare: &Redo, commit: &Redo) -> bool {
+    if !put_many(log, prepare, commit) {
+        return false;
+    }
     for _ in 0..1_000 {
-        match log.flush_step() {
-            Ok(Some(_)) => {}
-            Ok(None) => {
-                let end = log.end();
-                log.cut_to(end);
-                return true;
-            }
-            Err(_) => return false,
+        match take_next(log) {
+            Some(true) => {}
+            Some(false) => return true,
+            None => return false,
         }
     }
     false
@@ -81,14 +112,8 @@ fn seven_rounds_go_round_the_ring(rt: HostRuntime) -> Result<(), Fail> {
     for _ in 0..7 {
         assert!(rt; round(&mut log, &prepare, &commit));
     }
-    assert_eq!(rt; log.end(), 21_630_000);
-    assert_eq!(rt; log.used(), 0);
+    assert_eq!(rt; (log.end(), log.used()), (21_630_000, 0));
     assert!(rt; put(&mut log, &prepare, &commit));
-    let Some(piece) = log.flush_step()? else {
-        return Err(Fail::from("a piece is left"));
-    };
-    assert_eq!(rt; piece.file, 5);
-    assert_eq!(rt; piece.at, 658_480);
-    assert_eq!(rt; piece.bytes.len(), 309);
+    assert_eq!(rt; next_piece(&mut log)?, Some((5, 658_480, 309)));
     Ok(())
 }
