@@ -55,7 +55,7 @@ pub(crate) fn make(disk: &mut MemDisk, ask: &FileSignal) -> Option<u64> {
 
 // Writes. Where a gate is to be closed that stands closed, its file is synced.
 fn write(disk: &mut MemDisk, file: u8, at: u64, bytes: &[u8]) -> bool {
-    if bytes == [CLOSED] {
+    if bytes.len() == 1 && bytes[0] == CLOSED {
         let mut gate = [OPEN];
         if disk.read(file, at, &mut gate).is_err() {
             return false;
@@ -88,6 +88,7 @@ fn note(step: &SaverStep<SaveOrder>, told: &mut Vec<u8>) -> Result<(), NoMemory>
 }
 
 // A saver at work.
+#[derive(Drop)]
 struct Work {
     alloc: Global,
     saver: RowSaver,
