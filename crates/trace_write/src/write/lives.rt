@@ -1,5 +1,6 @@
 //! Logs and lives.
 ghost use Rattle.std.specs.Prelude.{◌≡◌, ◌++◌, OnOk};
+ghost use Rattle.trace_write.specs.Control.{control_numbers};
 ghost use Rattle.trace_bytes.specs.Lives.{control_bytes, header_bytes, header_in, life_bytes, log_bytes};
 ghost use Rattle.trace_bytes.specs.Lives.{opt_control_bytes, opt_system_bytes, place_bytes, shape_bytes, signal_bytes};
 ghost use Rattle.trace_bytes.specs.Lives.{slots_bytes, step_bytes, system_bytes};
@@ -85,6 +86,13 @@ impl Output {
     {
         self.u8(slot.ckpt_file)?;
         self.u8(slot.parity)?;
+        self.control_numbers(slot)
+    }
+
+    // The numbers of a control slot that have eight bytes.
+    fn control_numbers(&mut self, slot: &ControlSlot) -> Result<(), NoMemory>
+        ensures { OnOk result (self.new ≡ self.old ++ control_numbers slot.now) }
+    {
         self.u64(slot.generation)?;
         self.u64(slot.serial)?;
         self.u64(slot.saved)?;
