@@ -25,7 +25,7 @@ pub fn preparing_of(alloc: Global, input: &mut Input<'_>, number: u8) -> Result<
             let at = input.u8()?;
             Ok(Body::Chain(ChainSignal::LqhKeyReq {
                 tx,
-                work: held_work(alloc, work)?,
+                work: held_work(alloc, &work)?,
                 chain: Chain::of(&chain),
                 at,
             }))

@@ -1,5 +1,6 @@
 //! What was read, as signals hold it.
 ghost use Rattle.std.specs.Prelude.{◌≡◌, IfOk};
+ghost use Rattle.sig_core.specs.Op.{image_of, key_of};
 
 use sig_core::{Held, HeldOp, HeldWork, Key, NoMemory, Op, RowWork, Value};
 use std::alloc::Global;
@@ -8,15 +9,26 @@ use std::alloc::Global;
 ///
 /// # Errors
 /// `NoMemory`.
-pub fn held_work(alloc: Global, work: RowWork) -> Result<HeldWork, NoMemory>
-    ensures { IfOk result (λ held. held ≡ work) }
+pub fn held_work(alloc: Global, work: &RowWork) -> Result<HeldWork, NoMemory>
+    ensures { IfOk result (λ held. held ≡ work.now) }
 {
     match work {
-        RowWork::Operate(op) => Ok(HeldWork::operate(HeldOp::new(alloc, op)?)),
-        RowWork::Store(key, Some(value)) => {
-            Ok(HeldWork::store(HeldOp::new(alloc, Op::Put(key, value))?))
+        RowWork::Operate(op) => Ok(HeldWork::operate(HeldOp::new(alloc, *op)?)),
+        RowWork::Store(key, image) => {
+            let op = storing(key, image);
+            Ok(HeldWork::store(HeldOp::new(alloc, op)?))
         }
-        RowWork::Store(key, None) => Ok(HeldWork::store(HeldOp::new(alloc, Op::Del(key))?)),
+    }
+}
+
+// An operation that makes this image of the row of the key.
+fn storing(key: &Key, image: &Option<Value>) -> Op
+    ensures key { key_of result ≡ key.now }
+    ensures image { image_of result ≡ image.now }
+{
+    match image {
+        Some(value) => Op::Put(*key, *value),
+        None => Op::Del(*key),
     }
 }
 

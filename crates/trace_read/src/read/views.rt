@@ -34,6 +34,7 @@ impl Input<'_> {
     }
 
     /// At most eight members.
+    #[tactic(auto, unfolding(trace_bytes::specs::Words::members_at, trace_bytes::specs::Lists::short_list_at))]
     pub fn members(&mut self) -> Result<Members, usize>
         ensures { Gives result self.new (members_at self.old) }
     {

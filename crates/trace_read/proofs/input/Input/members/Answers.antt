@@ -1,5 +1,6 @@
 use Rattle.std.proofs.Common.{◌≡◌, ◌+◌, ◌∷◌, [], ◌++◌, length, ap, ◌∙◌, arith}
 use Rattle.std.proofs.lemmas.List.{length-append}
+use Rattle.std.proofs.lemmas.Result.{err_from_is_err_and}
 use Rattle.trace_bytes.specs.Words.{member_at, members_at}
 use Rattle.trace_read.proofs.ListLoops.{all_read, left_unread, one_read, short_list_begins}
 use Rattle.trace_read.proofs.input.Input.members.Goals as goal
@@ -24,9 +25,10 @@ members-preserved c = (
 
 pub returns-in_err-member : goal.returns-in_err-member
 returns-in_err-member c =
-    left_unread member_at c.members.members c.in_ok-count.count c.members.counter c.members.self _ _
-    c.members.invariant.0
-    c.members-test.true c.in_err-member.ensures
+    let p = err_from_is_err_and c.from_residual-in_err-member.result c.from_residual-in_err-member.ensures.1 in
+    rw (p.1, p.2)
+    (left_unread member_at c.members.members c.in_ok-count.count c.members.counter c.members.self _ _
+    c.members.invariant.0 c.members-test.true c.in_err-member.ensures)
 
 pub returns : goal.returns
 returns c =
