@@ -3,7 +3,7 @@ ghost use Rattle.trace_read.specs.Reading.{GivesOrWants};
 ghost use Rattle.trace_bytes.specs.ChainSignals.{preparing_of, committing_of};
 
 use crate::input::Input;
-use crate::read::held::held_work;
+use crate::read::held::read_row_work;
 use crate::stop::Stop;
 use sig_core::{Body, Chain, ChainSignal, HeldAnswer};
 use std::alloc::Global;
@@ -20,12 +20,12 @@ pub fn preparing_of(alloc: Global, input: &mut Input<'_>, number: u8) -> Result<
     match number {
         signals::LQH_KEY_REQ => {
             let tx = input.tx()?;
-            let work = input.rowwork()?;
+            let work = read_row_work(alloc, input)?;
             let chain = input.members()?;
             let at = input.u8()?;
             Ok(Body::Chain(ChainSignal::LqhKeyReq {
                 tx,
-                work: held_work(alloc, &work)?,
+                work,
                 chain: Chain::of(&chain),
                 at,
             }))

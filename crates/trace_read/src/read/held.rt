@@ -1,18 +1,24 @@
 //! What was read, as signals hold it.
 ghost use Rattle.std.specs.Prelude.{◌≡◌, IfOk};
 ghost use Rattle.sig_core.specs.Op.{image_of, key_of};
+ghost use Rattle.trace_bytes.specs.Operations.{rowwork_at};
+ghost use Rattle.trace_read.specs.Reading.{GivesOrWants};
 
+use crate::input::Input;
+use crate::stop::Stop;
 use sig_core::{Held, HeldOp, HeldWork, Key, NoMemory, Op, RowWork, Value};
 use std::alloc::Global;
 
 /// Work on a row.
 ///
 /// # Errors
-/// `NoMemory`.
-pub fn held_work(alloc: Global, work: &RowWork) -> Result<HeldWork, NoMemory>
-    ensures { IfOk result (λ held. held ≡ work.now) }
+/// Where a byte doesn't fit, and want of memory.
+#[tactic(auto, using(crate::proofs::Stops::stops))]
+pub fn read_row_work(alloc: Global, input: &mut Input<'_>) -> Result<HeldWork, Stop>
+    ensures { GivesOrWants result input.new (rowwork_at input.old) }
 {
-    match work {
+    let work = input.rowwork()?;
+    match &work {
         RowWork::Operate(op) => Ok(HeldWork::operate(HeldOp::new(alloc, *op)?)),
         RowWork::Store(key, image) => {
             let op = storing(key, image);
