@@ -1,0 +1,5 @@
+pub mod Stops
+pub mod Behind
+pub mod Wholes
+pub mod ListLoops
+pub mod Found

@@ -1,0 +1,27 @@
+//! Bytes as lives.
+pub mod backup_signals;
+pub mod bodies;
+pub mod causes;
+pub mod chain_signals;
+pub mod checkpoint_signals;
+pub mod client_signals;
+pub mod copying_signals;
+pub mod epoch_signals;
+pub mod file_signals;
+pub mod held;
+pub mod host_signals;
+pub mod joining_signals;
+pub mod lines;
+pub mod lists;
+pub mod lives;
+pub mod marks;
+pub mod membership_signals;
+pub mod operations;
+pub mod options;
+pub mod places;
+pub mod requests;
+pub mod subscription_signals;
+pub mod takeover_signals;
+pub mod unique_signals;
+pub mod views;
+pub mod works;
