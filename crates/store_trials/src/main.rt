@@ -9,7 +9,7 @@ mod calls;
 mod formats;
 mod plain;
 mod random;
-mod row_map;
+mod rows_by_key;
 mod stores;
 mod watch;
 

@@ -1,5 +1,5 @@
 //! How long stores of rows take.
-use crate::row_map::RowMap;
+use crate::rows_by_key::RowsByKey;
 use crate::watch::{Watch, a_second};
 use frag_store::Store;
 use sig_core::{Key, Value};
@@ -41,7 +41,7 @@ fn keys_of(alloc: Global, count: u64) -> Result<Vec<Key>, Fail> {
 }
 
 // How many of the keys are found, from one to another far from it.
-fn found<M: RowMap>(rows: &M, keys: &[Key]) -> u64 {
+fn found<M: RowsByKey>(rows: &M, keys: &[Key]) -> u64 {
     if keys.is_empty() {
         return 0;
     }
@@ -57,7 +57,7 @@ fn found<M: RowMap>(rows: &M, keys: &[Key]) -> u64 {
 }
 
 // One filling of a store: all rows are put in, looked for and taken out.
-fn time<M: RowMap>(
+fn time<M: RowsByKey>(
     rt: &HostRuntime,
     rows: &mut M,
     keys: &[Key],

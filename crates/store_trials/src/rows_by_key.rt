@@ -4,7 +4,7 @@ use sig_core::{HashedKey, Key, NoMemory, Rows, TxId, Value};
 use std::collections::{BTreeMap, HashMap};
 
 /// Values by keys.
-pub trait RowMap {
+pub trait RowsByKey {
     fn put(&mut self, key: &Key, value: &Value) -> Result<(), NoMemory>;
 
     fn find(&self, key: &Key) -> Option<Value>;
@@ -12,7 +12,7 @@ pub trait RowMap {
     fn take_out(&mut self, key: &Key) -> Result<(), NoMemory>;
 }
 
-impl RowMap for BTreeMap<Key, Value> {
+impl RowsByKey for BTreeMap<Key, Value> {
     fn put(&mut self, key: &Key, value: &Value) -> Result<(), NoMemory> {
         self.insert(*key, *value)?;
         Ok(())
@@ -28,7 +28,7 @@ impl RowMap for BTreeMap<Key, Value> {
     }
 }
 
-impl RowMap for HashMap<Key, Value> {
+impl RowsByKey for HashMap<Key, Value> {
     fn put(&mut self, key: &Key, value: &Value) -> Result<(), NoMemory> {
         self.insert(*key, *value)?;
         Ok(())
@@ -44,7 +44,7 @@ impl RowMap for HashMap<Key, Value> {
     }
 }
 
-impl RowMap for Store {
+impl RowsByKey for Store {
     fn put(&mut self, key: &Key, value: &Value) -> Result<(), NoMemory> {
         self.put_row(key, value, 1)
     }
