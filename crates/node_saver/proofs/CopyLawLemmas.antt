@@ -19,65 +19,66 @@ use Rattle.node_saver.proofs.CopyForms.{calling_number, form, told_of}
 -- What is done is what was asked for: with a fact of orders that holds of each one asked for, and of one of which
 -- another node is told that asked for its epoch.
 module _ (P : CopyOrder → Type 0)
-    (tell : (before order : CopyOrder) → before.epoch ≡ order.epoch → P before → P order → P (told_of before order)) where
-  -- it holds of the orders that a saver knows
-  record Knows (s : SystemSaverState) : Type 0 where
-    job : IfSome s.job (λ job. P job.order)
-    next : IfSome s.next P
+    (tell : (before order : CopyOrder) → before.epoch ≡ order.epoch → P before → P order → P (told_of before order))
+  where
+    -- it holds of the orders that a saver knows
+    record Knows (s : SystemSaverState) : Type 0 where
+      job : IfSome s.job (λ job. P job.order)
+      next : IfSome s.next P
 
-  -- it holds of the order of a call
-  abbrev Tells : CopyCall → Type 0
-  Tells (Ask order) = P order
-  Tells (Confirm req) = Unit {0}
+    -- it holds of the order of a call
+    abbrev Tells : CopyCall → Type 0
+    Tells (Ask order) = P order
+    Tells (Confirm req) = Unit {0}
 
-  at_job : (s : SystemSaverState) (job : CopyJob) → Knows s → s.job ≡ Some job → P job.order
-  at_job s job knows busy = subst (λ (now : Option CopyJob). IfSome now (λ job. P job.order)) busy knows.job
+    at_job : (s : SystemSaverState) (job : CopyJob) → Knows s → s.job ≡ Some job → P job.order
+    at_job s job knows busy = subst (λ (now : Option CopyJob). IfSome now (λ job. P job.order)) busy knows.job
 
-  at_next : (s : SystemSaverState) (order : CopyOrder) → Knows s → s.next ≡ Some order → P order
-  at_next s order knows waits = subst (λ (now : Option CopyOrder). IfSome now P) waits knows.next
+    at_next : (s : SystemSaverState) (order : CopyOrder) → Knows s → s.next ≡ Some order → P order
+    at_next s order knows waits = subst (λ (now : Option CopyOrder). IfSome now P) waits knows.next
 
-  one : (order : CopyOrder) → P order → All P (order ∷ [])
-  one order holds = All-cons P order [] holds (All-nil P)
+    one : (order : CopyOrder) → P order → All P (order ∷ [])
+    one order holds = All-cons P order [] holds (All-nil P)
 
-  known : (s : SystemSaverState) (c : CopyCall) (turn : CopyTurn) → Knows s → Tells c → Form s c turn
-      → All P (done_in turn.step) × Knows turn.state
-  known s c turn knows tells (Saved order saved) = (one order tells, knows)
-  known s c turn knows tells (Begun order free) = (All-nil P, record { job = tells; next = knows.next })
-  known s c turn knows tells (Told order job busy same) = (
-    All-nil P,
-    record { job = tell job.order order same (at_job s job knows busy) tells; next = knows.next },
-  )
-  known s c turn knows tells (Held order job busy) = (All-nil P, record { job = knows.job; next = tells })
-  known s c turn knows tells (Untaken req why) = (All-nil P, knows)
-  known s c turn knows tells (GoneOn req job is busy more) =
-      (All-nil P, record { job = at_job s job knows busy; next = knows.next })
-  known s c turn knows tells (Ended req job ended none) =
-      (one job.order (at_job s job knows ended.busy), record { job = tt; next = tt })
-  known s c turn knows tells (EndedBoth req job waiting ended some saved) = (
-    All-cons P job.order (waiting ∷ []) (at_job s job knows ended.busy) (one waiting (at_next s waiting knows some)),
-    record { job = tt; next = tt },
-  )
-  known s c turn knows tells (EndedOn req job waiting ended some) = (
-    one job.order (at_job s job knows ended.busy),
-    record { job = at_next s waiting knows some; next = tt },
-  )
+    known : (s : SystemSaverState) (c : CopyCall) (turn : CopyTurn) → Knows s → Tells c → Form s c turn
+        → All P (done_in turn.step) × Knows turn.state
+    known s c turn knows tells (Saved order saved) = (one order tells, knows)
+    known s c turn knows tells (Begun order free) = (All-nil P, record { job = tells; next = knows.next })
+    known s c turn knows tells (Told order job busy same) = (
+      All-nil P,
+      record { job = tell job.order order same (at_job s job knows busy) tells; next = knows.next },
+    )
+    known s c turn knows tells (Held order job busy) = (All-nil P, record { job = knows.job; next = tells })
+    known s c turn knows tells (Untaken req why) = (All-nil P, knows)
+    known s c turn knows tells (GoneOn req job is busy more) =
+        (All-nil P, record { job = at_job s job knows busy; next = knows.next })
+    known s c turn knows tells (Ended req job ended none) =
+        (one job.order (at_job s job knows ended.busy), record { job = tt; next = tt })
+    known s c turn knows tells (EndedBoth req job waiting ended some saved) = (
+      All-cons P job.order (waiting ∷ []) (at_job s job knows ended.busy) (one waiting (at_next s waiting knows some)),
+      record { job = tt; next = tt },
+    )
+    known s c turn knows tells (EndedOn req job waiting ended some) = (
+      one job.order (at_job s job knows ended.busy),
+      record { job = at_next s waiting knows some; next = tt },
+    )
 
-  tells_first : (c : CopyCall) (cs : List CopyCall) → All P (orders_of (c ∷ cs)) → Tells c
-  tells_first (Ask order) cs all = All-head P order (orders_of cs) all
-  tells_first (Confirm req) cs all = tt
+    tells_first : (c : CopyCall) (cs : List CopyCall) → All P (orders_of (c ∷ cs)) → Tells c
+    tells_first (Ask order) cs all = All-head P order (orders_of cs) all
+    tells_first (Confirm req) cs all = tt
 
-  tells_later : (c : CopyCall) (cs : List CopyCall) → All P (orders_of (c ∷ cs)) → All P (orders_of cs)
-  tells_later (Ask order) cs all = All-tail P order (orders_of cs) all
-  tells_later (Confirm req) cs all = all
+    tells_later : (c : CopyCall) (cs : List CopyCall) → All P (orders_of (c ∷ cs)) → All P (orders_of cs)
+    tells_later (Ask order) cs all = All-tail P order (orders_of cs) all
+    tells_later (Confirm req) cs all = all
 
-  known_along : (s : SystemSaverState) (calls : List CopyCall) → Knows s → All P (orders_of calls)
-      → All P (done_along s calls)
-  known_along s [] knows all = All-nil P
-  known_along s (c ∷ cs) knows all =
-      let turn = turn_at s c in
-      let first = known s c turn knows (tells_first c cs all) (form s c) in
-      All-append P (done_in turn.step) (done_along turn.state cs) first.0
-      (known_along turn.state cs first.1 (tells_later c cs all))
+    known_along : (s : SystemSaverState) (calls : List CopyCall) → Knows s → All P (orders_of calls)
+        → All P (done_along s calls)
+    known_along s [] knows all = All-nil P
+    known_along s (c ∷ cs) knows all =
+        let turn = turn_at s c in
+        let first = known s c turn knows (tells_first c cs all) (form s c) in
+        All-append P (done_in turn.step) (done_along turn.state cs) first.0
+        (known_along turn.state cs first.1 (tells_later c cs all))
 
 -- an order is asked for where it is among those that are
 asked_itself : (orders : List CopyOrder) → All (IsAsked orders) orders
@@ -138,7 +139,8 @@ calls_in_turn : (s : SystemSaverState) (order : CopyOrder) (k : ℕ) (left : Opt
     → Goes left s.given (calling s order k)
 calls_in_turn s order k left none =
     let turn = calling s order k in
-    goes_in_turn left s.given turn.step.ask _ turn.state.given turn.state.job (record { order = order; k = k }) none refl
+    goes_in_turn left s.given turn.step.ask _ turn.state.given turn.state.job (record { order = order; k = k }) none
+    refl
     (calling_number s order k) refl refl
 
 in_turn : (s : SystemSaverState) (c : CopyCall) (turn : CopyTurn) → Form s c turn

@@ -172,7 +172,8 @@ module _ (base parity : ℕ) where
     ended_safe s o order end (Some waiting) in_step kept =
         let t = in_use s order end in
         waited_by (SafeThen asked) t o order waiting (λ saved. record { kept = kept; job = tt })
-        (let begun = writing_safe t o waiting (end_of o) (record { flushed = in_step.flushed; parity = in_step.parity }) kept in
+        (let begun = writing_safe t o waiting (end_of o) (record { flushed = in_step.flushed; parity = in_step.parity })
+        kept in
         record { kept = begun.kept; job = begun.job })
 
     went_on_safe : (s : RowSaverState) (o : OutletState) (order : SaveOrder) (phase : SavePhase) → IsInStep s o

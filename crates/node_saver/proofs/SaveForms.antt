@@ -122,7 +122,8 @@ waited_by P s o order waiting both begins =
 
 -- an order beside a save
 pub beside_by : (P : SaveTurn → Type 0) (s : RowSaverState) (o : OutletState) (order : SaveOrder) (job : SaveJob)
-    → (job.order.epoch ≡ order.epoch → P (idle (record s { job = Some (record { order = order; phase = job.phase }) }) o))
+    → (job.order.epoch ≡ order.epoch → P (idle (record s { job = Some (record { order = order; phase = job.phase }) })
+    o))
     → P (idle (record s { next = Some order }) o) → P (ask_beside s o order job)
 unfolding ask_beside
 beside_by P s o order job told waits =

@@ -14,7 +14,8 @@ use Rattle.node_saver.specs.RowSaving.{RowSaverState, SaveTurn, fresh_saver, in_
 use Rattle.node_saver.specs.SaveLaws.{AreOneAtATime, Ask, Confirm, OneRequestAtATime, SaveCall, WhatIsDoneIsSaved}
 use Rattle.node_saver.specs.SaveLaws.{WhatIsDoneWasAsked, done_along, done_in, left_out, orders_of, turn_at}
 use Rattle.node_saver.proofs.AskLemmas.{IsInTurn, goes_in_turn, out_by, taken, untaken}
-use Rattle.node_saver.proofs.SaveForms.{Asks, Begun, Ended, EndedBoth, EndedOn, Form, GoneOn, Held, Saved, Told, Untaken}
+use Rattle.node_saver.proofs.SaveForms.{Asks, Begun, Ended, EndedBoth, EndedOn, Form, GoneOn, Held, Saved, Told}
+use Rattle.node_saver.proofs.SaveForms.{Untaken}
 use Rattle.node_saver.proofs.SaveForms.{form}
 
 -- What is done is what was asked for: with a fact of orders that holds of each one asked for.

@@ -26,7 +26,8 @@ first_out by file asked given bytes which = record {
 }
 
 -- the next one is
-pub next_out : (by : BlockId) (file : ℕ) (asked : List FileSignal) (given : ℕ) (bytes : List ℕ) (which k j : ℕ) → j ≡ suc k → j ≤ 5
+pub next_out : (by : BlockId) (file : ℕ) (asked : List FileSignal) (given : ℕ) (bytes : List ℕ) (which k j : ℕ)
+    → j ≡ suc k → j ≤ 5
     → AreOut by file asked given bytes which k
     → AreOut by file (slot_request by (given + 1) file bytes which j ∷ asked) (given + 1) bytes which j
 next_out by file asked given bytes which k j is few out =

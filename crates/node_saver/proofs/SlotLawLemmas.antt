@@ -17,7 +17,8 @@ use Rattle.node_saver.specs.declared.order.SavePhase.TheVariants.{Slot, Syncing,
 use Rattle.node_saver.specs.Requests.{slot_requests}
 use Rattle.node_saver.specs.RowSaving.{RowSaverState, SaveTurn, ask_by, confirm_by, fresh_saver, go_on, go_on_with}
 use Rattle.node_saver.specs.RowSaving.{in_use, next_slot, writing, written}
-use Rattle.node_saver.specs.SaveLaws.{Ask, CameIntoUse, Confirm, SaveCall, SlotsComeIntoUseWhole, after_all, asked_along}
+use Rattle.node_saver.specs.SaveLaws.{Ask, CameIntoUse, Confirm, SaveCall, SlotsComeIntoUseWhole, after_all}
+use Rattle.node_saver.specs.SaveLaws.{asked_along}
 use Rattle.node_saver.specs.SaveLaws.{turn_at}
 use Rattle.node_saver.proofs.SlotCalls.{AreOut, all_out, first_out, next_out}
 use Rattle.node_saver.proofs.SaveForms.{Begun, Ended, EndedBoth, EndedOn, Form, GoneOn, HasEnded, Held, Saved}
@@ -46,7 +47,8 @@ module _ (asked : List FileSignal) where
   written_stands : (s : RowSaverState) (o : OutletState) (order : SaveOrder) → StandsThen asked (written s o order)
   written_stands s o order =
       written_by (StandsThen asked) s o order (λ more. tt)
-      (λ none. first_out Lqh CONTROL_FILE asked s.given (control_bytes (next_slot s.slot order s.flushed)) (1 - s.which))
+      (λ none. first_out Lqh CONTROL_FILE asked s.given (control_bytes (next_slot s.slot order s.flushed))
+      (1 - s.which))
 
   writing_stands : (s : RowSaverState) (o : OutletState) (order : SaveOrder) (goal : ℕ)
       → StandsThen asked (writing s o order goal)
@@ -70,13 +72,15 @@ module _ (asked : List FileSignal) where
       called_by (StandsThen asked) s o order end k
       (λ more.
       let below : k < 5 = ltb-true k 5 more in
-      next_out Lqh CONTROL_FILE asked s.given (control_bytes (next_slot s.slot order end)) (1 - s.which) k (k + 1) (omega arith)
+      next_out Lqh CONTROL_FILE asked s.given (control_bytes (next_slot s.slot order end)) (1 - s.which) k (k + 1)
+      (omega arith)
       (omega arith) stands)
       (λ last. ended_stands s o order end s.next)
 
   -- an order of the same epoch, from another node, leaves the slot as it is
   told_stands : (given : ℕ) (slot : ControlSlot) (which : ℕ) (one other : SaveOrder) (phase : SavePhase)
-      → one.epoch ≡ other.epoch → StandsIn asked given slot which one phase → StandsIn asked given slot which other phase
+      → one.epoch ≡ other.epoch → StandsIn asked given slot which one phase
+      → StandsIn asked given slot which other phase
   told_stands given slot which one other (Writing goal) same stands = tt
   told_stands given slot which one other (Syncing end at) same stands = tt
   told_stands given slot which one other (Slot end k) same stands =
@@ -113,7 +117,8 @@ stands_along asked s (c ∷ cs) stands =
 
 -- what is known of the slot whose last call is confirmed
 out_at : (asked : List FileSignal) (s : RowSaverState) (job : SaveJob) (end k : ℕ) → Stands asked s → s.job ≡ Some job
-    → job.phase ≡ Slot end k → AreOut Lqh CONTROL_FILE asked s.given (control_bytes (next_slot s.slot job.order end)) (1 - s.which) k
+    → job.phase ≡ Slot end k
+    → AreOut Lqh CONTROL_FILE asked s.given (control_bytes (next_slot s.slot job.order end)) (1 - s.which) k
 out_at asked s job end k stands busy phase =
     let by_job : StandsBy asked s.given s.slot s.which (Some job) =
     subst (StandsBy asked s.given s.slot s.which) busy stands in

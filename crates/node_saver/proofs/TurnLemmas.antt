@@ -1,7 +1,9 @@
 -- Which of its cases a step comes to, by the test that the code makes.
-use Rattle.std.proofs.Common.{◌≡◌, ◌≤◌, ◌<◌, ℕ, ◌+◌, ◌==◌, ◌&&◌, Bool, true, false, nat_le, nat_lt, length, refl, sym, ◌∙◌, ap}
+use Rattle.std.proofs.Common.{◌≡◌, ◌≤◌, ◌<◌, ℕ, ◌+◌, ◌==◌, ◌&&◌, Bool, true, false, nat_le, nat_lt, length, refl, sym}
+use Rattle.std.proofs.Common.{◌∙◌, ap}
 use Rattle.std.proofs.Common.{subst, arith}
-use Rattle.std.proofs.lemmas.Bool.{and_from, and_left, and_right, cond-false, cond-true, cond_both, le-leb, le-ltb, lt-leb}
+use Rattle.std.proofs.lemmas.Bool.{and_from, and_left, and_right, cond-false, cond-true, cond_both, le-leb, le-ltb}
+use Rattle.std.proofs.lemmas.Bool.{lt-leb}
 use Rattle.std.proofs.lemmas.Bool.{lt-ltb, ne_eqb}
 use Rattle.std.proofs.lemmas.List.{length-take}
 use Rattle.std.specs.Prelude.{Result, Ok, Err, IfOk, Option, None, Some}
@@ -14,7 +16,8 @@ use Rattle.node_saver.specs.declared.order.SavePhase.TheVariants.{Writing}
 use Rattle.node_saver.specs.declared.step.SaverStep.{SaverStep}
 use Rattle.node_saver.specs.RowSaving.{IsTurn, RowSaverState, SaveTurn, ask_beside, ask_by, ask_row, asking, begin}
 use Rattle.node_saver.specs.RowSaving.{called_on, calling, confirm_by, confirm_row, done_besides, idle}
-use Rattle.node_saver.specs.RowSaving.{done_both, ended, giving_out, next_file, piece_request, synced_on, syncing, waited_on, writing, written}
+use Rattle.node_saver.specs.RowSaving.{done_both, ended, giving_out, next_file, piece_request, synced_on, syncing}
+use Rattle.node_saver.specs.RowSaving.{waited_on, writing, written}
 
 -- what came to one turn, whatever the journal has, came to the other that it is
 pub turned : (result : Result (SaverStep SaveOrder) NoMemory) (one other : OutletState → SaveTurn)

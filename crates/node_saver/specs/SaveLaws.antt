@@ -71,8 +71,8 @@ AreOneAtATime out given s (c ∷ cs) =
     × AreOneAtATime (out_with (left_out out c) (turn_at s c).step.ask) (given_with given (turn_at s c).step.ask)
     (turn_at s c).state cs
 
--- At most one request is out at a time: one goes out only once the one before is confirmed. Their numbers are 1, 2, 3 and
--- so on.
+-- At most one request is out at a time: one goes out only once the one before is confirmed. Their numbers are 1, 2, 3
+-- and so on.
 abbrev pub OneRequestAtATime : Type 0
 OneRequestAtATime =
     (slot : ControlSlot) (which synced : ℕ) (calls : List SaveCall)

@@ -15,11 +15,14 @@ returns c =
     let bytes : c.control_bytes-bytes.result ≡ control_bytes (next_slot s.slot c.args.order c.args.end) =
     c.control_bytes-bytes.ensures ∙ ap control_bytes c.in_ok-slot.ensures in
     let number : c.in_ok-req.req ≡ s.given + 1 = c.in_ok-req.ensures in
-    let ask : c.in_ok-ask.ask ≡ slot_request Lqh (s.given + 1) CONTROL_FILE (control_bytes (next_slot s.slot c.args.order c.args.end)) (1 - s.which) k =
+    let ask : c.in_ok-ask.ask ≡ slot_request Lqh (s.given + 1) CONTROL_FILE
+    (control_bytes (next_slot s.slot c.args.order c.args.end)) (1 - s.which) k =
     c.in_ok-ask.ensures
-    ∙ ap (λ (t : RowSaverState). slot_request Lqh c.in_ok-req.req CONTROL_FILE c.control_bytes-bytes.result (1 - t.which) k) c.self.view_is
+    ∙ ap (λ (t : RowSaverState). slot_request Lqh c.in_ok-req.req CONTROL_FILE c.control_bytes-bytes.result
+    (1 - t.which) k) c.self.view_is
     ∙ ap (λ (b : List ℕ). slot_request Lqh c.in_ok-req.req CONTROL_FILE b (1 - s.which) k) bytes
-    ∙ ap (λ (n : ℕ). slot_request Lqh n CONTROL_FILE (control_bytes (next_slot s.slot c.args.order c.args.end)) (1 - s.which) k) number in
+    ∙ ap (λ (n : ℕ). slot_request Lqh n CONTROL_FILE (control_bytes (next_slot s.slot c.args.order c.args.end))
+    (1 - s.which) k) number in
     λ o.
     subst
     (λ (one : FileSignal).
