@@ -102,27 +102,6 @@ fn offers_all<W: Wait>(
 }
 
 #[test]
-fn a_link_begins_empty(rt: HostRuntime) -> Result<(), Fail> {
-    let (tx, mut rx) = make(rt.alloc(), 1, 2)?;
-    assert_eq!(rt; takes(&rt, &mut rx), None);
-    assert_eq!(rt; tx.sent(), 0);
-    assert_eq!(rt; rx.taken(), 0);
-    Ok(())
-}
-
-#[test]
-fn a_signal_that_stands_alone_is_taken(rt: HostRuntime) -> Result<(), Fail> {
-    let alloc = rt.alloc();
-    let (mut tx, mut rx) = make(alloc, 1, 2)?;
-    assert_eq!(rt; offers_all(&rt, alloc, &mut tx, 7, 8)?, 1);
-    assert_eq!(rt; takes(&rt, &mut rx), Some(7));
-    assert_eq!(rt; takes(&rt, &mut rx), None);
-    assert_eq!(rt; tx.sent(), 1);
-    assert_eq!(rt; rx.taken(), 1);
-    Ok(())
-}
-
-#[test]
 fn both_ends_go_on_after_they_are_compared(rt: HostRuntime) -> Result<(), Fail> {
     let (mut tx, mut rx) = make(rt.alloc(), 1, 2)?;
     compare(&mut tx, &mut rx);
@@ -131,18 +110,78 @@ fn both_ends_go_on_after_they_are_compared(rt: HostRuntime) -> Result<(), Fail> 
     Ok(())
 }
 
+// A call on a link, and what it is to come to.
+#[derive(Clone, Copy)]
+enum Line {
+    // The signals from a number up to another: how many of them the link takes.
+    Offer(u64, u64, u64),
+    Take(Option<u64>),
+    Sent(u64),
+    Taken(u64),
+}
+
+fn fits<W: Wait>(
+    rt: &W,
+    alloc: Global,
+    tx: &mut LinkTx,
+    rx: &mut LinkRx,
+    line: Line,
+) -> Result<bool, NoMemory>
+    requires { tx.old.from ≡ 1 }
+    ensures { tx.new.from ≡ 1 }
+{
+    match line {
+        Line::Offer(from, to, count) => Ok(offers_all(rt, alloc, tx, from, to)? == count),
+        Line::Take(seq) => Ok(takes(rt, rx) == seq),
+        Line::Sent(count) => Ok(tx.sent() == count),
+        Line::Taken(count) => Ok(rx.taken() == count),
+    }
+}
+
+// The first line that doesn't come to what it says, on a new link.
+fn first_wrong<W: Wait>(rt: &W, alloc: Global, lines: &[Line]) -> Result<Option<usize>, Fail> {
+    let (mut tx, mut rx) = make(alloc, 1, 2)?;
+    for (at, line) in lines.iter().enumerate() {
+        if !fits(rt, alloc, &mut tx, &mut rx, *line)? {
+            return Ok(Some(at));
+        }
+    }
+    Ok(None)
+}
+
+#[test]
+fn a_link_begins_empty(rt: HostRuntime) -> Result<(), Fail> {
+    let lines = [Line::Take(None), Line::Sent(0), Line::Taken(0)];
+    assert_eq!(rt; first_wrong(&rt, rt.alloc(), &lines)?, None);
+    Ok(())
+}
+
+#[test]
+fn a_signal_that_stands_alone_is_taken(rt: HostRuntime) -> Result<(), Fail> {
+    let lines = [
+        Line::Offer(7, 8, 1),
+        Line::Take(Some(7)),
+        Line::Take(None),
+        Line::Sent(1),
+        Line::Taken(1),
+    ];
+    assert_eq!(rt; first_wrong(&rt, rt.alloc(), &lines)?, None);
+    Ok(())
+}
+
 #[test]
 fn a_full_link_refuses_until_one_is_taken(rt: HostRuntime) -> Result<(), Fail> {
-    let alloc = rt.alloc();
-    let (mut tx, mut rx) = make(alloc, 1, 2)?;
-    assert_eq!(rt; offers_all(&rt, alloc, &mut tx, 0, 128)?, 128);
-    assert_eq!(rt; offers_all(&rt, alloc, &mut tx, 128, 129)?, 0);
-    assert_eq!(rt; tx.sent(), 128);
-    assert_eq!(rt; takes(&rt, &mut rx), Some(0));
-    assert_eq!(rt; offers_all(&rt, alloc, &mut tx, 129, 130)?, 1);
-    assert_eq!(rt; offers_all(&rt, alloc, &mut tx, 130, 131)?, 0);
-    assert_eq!(rt; takes(&rt, &mut rx), Some(1));
-    assert_eq!(rt; rx.taken(), 2);
+    let lines = [
+        Line::Offer(0, 128, 128),
+        Line::Offer(128, 129, 0),
+        Line::Sent(128),
+        Line::Take(Some(0)),
+        Line::Offer(129, 130, 1),
+        Line::Offer(130, 131, 0),
+        Line::Take(Some(1)),
+        Line::Taken(2),
+    ];
+    assert_eq!(rt; first_wrong(&rt, rt.alloc(), &lines)?, None);
     Ok(())
 }
 

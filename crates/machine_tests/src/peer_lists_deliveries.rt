@@ -115,21 +115,46 @@ fn drained(alloc: Global, waiting: &mut Backlog) -> Result<Vec<(u64, u64)>, NoMe
     Ok(found)
 }
 
+// The stamps and numbers of what waits for a peer, by its place.
+fn drained_at(
+    alloc: Global,
+    peers: &mut Vec<Plain>,
+    at: usize,
+) -> Result<Vec<(u64, u64)>, NoMemory> {
+    match peers.get_mut(at) {
+        Some(peer) => drained(alloc, &mut peer.waiting),
+        None => Ok(Vec::new(alloc)),
+    }
+}
+
+// How many signals wait for a host.
+fn held(peers: &[Plain], host: u32) -> usize {
+    held_for(peers, HostId(host))
+}
+
+// Delivers signals to these hosts.
+fn deliver_all(
+    alloc: Global,
+    own: &mut Backlog,
+    peers: &mut Vec<Plain>,
+    hosts: &[u32],
+) -> Result<(), NoMemory> {
+    let sends = sends_to(alloc, hosts)?;
+    deliver(alloc, OWN, own, peers.as_mut_slice(), sends)
+}
+
 #[test]
 fn each_peer_gets_its_own(rt: HostRuntime) -> Result<(), Fail> {
     let alloc = rt.alloc();
     let mut peers = three_peers(alloc)?;
     let mut own = Backlog::new(alloc);
-    let sends = sends_to(alloc, &[2, 3, 1, 2, 9, 4, 2])?;
-    deliver(alloc, OWN, &mut own, peers.as_mut_slice(), sends)?;
-    assert_eq!(rt; held_for(peers.as_slice(), HostId(2)), 3);
-    assert_eq!(rt; held_for(peers.as_slice(), HostId(3)), 1);
-    assert_eq!(rt; held_for(peers.as_slice(), HostId(4)), 0);
-    assert_eq!(rt; held_for(peers.as_slice(), HostId(9)), 0);
-    let first = peers.get_mut(0).ok_or("no peer")?;
+    deliver_all(alloc, &mut own, &mut peers, &[2, 3, 1, 2, 9, 4, 2])?;
+    for (host, count) in [(2, 3), (3, 1), (4, 0), (9, 0)] {
+        assert_eq!(rt; held(&peers, host), count);
+    }
     let wanted: [(u64, u64); 3] = [(10, 0), (13, 1), (16, 2)];
     assert_eq!(rt;
-        drained(alloc, &mut first.waiting)?.as_slice(),
+        drained_at(alloc, &mut peers, 0)?.as_slice(),
         wanted.as_slice()
     );
     let wanted: [(u64, u64); 1] = [(12, 0)];
@@ -137,43 +162,77 @@ fn each_peer_gets_its_own(rt: HostRuntime) -> Result<(), Fail> {
     Ok(())
 }
 
+// Sends a signal with this stamp to a host.
+fn send(alloc: Global, peers: &mut Vec<Plain>, host: u32, stamp: u64) -> Result<(), NoMemory> {
+    let signal = stamped(alloc, stamp)?;
+    let to = HostId(host);
+    place(alloc, peers.as_mut_slice(), Sending { to, signal })
+}
+
+// How many numbers were given for a peer, by its place, and how many signals wait for it.
+fn numbered(peers: &[Plain], at: usize) -> Option<(u64, usize)> {
+    match peers.get(at) {
+        Some(peer) => Some((peer.waiting.numbered(), peer.held())),
+        None => None,
+    }
+}
+
 #[test]
 fn numbers_go_on(rt: HostRuntime) -> Result<(), Fail> {
     let alloc = rt.alloc();
     let mut peers = three_peers(alloc)?;
-    for stamp in 5..8 {
-        let signal = stamped(alloc, stamp)?;
-        let to = HostId(if stamp == 6 { 4 } else { 3 });
-        place(alloc, peers.as_mut_slice(), Sending { to, signal })?;
+    for (host, stamp) in [(3, 5), (4, 6), (3, 7)] {
+        send(alloc, &mut peers, host, stamp)?;
     }
-    let second = peers.get_mut(1).ok_or("no peer")?;
+    assert_eq!(rt; numbered(&peers, 1), Some((2, 2)));
     let wanted: [(u64, u64); 2] = [(5, 0), (7, 1)];
     assert_eq!(rt;
-        drained(alloc, &mut second.waiting)?.as_slice(),
+        drained_at(alloc, &mut peers, 1)?.as_slice(),
         wanted.as_slice()
     );
-    assert_eq!(rt; second.waiting.numbered(), 2);
-    let last = peers.get_mut(2).ok_or("no peer")?;
-    assert_eq!(rt; last.waiting.numbered(), 1);
-    assert_eq!(rt; last.held(), 0);
+    assert_eq!(rt; numbered(&peers, 1), Some((2, 0)));
+    assert_eq!(rt; numbered(&peers, 2), Some((1, 0)));
     Ok(())
+}
+
+// Some signals, with these stamps.
+fn signals(alloc: Global, stamps: &[u64]) -> Result<Seq<Boxed<Signal>>, NoMemory> {
+    let mut signals = Seq::new(alloc);
+    for stamp in stamps {
+        let signal = stamped(alloc, *stamp)?;
+        signals.push(Boxed::new(alloc, signal)?)?;
+    }
+    Ok(signals)
+}
+
+// The three peers, of which the second was sent two signals, and one of it was taken.
+fn linked(alloc: Global) -> Result<Vec<Plain>, NoMemory> {
+    let mut second = peer_of(alloc, 3, false);
+    second.sent = signals(alloc, &[1, 2])?;
+    second.taken = signals(alloc, &[3])?;
+    let mut peers = Vec::new(alloc);
+    peers.push(peer_of(alloc, 2, false))?;
+    peers.push(second)?;
+    peers.push(peer_of(alloc, 4, true))?;
+    Ok(peers)
+}
+
+// How many signals were sent to a host, and how many of it were taken.
+fn passed_with(peers: &[Plain], host: u32) -> (u64, u64) {
+    (
+        sent_to(peers, HostId(host)),
+        taken_from(peers, HostId(host)),
+    )
 }
 
 #[test]
 fn links_are_found_by_their_hosts(rt: HostRuntime) -> Result<(), Fail> {
-    let alloc = rt.alloc();
-    let mut peers = three_peers(alloc)?;
-    let second = peers.get_mut(1).ok_or("no peer")?;
-    second.sent.push(Boxed::new(alloc, stamped(alloc, 1)?)?)?;
-    second.sent.push(Boxed::new(alloc, stamped(alloc, 2)?)?)?;
-    second.taken.push(Boxed::new(alloc, stamped(alloc, 3)?)?)?;
-    let peers = peers.as_slice();
-    assert_eq!(rt; find(peers, HostId(4)), Some(2));
-    assert_eq!(rt; find(peers, OWN), None);
-    assert_eq!(rt; sent_to(peers, HostId(3)), 2);
-    assert_eq!(rt; taken_from(peers, HostId(3)), 1);
-    assert_eq!(rt; sent_to(peers, HostId(2)), 0);
-    assert_eq!(rt; taken_from(peers, HostId(7)), 0);
+    let peers = linked(rt.alloc())?;
+    assert_eq!(rt; find(&peers, HostId(4)), Some(2));
+    assert_eq!(rt; find(&peers, OWN), None);
+    for (host, passed) in [(2, (0, 0)), (3, (2, 1)), (7, (0, 0))] {
+        assert_eq!(rt; passed_with(&peers, host), passed);
+    }
     Ok(())
 }
 

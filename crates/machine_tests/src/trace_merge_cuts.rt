@@ -9,172 +9,182 @@ use trace_merge::{CutFault, is_closed, merge};
 
 const NOBODY: Member = Member { node: 0, start: 0 };
 
-// A step with this stamp, that took a signal of a host, which had that stamp.
-fn step(
-    alloc: Global,
-    stamp: u64,
-    from: u32,
-    sent_at: u64,
-    body: Body,
-) -> Result<LogStep, NoMemory> {
+// What a step took.
+#[derive(Clone, Copy)]
+enum Took {
+    // A request of the shell.
+    Request,
+    // What a link gives.
+    Round,
+    // A stop that a host asks of itself, or that tells of one.
+    Closing,
+}
+
+// A step: its host and its stamp, the host of the signal that it took and the stamp of that, and what
+// it took.
+type Line = (u32, u64, u32, u64, Took);
+
+fn body_of(took: Took) -> Body {
+    Body::Host(match took {
+        Took::Request => HostSignal::Continue {
+            work: Work::Request(ApiReq::Micro),
+            at: 0,
+        },
+        Took::Round => HostSignal::Round,
+        Took::Closing => HostSignal::Closed {
+            cause: StopCause::Memory,
+        },
+    })
+}
+
+fn view_of(alloc: Global) -> Result<Held<View>, NoMemory> {
     let view = View {
         number: 1,
         full: Members::new(),
         starting: Members::new(),
     };
-    let taken = Signal {
-        from: HostId(from),
+    Held::new(alloc, view)
+}
+
+fn signal_of(alloc: Global, line: &Line) -> Result<Boxed<Signal>, NoMemory> {
+    let signal = Signal {
+        from: HostId(line.2),
         member: NOBODY,
         to: CLIENT,
         seq: 0,
-        stamp: sent_at,
-        view: Held::new(alloc, view)?,
-        body,
+        stamp: line.3,
+        view: view_of(alloc)?,
+        body: body_of(line.4),
     };
+    Boxed::new(alloc, signal)
+}
+
+fn step_of(alloc: Global, line: &Line) -> Result<LogStep, NoMemory> {
     Ok(LogStep {
-        stamp,
-        taken: Boxed::new(alloc, taken)?,
+        stamp: line.1,
+        taken: signal_of(alloc, line)?,
         marks: Marks::new(alloc),
     })
 }
 
-// The body of a request of the shell.
-fn request() -> Body {
-    Body::Host(HostSignal::Continue {
-        work: Work::Request(ApiReq::Micro),
-        at: 0,
-    })
-}
-
-// The body of what a link gives.
-fn round() -> Body {
-    Body::Host(HostSignal::Round)
-}
-
-// A log of a host.
-fn log(alloc: Global, host: u32, made: u64) -> HostLog {
-    HostLog {
-        host: HostId(host),
-        made,
-        steps: Seq::new(alloc),
+// The steps of a host.
+fn steps_of(alloc: Global, host: u32, lines: &[Line]) -> Result<Seq<LogStep>, NoMemory> {
+    let mut steps = Seq::new(alloc);
+    for line in lines {
+        if line.0 == host {
+            steps.push(step_of(alloc, line)?)?;
+        }
     }
+    Ok(steps)
 }
 
-// The shell's host is asked, and asks host 1; host 2 tells host 1 of it, and host 1 the shell's.
-fn asked(alloc: Global) -> Result<Vec<HostLog>, NoMemory> {
-    let mut shell = log(alloc, 0, 0);
-    shell.steps.push(step(alloc, 1, 0, 0, request())?)?;
-    shell.steps.push(step(alloc, 4, 1, 3, round())?)?;
-    let mut one = log(alloc, 1, 0);
-    one.steps.push(step(alloc, 2, 0, 1, round())?)?;
-    one.steps.push(step(alloc, 3, 2, 2, round())?)?;
-    let mut two = log(alloc, 2, 0);
-    two.steps.push(step(alloc, 2, 0, 1, round())?)?;
+// The logs of hosts from 0 on, which were made at these stamps.
+fn logs_of(alloc: Global, made: &[u64], lines: &[Line]) -> Result<Vec<HostLog>, NoMemory> {
     let mut logs = Vec::new(alloc);
-    logs.push(shell)?;
-    logs.push(one)?;
-    logs.push(two)?;
+    let mut host = 0u32;
+    for made in made {
+        let steps = steps_of(alloc, host, lines)?;
+        logs.push(HostLog {
+            host: HostId(host),
+            made: *made,
+            steps,
+        })?;
+        host = host.saturating_add(1);
+    }
     Ok(logs)
 }
 
-// What is said of a cut.
-fn fault(host: u32, step: usize) -> Result<(), CutFault> {
-    Err(CutFault {
-        host: HostId(host),
-        step,
-    })
-}
+// The shell's host is asked, and asks host 1; host 2 tells host 1 of it, and host 1 the shell's.
+const ASKED: [Line; 5] = [
+    (0, 1, 0, 0, Took::Request),
+    (0, 4, 1, 3, Took::Round),
+    (1, 2, 0, 1, Took::Round),
+    (1, 3, 2, 2, Took::Round),
+    (2, 2, 0, 1, Took::Round),
+];
 
-#[test]
-fn logs_sort_by_stamp_and_host(rt: HostRuntime) -> Result<(), Fail> {
-    let alloc = rt.alloc();
-    let run = merge(alloc, asked(alloc)?.as_slice())?;
+// The hosts and the places of the steps of the merge, in its order.
+fn places(alloc: Global, logs: &[HostLog]) -> Result<Vec<(u32, usize)>, NoMemory> {
+    let run = merge(alloc, logs)?;
     let mut places = Vec::new(alloc);
     for at in run.as_slice() {
         places.push((at.host.0, at.step))?;
     }
+    Ok(places)
+}
+
+#[test]
+fn logs_sort_by_stamp_and_host(rt: HostRuntime) -> Result<(), Fail> {
+    let logs = logs_of(rt.alloc(), &[0, 0, 0], &ASKED)?;
+    let found = places(rt.alloc(), &logs)?;
     let wanted: [(u32, usize); 5] = [(0, 0), (1, 0), (2, 0), (1, 1), (0, 1)];
-    assert_eq!(rt; places.as_slice(), wanted.as_slice());
+    assert_eq!(rt; found.as_slice(), wanted.as_slice());
     Ok(())
+}
+
+// The host and the place of the step by which a cut isn't closed.
+fn opens(logs: &[HostLog], cut: &[usize]) -> Option<(u32, usize)> {
+    match is_closed(logs, cut) {
+        Ok(()) => None,
+        Err(CutFault { host, step }) => Some((host.0, step)),
+    }
 }
 
 #[test]
 fn no_logs_are_the_empty_run(rt: HostRuntime) -> Result<(), Fail> {
-    let run = merge(rt.alloc(), &[])?;
-    assert_eq!(rt; run.len(), 0);
-    assert_eq!(rt; is_closed(&[], &[]), Ok(()));
+    assert_eq!(rt; places(rt.alloc(), &[])?.len(), 0);
+    assert_eq!(rt; opens(&[], &[]), None);
     Ok(())
 }
 
 #[test]
 fn a_signal_from_outside_is_told(rt: HostRuntime) -> Result<(), Fail> {
-    let logs = asked(rt.alloc())?;
-    let logs = logs.as_slice();
-    assert_eq!(rt; is_closed(logs, &[0, 0, 0]), Ok(()));
-    assert_eq!(rt; is_closed(logs, &[1, 0, 0]), Ok(()));
-    assert_eq!(rt; is_closed(logs, &[1, 2, 1]), Ok(()));
-    assert_eq!(rt; is_closed(logs, &[2, 2, 1]), Ok(()));
-    assert_eq!(rt; is_closed(logs, &[0, 1, 1]), fault(1, 0));
-    assert_eq!(rt; is_closed(logs, &[1, 2, 0]), fault(1, 1));
-    assert_eq!(rt; is_closed(logs, &[2, 1, 1]), fault(0, 1));
-    assert_eq!(rt; is_closed(logs, &[9, 9, 9]), Ok(()));
-    assert_eq!(rt; is_closed(logs, &[1, 2]), fault(1, 1));
+    let logs = logs_of(rt.alloc(), &[0, 0, 0], &ASKED)?;
+    let cuts: [([usize; 3], Option<(u32, usize)>); 8] = [
+        ([0, 0, 0], None),
+        ([1, 0, 0], None),
+        ([1, 2, 1], None),
+        ([2, 2, 1], None),
+        ([0, 1, 1], Some((1, 0))),
+        ([1, 2, 0], Some((1, 1))),
+        ([2, 1, 1], Some((0, 1))),
+        ([9, 9, 9], None),
+    ];
+    for (cut, fault) in &cuts {
+        assert_eq!(rt; opens(&logs, cut), *fault, "{cut:?}");
+    }
+    assert_eq!(rt; opens(&logs, &[1, 2]), Some((1, 1)));
     Ok(())
 }
 
 #[test]
 fn a_host_made_outside_is_told(rt: HostRuntime) -> Result<(), Fail> {
-    let alloc = rt.alloc();
-    let mut shell = log(alloc, 0, 0);
-    shell.steps.push(step(alloc, 1, 0, 0, request())?)?;
-    shell.steps.push(step(alloc, 4, 0, 1, round())?)?;
-    let mut later = log(alloc, 1, 4);
-    later.steps.push(step(alloc, 5, 1, 4, round())?)?;
-    let mut logs = Vec::new(alloc);
-    logs.push(shell)?;
-    logs.push(later)?;
-    let logs = logs.as_slice();
-    assert_eq!(rt; is_closed(logs, &[2, 1]), Ok(()));
-    assert_eq!(rt; is_closed(logs, &[1, 0]), Ok(()));
-    assert_eq!(rt; is_closed(logs, &[1, 1]), fault(1, 0));
+    let lines = [
+        (0, 1, 0, 0, Took::Request),
+        (0, 4, 0, 1, Took::Round),
+        (1, 5, 1, 4, Took::Round),
+    ];
+    let logs = logs_of(rt.alloc(), &[0, 4], &lines)?;
+    assert_eq!(rt; opens(&logs, &[2, 1]), None);
+    assert_eq!(rt; opens(&logs, &[1, 0]), None);
+    assert_eq!(rt; opens(&logs, &[1, 1]), Some((1, 0)));
     Ok(())
 }
 
 #[test]
 fn a_request_was_not_sent_outside(rt: HostRuntime) -> Result<(), Fail> {
-    let alloc = rt.alloc();
-    let mut one = log(alloc, 0, 0);
-    one.steps.push(step(alloc, 3, 0, 7, request())?)?;
-    let mut other = log(alloc, 0, 0);
-    other.steps.push(step(alloc, 3, 0, 7, round())?)?;
-    let mut logs = Vec::new(alloc);
-    logs.push(one)?;
-    assert_eq!(rt; is_closed(logs.as_slice(), &[1]), Ok(()));
-    let mut others = Vec::new(alloc);
-    others.push(other)?;
-    assert_eq!(rt; is_closed(others.as_slice(), &[1]), fault(0, 0));
+    let asked = logs_of(rt.alloc(), &[0], &[(0, 3, 0, 7, Took::Request)])?;
+    assert_eq!(rt; opens(&asked, &[1]), None);
+    let told = logs_of(rt.alloc(), &[0], &[(0, 3, 0, 7, Took::Round)])?;
+    assert_eq!(rt; opens(&told, &[1]), Some((0, 0)));
     Ok(())
-}
-
-// The body of a stop that a host asks of itself, or that tells of one.
-fn closing() -> Body {
-    Body::Host(HostSignal::Closed {
-        cause: StopCause::Memory,
-    })
 }
 
 #[test]
 fn a_stop_of_its_own_was_not_sent_outside(rt: HostRuntime) -> Result<(), Fail> {
-    let alloc = rt.alloc();
-    let mut logs = Vec::new(alloc);
-    logs.push(log(alloc, 0, 0))?;
-    let mut stopped = log(alloc, 1, 0);
-    stopped.steps.push(step(alloc, 3, 1, 7, closing())?)?;
-    logs.push(stopped)?;
-    let mut told = log(alloc, 2, 0);
-    told.steps.push(step(alloc, 3, 1, 7, closing())?)?;
-    logs.push(told)?;
-    assert_eq!(rt; is_closed(logs.as_slice(), &[0, 1, 0]), Ok(()));
-    assert_eq!(rt; is_closed(logs.as_slice(), &[0, 1, 1]), fault(2, 0));
+    let lines = [(1, 3, 1, 7, Took::Closing), (2, 3, 1, 7, Took::Closing)];
+    let logs = logs_of(rt.alloc(), &[0, 0, 0], &lines)?;
+    assert_eq!(rt; opens(&logs, &[0, 1, 0]), None);
+    assert_eq!(rt; opens(&logs, &[0, 1, 1]), Some((2, 0)));
     Ok(())
 }

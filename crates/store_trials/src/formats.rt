@@ -3,7 +3,7 @@ use crate::watch::{Watch, a_second};
 use lcp_store::{put_head, put_row2, rows_in};
 use redo_format::{decode, encode};
 use redo_log::replay_bytes;
-use sig_core::{Key, Redo, Table, TxId, Value};
+use sig_core::{Key, NoMemory, Redo, Table, TxId, Value};
 use std::alloc::Global;
 use std::test::Fail;
 
@@ -85,40 +85,73 @@ fn tell(rt: &HostRuntime, what: &str, bytes: usize, watch: &Watch) -> Result<(),
     Ok(())
 }
 
+// Redo of the rows, written.
+fn time_encode(rt: &HostRuntime, bytes: &mut Vec<u8>, rows: &[Row]) -> Result<(), Fail> {
+    let watch = Watch::start(rt)?;
+    for row in rows {
+        append(bytes, row)?;
+    }
+    tell(rt, "encode", bytes.len(), &watch)
+}
+
+// Redo, decoded: so many records.
+fn time_decode(rt: &HostRuntime, bytes: &[u8]) -> Result<u64, Fail> {
+    let watch = Watch::start(rt)?;
+    let records = count_records(bytes);
+    tell(rt, "decode", bytes.len(), &watch)?;
+    Ok(records)
+}
+
+fn replays(alloc: Global, bytes: &[u8]) -> bool {
+    let mut table = Table::new(alloc);
+    bytes.len() <= MANY && replay_bytes(alloc, &mut table, 0, 0, bytes, 1).is_ok()
+}
+
+// Redo, replayed; whether all of it was.
+fn time_replay(rt: &HostRuntime, bytes: &[u8]) -> Result<bool, Fail> {
+    let watch = Watch::start(rt)?;
+    let replayed = replays(rt.alloc(), bytes);
+    tell(rt, "replay", bytes.len(), &watch)?;
+    Ok(replayed)
+}
+
 // Redo, written, decoded and replayed; whether all of it was.
 fn time_redo(rt: &HostRuntime, rows: &[Row]) -> Result<bool, Fail> {
     let mut bytes = Vec::new(rt.alloc());
-    let watch = Watch::start(rt)?;
-    for row in rows {
-        append(&mut bytes, row)?;
-    }
-    tell(rt, "encode", bytes.len(), &watch)?;
-    let watch = Watch::start(rt)?;
-    let records = count_records(&bytes);
-    tell(rt, "decode", bytes.len(), &watch)?;
-    if bytes.len() > MANY {
-        return Ok(false);
-    }
-    let mut table = Table::new(rt.alloc());
-    let watch = Watch::start(rt)?;
-    let replayed = replay_bytes(rt.alloc(), &mut table, 0, 0, &bytes, 1).is_ok();
-    tell(rt, "replay", bytes.len(), &watch)?;
+    time_encode(rt, &mut bytes, rows)?;
+    let records = time_decode(rt, &bytes)?;
+    let replayed = time_replay(rt, &bytes)?;
     Ok(replayed && records / 2 == rows.len() as u64)
+}
+
+fn put_rows(bytes: &mut Vec<u8>, rows: &[Row]) -> Result<(), NoMemory> {
+    put_head(bytes)?;
+    for row in rows {
+        put_row2(bytes, &row.key, 1, &row.value)?;
+    }
+    Ok(())
+}
+
+// A checkpoint of the rows, written.
+fn time_write(rt: &HostRuntime, bytes: &mut Vec<u8>, rows: &[Row]) -> Result<(), Fail> {
+    let watch = Watch::start(rt)?;
+    put_rows(bytes, rows)?;
+    tell(rt, "checkpoint", bytes.len(), &watch)
+}
+
+// A checkpoint, read; whether it could be.
+fn time_read(rt: &HostRuntime, bytes: &[u8]) -> Result<bool, Fail> {
+    let watch = Watch::start(rt)?;
+    let read = rows_in(rt.alloc(), 2, 1, bytes).is_ok();
+    tell(rt, "checkpoint_read", bytes.len(), &watch)?;
+    Ok(read)
 }
 
 // A checkpoint, written and read; whether it could be.
 fn time_checkpoint(rt: &HostRuntime, rows: &[Row]) -> Result<bool, Fail> {
     let mut bytes = Vec::new(rt.alloc());
-    let watch = Watch::start(rt)?;
-    put_head(&mut bytes)?;
-    for row in rows {
-        put_row2(&mut bytes, &row.key, 1, &row.value)?;
-    }
-    tell(rt, "checkpoint", bytes.len(), &watch)?;
-    let watch = Watch::start(rt)?;
-    let read = rows_in(rt.alloc(), 2, 1, &bytes).is_ok();
-    tell(rt, "checkpoint_read", bytes.len(), &watch)?;
-    Ok(read)
+    time_write(rt, &mut bytes, rows)?;
+    time_read(rt, &bytes)
 }
 
 /// Prints how many bytes there are of redo and of a checkpoint, and how many are dealt with in a second.

@@ -1,10 +1,20 @@
 //! What stores of rows have in common.
 use frag_store::Store;
 use sig_core::{HashedKey, Key, NoMemory, Rows, TxId, Value};
+use std::alloc::Global;
 use std::collections::{BTreeMap, HashMap};
 
+/// The transaction that takes rows out.
+const TX: TxId = TxId {
+    tc: 1,
+    start: 0,
+    seq: 1,
+};
+
 /// Values by keys.
-pub trait RowMap {
+pub trait RowMap: Drop {
+    fn empty(alloc: Global) -> Result<Self, NoMemory>;
+
     fn put(&mut self, key: &Key, value: &Value) -> Result<(), NoMemory>;
 
     fn find(&self, key: &Key) -> Option<Value>;
@@ -13,6 +23,10 @@ pub trait RowMap {
 }
 
 impl RowMap for BTreeMap<Key, Value> {
+    fn empty(alloc: Global) -> Result<BTreeMap<Key, Value>, NoMemory> {
+        Ok(BTreeMap::new(alloc))
+    }
+
     fn put(&mut self, key: &Key, value: &Value) -> Result<(), NoMemory> {
         self.insert(*key, *value)?;
         Ok(())
@@ -29,6 +43,10 @@ impl RowMap for BTreeMap<Key, Value> {
 }
 
 impl RowMap for HashMap<Key, Value> {
+    fn empty(alloc: Global) -> Result<HashMap<Key, Value>, NoMemory> {
+        Ok(HashMap::new(alloc))
+    }
+
     fn put(&mut self, key: &Key, value: &Value) -> Result<(), NoMemory> {
         self.insert(*key, *value)?;
         Ok(())
@@ -45,6 +63,10 @@ impl RowMap for HashMap<Key, Value> {
 }
 
 impl RowMap for Store {
+    fn empty(alloc: Global) -> Result<Store, NoMemory> {
+        Store::new(alloc)
+    }
+
     fn put(&mut self, key: &Key, value: &Value) -> Result<(), NoMemory> {
         self.put_row(key, value, 1)
     }
@@ -54,16 +76,15 @@ impl RowMap for Store {
     }
 
     fn take_out(&mut self, key: &Key) -> Result<(), NoMemory> {
-        // By a transaction, which commits and is done.
-        let tx = TxId {
-            tc: 1,
-            start: 0,
-            seq: 1,
-        };
         self.make_room(&HashedKey::new(key))?;
-        let _answer = self.prepare_image(tx, key, &None);
-        self.commit(tx, key, 2);
-        self.complete(tx, key);
+        let _answer = self.prepare_image(TX, key, &None);
+        end(self, key);
         Ok(())
     }
+}
+
+// The transaction that takes rows out commits and is done.
+fn end(rows: &mut Store, key: &Key) {
+    rows.commit(TX, key, 2);
+    rows.complete(TX, key);
 }

@@ -64,24 +64,48 @@ fn time<M: RowMap>(
     taken: &mut Taken,
 ) -> Result<bool, Fail> {
     let value = Value::new(b"a-value")?;
+    let put = time_put(rt, rows, keys, &value)?;
+    let (found, find) = time_find(rt, rows, keys)?;
+    let take_out = time_take_out(rt, rows, keys)?;
+    taken.put = taken.put.saturating_add(put);
+    taken.find = taken.find.saturating_add(find);
+    taken.take_out = taken.take_out.saturating_add(take_out);
+    Ok(found == keys.len() as u64)
+}
+
+// All rows are put in, in so many nanoseconds.
+fn time_put<M: RowMap>(
+    rt: &HostRuntime,
+    rows: &mut M,
+    keys: &[Key],
+    value: &Value,
+) -> Result<u64, Fail> {
     let watch = Watch::start(rt)?;
     for key in keys {
-        rows.put(key, &value)?;
+        rows.put(key, value)?;
     }
-    taken.put = taken.put.saturating_add(watch.nanoseconds(rt)?);
+    watch.nanoseconds(rt)
+}
+
+// So many rows are found, in so many nanoseconds.
+fn time_find<M: RowMap>(rt: &HostRuntime, rows: &M, keys: &[Key]) -> Result<(u64, u64), Fail> {
     let watch = Watch::start(rt)?;
     let found = found(rows, keys);
-    taken.find = taken.find.saturating_add(watch.nanoseconds(rt)?);
+    Ok((found, watch.nanoseconds(rt)?))
+}
+
+// All rows are taken out, in so many nanoseconds.
+fn time_take_out<M: RowMap>(rt: &HostRuntime, rows: &mut M, keys: &[Key]) -> Result<u64, Fail> {
     let watch = Watch::start(rt)?;
     for key in keys {
         rows.take_out(key)?;
     }
-    taken.take_out = taken.take_out.saturating_add(watch.nanoseconds(rt)?);
-    Ok(found == keys.len() as u64)
+    watch.nanoseconds(rt)
 }
 
-fn tell(rt: &HostRuntime, name: &str, count: u64, filled: u64, taken: &Taken) -> Result<(), Fail> {
-    let all = count.saturating_mul(filled);
+// Prints how many insertions, look-ups and deletions a store of so many rows did in a second.
+fn tell(rt: &HostRuntime, name: &str, count: u64, taken: &Taken) -> Result<(), Fail> {
+    let all = count.saturating_mul(fillings(count));
     let put = a_second(all, taken.put);
     let find = a_second(all, taken.find);
     let take_out = a_second(all, taken.take_out);
@@ -89,28 +113,37 @@ fn tell(rt: &HostRuntime, name: &str, count: u64, filled: u64, taken: &Taken) ->
     Ok(())
 }
 
+// How often a store of so many rows is filled.
+fn fillings(count: u64) -> u64 {
+    (LEAST / count.max(1)).saturating_add(1)
+}
+
+const NOTHING: Taken = Taken {
+    put: 0,
+    find: 0,
+    take_out: 0,
+};
+
+// Prints how fast a store of this kind is, and tells whether it found all rows.
+fn time_kind<M: RowMap>(rt: &HostRuntime, name: &str, keys: &[Key]) -> Result<bool, Fail> {
+    let count = keys.len() as u64;
+    let mut taken = NOTHING;
+    for _ in 0..fillings(count) {
+        let mut rows = M::empty(rt.alloc())?;
+        if !time(rt, &mut rows, keys, &mut taken)? {
+            return Ok(false);
+        }
+    }
+    tell(rt, name, count, &taken)?;
+    Ok(true)
+}
+
 /// Prints for each store, by its number of rows, how many insertions, look-ups and deletions it does in a
 /// second.
 pub fn time_all(rt: &HostRuntime, count: u64) -> Result<bool, Fail> {
     let keys = keys_of(rt.alloc(), count)?;
-    let filled = LEAST / count.max(1) + 1;
-    let mut all_found = true;
-    let none = Taken {
-        put: 0,
-        find: 0,
-        take_out: 0,
-    };
-    let (mut store, mut sorted, mut hashed) = (none, none, none);
-    for _ in 0..filled {
-        let mut rows = Store::new(rt.alloc())?;
-        all_found = all_found && time(rt, &mut rows, &keys, &mut store)?;
-        let mut rows = BTreeMap::new(rt.alloc());
-        all_found = all_found && time(rt, &mut rows, &keys, &mut sorted)?;
-        let mut rows = HashMap::new(rt.alloc());
-        all_found = all_found && time(rt, &mut rows, &keys, &mut hashed)?;
-    }
-    tell(rt, "frag_store", count, filled, &store)?;
-    tell(rt, "BTreeMap", count, filled, &sorted)?;
-    tell(rt, "HashMap", count, filled, &hashed)?;
-    Ok(all_found)
+    let store = time_kind::<Store>(rt, "frag_store", &keys)?;
+    let sorted = time_kind::<BTreeMap<Key, Value>>(rt, "BTreeMap", &keys)?;
+    let hashed = time_kind::<HashMap<Key, Value>>(rt, "HashMap", &keys)?;
+    Ok(store && sorted && hashed)
 }
