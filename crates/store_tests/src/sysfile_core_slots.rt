@@ -53,6 +53,25 @@ fn slots_are_these_bytes(rt: HostRuntime) {
     assert_eq!(rt; control_bytes(&control()), CONTROL);
 }
 
+// Whether the system slot is read so.
+fn has_system(disk: &mut MemDisk, slot: Option<SystemSlot>) -> bool {
+    read_system(disk) == Ok(slot)
+}
+
+// Whether the control slot of a generation is read so.
+fn has_control(disk: &mut MemDisk, generation: u64, slot: Option<ControlSlot>) -> bool {
+    read_control(disk, generation) == Ok(slot)
+}
+
+// Writes the system slot of an epoch, at the place of this number, 0 or 1, and says whether that was done.
+fn writes_system(disk: &mut MemDisk, which: u8, epoch: u64) -> bool {
+    which <= 1 && write_slot(disk, SYSTEM_FILE, which, &system_bytes(&system(epoch))).is_ok()
+}
+
+fn writes_control(disk: &mut MemDisk) -> bool {
+    write_slot(disk, CONTROL_FILE, 1, &control_bytes(&control())).is_ok()
+}
+
 // A disk whose calls from this one on fail, until power is cut, and whose crashes these two picks
 // decide in turn.
 fn disk_of(rt: &HostRuntime, pass: u64, picks: [u8; 2]) -> Result<MemDisk, Fail> {
@@ -66,14 +85,16 @@ fn disk_of(rt: &HostRuntime, pass: u64, picks: [u8; 2]) -> Result<MemDisk, Fail>
 #[test]
 fn what_is_written_is_read(rt: HostRuntime) -> Result<(), Fail> {
     let mut disk = disk_of(&rt, 100, [0, 0])?;
-    assert_eq!(rt; read_system(&mut disk), Ok(None));
-    assert_eq!(rt; read_control(&mut disk, 1), Ok(None));
-    assert!(rt; write_slot(&mut disk, SYSTEM_FILE, 0, &system_bytes(&system(5))).is_ok());
-    assert!(rt; write_slot(&mut disk, CONTROL_FILE, 1, &control_bytes(&control())).is_ok());
-    assert_eq!(rt; read_system(&mut disk), Ok(Some(system(5))));
-    assert_eq!(rt; read_control(&mut disk, 1), Ok(Some(control())));
-    assert_eq!(rt; read_control(&mut disk, 2), Ok(None));
+    assert!(rt; has_system(&mut disk, None) && has_control(&mut disk, 1, None));
+    assert!(rt; writes_system(&mut disk, 0, 5) && writes_control(&mut disk));
+    assert!(rt; has_system(&mut disk, Some(system(5))));
+    assert!(rt; has_control(&mut disk, 1, Some(control())));
+    assert!(rt; has_control(&mut disk, 2, None));
     Ok(())
+}
+
+fn writes(disk: &mut MemDisk, file: u8, at: u64, bytes: &[u8]) -> bool {
+    disk.write(file, at, bytes).is_ok()
 }
 
 // A disk with these bytes in a file, and then another byte at a place.
@@ -85,10 +106,11 @@ fn disk_with(
     byte: &[u8],
 ) -> Result<MemDisk, Fail> {
     let mut disk = disk_of(rt, 100, [0, 0])?;
-    if disk.write(file, 0, slot).is_err() || disk.write(file, at, byte).is_err() {
-        return Err(Fail::from("the bytes are written"));
+    if writes(&mut disk, file, 0, slot) && writes(&mut disk, file, at, byte) {
+        Ok(disk)
+    } else {
+        Err(Fail::from("the bytes are written"))
     }
-    Ok(disk)
 }
 
 // The place at which a slot was found damaged.
@@ -120,24 +142,38 @@ fn system_damage(at: u64, byte: u8) -> Option<u64> {
     }
 }
 
+// What is read where another byte stands at a place of the system slot.
+fn system_with(
+    rt: &HostRuntime,
+    at: u64,
+    byte: u8,
+) -> Result<Result<Option<SystemSlot>, ReadFault>, Fail> {
+    let mut disk = disk_with(rt, SYSTEM_FILE, &SYSTEM, at, &[byte])?;
+    Ok(read_system(&mut disk))
+}
+
+// The first byte at a place of the system slot that isn't told as it is to be.
+fn wrong_in_system(rt: &HostRuntime, at: u64) -> Result<Option<u8>, Fail> {
+    for byte in 0..=255u8 {
+        if damage_of(&system_with(rt, at, byte)?) != system_damage(at, byte) {
+            return Ok(Some(byte));
+        }
+    }
+    Ok(None)
+}
+
 #[test]
 fn each_changed_byte_of_a_system_slot_is_named(rt: HostRuntime) -> Result<(), Fail> {
     for at in 1..24u64 {
-        for byte in 0..=255u8 {
-            let mut disk = disk_with(&rt, SYSTEM_FILE, &SYSTEM, at, &[byte])?;
-            let read = read_system(&mut disk);
-            assert_eq!(rt; damage_of(&read), system_damage(at, byte), "{at} {byte}");
-        }
+        assert_eq!(rt; wrong_in_system(&rt, at)?, None, "{at}");
     }
-    let mut disk = disk_with(&rt, SYSTEM_FILE, &SYSTEM, 5, &[9])?;
     let damaged = ReadFault::Damaged {
         file: 0,
         at: 5,
         byte: 9,
     };
-    assert_eq!(rt; read_system(&mut disk), Err(damaged));
-    let mut disk = disk_with(&rt, SYSTEM_FILE, &SYSTEM, 0, &[0])?;
-    assert_eq!(rt; read_system(&mut disk), Ok(None));
+    assert!(rt; system_with(&rt, 5, 9)? == Err(damaged));
+    assert!(rt; system_with(&rt, 0, 0)? == Ok(None));
     Ok(())
 }
 
@@ -159,29 +195,54 @@ fn control_damage(at: u64, byte: u8) -> Option<u64> {
     }
 }
 
+// What is read where another byte stands at a place of the control slot.
+fn control_with(
+    rt: &HostRuntime,
+    at: u64,
+    byte: u8,
+) -> Result<Result<Option<ControlSlot>, ReadFault>, Fail> {
+    let mut disk = disk_with(rt, CONTROL_FILE, &CONTROL, at, &[byte])?;
+    Ok(read_control(&mut disk, 1))
+}
+
+// The first byte at a place of the control slot that isn't told as it is to be.
+fn wrong_in_control(rt: &HostRuntime, at: u64) -> Result<Option<u8>, Fail> {
+    for byte in 0..=255u8 {
+        if damage_of(&control_with(rt, at, byte)?) != control_damage(at, byte) {
+            return Ok(Some(byte));
+        }
+    }
+    Ok(None)
+}
+
 #[test]
 fn each_changed_byte_of_a_control_slot_is_named(rt: HostRuntime) -> Result<(), Fail> {
     for at in 1..56u64 {
-        for byte in 0..=255u8 {
-            let mut disk = disk_with(&rt, CONTROL_FILE, &CONTROL, at, &[byte])?;
-            let read = read_control(&mut disk, 1);
-            assert_eq!(rt; damage_of(&read), control_damage(at, byte), "{at} {byte}");
-        }
+        assert_eq!(rt; wrong_in_control(&rt, at)?, None, "{at}");
     }
-    let mut disk = disk_with(&rt, CONTROL_FILE, &CONTROL, 0, &[0])?;
-    assert_eq!(rt; read_control(&mut disk, 1), Ok(None));
+    assert!(rt; control_with(&rt, 0, 0)? == Ok(None));
     Ok(())
+}
+
+// Whether none is read of the first bytes of the system slot.
+fn is_no_system(rt: &HostRuntime, bytes: &[u8]) -> Result<bool, Fail> {
+    let mut disk = disk_with(rt, SYSTEM_FILE, bytes, 0, &[])?;
+    Ok(has_system(&mut disk, None))
+}
+
+// Whether none is read of the first bytes of the control slot.
+fn is_no_control(rt: &HostRuntime, bytes: &[u8]) -> Result<bool, Fail> {
+    let mut disk = disk_with(rt, CONTROL_FILE, bytes, 0, &[])?;
+    Ok(has_control(&mut disk, 1, None))
 }
 
 #[test]
 fn a_slot_that_is_cut_short_is_none(rt: HostRuntime) -> Result<(), Fail> {
     for len in 0..24 {
-        let mut disk = disk_with(&rt, SYSTEM_FILE, &SYSTEM[..len], 0, &[])?;
-        assert_eq!(rt; read_system(&mut disk), Ok(None));
+        assert!(rt; is_no_system(&rt, &SYSTEM[..len])?, "{len}");
     }
     for len in 0..56 {
-        let mut disk = disk_with(&rt, CONTROL_FILE, &CONTROL[..len], 0, &[])?;
-        assert_eq!(rt; read_control(&mut disk, 1), Ok(None));
+        assert!(rt; is_no_control(&rt, &CONTROL[..len])?, "{len}");
     }
     Ok(())
 }
@@ -191,12 +252,7 @@ fn a_slot_that_is_cut_short_is_none(rt: HostRuntime) -> Result<(), Fail> {
 fn epoch_left(rt: &HostRuntime, pass: u64, picks: [u8; 2]) -> Result<u64, Fail> {
     let mut disk = disk_of(rt, pass, picks)?;
     for epoch in 4..7u64 {
-        let _ = write_slot(
-            &mut disk,
-            SYSTEM_FILE,
-            (epoch % 2) as u8,
-            &system_bytes(&system(epoch)),
-        );
+        writes_system(&mut disk, (epoch % 2) as u8, epoch);
     }
     disk.cut_power();
     match read_system(&mut disk) {
@@ -205,15 +261,19 @@ fn epoch_left(rt: &HostRuntime, pass: u64, picks: [u8; 2]) -> Result<u64, Fail> 
     }
 }
 
+// Whether the last slot that was written is left where calls failed from this one on, or the next one,
+// which was opened. Each write reads the gate, and makes six calls.
+fn leaves_a_slot(rt: &HostRuntime, pass: u64, picks: [u8; 2]) -> Result<bool, Fail> {
+    let left = epoch_left(rt, pass, picks)?;
+    let written = (pass / 7).saturating_add(3);
+    Ok(left == written || 5 <= pass % 7 && left == written.saturating_add(1))
+}
+
 #[test]
 fn a_stop_at_any_call_leaves_a_slot(rt: HostRuntime) -> Result<(), Fail> {
-    // each write reads the gate, and makes six calls
     for pass in 7..22u64 {
-        let written = 3 + pass / 7;
         for picks in [[0, 0], [255, 255], [0, 255], [0x4e, 0x4e]] {
-            let left = epoch_left(&rt, pass, picks)?;
-            let opened = 5 <= pass % 7 && left == written + 1;
-            assert!(rt; left == written || opened, "{pass}");
+            assert!(rt; leaves_a_slot(&rt, pass, picks)?, "{pass}");
         }
     }
     Ok(())
