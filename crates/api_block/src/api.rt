@@ -40,7 +40,7 @@ impl Model for Api {
 impl Api {
     ghost use Rattle.api_block.specs.Api.{request_row};
     ghost use Rattle.api_block.specs.Opened.{is_left_open, own_place};
-    ghost use Rattle.api_block.specs.State.{about, idle, refused, replied, with_replies};
+    ghost use Rattle.api_block.specs.State.{about, changing, idle, refused, replied, with_replies};
 
     /// An API that was asked for nothing.
     ///
@@ -128,6 +128,15 @@ impl Api {
         ensures { IfOk result (λ t. slice_get self.now.opened at ≡ Some t) }
     {
         self.opened[at].share()
+    }
+
+    /// The transaction at a place is this one from now on.
+    #[inline(always)]
+    pub(crate) fn put(&mut self, at: usize, t: OpenTransaction)
+        requires { at < length self.old.opened }
+        ensures { self.new ≡ changing self.old at t }
+    {
+        self.opened[at] = t;
     }
 
     /// Adds a reply behind the others.

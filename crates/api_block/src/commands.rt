@@ -91,7 +91,7 @@ impl Api {
         match place_named(self.opened.as_slice(), Some(name)) {
             Some(at) => {
                 let t = self.opened_at(at)?;
-                self.commit_at(name, at, t, out)
+                self.commit_at(name, at, &t, out)
             }
             None => self.refuse(Some(name), Refusal::NotOpen),
         }
@@ -102,17 +102,17 @@ impl Api {
         &mut self,
         name: u16,
         at: usize,
-        t: OpenTransaction,
+        t: &OpenTransaction,
         out: &mut Outs,
     ) -> Result<(), NoMemory>
         requires place { at < length self.old.opened }
         requires room { HasRoom out.old }
-        ensures ok { OnOk result (IsTaken (commit_by self.old name at t t.doing t.tx) self.new out.old out.new) }
+        ensures ok { OnOk result (IsTaken (commit_by self.old name at t.now t.now.doing t.now.tx) self.new out.old out.new) }
         ensures err { OnErr result (IsUntouched self.old self.new out.old out.new) }
     {
         match (&t.doing, t.tx) {
             (Doing::Ready, Some(tx)) => {
-                self.opened[at] = t.committing();
+                self.put(at, t.committing());
                 self.own = Some(at);
                 out.send(
                     coordinator_of(tx),

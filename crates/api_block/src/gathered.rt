@@ -58,10 +58,28 @@ impl GatheredRows {
         ensures { IfOk result (λ rows. rows.items ≡ gathered self.now last.now) }
     {
         let mut rows = BTreeMap::new(alloc);
-        insert_all(&mut rows, self.rows.as_slice())?;
-        insert_all(&mut rows, last)?;
-        Ok(rows.into_iter().collect(alloc)?)
+        insert_both(&mut rows, self.rows.as_slice(), last)?;
+        in_order(alloc, rows)
     }
+}
+
+// The rows of a map, in its order.
+fn in_order(alloc: Global, rows: BTreeMap<Key, Value>) -> Result<Vec<(Key, Value)>, NoMemory>
+    ensures { IfOk result (λ list. list.items ≡ rows.entries) }
+{
+    Ok(rows.into_iter().collect(alloc)?)
+}
+
+// Inserts the rows of one list, and then those of another.
+fn insert_both(
+    map: &mut BTreeMap<Key, Value>,
+    rows: &[(Key, Value)],
+    last: &[(Key, Value)],
+) -> Result<(), NoMemory>
+    ensures { OnOk result (map.new.entries ≡ gathered (gathered map.old.entries rows.now) last.now) }
+{
+    insert_all(map, rows)?;
+    insert_all(map, last)
 }
 
 // Inserts rows, each in place of the one that its key had.

@@ -47,7 +47,7 @@ impl Api {
         match place_named(self.opened.as_slice(), Some(name)) {
             Some(at) => {
                 let t = self.opened_at(at)?;
-                self.operate_at(name, op, at, t, out)
+                self.operate_at(name, op, at, &t, out)
             }
             None => self.refuse(Some(name), Refusal::NotOpen),
         }
@@ -59,18 +59,18 @@ impl Api {
         name: u16,
         op: &HeldOp,
         at: usize,
-        t: OpenTransaction,
+        t: &OpenTransaction,
         out: &mut Outs,
     ) -> Result<(), NoMemory>
         requires place { at < length self.old.opened }
         requires room { HasRoom out.old }
-        ensures ok { OnOk result (IsTaken (operate_by self.old name op.now at t t.doing t.tx) self.new out.old out.new) }
+        ensures ok { OnOk result (IsTaken (operate_by self.old name op.now at t.now t.now.doing t.now.tx) self.new out.old out.new) }
         ensures err { OnErr result (IsUntouched self.old self.new out.old out.new) }
     {
         match (&t.doing, t.tx) {
             (Doing::Ready, Some(tx)) if t.operations < OPERATIONS => {
                 let op = op.share()?;
-                self.opened[at] = t.operating();
+                self.put(at, t.operating());
                 self.own = Some(at);
                 send_operation(tx, op, out);
                 Ok(())
@@ -99,7 +99,7 @@ impl Api {
         match place_beginning_at(self.opened.as_slice(), name, tx.tc) {
             Some(at) => {
                 let t = self.opened_at(at)?;
-                self.begun_at(tx, at, t, out)
+                self.begun_at(tx, at, &t, out)
             }
             None => Ok(()),
         }
@@ -110,28 +110,28 @@ impl Api {
         &mut self,
         tx: TxId,
         at: usize,
-        t: OpenTransaction,
+        t: &OpenTransaction,
         out: &mut Outs,
     ) -> Result<(), NoMemory>
         requires place { at < length self.old.opened }
         requires room { HasRoom out.old }
-        ensures ok { OnOk result (IsTaken (begun_by self.old tx at t t.name t.doing) self.new out.old out.new) }
+        ensures ok { OnOk result (IsTaken (begun_by self.old tx at t.now t.now.name t.now.doing) self.new out.old out.new) }
         ensures err { OnErr result (IsUntouched self.old self.new out.old out.new) }
     {
         match (t.name, &t.doing) {
             (Some(name), _) => {
                 self.reply(ApiReply::Begun { name, node: tx.tc })?;
-                self.opened[at] = t.begun(tx);
+                self.put(at, t.begun(tx));
                 Ok(())
             }
             (None, Doing::Beginning(Some(op))) => {
                 let op = op.share()?;
-                self.opened[at] = t.begun_operating(tx);
+                self.put(at, t.begun_operating(tx));
                 send_operation(tx, op, out);
                 Ok(())
             }
             _ => {
-                self.opened[at] = t.begun(tx);
+                self.put(at, t.begun(tx));
                 Ok(())
             }
         }
@@ -156,7 +156,7 @@ impl Api {
         match place_of(self.opened.as_slice(), tx) {
             Some(at) => {
                 let t = self.opened_at(at)?;
-                self.answer_at(tx, answer, at, t, out)
+                self.answer_at(tx, answer, at, &t, out)
             }
             None => Ok(()),
         }
@@ -168,24 +168,24 @@ impl Api {
         tx: TxId,
         answer: &HeldAnswer,
         at: usize,
-        t: OpenTransaction,
+        t: &OpenTransaction,
         out: &mut Outs,
     ) -> Result<(), NoMemory>
         requires place { at < length self.old.opened }
         requires room { HasRoom out.old }
-        ensures ok { OnOk result (IsTaken (answer_by self.old tx answer.now at t t.doing t.name) self.new out.old out.new) }
+        ensures ok { OnOk result (IsTaken (answer_by self.old tx answer.now at t.now t.now.doing t.now.name) self.new out.old out.new) }
         ensures err { OnErr result (IsUntouched self.old self.new out.old out.new) }
     {
         let (name, answer) = (t.name, answer.get());
         match (&t.doing, name) {
             (Doing::Operating, Some(_)) => {
                 self.reply(ApiReply::Answered { name, answer })?;
-                self.opened[at] = t.ready();
+                self.put(at, t.ready());
                 Ok(())
             }
             (Doing::Operating, None) => {
                 self.reply(ApiReply::Answered { name, answer })?;
-                self.opened[at] = t.ready_to_commit();
+                self.put(at, t.ready_to_commit());
                 out.send(
                     coordinator_of(tx),
                     Body::Client(ClientSignal::TcCommitReq { tx }),

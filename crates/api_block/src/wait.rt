@@ -33,7 +33,7 @@ impl Api {
         ensures { IsTaken (waits_if self.old at t (is_unanswered t.doing) t.tx) self.new out.old out.new }
     {
         if let (true, Some(tx)) = (is_unanswered(&t.doing), t.tx) {
-            self.opened[at] = t.behind(None);
+            self.put(at, t.behind(None));
             out.send(
                 coordinator_of(tx),
                 Body::Client(ClientSignal::TcWaitReq { tx }),
