@@ -1,13 +1,16 @@
 //! Requests, and the locks that they wait for.
 ghost use Rattle.std.specs.Prelude.{◌≡◌, ◌<◌, IfOk, OnOk, OnErr, length, nat_lt, remove, slice_get};
+ghost use Rattle.std.specs.FinMap as map;
+ghost use Rattle.row_locks.specs.Tables.{asked_at};
 ghost use Rattle.sig_core.specs.declared.signal.host.Work.TheVariants as work;
 ghost use Rattle.sig_core.specs.Step.{HasRoom, IsTaken, IsUntouched, and_send, joined, sends_only};
 ghost use Rattle.lqh_block.specs.Operate.{first_granted, granted_on, granted_row, is_granted, more_granted};
 ghost use Rattle.lqh_block.specs.Operate.{request_row};
 ghost use Rattle.lqh_block.specs.State.{go_on, go_on_if, with_waiting};
+ghost use Rattle.lqh_block.specs.Work.{work_mode};
+ghost use Rattle.sig_core.specs.Work.{work_key};
 
 use crate::lqh::Lqh;
-use crate::ready::Ready;
 use crate::request::Request;
 use crate::work::work_mode;
 use row_locks::{Lock, LockTable};
@@ -31,13 +34,10 @@ impl<R: Rows, J: Journal> Lqh<R, J> {
         ensures ok { OnOk result (IsTaken (request_row self.old request) self.new out.old out.new) }
         ensures err { OnErr result (IsUntouched self.old self.new out.old out.new) }
     {
-        self.storage.make_room(&request)?;
         self.waiting.reserve(1)?;
-        let ready = Ready::new(alloc, &self.storage.rows, &request)?;
-        let key = request.work.key();
-        let mode = work_mode(&request.work);
+        let ready = self.storage.get_ready(alloc, &request)?;
         let fragment = self.layout.frag_for(&request.work);
-        match self.locks.request(request.tx, key, mode)? {
+        match ask_lock(&mut self.locks, &request)? {
             Lock::Granted => self.storage.perform(&request, ready, fragment, out),
             Lock::Queued { ahead: _ } => self.waiting.push_reserved(request),
         }
@@ -88,8 +88,7 @@ impl<R: Rows, J: Journal> Lqh<R, J> {
         ensures ok { OnOk result (IsTaken (granted_on (with_waiting self.old (remove self.old.waiting at)) request.now) self.new out.old out.new) }
         ensures err { OnErr result (IsUntouched self.old self.new out.old out.new) }
     {
-        self.storage.make_room(request)?;
-        let ready = Ready::new(alloc, &self.storage.rows, request)?;
+        let ready = self.storage.get_ready(alloc, request)?;
         self.waiting.remove(at);
         let fragment = self.layout.frag_for(&request.work);
         self.storage.perform(request, ready, fragment, out);
@@ -116,6 +115,16 @@ impl<R: Rows, J: Journal> Lqh<R, J> {
             .iter()
             .position(|request| is_granted(locks, request))
     }
+}
+
+// Asks for the lock of a request's key.
+#[inline(always)]
+fn ask_lock(locks: &mut LockTable, request: &Request) -> Result<Lock, NoMemory>
+    ensures answer { IfOk result (λ answer. answer ≡ (asked_at locks.old (work_key request.now.work) request.now.tx (work_mode request.now.work)).answer) }
+    ensures ok { OnOk result (locks.new ≡ map.insert locks.old (work_key request.now.work) (asked_at locks.old (work_key request.now.work) request.now.tx (work_mode request.now.work)).lock) }
+    ensures err { OnErr result (locks.new ≡ locks.old) }
+{
+    locks.request(request.tx, request.work.key(), work_mode(&request.work))
 }
 
 // Whether the request doesn't wait in the queue of its key any more.

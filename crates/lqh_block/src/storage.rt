@@ -1,5 +1,5 @@
 //! The rows of a node and its journal: what is prepared, committed and given up.
-ghost use Rattle.std.specs.Prelude.{◌≡◌, ◌+◌, ◌<◌, ◌≤◌, OnOk, Some, false, length};
+ghost use Rattle.std.specs.Prelude.{◌≡◌, ◌+◌, ◌<◌, ◌≤◌, IfOk, OnOk, Some, false, length};
 ghost use Rattle.sig_core.specs.declared.signal.chain.RowWork.TheVariants.{Store};
 ghost use Rattle.sig_core.specs.Journal.{appending};
 ghost use Rattle.sig_core.specs.Rows.{complete_record, record_state};
@@ -17,6 +17,7 @@ use sig_core::{
     Mark, NoMemory, Outs, Redo, Rows, RowsFault, TxId, Value, commit_size, coordinator_of,
     prepare_size, rows_of,
 };
+use std::alloc::Global;
 
 /// The rows of a node, and its journal, which keeps as many bytes free as the ends of all prepared
 /// records will need.
@@ -42,6 +43,21 @@ impl<R: Rows, J: Journal> Storage<R, J> {
         let need = need_of(request.tx, key, &request.work.image());
         self.journal.make_room(need)?;
         Ok(())
+    }
+
+    /// Makes all that it takes to perform a request: the memory, and what it answers or passes on.
+    ///
+    /// # Errors
+    /// `NoMemory`.
+    #[inline(always)]
+    pub fn get_ready(&mut self, alloc: Global, request: &Request) -> Result<Ready, NoMemory>
+        ensures rows { OnOk result (R.has_room self.new.rows (work_key request.now.work)) }
+        ensures journal { OnOk result (J.has_room self.new.journal (need_of request.now.tx (work_key request.now.work) (work_image request.now.work))) }
+        ensures ready { IfOk result (IsReady (R.state_of self.new.rows) request.now) }
+        ensures same { storage (R.state_of self.new.rows) (J.used_of self.new.journal) ≡ storage (R.state_of self.old.rows) (J.used_of self.old.journal) }
+    {
+        self.make_room(request)?;
+        Ready::new(alloc, &self.rows, request)
     }
 
     /// Performs a request whose lock is granted, in memory that was made for it. The journal is told
