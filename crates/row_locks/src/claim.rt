@@ -7,14 +7,14 @@ use crate::mode::Mode;
 use sig_core::TxId;
 
 /// A transaction that holds a lock.
-#[derive(Clone, Copy, Debug, PartialEq, Eq)]
+#[derive(Clone, Copy)]
 pub struct Holder {
     pub tx: TxId,
     pub mode: Mode,
 }
 
 /// A transaction that waits for a lock.
-#[derive(Clone, Copy, Debug, PartialEq, Eq)]
+#[derive(Clone, Copy)]
 pub struct Wait {
     pub tx: TxId,
     pub mode: Mode,

@@ -213,6 +213,17 @@ fn request_first(
 {
     let mut row = Row::new(alloc);
     let lock = row.request(tx, mode)?;
-    rows.insert(*key, row)?;
+    store(rows, key, row)?;
     Ok(lock)
+}
+
+// The lock of the key is this one from now on.
+#[inline(always)]
+#[tactic(auto, using(crate::proofs::LocksLemmas::locks))]
+fn store(rows: &mut BTreeMap<Key, Row>, key: &Key, row: Row) -> Result<(), NoMemory>
+    ensures ok { OnOk result (locks_of rows.new ≡ map.insert (locks_of rows.old) key.now row) }
+    ensures err { OnErr result (locks_of rows.new ≡ locks_of rows.old) }
+{
+    rows.insert(*key, row)?;
+    Ok(())
 }
