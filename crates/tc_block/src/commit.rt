@@ -115,7 +115,18 @@ fn shared(
 {
     let mut shared = Vec::with_capacity(alloc, ops.len())?;
     for (op, answer) in ops {
-        shared.push((op.share()?, answer.share()?))?;
+        shared.push(share_both(op, answer)?)?;
     }
     Ok(Seq::from_vec(shared))
+}
+
+/// An operation and its answer, held once more.
+///
+/// # Errors
+/// `NoMemory` where one of them is held 2^63 - 1 times.
+#[inline(always)]
+pub fn share_both(op: &HeldOp, answer: &HeldAnswer) -> Result<(HeldOp, HeldAnswer), NoMemory>
+    ensures { IfOk result (λ both. both ≡ (op.now, answer.now)) }
+{
+    Ok((op.share()?, answer.share()?))
 }

@@ -5,6 +5,7 @@ ghost use Rattle.tc_block.specs.Operate.{answer_row, answered, asked_on, can_ope
 ghost use Rattle.tc_block.specs.Operate.{operate_row, wait_row};
 ghost use Rattle.sig_core.specs.Step.{HasRoom, IsTaken, IsUntouched};
 
+use crate::commit::share_both;
 use crate::phase::{Asked, Phase};
 use crate::sends::{send_aborts, send_waits};
 use crate::touched::same_key;
@@ -129,7 +130,7 @@ impl Transaction {
         let Some(asked) = &self.asked else {
             return Ok(());
         };
-        self.ops.push((asked.op.share()?, answer.share()?))?;
+        self.ops.push(share_both(&asked.op, answer)?)?;
         if let Answer::Done = answer.get() {
             self.touched.write(asked.op.get().key(), &asked.chain);
         }
