@@ -1,5 +1,5 @@
 //! Promises: a node promises one set for each number, and its fences are up before it says so.
-ghost use Rattle.std.specs.Prelude.{◌≡◌, ◌≤◌, ◌<◌, IfOk, IfSome, length, position, [], ◌∷◌};
+ghost use Rattle.std.specs.Prelude.{◌≡◌, ◌≤◌, ◌<◌, ◌++◌, IfOk, IfSome, OnOk, length, position, [], ◌∷◌};
 ghost use Rattle.qmgr_block.specs.Promise.{fence_of, fences, is_fenced, is_ldm, less, may_promise, promising};
 ghost use Rattle.qmgr_block.specs.Promise.{refusal_of, waiting_promise, waits_for, with_absent};
 
@@ -85,20 +85,21 @@ pub fn fences(alloc: Global, node: u8, set: &Held<View>) -> Result<Vec<Outgoing>
     ensures value { IfOk result (λ sends. sends.items ≡ fences node set.now) }
     ensures few { IfOk result (λ sends. length sends.items ≤ 3) }
 {
-    let tc = fence(coordinator(node), set)?;
-    let dih = fence(epochs(node), set)?;
-    let lqh = fence(rows_of(node), set)?;
-    let sends = Vec::from_array(alloc, [tc, dih, lqh])?;
+    let mut sends = Vec::new(alloc);
+    add_fence(coordinator(node), set, &mut sends)?;
+    add_fence(epochs(node), set, &mut sends)?;
+    add_fence(rows_of(node), set, &mut sends)?;
     Ok(sends)
 }
 
-// A block is told to raise its fence.
-fn fence(to: Place, set: &Held<View>) -> Result<Outgoing, NoMemory>
-    ensures { IfOk result (λ send. send ≡ fence_of to set.now) }
+// A block is told to raise its fence, behind what is sent so far.
+fn add_fence(to: Place, set: &Held<View>, sends: &mut Vec<Outgoing>) -> Result<(), NoMemory>
+    ensures { OnOk result (sends.new.items ≡ sends.old.items ++ fence_of to set.now ∷ []) }
 {
     let proposal = set.share()?;
     let body = Body::Membership(MembershipSignal::FenceReq { proposal });
-    Ok(Outgoing { to, body })
+    sends.push(Outgoing { to, body })?;
+    Ok(())
 }
 
 /// Where the first promise stands that waits for a block of that part.
