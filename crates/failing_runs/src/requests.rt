@@ -59,25 +59,35 @@ pub fn request_of(
     if fails && node != other {
         return Ok(ApiReq::Cut { one: node, other });
     }
-    Ok(match drawn {
+    match drawn {
+        10 | 11 | 12 | 13 => operation(alloc, dice, None, count),
+        20..=29 => operation(alloc, dice, Some(name), count),
+        drawn => Ok(command(dice, name, node, drawn)),
+    }
+}
+
+fn operation(
+    alloc: Global,
+    dice: &mut Dice,
+    name: Option<u16>,
+    count: u64,
+) -> Result<ApiReq, RunFault> {
+    let op = HeldOp::new(alloc, op_of(dice, count)?)?;
+    Ok(ApiReq::Operate { name, op })
+}
+
+// A request without an operation. Rounds come often enough that nodes which are cut off from each other
+// miss each other's heartbeats.
+fn command(dice: &mut Dice, name: u16, node: u8, drawn: u64) -> ApiReq {
+    match drawn {
         0 | 1 | 2 => ApiReq::Begin {
             name,
             node: if dice.roll(2) == 0 { Some(node) } else { None },
         },
         3 | 4 | 5 => ApiReq::Commit { name },
         6 => ApiReq::Abort { name },
-        7 => ApiReq::Tick { round: 1, of: 1 },
         8 | 18 => ApiReq::Gcp,
         9 | 19 => ApiReq::Micro,
-        10 | 11 | 12 | 13 => ApiReq::Operate {
-            name: None,
-            op: HeldOp::new(alloc, op_of(dice, count)?)?,
-        },
-        // Often enough that nodes which are cut off from each other miss each other's heartbeats.
-        14 | 15 | 16 | 17 => ApiReq::Tick { round: 1, of: 1 },
-        _ => ApiReq::Operate {
-            name: Some(name),
-            op: HeldOp::new(alloc, op_of(dice, count)?)?,
-        },
-    })
+        _ => ApiReq::Tick { round: 1, of: 1 },
+    }
 }

@@ -8,7 +8,7 @@ use crate::cluster::{ask, drive, fail_one, hear, peek_rows, rows_of, settle, tak
 use crate::fault::RunFault;
 use crate::requests::{all_keys, request_of};
 use life_judge::{Dice, NodeRows, judge};
-use sig_core::{ApiReq, NoMemory, Shape};
+use sig_core::{ApiReq, Life, NoMemory, Shape};
 use std::alloc::Global;
 use std::sync::Wait;
 use world_views::World;
@@ -28,6 +28,15 @@ const FAILING: u64 = 30;
 /// How many times fewer signals are taken after every other request, so that many are under way at once.
 const HASTE: u64 = 16;
 
+// What the nodes tell at the end of a run.
+#[derive(Drop)]
+struct Told {
+    /// The rows of each node.
+    rows: Vec<NodeRows>,
+    /// Nothing is under way any more.
+    rests: bool,
+}
+
 /// Runs a cluster at random, and judges what it did. At `fails` of a hundred requests failures begin:
 /// nodes are killed or cut from each other, and hosts stop or cut off a node by themselves.
 ///
@@ -37,19 +46,48 @@ pub fn run_one<W: Wait>(rt: &W, alloc: Global, seed: u64, fails: u64) -> Result<
     let mut dice = Dice::new(seed);
     let shape = shape_of(dice.roll(12));
     let mut world = World::new(alloc, shape, EPOCH, 0, &[])?;
-    live(rt, alloc, &mut dice, &mut world, &shape, fails)?;
-    let rests = dice.roll(3) > 0;
-    let rows = end(rt, alloc, &mut world, &shape, rests)?;
+    // It ends whatever came of it: a world that is dropped would have the check of this crate prove that all
+    // of its parts can be.
+    let told = live_to_end(rt, alloc, &mut dice, &mut world, &shape, fails);
     let life = world.end_life(alloc);
+    judge_run(alloc, &mut dice, &shape, &life, &told?)
+}
+
+// The requests of a run, and then the rows of each node.
+fn live_to_end<W: Wait>(
+    rt: &W,
+    alloc: Global,
+    dice: &mut Dice,
+    world: &mut World,
+    shape: &Shape,
+    fails: u64,
+) -> Result<Told, RunFault>
+    requires world { IsWorld (whole_of world.old) }
+    requires shape { IsShape shape.now }
+{
+    live(rt, alloc, dice, world, shape, fails)?;
+    let rests = dice.roll(3) > 0;
+    let rows = end(rt, alloc, world, shape, rests)?;
+    Ok(Told { rows, rests })
+}
+
+// Judges what the hosts did, and what the nodes told.
+fn judge_run(
+    alloc: Global,
+    dice: &mut Dice,
+    shape: &Shape,
+    life: &Life,
+    told: &Told,
+) -> Result<(), RunFault> {
     let keys = all_keys(alloc)?;
     judge(
         alloc,
-        &mut dice,
-        &life,
-        &shape,
-        rows.as_slice(),
+        dice,
+        life,
+        shape,
+        told.rows.as_slice(),
         keys.as_slice(),
-        rests,
+        told.rests,
     )?;
     Ok(())
 }

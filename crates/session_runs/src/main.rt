@@ -62,6 +62,26 @@ fn take<R: Threads + Wait + Sync>(
     }
 }
 
+/// Takes line after line of a text, and leaves the number of the last one in `at`.
+fn take_all<R: Threads + Wait + Sync>(
+    rt: &R,
+    alloc: Global,
+    input: &str,
+    at: &mut u32,
+    session: &mut Option<Session>,
+    text: &mut Vec<u8>,
+) -> Result<(), Fault> {
+    for line in input.lines() {
+        *at = at.saturating_add(1);
+        match parse(line) {
+            Some(Line::Nothing) => {}
+            Some(line) => take(rt, alloc, line, session, text)?,
+            None => return Err(Fault::Line),
+        }
+    }
+    Ok(())
+}
+
 /// What comes of the sessions of a text; the number of a line that is none of a session is left in
 /// `at`.
 fn told<R: Threads + Wait + Sync>(
@@ -72,14 +92,7 @@ fn told<R: Threads + Wait + Sync>(
 ) -> Result<Vec<u8>, Fault> {
     let mut text = Vec::new(alloc);
     let mut session = None;
-    for line in input.lines() {
-        *at = at.saturating_add(1);
-        match parse(line) {
-            Some(Line::Nothing) => {}
-            Some(line) => take(rt, alloc, line, &mut session, &mut text)?,
-            None => return Err(Fault::Line),
-        }
-    }
+    take_all(rt, alloc, input, at, &mut session, &mut text)?;
     if let Some(ended) = session {
         play(rt, alloc, ended, &mut text)?;
     }

@@ -4,7 +4,7 @@ use crate::logs::tell_lives;
 use crate::pieces::Pieces;
 use crate::session::Session;
 use host_io::{MemSink, MemSource, NoGate, Sink, Source};
-use shell_top::run_shell;
+use shell_top::{Ended, run_shell};
 use std::alloc::Global;
 use std::sync::Wait;
 use std::thread::Threads;
@@ -16,6 +16,7 @@ pub fn play<R: Threads + Wait + Sync>(
     session: Session,
     text: &mut Vec<u8>,
 ) -> Result<(), Fault> {
+    tell_title(alloc, session.title.as_str(), text)?;
     let mut source = Pieces {
         source: MemSource::new(session.script, session.no_reads)?,
         most: session.piece,
@@ -31,15 +32,28 @@ pub fn play<R: Threads + Wait + Sync>(
         disks,
         &NoGate,
     );
-    add(
-        text,
-        &format!(in alloc; "session {}\n", session.title.as_str())?,
-    )?;
+    tell_end(alloc, &ended, &source, &sink, session.tells_logs, text)
+}
+
+fn tell_title(alloc: Global, title: &str, text: &mut Vec<u8>) -> Result<(), Fault> {
+    add(text, &format!(in alloc; "session {title}\n")?)
+}
+
+// What the session printed, its status, how many calls failed, and the logs where they are told.
+fn tell_end(
+    alloc: Global,
+    ended: &Ended,
+    source: &Pieces,
+    sink: &MemSink,
+    tells_logs: bool,
+    text: &mut Vec<u8>,
+) -> Result<(), Fault> {
+    let status = ended.status;
     text.extend_from_slice(sink.written())?;
-    add(text, &format!(in alloc; "status {}\n", ended.status)?)?;
+    add(text, &format!(in alloc; "status {status}\n")?)?;
     tell_faults(alloc, "reads", source.faults(), text)?;
     tell_faults(alloc, "writes", sink.faults(), text)?;
-    if session.tells_logs {
+    if tells_logs {
         tell_lives(alloc, &ended.lives, text)?;
     }
     Ok(())

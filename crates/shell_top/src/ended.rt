@@ -7,7 +7,7 @@ use script_lang::LineFault;
 use sig_core::Life;
 
 /// Why a session ended.
-#[derive(Clone, Copy, Debug, PartialEq, Eq)]
+#[derive(Clone, Copy)]
 pub enum Ending {
     /// The source was read to its end, or to `quit`.
     Finished,

@@ -14,7 +14,7 @@ use std::marker::Model;
 pub const LINE_BYTES: usize = 512;
 
 /// What the reader found.
-#[derive(Clone, Copy, Debug, PartialEq, Eq)]
+#[derive(Clone, Copy)]
 pub enum Filled {
     /// A line is whole: its newline stands at this place of what is held.
     Line(usize),

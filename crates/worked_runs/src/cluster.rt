@@ -12,7 +12,7 @@ use std::sync::Wait;
 use world_views::{Pick, ScheduleFault, World};
 
 /// What a pick came to.
-#[derive(Clone, Copy, Debug, PartialEq, Eq)]
+#[derive(Clone, Copy)]
 pub enum Picked {
     Done,
     /// Nothing stands on the link.
@@ -139,7 +139,7 @@ fn take_at(alloc: Global, world: &mut World, hosts: u32, host: HostId) -> Result
 {
     for from in 0..hosts {
         let from = HostId(from);
-        if pick(alloc, world, Pick::Take { host, from })? == Picked::Done {
+        if let Picked::Done = pick(alloc, world, Pick::Take { host, from })? {
             return Ok(true);
         }
     }

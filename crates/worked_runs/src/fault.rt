@@ -3,7 +3,7 @@ use sig_core::NoMemory;
 use std::alloc::{AllocError, AllocFailed};
 
 /// Why a text has no runs, or a run no end.
-#[derive(Clone, Copy, Debug, PartialEq, Eq)]
+#[derive(Clone, Copy)]
 pub enum Fault {
     /// The line of this number, from 1, is none of a run, or none that may stand there.
     Line(u32),

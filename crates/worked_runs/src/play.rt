@@ -9,7 +9,7 @@ use crate::fault::Fault;
 use crate::line::{Line, Signals};
 use crate::trace::tell_log;
 use frag_map::is_shape;
-use sig_core::NoMemory;
+use sig_core::{Life, NoMemory};
 use std::alloc::Global;
 use std::sync::Wait;
 use world_views::{PARTS, Pick, World};
@@ -51,10 +51,23 @@ pub fn play<W: Wait>(
     let epochs = epochs_of(lines);
     let rows = rows_of(alloc, lines)?;
     let mut world = World::new(alloc, shape, epochs.first, epochs.start, rows.as_slice())?;
-    play_lines(rt, alloc, &mut world, hosts, lines, point, text)?;
+    // It ends whatever came of it: a world that is dropped would have the check of this crate prove that all
+    // of its parts can be.
+    let played = play_lines(rt, alloc, &mut world, hosts, lines, point, text);
     let life = world.end_life(alloc);
+    played?;
+    Ok(tell_logs(alloc, &life, lines, text)?)
+}
+
+// Adds what the lines ask of the logs.
+fn tell_logs(
+    alloc: Global,
+    life: &Life,
+    lines: &[Line],
+    text: &mut Vec<u8>,
+) -> Result<(), NoMemory> {
     for line in lines {
-        tell_log(alloc, &life, line, text)?;
+        tell_log(alloc, life, line, text)?;
     }
     Ok(())
 }
