@@ -36,9 +36,8 @@ impl<R: Rows, J: Journal> Lqh<R, J> {
         let ready = Ready::new(alloc, &self.storage.rows, &request)?;
         let key = request.work.key();
         let mode = work_mode(&request.work);
-        let fragment = self.layout.frag_for(&request.work);
         match self.locks.request(request.tx, key, mode)? {
-            Lock::Granted => self.storage.perform(&request, ready, fragment, out),
+            Lock::Granted => self.storage.perform(&request, ready, &self.layout, out),
             Lock::Queued { ahead: _ } => self.waiting.push_reserved(request),
         }
         Ok(())
@@ -91,8 +90,7 @@ impl<R: Rows, J: Journal> Lqh<R, J> {
         self.storage.make_room(request)?;
         let ready = Ready::new(alloc, &self.storage.rows, request)?;
         self.waiting.remove(at);
-        let fragment = self.layout.frag_for(&request.work);
-        self.storage.perform(request, ready, fragment, out);
+        self.storage.perform(request, ready, &self.layout, out);
         self.go_on_granted(out);
         Ok(())
     }

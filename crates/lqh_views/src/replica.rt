@@ -67,7 +67,7 @@ impl<R: Rows, J: Journal> Replica<R, J> {
         R: Drop,
         J: Drop,
         requires { IsCovered (R.state_of rows) (J.used_of journal) }
-        ensures { IfOk result (λ replica. replica ≡ fresh_replica node layout (R.state_of rows) (J.used_of journal) start) }
+        ensures { IfOk result (λ replica. replica ≡ fresh_replica node layout (R.state_of rows) (J.used_of journal) (J.outlet_of journal) start) }
     {
         let lqh = Lqh::new(alloc, node, layout, rows, journal)?;
         let aside = Outs::new(alloc)?;
