@@ -18,6 +18,13 @@ pub record IsCount (used reserved end : ℕ) : Type 0 where
 abbrev pub journal_in : CountState → JournalState
 journal_in s = record { used = s.used; reserved = s.reserved }
 
+-- a journal with no bytes used, kept free or to give out
+abbrev pub unused : JournalState
+unused = record { used = 0; reserved = 0 }
+
+abbrev pub no_outlet : OutletState
+no_outlet = record { keeps = false; parity = 0; flushed = 0; left = [] }
+
 -- it keeps no bytes
 abbrev pub outlet_in : CountState → OutletState
 outlet_in s = record { keeps = false; parity = 0; flushed = s.end; left = [] }

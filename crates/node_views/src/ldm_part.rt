@@ -1,6 +1,7 @@
 //! The blocks of the part of a node that has its rows.
 ghost use Rattle.std.specs.Prelude.{◌≡◌, ◌≤◌, ◌+◌, IfOk, OnOk, [], length};
 ghost use Rattle.sig_core.specs.Step.{HasRoom, IsTaken};
+ghost use Rattle.lqh_block.specs.Counting.{no_outlet, unused};
 ghost use Rattle.lqh_views.specs.Replica.{fresh_replica};
 ghost use Rattle.node_views.specs.Parts.{greater, ldm_entered, ldm_row, raised};
 
@@ -32,7 +33,7 @@ impl LdmPart {
         start: u64,
     ) -> Result<LdmPart, NoMemory>
         requires { rows.rows.pending ≡ [] }
-        ensures replica { IfOk result (λ p. p.replica ≡ fresh_replica member.node layout.now rows.rows (record { used = 0; reserved = 0 }) start) }
+        ensures replica { IfOk result (λ p. p.replica ≡ fresh_replica member.node layout.now rows.rows unused no_outlet start) }
         ensures fence { IfOk result (λ p. p.fence ≡ layout.now.view.number) }
     {
         let fence = layout.view().number;
