@@ -3,6 +3,7 @@ pub mod DihLevels
 pub mod HostLevels
 pub mod Level
 pub mod LevelLists
+pub mod Outlets
 pub mod LqhLevels
 pub mod MappedLists
 pub mod RowLevels

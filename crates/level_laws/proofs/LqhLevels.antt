@@ -14,7 +14,13 @@ use Rattle.lqh_block.specs.declared.request.Request.{Request}
 use Rattle.lqh_block.specs.Expire as expire
 use Rattle.lqh_block.specs.Lqh.{lqh_table}
 use Rattle.lqh_block.specs.Operate as operate
+use Rattle.frag_map.specs.Fragment.{frag_of}
+use Rattle.level_laws.proofs.Outlets.{behind_level, commit_outlet}
+use Rattle.level_laws.specs.Levels.{outlet_at}
 use Rattle.lqh_block.specs.State.{LqhState, freed_lock, go_on_if, in_storage, serve_granted, storage_of, unlocked}
+use Rattle.frag_map.specs.Fragment.{frag_of}
+use Rattle.level_laws.proofs.Outlets.{behind_level, commit_outlet}
+use Rattle.level_laws.specs.Levels.{outlet_at}
 use Rattle.lqh_block.specs.State.{with_lock, with_markers, with_rows, with_storage, with_waiting}
 use Rattle.lqh_block.specs.Storage as storage
 use Rattle.lqh_block.specs.Storage.{StorageState}
@@ -65,7 +71,7 @@ commit_size tx one other key = refl
 
 module _ (epoch : ℕ) where
   abbrev storage_at : StorageState → StorageState
-  storage_at s = storage.storage (rows_at epoch s.rows) s.journal
+  storage_at s = storage.storage (rows_at epoch s.rows) s.journal (outlet_at s.outlet) s.shape
 
   -- signals with no epoch
   abbrev AreLevel : List Outgoing → Type 0
@@ -92,6 +98,7 @@ module _ (epoch : ℕ) where
   prepared_level s tx key image =
       λ i. storage.storage (storing_level epoch s.rows tx key image i)
       (storage.prepared_journal s.journal tx key image (record_state_level epoch s.rows tx key i))
+      (behind_level s.outlet (redo.Prepare tx (frag_of s.shape key) key image) i) s.shape
 
   store_level : (s : StorageState) (tx : TxId) (key : List ℕ) (image : Option (List ℕ)) (chain : List Member) (at : ℕ)
       → storage.store_row (storage_at s) tx key image chain at
@@ -149,13 +156,14 @@ module _ (epoch : ℕ) where
   unfolding storage.committed_in
   committed_level s tx key other =
       λ i. storage.storage (commit_level epoch s.rows tx key other i)
-      (appending s.journal (commit_size tx epoch other key i))
+      (appending s.journal (commit_size tx epoch other key i)) (commit_outlet s.outlet tx epoch other key i) s.shape
 
   aborted_level : (s : StorageState) (tx : TxId) (key : List ℕ)
       → storage.aborted_in (storage_at s) tx key ≡ storage_at (storage.aborted_in s tx key)
   unfolding storage.aborted_in
   aborted_level s tx key =
-      λ i. record { rows = abort_level epoch s.rows tx key i; journal = (storage.aborted_in s tx key).journal }
+      λ i. storage.storage (abort_level epoch s.rows tx key i) (storage.aborted_in s tx key).journal
+      (behind_level s.outlet (redo.Abort tx key) i) s.shape
 
   -- requests
   performed_level : (s : LqhState) (r : Request)

@@ -1,7 +1,8 @@
 -- All epochs made one: in what a plain host knows, takes, sends and marks.
 use Rattle.std.specs.Prelude.{ℕ, if◌then◌else◌, map, Option, None, Some}
 use Rattle.api_block.specs.State.{ApiState, with_replies}
-use Rattle.lqh_block.specs.State.{LqhState, with_markers, with_rows}
+use Rattle.sig_core.specs.Journal.{OutletState, end_of}
+use Rattle.lqh_block.specs.State.{with_outlet, LqhState, with_markers, with_rows}
 use Rattle.node_core.specs.declared.host.Host.{Host}
 use Rattle.node_core.specs.declared.host.Host.TheVariants.{Shell, Main, Tc, Ldm}
 use Rattle.node_core.specs.declared.tc_part.TcPart.{TcPart}
@@ -94,8 +95,13 @@ rows_at epoch s = record { places = map (slot_at epoch) s.places; pending = map 
 abbrev pub marker_at : ℕ → Marker → Marker
 marker_at epoch m = record m { epoch = epoch }
 
+-- of what a journal has still to give out how much it is, since the bytes of a commit tell its epoch
+abbrev pub outlet_at : OutletState → OutletState
+outlet_at o = record { keeps = false; parity = o.parity; flushed = end_of o; left = [] }
+
 abbrev pub lqh_at : ℕ → LqhState → LqhState
-lqh_at epoch s = with_markers (with_rows s (rows_at epoch s.rows)) (map (marker_at epoch) s.markers)
+lqh_at epoch s =
+    with_outlet (with_markers (with_rows s (rows_at epoch s.rows)) (map (marker_at epoch) s.markers)) (outlet_at s.outlet)
 
 -- a host
 abbrev pub tc_part_at : ℕ → TcPart → TcPart

@@ -56,6 +56,9 @@ with_rows s rows = record {
   markers = s.markers;
 }
 
+abbrev pub with_outlet : LqhState → OutletState → LqhState
+with_outlet s outlet = record s { outlet = outlet }
+
 abbrev pub with_locks : LqhState → Locks → LqhState
 with_locks s locks = record {
   node = s.node;

@@ -24,6 +24,7 @@ use Rattle.row_locks.specs.declared.mode.Mode.TheVariants.{Exclusive}
 use Rattle.row_locks.specs.Holders.{holder_of}
 use Rattle.row_locks.specs.Rows.{RowLock, asked, released, unlocked}
 use Rattle.row_locks.specs.Tables.{Locks, or_unlocked}
+use Rattle.lqh_block.specs.Counting.{no_outlet, unused}
 use Rattle.lqh_block.specs.Commit.{commit_row}
 use Rattle.lqh_block.specs.Complete.{complete_row}
 use Rattle.lqh_block.specs.declared.request.Marker.{Marker}
@@ -83,6 +84,7 @@ with_row node row epoch pending journal locks markers = record {
   layout = first_layout two.shape;
   rows = record { places = Some (rows.with_row key row epoch) ∷ []; pending = pending };
   journal = journal;
+  outlet = record no_outlet { flushed = journal.used };
   locks = locks;
   waiting = [];
   markers = markers;
@@ -148,7 +150,8 @@ unasked node = record {
   node = node;
   layout = first_layout two.shape;
   rows = rows.no_rows;
-  journal = record { used = 0; reserved = 0 };
+  journal = unused;
+  outlet = no_outlet;
   locks = nobody;
   waiting = [];
   markers = [];

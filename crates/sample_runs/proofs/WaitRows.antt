@@ -26,6 +26,7 @@ use Rattle.row_locks.specs.Holders.{holder_of}
 use Rattle.row_locks.specs.Queues.{wait_of}
 use Rattle.row_locks.specs.Rows.{RowLock, released, row_lock}
 use Rattle.row_locks.specs.Tables.{Locks, ahead_of, or_unlocked}
+use Rattle.lqh_block.specs.Counting.{no_outlet, unused}
 use Rattle.lqh_block.specs.Commit.{commit_row}
 use Rattle.lqh_block.specs.Complete.{complete_row}
 use Rattle.lqh_block.specs.declared.request.Marker.{Marker}
@@ -94,6 +95,7 @@ with_row row epoch pending used reserved locks waiting markers = record {
   layout = first_layout lone.shape;
   rows = record { places = Some (rows.with_row key row epoch) ∷ []; pending = pending };
   journal = record { used = used; reserved = reserved };
+  outlet = record no_outlet { flushed = used };
   locks = locks;
   waiting = waiting;
   markers = markers;
@@ -104,7 +106,8 @@ unasked = record {
   node = 1;
   layout = first_layout lone.shape;
   rows = rows.no_rows;
-  journal = record { used = 0; reserved = 0 };
+  journal = unused;
+  outlet = no_outlet;
   locks = nobody;
   waiting = [];
   markers = [];
