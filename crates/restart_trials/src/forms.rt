@@ -1,4 +1,6 @@
 //! Forms of disks: empty ones, other shapes, old versions, nodes that aren't listed, sizes at the limits.
+ghost use Rattle.frag_map.specs.Shape.{IsShape};
+
 use crate::layout::{Layout, PAIR, checkpoint, first_checkpoint};
 use crate::pair::{ROWS, disk_of, has_rows, have_rows, restore_pair, value_in};
 use crate::stops::laid_out;
@@ -263,7 +265,9 @@ fn three_groups(alloc: Global) -> Result<(), Trouble> {
 }
 
 // The letters that a node's group has, each with itself as its value.
-fn letters_of(alloc: Global, node: u8, shape: &Shape) -> Result<RowMap, Trouble> {
+fn letters_of(alloc: Global, node: u8, shape: &Shape) -> Result<RowMap, Trouble>
+    requires { IsShape shape.now }
+{
     let mut rows = RowMap::new(alloc);
     for letter in b'a'..=b'z' {
         let key = Key::new(&[letter])?;

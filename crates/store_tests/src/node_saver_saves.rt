@@ -1,5 +1,7 @@
 //! Orders that are carried out on a disk in memory: what is asked for, in which order, and what is read
 //! back, also where power is cut in between.
+ghost use Rattle.std.specs.Prelude.{◌≡◌};
+
 use crate::redo_log_log::{pair, put};
 use host_io::{Disk, MemDisk};
 use node_saver::{RowSaver, SaveOrder, SaverStep};
@@ -10,7 +12,9 @@ use std::test::Fail;
 use sysfile_core::{CLOSED, CONTROL_FILE, OPEN, control_bytes, read_control, write_slot};
 
 // The control slot in use at first: generation 1, serial 1 and saved epoch 2.
-fn control() -> ControlSlot {
+fn control() -> ControlSlot
+    ensures { result.parity ≡ 0 }
+{
     ControlSlot {
         ckpt_file: 2,
         parity: 0,
