@@ -211,6 +211,7 @@ module _ (s : ClientState) (x : Signal) (R : Step ClientState → Type 0) (forms
   up_goes request.Gcp is = closing_goes Gcp request.Gcp is
   up_goes request.Micro is = closing_goes Micro request.Micro is
   up_goes request.View is = forms.shows is
+  up_goes request.Restart is = forms.turns_down _ _ _ is
   up_goes r is = takes_goes r is
 
   command_goes : (r : ApiReq) → IsAsked x r → R (command_row s r)
@@ -255,7 +256,6 @@ module _ (s : ClientState) (x : Signal) (R : Step ClientState → Type 0) (forms
   asked_goes request.Lcp is = takes_goes request.Lcp is
   asked_goes (request.Start node own) is = takes_goes (request.Start node own) is
   asked_goes request.Crash is = takes_goes request.Crash is
-  asked_goes request.Restart is = takes_goes request.Restart is
   asked_goes r is = command_goes r is
 
   -- what gets no answer any more

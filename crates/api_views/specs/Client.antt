@@ -42,6 +42,7 @@ up_row s (request.Cut one other) = cut_row s one other
 up_row s request.Gcp = closing_row s Gcp
 up_row s request.Micro = closing_row s Micro
 up_row s request.View = show_row s
+up_row s request.Restart = turned_down s None refusal.Running
 up_row s r = on_api s r
 
 abbrev pub command_if : ClientState → ApiReq → Bool → Step ClientState
@@ -52,8 +53,7 @@ command_if s r false = up_row s r
 unfoldable pub command_row : ClientState → ApiReq → Step ClientState
 command_row s r = command_if s r (is_down s)
 
--- what the client's side does at each request. Starts, crashes, restarts, batches and local checkpoints are left to the
--- API
+-- what the client's side does at each request. Starts, crashes, batches and local checkpoints are left to the API
 unfoldable pub asked_row : ClientState → ApiReq → Step ClientState
 asked_row s request.Waits = within s (request_row s.api request.Waits)
 asked_row s request.Pending = client_pending_row s
@@ -61,7 +61,6 @@ asked_row s (request.Batch lines) = on_api s (request.Batch lines)
 asked_row s request.Lcp = on_api s request.Lcp
 asked_row s (request.Start node own) = on_api s (request.Start node own)
 asked_row s request.Crash = on_api s request.Crash
-asked_row s request.Restart = on_api s request.Restart
 asked_row s r = command_row s r
 
 -- a coordinator that isn't in the greatest view began a transaction: that comes to nothing

@@ -146,11 +146,9 @@ impl Client {
         match request {
             ApiReq::Waits => self.api.ask(alloc, request, out),
             ApiReq::Pending => self.tell_wait(alloc, out),
-            ApiReq::Batch { .. }
-            | ApiReq::Lcp
-            | ApiReq::Start { .. }
-            | ApiReq::Crash
-            | ApiReq::Restart => self.pass_on(alloc, request, out),
+            ApiReq::Batch { .. } | ApiReq::Lcp | ApiReq::Start { .. } | ApiReq::Crash => {
+                self.pass_on(alloc, request, out)
+            }
             _ => self.command(alloc, request, out),
         }
     }
@@ -191,6 +189,7 @@ impl Client {
             ApiReq::Gcp => self.close(Closing::Gcp, out),
             ApiReq::Micro => self.close(Closing::Micro, out),
             ApiReq::View => self.show(),
+            ApiReq::Restart => self.turn_down(None, Refusal::Running),
             _ => self.pass_on(alloc, request, out),
         }
     }
