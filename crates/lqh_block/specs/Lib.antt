@@ -6,6 +6,7 @@ pub mod Counting
 pub mod Due
 pub mod Dump
 pub mod Expire
+pub mod Fresh
 pub mod Lqh
 pub mod Operate
 pub mod Ready

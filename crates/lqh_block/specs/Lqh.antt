@@ -11,7 +11,7 @@ use Rattle.sig_core.specs.declared.signal.host.Work.TheVariants.{Granted, Expire
 use Rattle.sig_core.specs.declared.view.View.{View}
 use Rattle.frag_map.specs.Layout.{Layout}
 use Rattle.frag_map.specs.Layout as layouts
-use Rattle.sig_core.specs.Journal.{JournalState}
+use Rattle.sig_core.specs.Journal.{JournalState, OutletState}
 use Rattle.sig_core.specs.Rows.{RowsState}
 use Rattle.sig_core.specs.Step.{Step, stay}
 use Rattle.lqh_block.specs.Abort.{abort_row}
@@ -24,13 +24,14 @@ use Rattle.lqh_block.specs.State.{LqhState}
 use Rattle.lqh_block.specs.Wait.{acknowledged, wait_row}
 
 -- a node's rows before the first signal
-abbrev pub unasked_yet : ℕ → Layout → RowsState → JournalState → LqhState
-unasked_yet node layout rows journal =
+abbrev pub unasked_yet : ℕ → Layout → RowsState → JournalState → OutletState → LqhState
+unasked_yet node layout rows journal outlet =
     record {
       node = node;
       layout = layout;
       rows = rows;
       journal = journal;
+      outlet = outlet;
       locks = map.empty;
       waiting = [];
       markers = [];
@@ -43,6 +44,7 @@ in_view s view = record {
   layout = layouts.in_view s.layout view;
   rows = s.rows;
   journal = s.journal;
+  outlet = s.outlet;
   locks = s.locks;
   waiting = s.waiting;
   markers = s.markers;

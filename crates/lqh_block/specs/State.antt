@@ -7,7 +7,7 @@ use Rattle.sig_core.specs.declared.signal.host.HostSignal.TheVariants.{Continue}
 use Rattle.sig_core.specs.declared.signal.host.Work.{Work}
 use Rattle.sig_core.specs.declared.signal.host.Work.TheVariants.{Granted}
 use Rattle.frag_map.specs.Layout.{Layout}
-use Rattle.sig_core.specs.Journal.{JournalState}
+use Rattle.sig_core.specs.Journal.{JournalState, OutletState}
 use Rattle.sig_core.specs.Place.{rows_of}
 use Rattle.sig_core.specs.Rows.{RowsState}
 use Rattle.sig_core.specs.Step.{Step, to_place}
@@ -17,19 +17,21 @@ use Rattle.lqh_block.specs.declared.request.Marker.{Marker}
 use Rattle.lqh_block.specs.declared.request.Request.{Request}
 use Rattle.lqh_block.specs.Storage.{StorageState, storage}
 
--- a node's rows: its layout, the rows and the journal, the locks, the requests whose lock wasn't granted when they
--- came, the oldest first, and the markers of commits that their clients haven't acknowledged, the oldest first
+-- a node's rows: its layout, the rows, the journal and what that has still to give out, the locks, the requests whose
+-- lock wasn't granted when they came, the oldest first, and the markers of commits that their clients haven't
+-- acknowledged, the oldest first
 pub record LqhState : Type 0 where
   pub node : ℕ
   pub layout : Layout
   pub rows : RowsState
   pub journal : JournalState
+  pub outlet : OutletState
   pub locks : Locks
   pub waiting : List Request
   pub markers : List Marker
 
 abbrev pub storage_of : LqhState → StorageState
-storage_of s = storage s.rows s.journal
+storage_of s = storage s.rows s.journal s.outlet s.layout.shape
 
 abbrev pub with_storage : LqhState → StorageState → LqhState
 with_storage s st = record {
@@ -37,6 +39,7 @@ with_storage s st = record {
   layout = s.layout;
   rows = st.rows;
   journal = st.journal;
+  outlet = st.outlet;
   locks = s.locks;
   waiting = s.waiting;
   markers = s.markers;
@@ -48,10 +51,14 @@ with_rows s rows = record {
   layout = s.layout;
   rows = rows;
   journal = s.journal;
+  outlet = s.outlet;
   locks = s.locks;
   waiting = s.waiting;
   markers = s.markers;
 }
+
+abbrev pub with_outlet : LqhState → OutletState → LqhState
+with_outlet s outlet = record s { outlet = outlet }
 
 abbrev pub with_locks : LqhState → Locks → LqhState
 with_locks s locks = record {
@@ -59,6 +66,7 @@ with_locks s locks = record {
   layout = s.layout;
   rows = s.rows;
   journal = s.journal;
+  outlet = s.outlet;
   locks = locks;
   waiting = s.waiting;
   markers = s.markers;
@@ -70,6 +78,7 @@ with_waiting s waiting = record {
   layout = s.layout;
   rows = s.rows;
   journal = s.journal;
+  outlet = s.outlet;
   locks = s.locks;
   waiting = waiting;
   markers = s.markers;
@@ -81,6 +90,7 @@ with_markers s markers = record {
   layout = s.layout;
   rows = s.rows;
   journal = s.journal;
+  outlet = s.outlet;
   locks = s.locks;
   waiting = s.waiting;
   markers = markers;

@@ -15,7 +15,9 @@ use Rattle.sig_core.specs.declared.signal.chain.ChainSignal.TheVariants.{LqhKeyR
 use Rattle.sig_core.specs.declared.signal.chain.RowWork.{RowWork}
 use Rattle.sig_core.specs.declared.signal.chain.RowWork.TheVariants.{Operate, Store}
 use Rattle.sig_core.specs.declared.journal.TheConstants.{JOURNAL_BYTES}
-use Rattle.sig_core.specs.Journal.{JournalState, appending, reserving, unreserving}
+use Rattle.sig_core.specs.declared.view.Shape.{Shape}
+use Rattle.frag_map.specs.Fragment.{frag_of}
+use Rattle.sig_core.specs.Journal.{JournalState, OutletState, appending, behind, reserving, unreserving}
 use Rattle.sig_core.specs.Op.{answer_to, image_of, key_of}
 use Rattle.sig_core.specs.Place.{coordinator_of, rows_of}
 use Rattle.sig_core.specs.Redo.{size_of}
@@ -23,13 +25,15 @@ use Rattle.sig_core.specs.Rows.{RowsState, abort_record, commit_record, is_full,
 use Rattle.sig_core.specs.Step.{Step, to_place}
 use Rattle.lqh_block.specs.declared.request.Request.{Request}
 
--- the rows of a node, and its journal
+-- the rows of a node, its journal and what that has still to give out, in a cluster of this shape
 pub record StorageState : Type 0 where
   pub rows : RowsState
   pub journal : JournalState
+  pub outlet : OutletState
+  pub shape : Shape
 
-abbrev pub storage : RowsState → JournalState → StorageState
-storage rows journal = record { rows = rows; journal = journal }
+abbrev pub storage : RowsState → JournalState → OutletState → Shape → StorageState
+storage rows journal outlet shape = record { rows = rows; journal = journal; outlet = outlet; shape = shape }
 
 -- the bytes of the record that an image is prepared by
 abbrev pub prepare_size : TxId → List ℕ → Option (List ℕ) → ℕ
@@ -79,6 +83,7 @@ prepared_journal j tx key image had =
 abbrev pub prepared_in : StorageState → TxId → List ℕ → Option (List ℕ) → StorageState
 prepared_in s tx key image =
     storage (storing s.rows tx key image) (prepared_journal s.journal tx key image (record_state s.rows tx key))
+    (behind s.outlet (redo.Prepare tx (frag_of s.shape key) key image)) s.shape
 
 -- so many bytes more exceed the journal's room
 abbrev pub is_log_full : JournalState → ℕ → Bool
@@ -130,9 +135,11 @@ perform s r = perform_by s r.tx r.chain r.at r.work
 unfoldable pub committed_in : StorageState → TxId → List ℕ → ℕ → StorageState
 committed_in s tx key epoch =
     storage (commit_record s.rows tx key epoch) (appending s.journal (size_of (redo.Commit tx epoch key)))
+    (behind s.outlet (redo.Commit tx epoch key)) s.shape
 
 -- the transaction's prepared image of the row is given up, and the journal told so in those bytes, of which eight are
 -- left over
 unfoldable pub aborted_in : StorageState → TxId → List ℕ → StorageState
 aborted_in s tx key =
     storage (abort_record s.rows tx key) (unreserving (appending s.journal (size_of (redo.Abort tx key))) 8)
+    (behind s.outlet (redo.Abort tx key)) s.shape

@@ -29,6 +29,7 @@ entered s view =
       layout = layouts.in_view s.layout view;
       rows = s.rows;
       journal = s.journal;
+      outlet = s.outlet;
       locks = all_left_to (goes_on_holding s.rows view.full) s.locks;
       waiting = [];
       markers = s.markers;

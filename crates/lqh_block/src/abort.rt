@@ -59,6 +59,7 @@ impl<R: Rows, J: Journal> Lqh<R, J> {
     }
 
     // Gives the transaction's record up, if it is prepared.
+    #[tactic(auto, unfolding(crate::specs::Storage::aborted_in))]
     fn give_up(&mut self, tx: TxId, key: &Key, out: &mut Outs)
         requires { length out.old.marks < 16 }
         ensures state { self.new ≡ given_up self.old tx key.now (record_state self.old.rows tx key.now) }

@@ -42,6 +42,7 @@ impl<R: Rows, J: Journal> Lqh<R, J> {
 
     // Commits and marks the transaction's record, if it is prepared. Answers whether it had one,
     // and whether that was committed.
+    #[tactic(auto, unfolding(crate::specs::Storage::committed_in))]
     fn apply(&mut self, tx: TxId, key: &Key, epoch: u64) -> Result<Option<bool>, NoMemory>
         ensures had { IfOk result (λ had. had ≡ record_state self.old.rows tx key.now) }
         ensures ok { OnOk result (self.new ≡ applied self.old tx key.now epoch (record_state self.old.rows tx key.now)) }

@@ -38,7 +38,7 @@ impl<R: Rows, J: Journal> Model for Lqh<R, J> {
 
     ghost coded = { Prim.hlevel (codes, locks_code) };
 
-    ghost view = { λ l. record { node = l.node; layout = l.layout; rows = R.state_of l.storage.rows; journal = J.used_of l.storage.journal; locks = l.locks; waiting = l.waiting.items; markers = l.markers.items } };
+    ghost view = { λ l. record { node = l.node; layout = l.layout; rows = R.state_of l.storage.rows; journal = J.used_of l.storage.journal; outlet = J.outlet_of l.storage.journal; locks = l.locks; waiting = l.waiting.items; markers = l.markers.items } };
 }
 
 impl<R: Rows, J: Journal> Lqh<R, J> {
@@ -61,7 +61,7 @@ impl<R: Rows, J: Journal> Lqh<R, J> {
         R: Drop,
         J: Drop,
         requires { IsCovered (R.state_of rows) (J.used_of journal) }
-        ensures { IfOk result (λ lqh. lqh ≡ unasked_yet node layout (R.state_of rows) (J.used_of journal)) }
+        ensures { IfOk result (λ lqh. lqh ≡ unasked_yet node layout (R.state_of rows) (J.used_of journal) (J.outlet_of journal)) }
     {
         let locks = LockTable::new(alloc)?;
         Ok(Lqh {
@@ -79,6 +79,14 @@ impl<R: Rows, J: Journal> Lqh<R, J> {
         ensures { R.state_of result.now ≡ self.now.rows }
     {
         &self.storage.rows
+    }
+
+    /// The journal.
+    pub fn journal(&self) -> &J
+        ensures used { J.used_of result.now ≡ self.now.journal }
+        ensures outlet { J.outlet_of result.now ≡ self.now.outlet }
+    {
+        &self.storage.journal
     }
 }
 

@@ -36,9 +36,8 @@ impl<R: Rows, J: Journal> Lqh<R, J> {
     {
         self.waiting.reserve(1)?;
         let ready = self.storage.get_ready(alloc, &request)?;
-        let fragment = self.layout.frag_for(&request.work);
         match ask_lock(&mut self.locks, &request)? {
-            Lock::Granted => self.storage.perform(&request, ready, fragment, out),
+            Lock::Granted => self.storage.perform(&request, ready, &self.layout, out),
             Lock::Queued { ahead: _ } => self.waiting.push_reserved(request),
         }
         Ok(())
@@ -90,8 +89,7 @@ impl<R: Rows, J: Journal> Lqh<R, J> {
     {
         let ready = self.storage.get_ready(alloc, request)?;
         self.waiting.remove(at);
-        let fragment = self.layout.frag_for(&request.work);
-        self.storage.perform(request, ready, fragment, out);
+        self.storage.perform(request, ready, &self.layout, out);
         self.go_on_granted(out);
         Ok(())
     }

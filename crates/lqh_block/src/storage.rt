@@ -1,17 +1,20 @@
 //! The rows of a node and its journal: what is prepared, committed and given up.
 ghost use Rattle.std.specs.Prelude.{◌≡◌, ◌+◌, ◌<◌, ◌≤◌, IfOk, OnOk, Some, false, length};
 ghost use Rattle.sig_core.specs.declared.signal.chain.RowWork.TheVariants.{Store};
-ghost use Rattle.sig_core.specs.Journal.{appending};
-ghost use Rattle.sig_core.specs.Rows.{complete_record, record_state};
+ghost use Rattle.sig_core.specs.declared.redo.Redo.TheVariants as redo;
+ghost use Rattle.sig_core.specs.Journal.{appending, behind, unreserving};
+ghost use Rattle.sig_core.specs.Redo.{size_of};
+ghost use Rattle.sig_core.specs.Rows.{abort_record, commit_record, complete_record, record_state};
 ghost use Rattle.lqh_block.specs.Due.{IsCovered};
 ghost use Rattle.lqh_block.specs.Ready.{IsReady};
 ghost use Rattle.sig_core.specs.Step.{HasRoom, IsTaken, and_send};
-ghost use Rattle.lqh_block.specs.Storage.{aborted_in, committed_in, confirmed, end_size, kept_once, need_of, perform};
+ghost use Rattle.lqh_block.specs.Storage.{confirmed, end_size, kept_once, need_of, perform};
 ghost use Rattle.lqh_block.specs.Storage.{prepare_size, refusal, sent_on, storage, store_row};
 ghost use Rattle.sig_core.specs.Work.{work_image, work_key};
 
 use crate::ready::Ready;
 use crate::request::Request;
+use frag_map::Layout;
 use sig_core::{
     AbortCause, Answer, Body, Chain, ChainSignal, HeldAnswer, HeldWork, Journal, JournalFault, Key,
     Mark, NoMemory, Outs, Redo, Rows, RowsFault, TxId, Value, commit_size, coordinator_of,
@@ -36,7 +39,9 @@ impl<R: Rows, J: Journal> Storage<R, J> {
     pub fn make_room(&mut self, request: &Request) -> Result<(), NoMemory>
         ensures rows { OnOk result (R.has_room self.new.rows (work_key request.now.work)) }
         ensures journal { OnOk result (J.has_room self.new.journal (need_of request.now.tx (work_key request.now.work) (work_image request.now.work))) }
-        ensures same { storage (R.state_of self.new.rows) (J.used_of self.new.journal) ≡ storage (R.state_of self.old.rows) (J.used_of self.old.journal) }
+        ensures same_rows { R.state_of self.new.rows ≡ R.state_of self.old.rows }
+        ensures used { J.used_of self.new.journal ≡ J.used_of self.old.journal }
+        ensures outlet { J.outlet_of self.new.journal ≡ J.outlet_of self.old.journal }
     {
         let key = request.work.key();
         self.rows.make_room(&request.work.hashed_key())?;
@@ -54,22 +59,24 @@ impl<R: Rows, J: Journal> Storage<R, J> {
         ensures rows { OnOk result (R.has_room self.new.rows (work_key request.now.work)) }
         ensures journal { OnOk result (J.has_room self.new.journal (need_of request.now.tx (work_key request.now.work) (work_image request.now.work))) }
         ensures ready { IfOk result (IsReady (R.state_of self.new.rows) request.now) }
-        ensures same { storage (R.state_of self.new.rows) (J.used_of self.new.journal) ≡ storage (R.state_of self.old.rows) (J.used_of self.old.journal) }
+        ensures same_rows { R.state_of self.new.rows ≡ R.state_of self.old.rows }
+        ensures used { J.used_of self.new.journal ≡ J.used_of self.old.journal }
+        ensures outlet { J.outlet_of self.new.journal ≡ J.outlet_of self.old.journal }
     {
         self.make_room(request)?;
         Ready::new(alloc, &self.rows, request)
     }
 
     /// Performs a request whose lock is granted, in memory that was made for it. The journal is told
-    /// the fragment of its row.
+    /// the fragment that its row has in this layout.
     #[tactic(auto, unfolding(crate::specs::Storage::perform))]
-    pub fn perform(&mut self, request: &Request, ready: Ready, fragment: u8, out: &mut Outs)
+    pub fn perform(&mut self, request: &Request, ready: Ready, layout: &Layout, out: &mut Outs)
         requires room { HasRoom out.old }
         requires ready { IsReady (R.state_of self.old.rows) request.now ready }
         requires rows { R.has_room self.old.rows (work_key request.now.work) }
         requires journal { J.has_room self.old.journal (need_of request.now.tx (work_key request.now.work) (work_image request.now.work)) }
         ensures few { length out.new.sends ≤ length out.old.sends + 1 }
-        ensures taken { IsTaken (perform (storage (R.state_of self.old.rows) (J.used_of self.old.journal)) request.now) (storage (R.state_of self.new.rows) (J.used_of self.new.journal)) out.old out.new }
+        ensures taken { IsTaken (perform (storage (R.state_of self.old.rows) (J.used_of self.old.journal) (J.outlet_of self.old.journal) layout.now.shape) request.now) (storage (R.state_of self.new.rows) (J.used_of self.new.journal) (J.outlet_of self.new.journal) layout.now.shape) out.old out.new }
     {
         let Ready { answer, onward } = ready;
         let key = request.work.key();
@@ -80,7 +87,7 @@ impl<R: Rows, J: Journal> Storage<R, J> {
                     key,
                     &request.work.image(),
                     onward,
-                    fragment,
+                    layout,
                     &request.chain,
                     request.at,
                     out,
@@ -100,7 +107,7 @@ impl<R: Rows, J: Journal> Storage<R, J> {
         key: &Key,
         image: &Option<Value>,
         onward: HeldWork,
-        fragment: u8,
+        layout: &Layout,
         chain: &Chain,
         at: u8,
         out: &mut Outs,
@@ -110,9 +117,10 @@ impl<R: Rows, J: Journal> Storage<R, J> {
         requires rows { R.has_room self.old.rows key.now }
         requires journal { J.has_room self.old.journal (need_of tx key.now image.now) }
         ensures few { length out.new.sends ≤ length out.old.sends + 1 }
-        ensures taken { IsTaken (store_row (storage (R.state_of self.old.rows) (J.used_of self.old.journal)) tx key.now image.now chain.now at) (storage (R.state_of self.new.rows) (J.used_of self.new.journal)) out.old out.new }
+        ensures taken { IsTaken (store_row (storage (R.state_of self.old.rows) (J.used_of self.old.journal) (J.outlet_of self.old.journal) layout.now.shape) tx key.now image.now chain.now at) (storage (R.state_of self.new.rows) (J.used_of self.new.journal) (J.outlet_of self.new.journal) layout.now.shape) out.old out.new }
     {
         let had = self.rows.record_state(tx, key);
+        let fragment = layout.frag_for(&onward);
         let need = need_of(tx, key, image);
         match self.journal.reserve(need) {
             Ok(()) => {}
@@ -148,10 +156,12 @@ impl<R: Rows, J: Journal> Storage<R, J> {
     }
 
     /// Commits the transaction's prepared image of the row. Takes no memory.
-    #[tactic(auto, using(crate::proofs::DueLemmas::dues), unfolding(crate::specs::Storage::committed_in))]
+    #[tactic(auto, using(crate::proofs::DueLemmas::dues))]
     pub fn commit(&mut self, tx: TxId, key: &Key, epoch: u64)
         requires { record_state (R.state_of self.old.rows) tx key.now ≡ Some false }
-        ensures { storage (R.state_of self.new.rows) (J.used_of self.new.journal) ≡ committed_in (storage (R.state_of self.old.rows) (J.used_of self.old.journal)) tx key.now epoch }
+        ensures rows { R.state_of self.new.rows ≡ commit_record (R.state_of self.old.rows) tx key.now epoch }
+        ensures used { J.used_of self.new.journal ≡ appending (J.used_of self.old.journal) (size_of (redo.Commit tx epoch key.now)) }
+        ensures outlet { J.outlet_of self.new.journal ≡ behind (J.outlet_of self.old.journal) (redo.Commit tx epoch key.now) }
     {
         self.rows.commit(tx, key, epoch);
         let redo = Redo::Commit {
@@ -163,10 +173,12 @@ impl<R: Rows, J: Journal> Storage<R, J> {
     }
 
     /// Gives the transaction's prepared image of the row up. Takes no memory.
-    #[tactic(auto, using(crate::proofs::DueLemmas::dues), unfolding(crate::specs::Storage::aborted_in))]
+    #[tactic(auto, using(crate::proofs::DueLemmas::dues))]
     pub fn abort(&mut self, tx: TxId, key: &Key)
         requires { record_state (R.state_of self.old.rows) tx key.now ≡ Some false }
-        ensures { storage (R.state_of self.new.rows) (J.used_of self.new.journal) ≡ aborted_in (storage (R.state_of self.old.rows) (J.used_of self.old.journal)) tx key.now }
+        ensures rows { R.state_of self.new.rows ≡ abort_record (R.state_of self.old.rows) tx key.now }
+        ensures used { J.used_of self.new.journal ≡ unreserving (appending (J.used_of self.old.journal) (size_of (redo.Abort tx key.now))) 8 }
+        ensures outlet { J.outlet_of self.new.journal ≡ behind (J.outlet_of self.old.journal) (redo.Abort tx key.now) }
     {
         self.rows.abort(tx, key);
         let redo = Redo::Abort { tx, key: *key };
@@ -176,7 +188,9 @@ impl<R: Rows, J: Journal> Storage<R, J> {
 
     /// Drops the transaction's committed record, if it has one. Takes no memory.
     pub fn complete(&mut self, tx: TxId, key: &Key)
-        ensures { storage (R.state_of self.new.rows) (J.used_of self.new.journal) ≡ storage (complete_record (R.state_of self.old.rows) tx key.now) (J.used_of self.old.journal) }
+        ensures rows { R.state_of self.new.rows ≡ complete_record (R.state_of self.old.rows) tx key.now }
+        ensures used { J.used_of self.new.journal ≡ J.used_of self.old.journal }
+        ensures outlet { J.outlet_of self.new.journal ≡ J.outlet_of self.old.journal }
     {
         self.rows.complete(tx, key);
     }
@@ -197,7 +211,8 @@ fn journal_image<J: Journal>(
     had: Option<bool>,
 )
     requires { need_of tx key.now image.now ≤ (J.used_of journal.old).reserved }
-    ensures { J.used_of journal.new ≡ kept_once (appending (J.used_of journal.old) (prepare_size tx key.now image.now)) (end_size tx key.now) had }
+    ensures used { J.used_of journal.new ≡ kept_once (appending (J.used_of journal.old) (prepare_size tx key.now image.now)) (end_size tx key.now) had }
+    ensures outlet { J.outlet_of journal.new ≡ behind (J.outlet_of journal.old) (redo.Prepare tx fragment key.now image.now) }
 {
     let prepare = Redo::Prepare {
         tx,

@@ -9,7 +9,7 @@ use Rattle.sig_core.specs.declared.signal.host.Work.TheVariants.{Granted, Expire
 use Rattle.sig_core.specs.declared.signal.membership.MembershipSignal.TheVariants.{FenceReq}
 use Rattle.sig_core.specs.declared.signal.takeover.TakeoverSignal.TheVariants.{LqhTransReq}
 use Rattle.sig_core.specs.declared.view.View.{View}
-use Rattle.sig_core.specs.Journal.{JournalState}
+use Rattle.sig_core.specs.Journal.{JournalState, OutletState}
 use Rattle.sig_core.specs.Rows.{RowsState}
 use Rattle.sig_core.specs.Step.{Step, stay}
 use Rattle.lqh_block.specs.Lqh.{lqh_row, unasked_yet}
@@ -21,9 +21,9 @@ use Rattle.lqh_views.specs.Report.{go_on_row, report_row}
 use Rattle.lqh_views.specs.State.{ReplicaState, with_lqh}
 
 -- a node's rows before the first signal, in a life that starts from an epoch
-abbrev pub fresh_replica : ℕ → Layout → RowsState → JournalState → ℕ → ReplicaState
-fresh_replica node layout rows journal start =
-    record { lqh = unasked_yet node layout rows journal; closed = start; saved = start; report = None }
+abbrev pub fresh_replica : ℕ → Layout → RowsState → JournalState → OutletState → ℕ → ReplicaState
+fresh_replica node layout rows journal outlet start =
+    record { lqh = unasked_yet node layout rows journal outlet; closed = start; saved = start; report = None }
 
 -- a step of the rows, whose signals are addressed in the view
 abbrev pub in_rows : ReplicaState → Step LqhState → Step ReplicaState

@@ -67,7 +67,7 @@ impl<R: Rows, J: Journal> Replica<R, J> {
         R: Drop,
         J: Drop,
         requires { IsCovered (R.state_of rows) (J.used_of journal) }
-        ensures { IfOk result (λ replica. replica ≡ fresh_replica node layout (R.state_of rows) (J.used_of journal) start) }
+        ensures { IfOk result (λ replica. replica ≡ fresh_replica node layout (R.state_of rows) (J.used_of journal) (J.outlet_of journal) start) }
     {
         let lqh = Lqh::new(alloc, node, layout, rows, journal)?;
         let aside = Outs::new(alloc)?;
@@ -85,6 +85,21 @@ impl<R: Rows, J: Journal> Replica<R, J> {
         ensures { R.state_of result.now ≡ self.now.lqh.rows }
     {
         self.lqh.rows()
+    }
+
+    /// The journal.
+    pub fn journal(&self) -> &J
+        ensures used { J.used_of result.now ≡ self.now.lqh.journal }
+        ensures outlet { J.outlet_of result.now ≡ self.now.lqh.outlet }
+    {
+        self.lqh.journal()
+    }
+
+    /// The greatest epoch that was noted as saved.
+    pub fn saved(&self) -> u64
+        ensures { result ≡ self.now.saved }
+    {
+        self.saved
     }
 }
 

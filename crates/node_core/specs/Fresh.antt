@@ -8,6 +8,7 @@ use Rattle.sig_core.specs.declared.view.View.{View}
 use Rattle.sig_core.specs.Rows.{RowsState, no_rows, put_row}
 use Rattle.frag_map.specs.Layout.{Layout, holds}
 use Rattle.api_block.specs.State as api
+use Rattle.lqh_block.specs.Fresh.{no_outlet, unused}
 use Rattle.lqh_block.specs.Lqh.{unasked_yet}
 use Rattle.tc_block.specs.Tc as tc
 use Rattle.node_core.specs.declared.host.Host.{Host}
@@ -36,7 +37,5 @@ fresh_part part.Tc member layout epoch rows = Tc (record {
   dih = fresh_dih member.node epoch;
 })
 fresh_part part.Ldm member layout epoch rows =
-    Ldm (unasked_yet member.node layout (with_rows no_rows (own_rows layout.shape member.node rows) epoch) (record {
-      used = 0;
-      reserved = 0;
-    }))
+    Ldm (unasked_yet member.node layout (with_rows no_rows (own_rows layout.shape member.node rows) epoch) unused
+    no_outlet)

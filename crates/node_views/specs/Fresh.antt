@@ -9,6 +9,7 @@ use Rattle.api_views.specs.State.{fresh_client}
 use Rattle.arbiter_block.specs.Arbiter.{fresh_arbiter}
 use Rattle.dih_node.specs.Dih.{fresh_dih}
 use Rattle.gcp_master.specs.Master.{fresh_master}
+use Rattle.lqh_block.specs.Fresh.{no_outlet, unused}
 use Rattle.lqh_views.specs.Replica.{fresh_replica}
 use Rattle.qmgr_block.specs.State.{fresh_qmgr}
 use Rattle.takeover_block.specs.State.{resting}
@@ -66,7 +67,7 @@ fresh_ldm member layout rows start =
     record {
       standing = standing_in member layout;
       parts = Ldm (record {
-        replica = fresh_replica member.node layout rows (record { used = 0; reserved = 0 }) start;
+        replica = fresh_replica member.node layout rows unused no_outlet start;
         fence = layout.view.number;
       });
     }

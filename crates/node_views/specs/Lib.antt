@@ -5,5 +5,6 @@ pub mod Laws
 pub mod Parts
 pub mod Replies
 pub mod Row
+pub mod Saving
 pub mod WellFormed
 pub mod Words

@@ -251,7 +251,7 @@ impl HostBody {
     }
 
     // Whether a fence stops the signal.
-    fn is_barred(&self, signal: &Signal) -> bool
+    pub(crate) fn is_barred(&self, signal: &Signal) -> bool
         ensures { result ≡ is_barred self.now signal.now }
     {
         let number = self.standing.view.get().number;

@@ -1,20 +1,21 @@
 //! The blocks of the part of a node that has its rows.
 ghost use Rattle.std.specs.Prelude.{◌≡◌, ◌≤◌, ◌+◌, IfOk, OnOk, [], length};
 ghost use Rattle.sig_core.specs.Step.{HasRoom, IsTaken};
+ghost use Rattle.lqh_block.specs.Fresh.{no_outlet, unused};
 ghost use Rattle.lqh_views.specs.Replica.{fresh_replica};
 ghost use Rattle.node_views.specs.Parts.{greater, ldm_entered, ldm_row, raised};
 
 use frag_map::Layout;
 use frag_store::Store;
-use lqh_block::CountJournal;
 use lqh_views::Replica;
+use redo_log::Log;
 use sig_core::{Actor, BlockId, Body, Member, MembershipSignal, NoMemory, Outs, Signal, View};
 use std::alloc::Global;
 
 /// The rows of a node, and the number below which they are fenced off.
 #[derive(Drop)]
 pub struct LdmPart {
-    pub replica: Replica<Store, CountJournal>,
+    pub replica: Replica<Store, Log>,
     pub fence: u64,
 }
 
@@ -32,18 +33,12 @@ impl LdmPart {
         start: u64,
     ) -> Result<LdmPart, NoMemory>
         requires { rows.rows.pending ≡ [] }
-        ensures replica { IfOk result (λ p. p.replica ≡ fresh_replica member.node layout.now rows.rows (record { used = 0; reserved = 0 }) start) }
+        ensures replica { IfOk result (λ p. p.replica ≡ fresh_replica member.node layout.now rows.rows unused no_outlet start) }
         ensures fence { IfOk result (λ p. p.fence ≡ layout.now.view.number) }
     {
         let fence = layout.view().number;
-        let replica = Replica::new(
-            alloc,
-            member.node,
-            *layout,
-            rows,
-            CountJournal::new(),
-            start,
-        )?;
+        let journal = Log::new(alloc, 0, 0)?;
+        let replica = Replica::new(alloc, member.node, *layout, rows, journal, start)?;
         Ok(LdmPart { replica, fence })
     }
 

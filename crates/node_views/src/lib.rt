@@ -8,6 +8,7 @@ mod laws;
 mod ldm_part;
 mod main_part;
 mod parts;
+mod saving;
 mod shell_part;
 mod standing;
 mod tc_part;

@@ -1,6 +1,6 @@
 -- What a log is seen as.
-use Rattle.std.specs.Prelude.{◌≡◌, ℕ, ◌+◌, ◌-◌, ◌^◌, ◌≤◌, ◌<◌, min, true, List, [], ◌++◌, length, take, drop, Option}
-use Rattle.std.specs.Prelude.{None, Some}
+use Rattle.std.specs.Prelude.{◌≡◌, ℕ, ◌+◌, ◌-◌, ◌^◌, ◌≤◌, ◌<◌, min, true, List, [], ◌++◌, length, drop}
+use Rattle.std.specs.Prelude.{if◌then◌else◌, nat_lt, Option, None, Some}
 use Rattle.sig_core.specs.declared.journal.TheConstants.{JOURNAL_BYTES}
 use Rattle.sig_core.specs.declared.redo.Redo.{Redo}
 use Rattle.sig_core.specs.Journal as outlet
@@ -8,9 +8,6 @@ use Rattle.sig_core.specs.Journal.{JournalState, OutletState}
 use Rattle.sig_core.specs.Redo.{size_of}
 use Rattle.sig_core.specs.Redo.{bytes_of}
 use Rattle.sig_core.specs.declared.piece.Piece.{Piece}
-use Rattle.sig_core.specs.declared.piece.TheConstants.{PIECE_BYTES}
-use Rattle.sig_core.specs.declared.ring.TheConstants.{LOG_FILE_BYTES}
-use Rattle.sig_core.specs.Ring.{file_of, place_of}
 
 -- The log of a generation in the files of a parity: the position that what is used counts from, the position up to
 -- which
@@ -36,6 +33,10 @@ fresh_log generation parity =
 -- the position behind the last byte
 abbrev pub end_of : LogState → ℕ
 end_of s = s.flushed + length s.left
+
+-- the bytes from a position on; none where that was given out already
+unfoldable pub bytes_from : LogState → ℕ → List ℕ
+bytes_from s at = if nat_lt at s.flushed then [] else drop (at - s.flushed) s.left
 
 -- the bytes that are used and kept free
 abbrev pub journal_of : LogState → JournalState

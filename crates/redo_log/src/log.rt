@@ -3,7 +3,7 @@ ghost use Rattle.std.specs.Prelude.{◌≡◌, ◌≢◌, ◌≤◌, ◌<◌, �
 ghost use Rattle.sig_core.specs.declared.journal.JournalFault.TheVariants as fault;
 ghost use Rattle.sig_core.specs.Journal.{GivesOut as GivesBytes, Reserves, appending, behind, unreserving, used_from};
 ghost use Rattle.sig_core.specs.Redo.{size_of};
-ghost use Rattle.redo_log.specs.LogState.{GivesOut, LogView, appended, cut_to, end_of, fresh_log, journal_of, next_len};
+ghost use Rattle.redo_log.specs.LogState.{GivesOut, LogView, appended, bytes_from, cut_to, end_of, fresh_log, journal_of, next_len};
 ghost use Rattle.redo_log.specs.LogState.{outlet_in, with_reserved};
 
 use redo_format::encode;
@@ -84,6 +84,18 @@ impl Log {
         ensures { result ≡ (journal_of self.now.log).used }
     {
         self.end() - self.start
+    }
+
+    /// The bytes from a position on; none where they aren't kept any more, or not there yet.
+    #[tactic(auto, unfolding(crate::specs::LogState::bytes_from))]
+    pub fn bytes_from(&self, at: u64) -> &[u8]
+        ensures { result.now ≡ bytes_from self.now.log at }
+    {
+        if at < self.flushed || at > self.end() {
+            return &[];
+        }
+        let from = self.given + (at - self.flushed) as usize;
+        &self.bytes[from..]
     }
 
     // How many bytes the next piece has.
