@@ -5,7 +5,9 @@ pub mod Level
 pub mod LevelLists
 pub mod LqhLevels
 pub mod MappedLists
+pub mod Outlets
 pub mod RowLevels
+pub mod SizedRows
 pub mod TcLevels
 pub mod TcSends
 pub mod TcTurns

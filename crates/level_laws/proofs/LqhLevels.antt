@@ -4,6 +4,7 @@ use Rattle.std.proofs.Common.{sym, ap}
 use Rattle.std.specs.List.{list_any}
 use Rattle.std.specs.Prelude.{Option, None, Some, nat_lt, remove, slice_get, slice_index_or, is_some}
 use Rattle.std.proofs.lemmas.List.{map-append, map_push}
+use Rattle.frag_map.specs.Fragment.{frag_of}
 use Rattle.lqh_block.specs.Abort as abort
 use Rattle.lqh_block.specs.Commit as commit
 use Rattle.lqh_block.specs.Complete as complete
@@ -52,8 +53,9 @@ use Rattle.sig_core.specs.Redo.{size_of}
 use Rattle.sig_core.specs.Rows.{RowsState, is_full, next_place, record_state, seen}
 use Rattle.sig_core.specs.Step.{sending, stay, to_place}
 use Rattle.level_laws.specs.Laws.{RowsAreLevel}
-use Rattle.level_laws.specs.Levels.{body_at, lqh_at, mark_at, marker_at, rows_at, send_at, slot_at, step_at}
+use Rattle.level_laws.specs.Levels.{body_at, lqh_at, mark_at, marker_at, outlet_at, rows_at, send_at, slot_at, step_at}
 use Rattle.level_laws.proofs.MappedLists.{any-map, filter-map}
+use Rattle.level_laws.proofs.Outlets.{behind_level, commit_outlet}
 use Rattle.level_laws.proofs.RowLevels.{abort_level, commit_level, complete_level, full_level, next_place_level}
 use Rattle.level_laws.proofs.RowLevels.{record_state_level, seen_level, slot_level, storing_level, taken_level}
 
@@ -65,7 +67,7 @@ commit_size tx one other key = refl
 
 module _ (epoch : ℕ) where
   abbrev storage_at : StorageState → StorageState
-  storage_at s = storage.storage (rows_at epoch s.rows) s.journal
+  storage_at s = storage.storage (rows_at epoch s.rows) s.journal (outlet_at s.outlet) s.shape
 
   -- signals with no epoch
   abbrev AreLevel : List Outgoing → Type 0
@@ -92,6 +94,7 @@ module _ (epoch : ℕ) where
   prepared_level s tx key image =
       λ i. storage.storage (storing_level epoch s.rows tx key image i)
       (storage.prepared_journal s.journal tx key image (record_state_level epoch s.rows tx key i))
+      (behind_level s.outlet (redo.Prepare tx (frag_of s.shape key) key image) i) s.shape
 
   store_level : (s : StorageState) (tx : TxId) (key : List ℕ) (image : Option (List ℕ)) (chain : List Member) (at : ℕ)
       → storage.store_row (storage_at s) tx key image chain at
@@ -149,13 +152,14 @@ module _ (epoch : ℕ) where
   unfolding storage.committed_in
   committed_level s tx key other =
       λ i. storage.storage (commit_level epoch s.rows tx key other i)
-      (appending s.journal (commit_size tx epoch other key i))
+      (appending s.journal (commit_size tx epoch other key i)) (commit_outlet s.outlet tx epoch other key i) s.shape
 
   aborted_level : (s : StorageState) (tx : TxId) (key : List ℕ)
       → storage.aborted_in (storage_at s) tx key ≡ storage_at (storage.aborted_in s tx key)
   unfolding storage.aborted_in
   aborted_level s tx key =
-      λ i. record { rows = abort_level epoch s.rows tx key i; journal = (storage.aborted_in s tx key).journal }
+      λ i. storage.storage (abort_level epoch s.rows tx key i) (storage.aborted_in s tx key).journal
+      (behind_level s.outlet (redo.Abort tx key) i) s.shape
 
   -- requests
   performed_level : (s : LqhState) (r : Request)

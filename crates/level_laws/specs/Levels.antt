@@ -1,7 +1,7 @@
 -- All epochs made one: in what a plain host knows, takes, sends and marks.
-use Rattle.std.specs.Prelude.{ℕ, if◌then◌else◌, map, Option, None, Some}
+use Rattle.std.specs.Prelude.{ℕ, if◌then◌else◌, false, [], map, Option, None, Some}
 use Rattle.api_block.specs.State.{ApiState, with_replies}
-use Rattle.lqh_block.specs.State.{LqhState, with_markers, with_rows}
+use Rattle.lqh_block.specs.State.{LqhState, with_markers, with_outlet, with_rows}
 use Rattle.node_core.specs.declared.host.Host.{Host}
 use Rattle.node_core.specs.declared.host.Host.TheVariants.{Shell, Main, Tc, Ldm}
 use Rattle.node_core.specs.declared.tc_part.TcPart.{TcPart}
@@ -22,6 +22,7 @@ use Rattle.sig_core.specs.declared.signal.Signal.{Signal}
 use Rattle.sig_core.specs.declared.signal.chain.ChainSignal.TheVariants.{Commit}
 use Rattle.sig_core.specs.declared.signal.client.ClientSignal.TheVariants.{TcCommitConf}
 use Rattle.sig_core.specs.declared.signal.epoch.EpochSignal.TheVariants.{DiVerifyConf}
+use Rattle.sig_core.specs.Journal.{OutletState, end_of}
 use Rattle.sig_core.specs.Rows.{RowsState, with_row}
 use Rattle.sig_core.specs.Step.{Effects, Step}
 use Rattle.lqh_block.specs.declared.request.Marker.{Marker}
@@ -94,8 +95,14 @@ rows_at epoch s = record { places = map (slot_at epoch) s.places; pending = map 
 abbrev pub marker_at : ℕ → Marker → Marker
 marker_at epoch m = record m { epoch = epoch }
 
+-- of what a journal has still to give out how much it is, since the bytes of a commit tell its epoch
+abbrev pub outlet_at : OutletState → OutletState
+outlet_at o = record { keeps = false; parity = o.parity; flushed = end_of o; left = [] }
+
 abbrev pub lqh_at : ℕ → LqhState → LqhState
-lqh_at epoch s = with_markers (with_rows s (rows_at epoch s.rows)) (map (marker_at epoch) s.markers)
+lqh_at epoch s =
+    with_outlet (with_markers (with_rows s (rows_at epoch s.rows)) (map (marker_at epoch) s.markers))
+    (outlet_at s.outlet)
 
 -- a host
 abbrev pub tc_part_at : ℕ → TcPart → TcPart
@@ -114,3 +121,11 @@ effects_at epoch effects =
 
 abbrev pub step_at : {S : Type 0} → (S → S) → ℕ → Step S → Step S
 step_at levelled epoch step = record { state = levelled step.state; effects = effects_at epoch step.effects }
+
+-- Of rows how much their journal has still to give out, and not what; and so for a host.
+abbrev pub lqh_sized : LqhState → LqhState
+lqh_sized s = with_outlet s (outlet_at s.outlet)
+
+abbrev pub host_sized : Host → Host
+host_sized (Ldm s) = Ldm (lqh_sized s)
+host_sized s = s

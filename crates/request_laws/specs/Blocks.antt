@@ -3,6 +3,7 @@ use Rattle.std.specs.Prelude.{List}
 use Rattle.frag_map.specs.Layout.{first_layout}
 use Rattle.sig_core.specs.declared.member.Member.{Member}
 use Rattle.sig_core.specs.Rows.{no_rows}
+use Rattle.lqh_block.specs.Fresh.{no_outlet, unused}
 use Rattle.lqh_views.specs.Replica.{fresh_replica}
 use Rattle.lqh_views.specs.State.{ReplicaState}
 use Rattle.tc_views.specs.Coordinator.{fresh_coordinator}
@@ -32,7 +33,7 @@ rows_in other parts = other
 -- rows of the member, of which there are none
 abbrev pub no_replica : Start → Member → ReplicaState
 no_replica start member =
-    fresh_replica member.node (first_layout start.shape) no_rows (record { used = 0; reserved = 0 }) start.epoch
+    fresh_replica member.node (first_layout start.shape) no_rows unused no_outlet start.epoch
 
 module _ (start : Start) (member : Member) where
   -- the coordinator of a member behind a log of its host

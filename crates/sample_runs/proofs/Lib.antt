@@ -1,4 +1,5 @@
 pub mod Locking
+pub mod Outlets
 pub mod PutChain
 pub mod PutCoordinator
 pub mod PutRows

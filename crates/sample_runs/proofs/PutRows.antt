@@ -7,6 +7,8 @@ use Rattle.sig_core.specs.declared.mark.Mark.{Mark}
 use Rattle.sig_core.specs.declared.mark.Mark.TheVariants.{Applied, Done as Completed, Prepared}
 use Rattle.sig_core.specs.declared.op.Answer.TheVariants.{Done}
 use Rattle.sig_core.specs.declared.outs.Outgoing.{Outgoing}
+use Rattle.sig_core.specs.declared.redo.Redo.{Redo}
+use Rattle.sig_core.specs.declared.redo.Redo.TheVariants as redo
 use Rattle.sig_core.specs.declared.rows.PendingRecord.{PendingRecord}
 use Rattle.sig_core.specs.declared.signal.Body.TheVariants.{Chain}
 use Rattle.sig_core.specs.declared.signal.chain.ChainSignal.TheVariants as told
@@ -18,6 +20,7 @@ use Rattle.sig_core.specs.Redo.{size_of}
 use Rattle.sig_core.specs.Rows as rows
 use Rattle.sig_core.specs.Step.{Step, to_place}
 use Rattle.sig_core.specs.Work.{work_key}
+use Rattle.frag_map.specs.Fragment.{frag_of}
 use Rattle.frag_map.specs.Layout.{first_layout}
 use Rattle.row_locks.proofs.LocksLemmas.{key_cmp, remove-absent, remove-insert}
 use Rattle.row_locks.specs.declared.mode.Mode.TheVariants.{Exclusive}
@@ -28,6 +31,7 @@ use Rattle.lqh_block.specs.Commit.{commit_row}
 use Rattle.lqh_block.specs.Complete.{complete_row}
 use Rattle.lqh_block.specs.declared.request.Marker.{Marker}
 use Rattle.lqh_block.specs.declared.request.Request.{Request}
+use Rattle.lqh_block.specs.Fresh.{no_outlet, unused}
 use Rattle.lqh_block.specs.Operate.{asked_by, request_row}
 use Rattle.lqh_block.specs.State.{LqhState, serve_granted, with_lock, with_locks}
 use Rattle.lqh_block.specs.Storage.{committed_in, perform, store_row}
@@ -39,6 +43,7 @@ use Rattle.node_core.specs.Fresh.{fresh_part}
 use Rattle.node_core.specs.Row.{in_ldm, ldm_row, row}
 use Rattle.world_core.specs.Hosts.{started}
 use Rattle.answer_laws.specs.Sample.{first_tx}
+use Rattle.sample_runs.proofs.Outlets.{outlet_behind}
 use Rattle.sample_runs.proofs.Traces.{Do}
 use Rattle.sample_runs.specs.Put.{backup, key, primary, replicas, two, value, write}
 
@@ -76,32 +81,42 @@ emptied = remove-insert nobody key held ∙ remove-absent nobody key free_at
 still_empty : map.remove nobody key ≡ nobody
 still_empty = remove-absent nobody key free_at
 
--- the rows of a node: a row, what becomes of it, the bytes of the journal, the locks and the markers
-abbrev with_row : ℕ → Option (List ℕ) → ℕ → List PendingRecord → JournalState → Locks → List Marker → LqhState
-with_row node row epoch pending journal locks markers = record {
+-- the rows of a node: a row, what becomes of it, the bytes of the journal and its records, the locks and the markers
+abbrev with_row : ℕ → Option (List ℕ) → ℕ → List PendingRecord → JournalState → List Redo → Locks → List Marker
+    → LqhState
+with_row node row epoch pending journal redone locks markers = record {
   node = node;
   layout = first_layout two.shape;
   rows = record { places = Some (rows.with_row key row epoch) ∷ []; pending = pending };
   journal = journal;
+  outlet = outlet_behind redone;
   locks = locks;
   waiting = [];
   markers = markers;
 }
 
+-- what the journal tells of the put where it is prepared, and where it is committed too
+abbrev prepare : List Redo
+prepare = redo.Prepare first_tx (frag_of two.shape key) key (Some value) ∷ []
+
+abbrev commit : List Redo
+commit = redo.Commit first_tx 1 key ∷ prepare
+
 -- the put is prepared
 abbrev prepared : ℕ → LqhState
 prepared node =
-    with_row node None 0 (rows.prepared first_tx key (Some value) ∷ []) (record { used = 22; reserved = 26 }) holding []
+    with_row node None 0 (rows.prepared first_tx key (Some value) ∷ []) (record { used = 22; reserved = 26 }) prepare
+    holding []
 
 -- it is committed, with these locks and markers
 abbrev committed : ℕ → Locks → List Marker → LqhState
 committed node locks markers =
     with_row node (Some value) 1 (rows.committed (rows.prepared first_tx key (Some value)) 1 ∷ [])
-    (record { used = 48; reserved = 0 }) locks markers
+    (record { used = 48; reserved = 0 }) commit locks markers
 
 -- it is completed, with these locks
 abbrev completed : ℕ → Locks → LqhState
-completed node locks = with_row node (Some value) 1 [] (record { used = 48; reserved = 0 }) locks []
+completed node locks = with_row node (Some value) 1 [] (record { used = 48; reserved = 0 }) commit locks []
 
 abbrev marker : List Marker
 marker = record { tx = first_tx; key = key; epoch = 1 } ∷ []
@@ -148,7 +163,8 @@ unasked node = record {
   node = node;
   layout = first_layout two.shape;
   rows = rows.no_rows;
-  journal = record { used = 0; reserved = 0 };
+  journal = unused;
+  outlet = no_outlet;
   locks = nobody;
   waiting = [];
   markers = [];

@@ -8,17 +8,21 @@ use Rattle.sig_core.specs.declared.mark.Mark.TheVariants.{Applied, Done as Compl
 use Rattle.sig_core.specs.declared.member.TxId.{TxId}
 use Rattle.sig_core.specs.declared.op.Answer.TheVariants.{Done}
 use Rattle.sig_core.specs.declared.outs.Outgoing.{Outgoing}
+use Rattle.sig_core.specs.declared.redo.Redo.{Redo}
+use Rattle.sig_core.specs.declared.redo.Redo.TheVariants as redo
 use Rattle.sig_core.specs.declared.rows.PendingRecord.{PendingRecord}
 use Rattle.sig_core.specs.declared.signal.Body.TheVariants.{Chain, Host as AnyHost}
 use Rattle.sig_core.specs.declared.signal.chain.ChainSignal.TheVariants as told
 use Rattle.sig_core.specs.declared.signal.chain.RowWork.TheVariants.{Operate}
 use Rattle.sig_core.specs.declared.signal.host.HostSignal.TheVariants.{Continue}
 use Rattle.sig_core.specs.declared.signal.host.Work.TheVariants.{Granted}
+use Rattle.sig_core.specs.Journal.{JournalState}
 use Rattle.sig_core.specs.Op.{answer_to}
 use Rattle.sig_core.specs.Place.{coordinator, rows_of}
 use Rattle.sig_core.specs.Redo.{size_of}
 use Rattle.sig_core.specs.Rows as rows
 use Rattle.sig_core.specs.Step.{Step, to_place}
+use Rattle.frag_map.specs.Fragment.{frag_of}
 use Rattle.frag_map.specs.Layout.{first_layout}
 use Rattle.row_locks.proofs.LocksLemmas.{key_cmp, remove-absent, remove-insert}
 use Rattle.row_locks.specs.declared.mode.Mode.TheVariants.{Exclusive}
@@ -30,6 +34,7 @@ use Rattle.lqh_block.specs.Commit.{commit_row}
 use Rattle.lqh_block.specs.Complete.{complete_row}
 use Rattle.lqh_block.specs.declared.request.Marker.{Marker}
 use Rattle.lqh_block.specs.declared.request.Request.{Request}
+use Rattle.lqh_block.specs.Fresh.{no_outlet, unused}
 use Rattle.lqh_block.specs.Operate.{granted_by, granted_row}
 use Rattle.lqh_block.specs.State.{LqhState, serve_granted, with_lock}
 use Rattle.lqh_block.specs.Storage.{committed_in, perform, store_row}
@@ -41,6 +46,7 @@ use Rattle.node_core.specs.Row.{in_ldm, ldm_row, row}
 use Rattle.world_core.specs.Hosts.{started}
 use Rattle.answer_laws.specs.Sample.{first_tx, lone}
 use Rattle.sample_runs.proofs.Locking.{asks}
+use Rattle.sample_runs.proofs.Outlets.{outlet_behind}
 use Rattle.sample_runs.proofs.Traces.{Do}
 use Rattle.sample_runs.specs.Put.{key}
 use Rattle.sample_runs.specs.Wait.{alone, first_value, first_write, second_tx, second_value, serving, waiter}
@@ -87,13 +93,16 @@ emptied =
     ∙ remove-insert first_holds key waited_lock ∙ remove-insert nobody key first_lock
     ∙ still_empty
 
--- the rows of the node: its row, what becomes of it, the bytes of the journal, the locks, who waits and the markers
-abbrev with_row : Option (List ℕ) → ℕ → List PendingRecord → ℕ → ℕ → Locks → List Request → List Marker → LqhState
-with_row row epoch pending used reserved locks waiting markers = record {
+-- the rows of the node: its row, what becomes of it, the bytes of the journal and its records, the locks, who waits and
+-- the markers
+abbrev with_row : Option (List ℕ) → ℕ → List PendingRecord → JournalState → List Redo → Locks → List Request
+    → List Marker → LqhState
+with_row row epoch pending journal redone locks waiting markers = record {
   node = 1;
   layout = first_layout lone.shape;
   rows = record { places = Some (rows.with_row key row epoch) ∷ []; pending = pending };
-  journal = record { used = used; reserved = reserved };
+  journal = journal;
+  outlet = outlet_behind redone;
   locks = locks;
   waiting = waiting;
   markers = markers;
@@ -104,7 +113,8 @@ unasked = record {
   node = 1;
   layout = first_layout lone.shape;
   rows = rows.no_rows;
-  journal = record { used = 0; reserved = 0 };
+  journal = unused;
+  outlet = no_outlet;
   locks = nobody;
   waiting = [];
   markers = [];
@@ -119,26 +129,53 @@ second_record = rows.prepared second_tx key (Some second_value)
 abbrev marker : TxId → List Marker
 marker tx = record { tx = tx; key = key; epoch = 1 } ∷ []
 
+-- what a put has the journal tell where it is prepared, and where it is committed
+abbrev prepare : TxId → List ℕ → Redo
+prepare tx value = redo.Prepare tx (frag_of lone.shape key) key (Some value)
+
+abbrev commit : TxId → Redo
+commit tx = redo.Commit tx 1 key
+
+-- the records where the first put is prepared, where it is committed, and so for the second
+abbrev first_told : List Redo
+first_told = prepare first_tx first_value ∷ []
+
+abbrev first_done : List Redo
+first_done = commit first_tx ∷ first_told
+
+abbrev second_told : List Redo
+second_told = prepare second_tx second_value ∷ first_done
+
+abbrev second_done : List Redo
+second_done = commit second_tx ∷ second_told
+
+-- so many bytes are used, and so many kept free
+abbrev bytes : ℕ → ℕ → JournalState
+bytes used reserved = record { used = used; reserved = reserved }
+
 -- the first put is prepared
 abbrev first_prepared : Locks → List Request → LqhState
-first_prepared locks waiting = with_row None 0 (first_record ∷ []) 22 26 locks waiting []
+first_prepared locks waiting = with_row None 0 (first_record ∷ []) (bytes 22 26) first_told locks waiting []
 
 -- it is committed
 abbrev first_committed : Locks → LqhState
 first_committed locks =
-    with_row (Some first_value) 1 (rows.committed first_record 1 ∷ []) 48 0 locks (waiter ∷ []) (marker first_tx)
+    with_row (Some first_value) 1 (rows.committed first_record 1 ∷ []) (bytes 48 0) first_done locks (waiter ∷ [])
+    (marker first_tx)
 
 -- it is completed, behind the preparation of the second
 abbrev first_completed : Locks → List Marker → LqhState
-first_completed locks markers = with_row (Some first_value) 1 (second_record ∷ []) 70 26 locks [] markers
+first_completed locks markers =
+    with_row (Some first_value) 1 (second_record ∷ []) (bytes 70 26) second_told locks [] markers
 
 -- the second is committed, and completed
 abbrev second_committed : Locks → LqhState
 second_committed locks =
-    with_row (Some second_value) 1 (rows.committed second_record 1 ∷ []) 96 0 locks [] (marker second_tx)
+    with_row (Some second_value) 1 (rows.committed second_record 1 ∷ []) (bytes 96 0) second_done locks []
+    (marker second_tx)
 
 abbrev second_completed : Locks → List Marker → LqhState
-second_completed locks markers = with_row (Some second_value) 1 [] 96 0 locks [] markers
+second_completed locks markers = with_row (Some second_value) 1 [] (bytes 96 0) second_done locks [] markers
 
 abbrev comes : LqhState → List Outgoing → List Mark → Step Host
 comes s sends marks = record { state = Ldm s; effects = record { sends = sends; marks = marks } }
@@ -170,8 +207,8 @@ serving_steps =
     ∷ comes (second_committed nobody) (committed_told second_tx ∷ []) (Applied second_tx key ∷ [])
     ∷ comes (first_completed still_holds []) [] []
     ∷ comes (first_completed still_holds (marker first_tx)) (completed_told first_tx ∷ []) (Completed first_tx key ∷ [])
-    ∷ comes (with_row (Some first_value) 1 (rows.committed first_record 1 ∷ second_record ∷ []) 70 26 second_holds []
-    (marker first_tx))
+    ∷ comes (with_row (Some first_value) 1 (rows.committed first_record 1 ∷ second_record ∷ []) (bytes 70 26)
+    second_told second_holds [] (marker first_tx))
     (confirmed second_tx ∷ []) (Prepared second_tx key ∷ [])
     ∷ comes (first_committed second_holds)
     (committed_told first_tx ∷ to_place (rows_of 1) (AnyHost (Continue Granted 0)) ∷ []) (Applied first_tx key ∷ [])

@@ -1,6 +1,7 @@
 -- In a life that begins without rows the hosts begin alike.
 use Rattle.std.proofs.Common.{◌≡◌, ◌∙◌, ◌%◌, ℕ, zero, suc, List, [], refl, ap, sym}
 use Rattle.frag_map.specs.Layout.{first_layout}
+use Rattle.lqh_block.specs.Fresh.{no_outlet, unused}
 use Rattle.lqh_block.specs.Lqh.{unasked_yet}
 use Rattle.lqh_block.specs.State.{LqhState}
 use Rattle.node_core.specs.Fresh as plain
@@ -50,7 +51,7 @@ part_begins start part.Ldm member none = record {
 }
   where
     of_rows : RowsState → LqhState
-    of_rows rows = unasked_yet member.node (first_layout start.shape) rows (record { used = 0; reserved = 0 })
+    of_rows rows = unasked_yet member.node (first_layout start.shape) rows unused no_outlet
 
     same : of_rows (with_rows no_rows (own_rows start.shape member.node start.rows) start.start_epoch)
         ≡ of_rows (with_rows no_rows (own_rows start.shape member.node start.rows) start.epoch)

@@ -33,6 +33,7 @@ use Rattle.row_records.proofs.KeyLemmas.{same as same_key-is}
 use Rattle.lqh_block.specs.declared.request.Request.{Request}
 use Rattle.lqh_block.specs.Dump as dump
 use Rattle.lqh_block.specs.Expire as expire
+use Rattle.lqh_block.specs.Fresh.{no_outlet, unused}
 use Rattle.lqh_block.specs.Lqh.{unasked_yet}
 use Rattle.lqh_block.specs.Operate as operate
 use Rattle.lqh_block.specs.State as rows_state
@@ -242,7 +243,7 @@ keys_begin_at_rest member layout epoch rows key held =
     (ap or_unlocked (map.get-empty key_cmp key)) refl
 
 idle_well : (node : ℕ) (layout : Layout) (rows : List (List ℕ × List ℕ)) (epoch : ℕ)
-    → IsWell (unasked_yet node layout (with_rows no_rows rows epoch) (record { used = 0; reserved = 0 }))
+    → IsWell (unasked_yet node layout (with_rows no_rows rows epoch) unused no_outlet)
 idle_well node layout rows epoch = record { placed = put_placed no_rows rows epoch tt refl; orderly = empty_orderly }
 
 part_well : (of : Part) (member : Member) (layout : Layout) (epoch : ℕ) (rows : List (List ℕ × List ℕ))

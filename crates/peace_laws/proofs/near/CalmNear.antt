@@ -33,12 +33,13 @@ use Rattle.calm_laws.proofs.plain_steps.Parts.{main_parts_step, parts_step}
 use Rattle.calm_laws.proofs.plain_steps.Rounds.{each_besides}
 use Rattle.calm_laws.proofs.plain_steps.Shell.{shells_step}
 use Rattle.level_laws.specs.Laws.{HostsAreLevel}
-use Rattle.level_laws.specs.Levels.{host_at}
+use Rattle.level_laws.specs.Levels.{host_at, host_sized}
+use Rattle.level_laws.proofs.SizedRows.{sized_same}
 use Rattle.peace_laws.specs.Alike.{AreNear, RestsOfClosings}
 use Rattle.peace_laws.specs.Parts.{levelled, plain_part, plain_replies, shows}
 use Rattle.peace_laws.proofs.closings.Signals.{calm_apart, not_closing}
 use Rattle.peace_laws.proofs.near.MainNear.{master_kept, near_main}
-use Rattle.peace_laws.proofs.near.Mirrored.{IsLeftOut, IsMirrored, IsPlainStep, level_step}
+use Rattle.peace_laws.proofs.near.Mirrored.{IsLeftOut, IsMirrored, IsPlainStep, level_same, level_step}
 use Rattle.peace_laws.proofs.near.NearHosts.{has_main, main_beats, main_level, main_stays, near_alike}
 use Rattle.peace_laws.proofs.near.NearHosts.{resting_main, resting_near}
 use Rattle.peace_laws.proofs.plain.Answers.{ArePlainReplies, IsPlainReply, hosts_reply, replies_level, same_replies}
@@ -62,7 +63,7 @@ replies_next start h log e =
 module _ (start : Start) (h : ℕ) (log : List HostStep) (before : IsMirrored start h log) where
   pub inner_main : has_main before.inner ≡ is_beating h
   inner_main =
-      sym (main_level start.epoch before.inner) ∙ ap has_main (sym before.level)
+      sym (main_level start.epoch before.inner) ∙ sym (level_same start h log before has_main (λ s. refl))
       ∙ main_beats start h (plain_part start h log)
 
 api_level : (epoch : ℕ) (s : plain_host.Host) → has_api (host_at epoch s) ≡ has_api s
@@ -74,7 +75,7 @@ api_level epoch (plain_kind.Ldm s) = refl
 -- that of the shell's host has an API
 pub inner_api : (start : Start) (log : List HostStep) (before : IsMirrored start 0 log) → has_api before.inner ≡ true
 inner_api start log before =
-    sym (api_level start.epoch before.inner) ∙ ap has_api (sym before.level)
+    sym (api_level start.epoch before.inner) ∙ sym (level_same start 0 log before has_api (λ s. refl))
     ∙ api_runs start (plain_part start 0 log)
 
 -- A step of a main part, which the plain part leaves out.
@@ -193,7 +194,10 @@ module _ (hosts_level : HostsAreLevel) (start : Start) (shape : IsShape start.sh
   api_next : (k : ℕ) → k ≡ 0 → (those : List HostStep) → has_api (plain.after start k those) ≡ true
   api_next k is those = subst (λ j. has_api (plain.after start j those) ≡ true) (sym is) (api_runs start those)
 
-  next_level : plain.after start h (levelled start.epoch e ∷ plain_part start h log)
+  abbrev plain_next : plain_host.Host
+  plain_next = plain.after start h (levelled start.epoch e ∷ plain_part start h log)
+
+  next_level : host_sized plain_next
       ≡ host_at start.epoch (row before.inner e.step.taken).state
   next_level = ap (λ (s : Step plain_host.Host). s.state) (level_step hosts_level start h log e before)
 
@@ -206,11 +210,12 @@ module _ (hosts_level : HostsAreLevel) (start : Start) (shape : IsShape start.sh
           (new_replies start given (calm.plain_replies more) (after start h (e ∷ log)).parts
           (row before.inner e.step.taken).state part_alike.alike.parts
           (sym (api_level start.epoch (row before.inner e.step.taken).state)
-          ∙ ap has_api (sym next_level)
+          ∙ ap has_api (sym next_level) ∙ sized_same has_api (λ s. refl) plain_next
           ∙ api_next h is (levelled start.epoch e ∷ plain_part start h log))
           (inner_replies start.epoch (row before.inner e.step.taken).state
           (subst (λ s. ArePlainReplies (api_of s).replies) next_level
-          (hosts_reply start h (levelled start.epoch e ∷ plain_part start h log)))))
+          (subst ArePlainReplies (sym (sized_same (λ s. (api_of s).replies) (λ s. refl) plain_next))
+          (hosts_reply start h (levelled start.epoch e ∷ plain_part start h log))))))
       by (suc k) is =
           let none : more ≡ [] = ap (λ j. replies_at j (step_after start h log e)) is in
           ap plain_replies none ∙ sym (ap calm.plain_replies none)

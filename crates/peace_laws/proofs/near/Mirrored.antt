@@ -2,7 +2,9 @@
 use Rattle.std.proofs.Common.{◌≡◌, ◌<◌, ◌≤◌, ℕ, List, [], ◌∷◌, ◌++◌, Bool, true, false, refl, ap, sym}
 use Rattle.std.proofs.Common.{◌∙◌, subst, arith}
 use Rattle.std.specs.Prelude.{if◌then◌else◌, ◌==◌, ◌&&◌, map, not}
+use Rattle.lqh_block.specs.State.{LqhState}
 use Rattle.node_core.specs.declared.host.Host as plain_host
+use Rattle.node_core.specs.declared.host.Host.TheVariants.{Ldm}
 use Rattle.node_core.specs.Row.{row}
 use Rattle.run_theory.specs.Links.{sent, taken}
 use Rattle.run_theory.specs.Lists.{Each}
@@ -21,19 +23,21 @@ use Rattle.calm_laws.specs.Steps.{IsPlainSend}
 use Rattle.calm_laws.proofs.lives.Asked.{IsAskedAlike}
 use Rattle.calm_laws.proofs.places.Plain.{none_next}
 use Rattle.level_laws.specs.Laws.{HostsAreLevel}
-use Rattle.level_laws.specs.Levels.{effects_at, host_at, send_at, signal_at}
+use Rattle.level_laws.specs.Levels.{effects_at, host_at, host_sized, lqh_sized, send_at, signal_at}
+use Rattle.level_laws.proofs.SizedRows.{onto, row_sized, sized_same}
 use Rattle.peace_laws.specs.Alike.{AreNear}
 use Rattle.peace_laws.specs.Parts.{levelled, plain_part, plain_replies}
 use Rattle.peace_laws.proofs.near.Signals.{request_level, work_level}
 use Rattle.peace_laws.proofs.near.Seen.{IsSeen, IsSentFor, seen_next}
 use Rattle.peace_laws.proofs.near.Sent.{IsAside, addressed_at, count_next, sent_next}
 
--- Host h is near an inner one, which is that of the plain part of its log but for epochs. To hosts that are no main
--- parts it sent what that did, and took from them what that did; to main parts that sent nothing.
+-- Host h is near an inner one, which is that of the plain part of its log but for epochs, and for the bytes of its
+-- journal, which tell them. To hosts that are no main parts it sent what that did, and took from them what that did; to
+-- main parts that sent nothing.
 pub record IsMirrored (start : Start) (h : ℕ) (log : List HostStep) : Type 0 where
   pub inner : plain_host.Host
   pub near : AreNear start (plain_replies (replies_in start h log)) (after start h log) inner
-  pub level : plain.after start h (plain_part start h log) ≡ host_at start.epoch inner
+  pub level : host_sized (plain.after start h (plain_part start h log)) ≡ host_at start.epoch inner
   pub late : last_stamp (plain_part start h log) ≤ last_stamp log
   pub links : (j : ℕ) → is_beating h ≡ false → is_beating j ≡ false
       → sent (plain.machine start) h j (plain_part start h log)
@@ -47,6 +51,12 @@ pub record IsMirrored (start : Start) (h : ℕ) (log : List HostStep) : Type 0 w
       → sent (plain.machine start) h j (plain_part start h log) ≡ []
   pub seen : (j : ℕ) → Each (IsSeen start h) (sent (machine start) h j log)
   pub asked : is_beating h ≡ false → Each IsAskedAlike log
+
+-- what doesn't look at those bytes is the same of both
+pub level_same : (start : Start) (h : ℕ) (log : List HostStep) (m : IsMirrored start h log) {A : Type 0}
+    (f : plain_host.Host → A) → ((s : LqhState) → f (Ldm (lqh_sized s)) ≡ f (Ldm s))
+    → f (plain.after start h (plain_part start h log)) ≡ f (host_at start.epoch m.inner)
+level_same start h log m f rows = sym (sized_same f rows (plain.after start h (plain_part start h log))) ∙ ap f m.level
 
 -- A step that the plain part leaves out: to hosts that are no main parts it sends nothing, and takes nothing from them.
 pub record IsLeftOut (start : Start) (h : ℕ) (log : List HostStep) (e : HostStep) (before : IsMirrored start h log)
@@ -72,7 +82,7 @@ left_mirrored start h log e before left =
     record {
       inner = left.inner;
       near = left.near;
-      level = ap (plain.after start h) left.out ∙ before.level ∙ sym left.same;
+      level = ap (λ part. host_sized (plain.after start h part)) left.out ∙ before.level ∙ sym left.same;
       late = subst (λ part. last_stamp part ≤ e.step.stamp) (sym left.out) (omega (arith, before.late, left.later));
       links = λ j here takes.
           ap (sent (plain.machine start) h j) left.out ∙ before.links j here takes
@@ -120,14 +130,15 @@ module _ (hosts_level : HostsAreLevel) (start : Start) (h : ℕ) (log : List Hos
   abbrev now : HostStep
   now = levelled start.epoch e
 
-  -- the plain one's step is the inner one's, but for epochs
-  pub level_step : plain.step_after start h part now
+  -- the plain one's step is the inner one's, but for epochs and those bytes
+  pub level_step : onto host_sized (plain.step_after start h part now)
       ≡ record {
         state = host_at start.epoch (row before.inner e.step.taken).state;
         effects = effects_at start.epoch (row before.inner e.step.taken).effects;
       }
   level_step =
-      ap (λ s. row s now.step.taken) before.level ∙ hosts_level start.epoch before.inner e.step.taken
+      sym (row_sized (plain.after start h part) now.step.taken)
+      ∙ ap (λ s. row s now.step.taken) before.level ∙ hosts_level start.epoch before.inner e.step.taken
 
   module _ (step : IsPlainStep start h log e before) where
     abbrev both : List Outgoing
@@ -164,7 +175,8 @@ module _ (hosts_level : HostsAreLevel) (start : Start) (h : ℕ) (log : List Hos
           inner = (row before.inner e.step.taken).state;
           near = step.near;
           level =
-              ap (plain.after start h) step.part ∙ ap (λ (s : Step plain_host.Host). s.state) level_step;
+              ap (λ those. host_sized (plain.after start h those)) step.part
+              ∙ ap (λ (s : Step plain_host.Host). s.state) level_step;
           late = subst (λ those. last_stamp those ≤ e.step.stamp) (sym step.part) (omega arith);
           links = λ j here takes.
               ap (sent (plain.machine start) h j) step.part

@@ -25,7 +25,7 @@ use Rattle.world_core.specs.Start.{Start, made}
 use Rattle.world_core.specs.Steps.{HostStep}
 use Rattle.calm_laws.specs.Alike.{AreAlike, ArePartsAlike}
 use Rattle.calm_laws.specs.Plain.{is_beating, is_main}
-use Rattle.level_laws.specs.Levels.{host_at}
+use Rattle.level_laws.specs.Levels.{host_at, host_sized}
 use Rattle.peace_laws.specs.Alike.{AreNear, ArePartsNear, IsMasterNear, RestsOfClosings}
 
 -- a plain host that has a main part
@@ -163,20 +163,22 @@ resting_main start given s other alike master =
 
 -- a life that begins without rows begins in one epoch
 none_level : (of : Part) (member : Member) (layout : Layout) (epoch : ℕ)
-    → fresh_part of member layout epoch [] ≡ host_at epoch (fresh_part of member layout epoch [])
+    → host_sized (fresh_part of member layout epoch []) ≡ host_at epoch (fresh_part of member layout epoch [])
 unfolding fresh_part
 none_level part.Main member layout epoch = refl
 none_level part.Tc member layout epoch = refl
 none_level part.Ldm member layout epoch = refl
 
 part_level : (of : Part) (member : Member) (layout : Layout) (epoch : ℕ) (rows : List (List ℕ × List ℕ)) → rows ≡ []
-    → fresh_part of member layout epoch rows ≡ host_at epoch (fresh_part of member layout epoch rows)
+    → host_sized (fresh_part of member layout epoch rows) ≡ host_at epoch (fresh_part of member layout epoch rows)
 part_level of member layout epoch rows none =
     subst
-    (λ those. fresh_part of member layout epoch those ≡ host_at epoch (fresh_part of member layout epoch those))
+    (λ those. host_sized (fresh_part of member layout epoch those)
+    ≡ host_at epoch (fresh_part of member layout epoch those))
     (sym none) (none_level of member layout epoch)
 
-pub begin_level : (start : Start) (h : ℕ) → start.rows ≡ [] → started start h ≡ host_at start.epoch (started start h)
+pub begin_level : (start : Start) (h : ℕ) → start.rows ≡ []
+    → host_sized (started start h) ≡ host_at start.epoch (started start h)
 unfolding started fresh_shell
 begin_level start zero none = refl
 begin_level start (suc h) none =

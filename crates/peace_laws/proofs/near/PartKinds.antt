@@ -31,7 +31,7 @@ use Rattle.peace_laws.specs.Closing.{EpochsRest, HasRows, MainRests, host_in, ma
 use Rattle.peace_laws.specs.Parts.{plain_part, plain_replies}
 use Rattle.peace_laws.specs.Rest.{RestsIn}
 use Rattle.peace_laws.proofs.near.CalmNear.{inner_main}
-use Rattle.peace_laws.proofs.near.Mirrored.{IsMirrored}
+use Rattle.peace_laws.proofs.near.Mirrored.{IsMirrored, level_same}
 use Rattle.peace_laws.proofs.near.NearHosts.{has_main}
 
 -- the oldest member of the first view is the first node
@@ -130,7 +130,8 @@ module _ (start : Start) (shape : IsShape start.shape) (epoch : ℕ) where
     epochs_rest log before rests =
         epochs_at_rest (host_in place false) (plain_replies (replies_in start (host_in place false) log))
         (after start (host_in place false) log).parts before.inner before.near.parts
-        (sym (tc_level start.epoch before.inner) ∙ ap has_tc (sym before.level)
+        (sym (tc_level start.epoch before.inner)
+        ∙ sym (level_same start (host_in place false) log before has_tc (λ s. refl))
         ∙ subst
         (λ k. has_tc (plain_world.after start k (plain_part start (host_in place false) log)) ≡ true) tc_there
         (tc_runs start (place + 1) (plain_part start (host_in place false) log) (omega arith) (omega (arith, low))))
@@ -141,7 +142,8 @@ module _ (start : Start) (shape : IsShape start.shape) (epoch : ℕ) where
     has_rows log before =
         rows_at_rest (plain_replies (replies_in start (host_in place true) log))
         (after start (host_in place true) log).parts before.inner before.near.parts
-        (sym (rows_level start.epoch before.inner) ∙ ap has_lqh (sym before.level)
+        (sym (rows_level start.epoch before.inner)
+        ∙ sym (level_same start (host_in place true) log before has_lqh (λ s. refl))
         ∙ subst
         (λ k. has_lqh (plain_world.after start k (plain_part start (host_in place true) log)) ≡ true) rows_there
         (rows_run start (place + 1) (plain_part start (host_in place true) log) (omega arith) (omega (arith, low))))

@@ -37,7 +37,7 @@ use Rattle.calm_laws.proofs.lives.Events.{within_next}
 use Rattle.calm_laws.proofs.known.Transactions.{coming_known}
 use Rattle.calm_laws.proofs.lives.WellFormed.{coming_well_formed}
 use Rattle.level_laws.specs.Laws.{HostsAreLevel}
-use Rattle.level_laws.specs.Levels.{mark_at}
+use Rattle.level_laws.specs.Levels.{host_sized, mark_at}
 use Rattle.peace_laws.specs.Alike.{AreNear, IsMasterNear, IsPhaseNear}
 use Rattle.peace_laws.specs.Parts.{levelled, plain_part}
 use Rattle.peace_laws.specs.Peace.{is_closing}
@@ -88,7 +88,7 @@ begins_mirrored start h none =
     record {
       inner = plain.after start h [];
       near = begins_near start h none;
-      level = ap (plain.after start h) (no_part start h) ∙ begin_level start h none;
+      level = ap (λ part. host_sized (plain.after start h part)) (no_part start h) ∙ begin_level start h none;
       late = subst (λ those. last_stamp those ≤ 0) (sym (no_part start h)) (omega arith);
       links = λ j here takes. ap (sent (plain.machine start) h j) (no_part start h);
       counts = λ j here takes. ap (λ those. plain.sent_count start h those j) (sym (no_part start h));

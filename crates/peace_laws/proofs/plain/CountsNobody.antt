@@ -1,5 +1,5 @@
 -- Where nothing is under way in peace, no node counts a transaction: nothing is under way in the plain machine.
-use Rattle.std.proofs.Common.{◌≡◌, ◌<◌, ℕ, true, List, [], ◌∷◌, refl, sym, ap, ◌∙◌, subst}
+use Rattle.std.proofs.Common.{◌≡◌, ◌<◌, ℕ, true, List, [], ◌∷◌, refl, sym, ◌∙◌, subst}
 use Rattle.std.specs.Prelude.{map}
 use Rattle.frag_map.specs.Shape.{IsShape}
 use Rattle.dih_node.specs.declared.dih.Counted.{Counted}
@@ -21,7 +21,7 @@ use Rattle.calm_laws.specs.Alike.{tx_of}
 use Rattle.level_laws.specs.Levels.{host_at}
 use Rattle.peace_laws.specs.Alike.{ArePartsNear}
 use Rattle.peace_laws.specs.Parts.{plain_part, plain_parts, plain_replies}
-use Rattle.peace_laws.proofs.near.Mirrored.{IsMirrored}
+use Rattle.peace_laws.proofs.near.Mirrored.{IsMirrored, level_same}
 use Rattle.peace_laws.proofs.plain.NoneCounted.{none_counted}
 use Rattle.peace_laws.proofs.near.Resting.{CountsNobody}
 use Rattle.peace_laws.proofs.plain.Logs.{mirrored, quiet_plain, right, within}
@@ -80,5 +80,6 @@ module _ (start : Start) (shape : IsShape start.shape) (logs : ℕ → List Host
       near_counts (plain_replies (replies_in start h (logs h))) (after start h (logs h)).parts m.inner m.near.parts
       (λ runs.
       sym (counts_level start.epoch m.inner)
-      ∙ sym (ap (λ (s : plain_host.Host). (dih_of s).counted) m.level)
-      ∙ plain_counts_nobody h low (ap has_tc m.level ∙ tc_level start.epoch m.inner ∙ runs))
+      ∙ sym (level_same start h (logs h) m (λ s. (dih_of s).counted) (λ s. refl))
+      ∙ plain_counts_nobody h low
+      (level_same start h (logs h) m has_tc (λ s. refl) ∙ tc_level start.epoch m.inner ∙ runs))

@@ -51,7 +51,7 @@ use Rattle.peace_laws.specs.Parts.{is_beside, levelled, levelled_replies, plain_
 use Rattle.peace_laws.specs.Peace.{is_closing, is_for_closing}
 use Rattle.peace_laws.proofs.near.CalmNear.{inner_api}
 use Rattle.peace_laws.proofs.closings.Signals.{closing_body}
-use Rattle.peace_laws.proofs.near.Mirrored.{IsMirrored}
+use Rattle.peace_laws.proofs.near.Mirrored.{IsMirrored, level_same}
 use Rattle.peace_laws.proofs.plain.Events.{events_are, no_part, none_part, plain_events}
 use Rattle.peace_laws.proofs.near.Runs.{IsKept}
 use Rattle.peace_laws.proofs.near.Sent.{addressed_at}
@@ -132,7 +132,7 @@ module _ (start : Start) (es : List HostStep) (logs : ℕ → List HostStep) (ha
       let shell : IsMirrored start 0 (logs 0) = mirrored 0 in
       sym
       (replies_are (plain.after start 0 (plain_parts start logs 0))
-      ∙ ap (λ s. (api_of s).replies) shell.level
+      ∙ level_same start 0 (logs 0) shell (λ s. (api_of s).replies) (λ s. refl)
       ∙ near_replies start (plain_replies (replies_in start 0 (logs 0))) (after start 0 (logs 0)).parts shell.inner
       shell.near.parts (inner_api start (logs 0) shell))
 

@@ -13,6 +13,7 @@ use Rattle.sig_core.specs.declared.view.View.{View}
 use Rattle.sig_core.specs.Rows.{RowsState, no_rows, put_row, with_place}
 use Rattle.frag_map.specs.Layout.{first_layout}
 use Rattle.row_locks.proofs.TableLawLemmas.{empty_orderly}
+use Rattle.lqh_block.specs.Fresh.{no_outlet, unused}
 use Rattle.lqh_views.specs.Replica.{fresh_replica, installed, replica_row}
 use Rattle.lqh_views.specs.State.{ReplicaState}
 use Rattle.node_core.specs.Fresh.{own_rows, with_rows}
@@ -42,7 +43,7 @@ abbrev pub first_rows : Start → Member → ReplicaState
 first_rows start member =
     fresh_replica member.node (first_layout start.shape)
     (with_rows no_rows (own_rows start.shape member.node start.rows) start.start_epoch)
-    (record { used = 0; reserved = 0 }) start.start_epoch
+    unused no_outlet start.start_epoch
 
 module _ (So : ReplicaState → Type 0) (row : (s : ReplicaState) (x : Signal) → So s → So (replica_row s x).state)
     (install : (s : ReplicaState) (view : View) → So s → So (installed s view)) where

@@ -3,7 +3,7 @@ use Rattle.std.proofs.Common.{◌≡◌, ℕ, zero, suc, ◌%◌, List, [], refl
 use Rattle.sig_core.specs.declared.member.Member.{Member}
 use Rattle.sig_core.specs.declared.place.Part.{Part}
 use Rattle.sig_core.specs.declared.place.Part.TheVariants as part
-use Rattle.sig_core.specs.Journal.{JournalState}
+use Rattle.sig_core.specs.Journal.{JournalState, OutletState}
 use Rattle.sig_core.specs.Rows.{RowsState, no_rows}
 use Rattle.frag_map.specs.Layout.{Layout, first_layout}
 use Rattle.lqh_block.specs.Lqh.{unasked_yet}
@@ -23,8 +23,9 @@ pub record IsUnasked (s : LqhState) : Type 0 where
   pub layout : Layout
   pub rows : RowsState
   pub journal : JournalState
+  pub outlet : OutletState
   pub pending : rows.pending ≡ []
-  pub is : s ≡ unasked_yet node layout rows journal
+  pub is : s ≡ unasked_yet node layout rows journal outlet
 
 part_unasked : (p : Part) (member : Member) (layout : Layout) (epoch : ℕ) (rows : List (List ℕ × List ℕ))
     → IsUnasked (lqh_of (fresh_part p member layout epoch rows))
@@ -34,6 +35,7 @@ part_unasked part.Main member layout epoch rows = record {
   layout = _;
   rows = _;
   journal = _;
+  outlet = _;
   pending = refl;
   is = refl;
 }
@@ -42,6 +44,7 @@ part_unasked part.Tc member layout epoch rows = record {
   layout = _;
   rows = _;
   journal = _;
+  outlet = _;
   pending = refl;
   is = refl;
 }
@@ -50,6 +53,7 @@ part_unasked part.Ldm member layout epoch rows = record {
   layout = _;
   rows = _;
   journal = _;
+  outlet = _;
   pending = started_pending no_rows
       (own_rows layout.shape member.node rows) epoch;
   is = refl;
@@ -57,7 +61,15 @@ part_unasked part.Ldm member layout epoch rows = record {
 
 pub started_unasked : (start : Start) (h : ℕ) → IsUnasked (lqh_of (started start h))
 unfolding started fresh_shell
-started_unasked start zero = record { node = _; layout = _; rows = _; journal = _; pending = refl; is = refl }
+started_unasked start zero = record {
+  node = _;
+  layout = _;
+  rows = _;
+  journal = _;
+  outlet = _;
+  pending = refl;
+  is = refl;
+}
 started_unasked start (suc h) =
     part_unasked (part_by (h % 3)) (member_at (made start) (suc h)) (first_layout start.shape) start.epoch start.rows
 
