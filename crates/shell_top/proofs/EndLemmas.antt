@@ -79,7 +79,7 @@ fresh_text : (start : Start) → text_of start (logs_at (new_world start).logs 0
 fresh_text start = ap (text_of start) (no_step start 0) ∙ still_as_it_was (finds_down start [])
 
 -- nor has a host asked anything of itself
-fresh_unscheduled : (start : Start) → AreUnscheduled start (logs_at (new_world start).logs)
+fresh_unscheduled : (start : Start) → AreUnscheduled false start (logs_at (new_world start).logs)
 fresh_unscheduled start h newer e before is = absurd (none newer (sym (no_step start h) ∙ is))
   where
     none : (newer : List HostStep) → [] ≡ newer ++ e ∷ before → ⊥

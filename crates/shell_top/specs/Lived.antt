@@ -50,7 +50,7 @@ pub record AreLived (start : Start) (ending : Ending) (commands : List Command) 
   pub asked : AreAskedFor start ending commands (logs_at logs 0)
   pub at_quiet : AreAskedAtQuiet start (logs_at logs)
   pub quiet : (ending ≡ NoMemory → ⊥) → IsQuiet start (logs_at logs)
-  pub unscheduled : AreUnscheduled start (logs_at logs)
+  pub unscheduled : AreUnscheduled false start (logs_at logs)
   pub in_peace : are_peaceful commands ≡ true → NoneWants (logs_at logs) → AreInPeace start (logs_at logs)
 
 -- What a life of a cluster of this shape says: it begins without rows, in the first epoch; its logs, one for each host

@@ -70,5 +70,5 @@ module _ (start : Start) (given : List ApiReply) (w : Whole) (right : IsRight st
         within = within start given (asked w request) now;
         requests = ap requests log_is;
         asked = at_quiet;
-        unscheduled = entered_unscheduled start given w 0 wish step (ready given right) (λ asks. tt);
+        unscheduled = λ disks. entered_unscheduled disks start given w 0 wish step (ready given right) (λ asks. tt);
       }

@@ -182,11 +182,15 @@ module _ (start : Start) (given : List ApiReply) (w : Whole) (right : IsRight st
   lost_driven new i t i_low short failed =
       subst (IsDriven start w) (sym failed.is) (losing_driven failed.left failed.cut failed.view new i i_low short)
 
-  -- a schedule has it stop, with so many signals lost
+  -- it may stop as it is
+  pub stop_ready : (others : List ApiReply) → IsRight start others w
+      → IsReady start others w (asking w h (body.Host (Closed cause))) (stopping (body_at w.bodies h) cause)
+  stop_ready others was =
+      halt_ready start others w was h there runs w.bodies cause some own was.sizes.bodies (λ k low other. refl) refl
+      refl
+
+  -- a schedule, or a disk that fails, has it stop, with so many signals lost
   pub stop_driven : (lost : ℕ) → IsDriven start w (halted w h (body_at w.bodies h).standing.view cause lost)
   stop_driven lost =
       entered_driven start given w w.bodies w.links lost (asking w h (body.Host (Closed cause)))
-      (stopping (body_at w.bodies h) cause) right
-      (λ others was. halt_ready start others w was h there runs w.bodies cause some own was.sizes.bodies
-      (λ k low other. refl) refl refl)
-      (λ shell. absurd (omega (arith, some, eqb-true h 0 shell)))
+      (stopping (body_at w.bodies h) cause) right stop_ready (λ shell. absurd (omega (arith, some, eqb-true h 0 shell)))

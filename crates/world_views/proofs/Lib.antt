@@ -3,6 +3,7 @@ pub mod BusyLinks
 pub mod CloseLemmas
 pub mod CloseRight
 pub mod CutFacts
+pub mod DiskLemmas
 pub mod DropRight
 pub mod Entered
 pub mod FailDriven

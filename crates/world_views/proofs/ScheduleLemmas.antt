@@ -7,6 +7,7 @@ use Rattle.std.proofs.lemmas.Bool.Decides.{nat_tests}
 use Rattle.std.proofs.lemmas.List.{get_or_past, take_more}
 use Rattle.std.proofs.lemmas.Option.{slice_get-get_or}
 use Rattle.sig_core.specs.declared.log.HostLog.{HostLog}
+use Rattle.sig_core.specs.declared.outcome.StopCause.{StopCause}
 use Rattle.sig_core.specs.declared.outcome.StopCause.TheVariants.{Clock, Killed, Memory}
 use Rattle.sig_core.specs.declared.view.Shape.{Shape}
 use Rattle.node_views.specs.WellFormed.{is_node}
@@ -20,10 +21,11 @@ use Rattle.world_views.specs.declared.schedule.ScheduleFault.{ScheduleFault}
 use Rattle.world_views.specs.declared.schedule.ScheduleFault.TheVariants.{Empty, Gone, NoMemory}
 use Rattle.world_views.specs.Driven.{HaveGrown, IsDriven, IsSound, IsWorld}
 use Rattle.world_views.specs.Links.{Arrival, take_between}
-use Rattle.world_views.specs.Machine.{IsOwnWork, first_of, has_stopped, own_stop, step_by}
+use Rattle.world_views.specs.Machine.{IsOwnCause, IsOwnWork, first_of, has_stopped, own_stop, step_by}
 use Rattle.world_views.specs.Schedule.{HasPicked, HavePicked, IsEmpty, IsGone, IsPicked, IsScheduled, LeavesRight}
 use Rattle.world_views.specs.Schedule.{StopsAt, host_of, is_discarded, is_other, left_of, may_be}
-use Rattle.world_views.specs.World.{body_at, cutting, handled_by, has_stopped_in, HasHandled, is_stamp, IsThere, Whole}
+use Rattle.world_views.specs.World.{body_at, cutting, handled_by, has_stopped_in, HasHandled, is_stamp, IsThere}
+use Rattle.world_views.specs.World.{stopped, Whole}
 use Rattle.world_views.proofs.FailDriven.{fail_driven, stop_driven}
 use Rattle.world_views.proofs.OwnReady.{ask_ready}
 use Rattle.world_views.proofs.StepDriven.{entered_driven}
@@ -36,7 +38,7 @@ not_true true e = absurd (true≢false (sym e))
 not_true false e = refl
 
 -- a host that runs is one of the world's
-running_low : (start : Start) (w : Whole) (h : ℕ) → IsSound start w → has_stopped_in w h ≡ false → h < hosts start
+pub running_low : (start : Start) (w : Whole) (h : ℕ) → IsSound start w → has_stopped_in w h ≡ false → h < hosts start
 running_low start w h sound runs = go (cases_lt h (hosts start))
   where
     go : (h < hosts start) ⊎ (hosts start ≤ h) → h < hosts start
@@ -87,6 +89,13 @@ cut_driven start w v h node sound low runs some own = by (is_stamp (next_stamp w
     by true (inr failed) = fail_driven start sound.given w sound.right h low runs some Memory tt v failed.1
     by false failed = fail_driven start sound.given w sound.right h low runs some Clock tt v failed.1
 
+-- a part of a node stops by itself
+pub stopped_driven : (start : Start) (w : Whole) (h : ℕ) (cause : StopCause) (lost : ℕ) → IsSound start w → 1 ≤ h
+    → has_stopped_in w h ≡ false → IsOwnCause cause → IsDriven start w (stopped w h cause lost)
+stopped_driven start w h cause lost sound some runs own =
+    let low = running_low start w h sound runs in
+    stop_driven start sound.given w sound.right h low (runs_there start w h sound low runs) some cause own lost
+
 -- a pick drives a world
 pub pick_driven : (start : Start) (w v : Whole) (pick : Pick) → IsSound start w → may_be w pick ≡ true
     → HasPicked w pick v
@@ -95,12 +104,9 @@ pick_driven start w v (Take host from) sound may went =
     taken_driven start sound.given w sound.right went.arrived
     (taken_on (hosts start) w.links from.0 host.0 went.arrived sound.right.sizes.links went.first) v went.taken
 pick_driven start w v (Stop host lost) sound may went =
-    let runs = pick_runs w (Stop host lost) may in
-    let low = running_low start w host.0 sound runs in
     let some = positive host.0 (and_parts (nat_lt 0 host.0) _ may).0 in
     subst (IsDriven start w) (sym went)
-    (stop_driven start sound.given w sound.right host.0 low (runs_there start w host.0 sound low runs) some Killed tt
-    lost)
+    (stopped_driven start w host.0 Killed lost sound some (pick_runs w (Stop host lost) may) tt)
 pick_driven start w v (Cut host node) sound may went =
     let runs = pick_runs w (Cut host node) may in
     let low = running_low start w host.0 sound runs in

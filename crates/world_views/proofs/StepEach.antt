@@ -1,20 +1,17 @@
 -- What a step of a host sends and marks: what is so of each signal and mark of its blocks, at the signal and where
 -- views are installed before and behind, is so of each of the step, also where it stops by a signal to itself.
-use Rattle.std.proofs.Common.{◌≡◌, ◌||◌, ◌∙◌, ℕ, zero, suc, Bool, true, refl, sym, List, [], ◌∷◌}
-use Rattle.std.proofs.lemmas.Bool.{or_right}
+use Rattle.std.proofs.Common.{◌≡◌, ℕ, true, refl}
 use Rattle.std.specs.Prelude.{Option, None, Some}
 use Rattle.sig_core.specs.declared.mark.Mark.{Mark}
 use Rattle.sig_core.specs.declared.outcome.StopCause.{StopCause}
 use Rattle.sig_core.specs.declared.outs.Outgoing.{Outgoing}
 use Rattle.sig_core.specs.declared.signal.Body.{Body}
 use Rattle.sig_core.specs.declared.signal.Signal.{Signal}
-use Rattle.sig_core.specs.Step.{Step}
-use Rattle.step_forms.specs.Does.{Does, IsAmong, IsWord, Speaks}
-use Rattle.step_forms.proofs.DoesLemmas.{does_map, speaks_do}
-use Rattle.node_views.specs.Blocks.{parts_entered, parts_row}
+use Rattle.step_forms.specs.Does.{Does, Speaks}
+use Rattle.step_forms.proofs.DoesLemmas.{speaks_do}
 use Rattle.node_views.specs.declared.host_body.HostBody as hosts
 use Rattle.node_views.specs.declared.parts.Parts.{Parts}
-use Rattle.node_views.specs.Words.{host_marks, is_host_mark, parts_marks, parts_words}
+use Rattle.node_views.specs.Words.{host_marks, parts_words}
 use Rattle.node_views.proofs.HostEach.{HostEach, IsOfHost, KeepsEach, each_kept, row_each}
 use Rattle.node_views.proofs.WordWalk.{host_speaks}
 use Rattle.world_views.specs.Machine.{own_stop, step_by, step_if}

@@ -116,9 +116,10 @@ has_stepped w u t e taken start sound =
     taken_driven start sound.given w sound.right t (first_from w t start sound e) u taken
 
 pub stepped_unscheduled : (w u : Whole) (t : Arrival) → take_first w.links ≡ Some t → HasTaken (left_of w t) t.taken u
-    → (start : Start) → IsSound start w → AreUnscheduled start (logs_at w.logs) → AreUnscheduled start (logs_at u.logs)
-stepped_unscheduled w u t e taken start sound was =
-    taken_unscheduled start sound.given w sound.right t (first_from w t start sound e) was u taken
+    → (disks : Bool) (start : Start) → IsSound start w → AreUnscheduled disks start (logs_at w.logs)
+    → AreUnscheduled disks start (logs_at u.logs)
+stepped_unscheduled w u t e taken disks start sound was =
+    taken_unscheduled disks start sound.given w sound.right t (first_from w t start sound e) was u taken
 
 pub has_stayed : (w t : Whole) → take_first w.links ≡ None → t ≡ w → (start : Start) → IsSound start w
     → IsStepped start w t false
@@ -187,12 +188,13 @@ goes_on w a b false is way stepped = absurd (true≢false (sym is))
 -- No schedule had a host stop or cut off a node between these worlds.
 abbrev pub StayUnscheduled : Whole → Whole → Type 0
 StayUnscheduled w t =
-    (start : Start) → IsSound start w → AreUnscheduled start (logs_at w.logs) → AreUnscheduled start (logs_at t.logs)
+    (disks : Bool) (start : Start) → IsSound start w → AreUnscheduled disks start (logs_at w.logs)
+    → AreUnscheduled disks start (logs_at t.logs)
 
 pub unscheduled_further : (w a b : Whole) → IsUnderWay w a → StayUnscheduled w a → StayUnscheduled a b
     → StayUnscheduled w b
-unscheduled_further w a b way first second start sound was =
-    second start (stays_sound start w a (way.driven start sound) sound) (first start sound was)
+unscheduled_further w a b way first second disks start sound was =
+    second disks start (stays_sound start w a (way.driven start sound) sound) (first disks start sound was)
 
 -- no step was left
 pub has_ended : (w a b : Whole) (went : Bool) → went ≡ false → IsUnderWay w a

@@ -52,7 +52,8 @@ pub record HasAsked (start : Start) (request : ApiReq) (w t : Whole) : Type 0 wh
   pub requests : requests (logs_at t.logs 0) ≡ requests (logs_at w.logs 0) ++ request ∷ []
   -- if nothing was under way, it was asked at quiet
   pub asked : IsIdle w → AreAskedAtQuiet start (logs_at w.logs) → AreAskedAtQuiet start (logs_at t.logs)
-  pub unscheduled : AreUnscheduled start (logs_at w.logs) → AreUnscheduled start (logs_at t.logs)
+  pub unscheduled : (disks : Bool) → AreUnscheduled disks start (logs_at w.logs)
+      → AreUnscheduled disks start (logs_at t.logs)
 
 -- a step was taken, or nothing was under way and nothing has changed
 abbrev pub IsStepped : Start → Whole → Whole → Bool → Type 0

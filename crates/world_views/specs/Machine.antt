@@ -12,7 +12,7 @@ use Rattle.sig_core.specs.declared.mark.Mark.{Mark}
 use Rattle.sig_core.specs.declared.mark.Mark.TheVariants.{Stopped}
 use Rattle.sig_core.specs.declared.member.Member.{Member}
 use Rattle.sig_core.specs.declared.outcome.StopCause.{StopCause}
-use Rattle.sig_core.specs.declared.outcome.StopCause.TheVariants.{Clock, Killed, Memory}
+use Rattle.sig_core.specs.declared.outcome.StopCause.TheVariants.{Clock, Disk, Killed, Memory}
 use Rattle.sig_core.specs.declared.outs.Outgoing.{Outgoing}
 use Rattle.sig_core.specs.declared.reply.ApiReply.{ApiReply}
 use Rattle.sig_core.specs.declared.request.ApiReq.{ApiReq}
@@ -140,10 +140,12 @@ request_body request = Host (Continue (Request request) 0)
 abbrev pub first_of : List Member → ℕ → ℕ
 first_of made node = host_by made Main (latest made node)
 
--- why a part of a node may stop by itself: it wants memory, its stamps are used up, or a schedule has it stop
+-- why a part of a node may stop by itself: it wants memory, its stamps are used up, its node's disk failed, or a
+-- schedule has it stop
 abbrev pub IsOwnCause : StopCause → Type 0
 IsOwnCause Memory = Unit {0}
 IsOwnCause Clock = Unit {0}
+IsOwnCause (Disk count) = Unit {0}
 IsOwnCause Killed = Unit {0}
 IsOwnCause cause = ⊥
 
@@ -175,8 +177,8 @@ pub record FitsRow (start : Start) (h : ℕ) (log : List HostStep) (e : HostStep
   pub marks : e.step.marks ≡ (step_after start h log e).effects.marks
   pub comes : comes_rightly (is_asked h e.step.taken) start h log e.step.taken
 
--- The machine, from this start. No host is made later by now. Stamps may be skipped, as they are where a host has
--- something else to do besides.
+-- The machine, from this start. No host is made later by now. Stamps may be skipped: what is proved of it needs only
+-- that they rise.
 abbrev pub machine : Start → Machine HostStep Addressed
 machine start =
     record {

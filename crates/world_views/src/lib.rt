@@ -2,6 +2,7 @@
 #![tactic(auto)]
 
 mod closing;
+mod disks;
 mod failing;
 mod fresh;
 mod hosts;

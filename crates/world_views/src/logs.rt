@@ -1,8 +1,9 @@
 //! The logs of all hosts.
-ghost use Rattle.std.specs.Prelude.{◌≡◌, ◌<◌, length, IfOk, OnOk, OnErr};
-ghost use Rattle.world_core.specs.World.{for_each, no_steps, with_step};
+ghost use Rattle.std.specs.Prelude.{◌≡◌, ◌<◌, length, IfNone, IfOk, IfSome, None, OnErr, OnOk, Some};
+ghost use Rattle.world_core.specs.World.{for_each, logs_at, no_steps, with_step};
+ghost use Rattle.world_views.specs.Disks.{newest_taken};
 
-use sig_core::{HostId, HostLog, LogStep, NoMemory, Seq};
+use sig_core::{HostId, HostLog, LogStep, NoMemory, Seq, Signal};
 use std::alloc::Global;
 use std::marker::Model;
 
@@ -47,6 +48,18 @@ impl Logs {
         ensures err { OnErr result (self.new ≡ self.old) }
     {
         self.hosts[host as usize].steps.push(step)
+    }
+
+    /// The signal that a host took in its last step, if it has made one.
+    pub fn last(&self, host: u32) -> Option<&Signal>
+        requires { host < length self.now }
+        ensures some { IfSome result (λ x. newest_taken (logs_at self.now host) ≡ Some x.now) }
+        ensures none { IfNone result (newest_taken (logs_at self.now host) ≡ None) }
+    {
+        match self.hosts[host as usize].steps.as_slice().last() {
+            Some(step) => Some(step.taken.get()),
+            None => None,
+        }
     }
 
     /// The logs as a list inside another value. Takes no memory.

@@ -1,6 +1,6 @@
 //! The world: all hosts of a cluster that may fail, driven by one thread.
 ghost use Rattle.std.specs.Prelude.{◌≡◌, ◌≤◌, ◌||◌, ◌++◌, [], IfOk, MatchOption, None, OnErr, OnOk, false};
-ghost use Rattle.std.specs.Prelude.{slice_index_or};
+ghost use Rattle.std.specs.Prelude.{is_some, slice_index_or};
 ghost use Rattle.frag_map.specs.Shape.{IsShape};
 ghost use Rattle.node_views.specs.Row.{is_cut};
 ghost use Rattle.world_views.specs.Machine.{own_stop};
@@ -40,13 +40,13 @@ pub struct World {
     outs: Outs,
     /// The stamp of each host's last step.
     stamps: Vec<u64>,
-    logs: Logs,
+    pub(crate) logs: Logs,
     /// The replies that the shell hasn't had.
     replies: VecDeque<ApiReply>,
 }
 
 impl World {
-    ghost use Rattle.std.specs.Prelude.{option_to_list};
+    ghost use Rattle.std.specs.Prelude.{Bool, option_to_list};
     ghost use Rattle.world_core.specs.Labels.{AreLabelled};
     ghost use Rattle.world_core.specs.Lives.{fresh_life};
     ghost use Rattle.world_core.specs.Start.{Start};
@@ -129,28 +129,33 @@ impl World {
         ensures quiet { OnOk result (IsIdle (whole_of self.new)) }
         ensures err { (start : Start) → IsSound start (whole_of self.old) → OnErr result (HaveGrown start (logs_at self.old.logs) (logs_at self.new.logs)) }
         ensures labels { (start : Start) → IsSound start (whole_of self.old) → OnErr result (AreLabelled start self.new.logs) }
-        ensures unscheduled { (start : Start) → IsSound start (whole_of self.old) → AreUnscheduled start (logs_at self.old.logs) → AreUnscheduled start (logs_at self.new.logs) }
+        ensures unscheduled { (disks : Bool) (start : Start) → IsSound start (whole_of self.old) → AreUnscheduled disks start (logs_at self.old.logs) → AreUnscheduled disks start (logs_at self.new.logs) }
     {
         for _ in rt.forever() {
-            if !self.step(alloc)? {
+            if self.step(alloc)?.is_none() {
                 return Ok(());
             }
         }
         unreachable!()
     }
 
-    // Takes the first signal of the first link that has one. Says whether there was one.
-    fn step(&mut self, alloc: Global) -> Result<bool, NoMemory>
+    /// Takes the first signal of the first link that has one. Says whose link it was; none where nothing is
+    /// under way.
+    ///
+    /// # Errors
+    /// `NoMemory`, and then the world is of use for its logs alone.
+    pub fn step(&mut self, alloc: Global) -> Result<Option<HostId>, NoMemory>
         requires { IsWorld (whole_of self.old) }
-        ensures ok { (start : Start) → IsSound start (whole_of self.old) → IfOk result (λ went. IsStepped start (whole_of self.old) (whole_of self.new) went) }
+        ensures ok { (start : Start) → IsSound start (whole_of self.old) → IfOk result (λ at. IsStepped start (whole_of self.old) (whole_of self.new) (is_some at)) }
         ensures err { OnErr result (self.new.logs ≡ self.old.logs) }
-        ensures unscheduled { (start : Start) → IsSound start (whole_of self.old) → AreUnscheduled start (logs_at self.old.logs) → AreUnscheduled start (logs_at self.new.logs) }
+        ensures unscheduled { (disks : Bool) (start : Start) → IsSound start (whole_of self.old) → AreUnscheduled disks start (logs_at self.old.logs) → AreUnscheduled disks start (logs_at self.new.logs) }
     {
         let Some(arrived) = self.network.take() else {
-            return Ok(false);
+            return Ok(None);
         };
+        let host = HostId(arrived.host);
         self.take(alloc, arrived.host, arrived.signal)?;
-        Ok(true)
+        Ok(Some(host))
     }
 
     // A signal that was taken from its link is discarded where its host has stopped or has cut off its

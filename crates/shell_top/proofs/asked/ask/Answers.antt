@@ -1,4 +1,4 @@
-use Rattle.std.proofs.Common.{[], ◌∷◌}
+use Rattle.std.proofs.Common.{[], ◌∷◌, false}
 use Rattle.world_views.specs.WorldOf.{whole_of}
 use Rattle.shell_top.proofs.ServedLemmas.{asked_ok, asked_err, asked_world, left_unasked, on_err}
 use Rattle.shell_top.proofs.asked.ask.Goals as goal
@@ -17,11 +17,11 @@ returns-clause-ok g c =
     asked_ok g.start c.args.request c.drive.result (whole_of c.args.world.now) (whole_of c.ask.new.self)
     (whole_of c.drive.new.self) c.requires.1
     (c.in_ok-ask.ensures.ok g.start c.requires.1) (c.drive.ensures.driven g.start) c.drive.ensures.quiet
-    (c.drive.ensures.unscheduled g.start)
+    (c.drive.ensures.unscheduled false g.start)
 
 pub returns-clause-err : goal.returns-clause-err
 returns-clause-err g c =
     asked_err g.start c.args.request c.drive.result (whole_of c.args.world.now) (whole_of c.ask.new.self)
     c.drive.new.self.logs c.requires.1
     (c.in_ok-ask.ensures.ok g.start c.requires.1) (c.drive.ensures.err g.start) (c.drive.ensures.labels g.start)
-    (c.drive.ensures.unscheduled g.start)
+    (c.drive.ensures.unscheduled false g.start)

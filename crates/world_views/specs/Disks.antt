@@ -1,0 +1,15 @@
+-- What a world tells who keeps the disks of its nodes.
+use Rattle.std.specs.Prelude.{ℕ, List, [], ◌∷◌, Option, None, Some}
+use Rattle.sig_core.specs.declared.signal.Signal.{Signal}
+use Rattle.world_core.specs.Steps.{HostStep}
+use Rattle.world_core.specs.World.{logs_at}
+use Rattle.world_views.specs.World.{Whole}
+
+-- the signal that the newest step of a log took
+abbrev pub newest_taken : List HostStep → Option Signal
+newest_taken [] = None
+newest_taken (e ∷ log) = Some e.step.taken
+
+-- the signal that a host took in its last step
+abbrev pub last_taken : Whole → ℕ → Option Signal
+last_taken w h = newest_taken (logs_at w.logs h)
