@@ -11,9 +11,7 @@ mod linear_hash_calls;
 #[cfg(test)]
 mod linear_hash_worked;
 #[cfg(test)]
-mod node_saver_copies;
-#[cfg(test)]
-mod node_saver_saves;
+mod node_disk_calls;
 #[cfg(test)]
 mod redo_format_bytes;
 #[cfg(test)]

@@ -18,7 +18,9 @@ mod table;
 
 pub use life::{is_used_up, prepare_life};
 pub use name::name_node;
+pub use on_node::of_node;
 pub use own::restore_own;
+pub use places::{Places, free_of, places_of};
 pub use prepare::prepare_node;
 pub use restored::Restored;
 pub use restoring::restore;

@@ -5,7 +5,7 @@ ghost use Rattle.sys_restart.specs.Answers.{of_node};
 use sig_core::{ReadFault, RestartFault};
 
 /// A fault of reading the disk of this node.
-pub(crate) fn of_node(node: u8, fault: ReadFault) -> RestartFault
+pub fn of_node(node: u8, fault: ReadFault) -> RestartFault
     ensures { result ≡ of_node node fault }
 {
     match fault {

@@ -13,7 +13,8 @@ use sysfile_core::{control_at, is_earlier, of_generation, system_at};
 
 /// The place at which the next control slot is written, and the slot that is in use.
 #[derive(Clone, Copy)]
-pub(crate) struct Places {
+pub struct Places {
+    /// 0 or 1.
     pub free: u8,
     pub in_use: Option<ControlSlot>,
 }
@@ -60,8 +61,8 @@ fn usable_system<D: Disk>(disk: &mut D, which: u8) -> Result<Option<SystemSlot>,
     usable(system_at(disk, which))
 }
 
-// The place of two that isn't that of the slot in use.
-fn free_of(one: Option<SystemSlot>, other: Option<SystemSlot>) -> u8
+/// The place, 0 or 1, of two system slots that isn't that of the slot in use.
+pub fn free_of(one: Option<SystemSlot>, other: Option<SystemSlot>) -> u8
     ensures value { result ≡ free_of one other }
     ensures which { result ≤ 1 }
 {
@@ -125,8 +126,8 @@ fn usable_control<D: Disk>(
     }
 }
 
-// The places, of the two slots of the generation.
-fn places_of(one: Option<ControlSlot>, other: Option<ControlSlot>) -> Places
+/// The places, of the two control slots of a generation.
+pub fn places_of(one: Option<ControlSlot>, other: Option<ControlSlot>) -> Places
     ensures value { result ≡ places_of one other }
     ensures which { result.free ≤ 1 }
 {

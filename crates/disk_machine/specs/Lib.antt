@@ -1,4 +1,0 @@
-pub mod Rule
-pub mod Erased
-pub mod Machine
-pub mod Transparent

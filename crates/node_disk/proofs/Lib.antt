@@ -1,0 +1,9 @@
+pub mod CallLemmas
+pub mod ControlLaw
+pub mod LawLemmas
+pub mod RedoLemmas
+pub mod SaveLemmas
+pub mod SlotLaw
+pub mod StartLaw
+pub mod SyncedLemmas
+pub mod SystemLaw

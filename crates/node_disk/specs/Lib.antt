@@ -1,0 +1,5 @@
+pub mod Found
+pub mod Laws
+pub mod RedoLaws
+pub mod Saving
+pub mod Slots
