@@ -1,0 +1,9 @@
+//! What a restart finds of the rows that a node saved on its disk, whatever a crash left there.
+#![tactic(auto)]
+
+mod laws;
+
+pub use laws::{
+    ready_disks_have_rows, replays_stop_at_epochs, rows_are_restored, saves_keep_rows,
+    system_saves_keep_rows,
+};
