@@ -1,0 +1,6 @@
+pub mod DrivenLemmas
+pub mod KeptLemmas
+pub mod OpenLemmas
+pub mod RecordLemmas
+pub mod RowLemmas
+pub mod TakenLemmas

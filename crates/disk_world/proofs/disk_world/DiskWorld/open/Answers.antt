@@ -1,0 +1,16 @@
+use Rattle.std.proofs.Common.{map, rules}
+use Rattle.world_views.specs.WorldOf.{whole_of}
+use Rattle.disk_world.specs.Starting.{start_from}
+use Rattle.disk_world.proofs.OpenLemmas.{opened_ready, opened_world, written_back}
+use Rattle.disk_world.proofs.disk_world.DiskWorld.open.Goals as goal
+
+pub returns-in-Ok-clause-is : goal.returns-in-Ok-clause-is
+returns-in-Ok-clause-is g c =
+    opened_world c.started.result (λ w. whole_of w.world) (λ w. start_from c.args.shape w.start w.rows.items)
+    c.started.ensures.world
+
+pub returns-in-Ok-clause-ready : goal.returns-in-Ok-clause-ready
+returns-in-Ok-clause-ready g c = λ records restored told may.
+    opened_ready c.started.result (λ w. w.disks) _ (λ disks. disks.items) (map g.D.Disk.told) c.args.shape restored
+    c.started.ensures.disks (written_back c.begin_life.new.disks _ _ (search rules))
+    (c.in-Ok.ensures.ready records restored (search rules) may)

@@ -1,0 +1,64 @@
+-- What the disks of a cluster keep of a step of a host.
+use Rattle.std.specs.Prelude.{◌≡◌, ◌≤◌, ℕ, ◌-◌, Bool, true, false, List, length, get_or, Option, None, Some}
+use Rattle.host_io.specs.Call.{Call}
+use Rattle.host_io.specs.Fault.{Rose}
+use Rattle.node_disk.specs.Slots.{SlotsInUse}
+use Rattle.redo_log.specs.Stored.{files_of}
+use Rattle.sig_core.specs.declared.outcome.StopCause.TheVariants.{Disk}
+use Rattle.sys_restart.specs.Answers.{count_of}
+use Rattle.sysfile_core.specs.Runs.{Runs}
+use Rattle.world_views.specs.Disks.{last_taken}
+use Rattle.world_views.specs.World.{body_at, stopped, Whole}
+use Rattle.disk_world.specs.Keeping.{Kept, calls_of, kept_of, slots_after}
+
+-- what disks tell, and the slots in use of each
+pub record Disks : Type 0 where
+  pub told : List (Option (List Call))
+  pub slots : List SlotsInUse
+
+abbrev pub disks_with : List (Option (List Call)) → List SlotsInUse → Disks
+disks_with told slots = record { told = told; slots = slots }
+
+-- the slots in use behind calls that all succeeded, and behind one that failed
+abbrev pub slots_if : Bool → SlotsInUse → Kept → SlotsInUse
+slots_if true slots kept = slots_after slots kept
+slots_if false slots kept = slots
+
+-- The disk at a place kept something, or a call of it failed. The others are as they were.
+pub record HasKept (kept : Kept) (at : ℕ) (old new : Disks) (ok : Bool) : Type 0 where
+  pub runs :
+      (calls : List Call) (other : SlotsInUse) → get_or old.told at None ≡ Some calls
+      → Runs (calls_of (files_of calls) (get_or old.slots at other) kept) calls (get_or new.told at None) ok
+  pub used : (other : SlotsInUse) → get_or new.slots at other ≡ slots_if ok (get_or old.slots at other) kept
+  pub others : (k : ℕ) → (k ≡ at → ⊥) → get_or new.told k None ≡ get_or old.told k None
+  pub others_used :
+      (k : ℕ) (other : SlotsInUse) → (k ≡ at → ⊥) → get_or new.slots k other ≡ get_or old.slots k other
+  pub many : length new.slots ≡ length old.slots
+
+-- a disk at a place failed, so many times by now
+abbrev pub HasFailed : ℕ → List ℕ → List ℕ → ℕ → Type 0
+HasFailed at before now count = Rose (get_or before at 0) count × (count ≡ get_or now at 0)
+
+-- the node of a host, and what its disk keeps of the host's last step
+abbrev pub node_of : Whole → ℕ → ℕ
+node_of w h = (body_at w.bodies h).standing.member.node
+
+abbrev pub kept_in : Whole → ℕ → Kept
+kept_in w h = kept_of (body_at w.bodies h) (last_taken w h)
+
+-- a node has a disk, of so many disks of which so many slots are in use
+pub record HasDisk (node disks slots : ℕ) : Type 0 where
+  pub some : 1 ≤ node
+  pub disk : node ≤ disks
+  pub slots_of : node ≤ slots
+
+-- a host goes on behind calls that all succeeded, and stops behind one that failed
+abbrev pub GoesOn : Bool → Whole → ℕ → ℕ → Whole → Type 0
+GoesOn true w h count t = t ≡ w
+GoesOn false w h count t = t ≡ stopped w h (Disk count) 1
+
+-- the disk of a host's node kept what it was to keep of the host's last step, or failed, and then the host stopped
+pub record HasKeptStep (w : Whole) (h : ℕ) (old new : Disks) (counts : List ℕ) (t : Whole) : Type 0 where
+  pub ok : Bool
+  pub kept : HasKept (kept_in w h) (node_of w h - 1) old new ok
+  pub goes : GoesOn ok w h (count_of counts (node_of w h)) t

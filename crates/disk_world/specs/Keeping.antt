@@ -1,0 +1,62 @@
+-- What the disk of a node keeps of a step of one of its hosts.
+use Rattle.std.specs.Prelude.{ℕ, ◌-◌, ◌&&◌, Bool, true, false, not, nat_lt, List, [], drop, Option, None, Some, if◌then◌else◌}
+use Rattle.sig_core.specs.Journal.{OutletState}
+use Rattle.sig_core.specs.declared.signal.Body.{Body}
+use Rattle.sig_core.specs.declared.signal.Body.TheVariants.{Epoch}
+use Rattle.sig_core.specs.declared.signal.Signal.{Signal}
+use Rattle.sig_core.specs.declared.signal.epoch.EpochSignal.TheVariants.{CopyGciReq}
+use Rattle.host_io.specs.Call.{Call}
+use Rattle.node_disk.specs.Saving.{rows_calls, rows_saved, system_calls, system_saved}
+use Rattle.node_disk.specs.Slots.{SlotsInUse}
+use Rattle.node_views.specs.declared.host_body.HostBody.{HostBody}
+use Rattle.node_views.specs.Row.{is_barred}
+use Rattle.node_views.specs.Saving.{outlet_of, saved_by}
+use Rattle.node_views.specs.WellFormed.{is_well_formed}
+use Rattle.sys_restart.specs.Files.{Files}
+use Rattle.sysfile_core.specs.declared.place.TheConstants.{CONTROL_FILE, SYSTEM_FILE}
+
+-- the rows up to an epoch, that an epoch is durable at these full members, or nothing
+pub data Kept : Type 0 where
+  RowsUpTo : ℕ → OutletState → Kept
+  DurableAt : ℕ → ℕ → Kept
+  NothingNew : Kept
+
+-- what a signal says of an epoch that is durable
+abbrev pub durable_by : Body → Kept
+durable_by (Epoch (CopyGciReq epoch mask)) = DurableAt epoch mask
+durable_by body = NothingNew
+
+abbrev pub durable_if : Bool → Signal → Kept
+durable_if true x = durable_by x.body
+durable_if false x = NothingNew
+
+-- the same, if the signal went on to the blocks of its host
+abbrev pub durable_in : HostBody → Option Signal → Kept
+durable_in s None = NothingNew
+durable_in s (Some x) = durable_if (is_well_formed s.standing.shape x && not (is_barred s x)) x
+
+abbrev pub kept_beside : Option OutletState → HostBody → Option Signal → Kept
+kept_beside (Some redo) s taken = RowsUpTo (saved_by s.parts) redo
+kept_beside None s taken = durable_in s taken
+
+-- A disk keeps of a host with rows those up to the epoch that it noted as saved, and of another one the epoch that it
+-- was told is durable by the signal which it took last.
+abbrev pub kept_of : HostBody → Option Signal → Kept
+kept_of s taken = kept_beside (outlet_of s.parts) s taken
+
+-- the bytes of the redo from a position on
+abbrev pub redo_from : OutletState → ℕ → List ℕ
+redo_from redo at = if nat_lt at redo.flushed then [] else drop (at - redo.flushed) redo.left
+
+-- the calls that keep it, on a disk with these files and these slots in use
+abbrev pub calls_of : Files → SlotsInUse → Kept → List Call
+calls_of files slots (RowsUpTo epoch redo) =
+    rows_calls (files CONTROL_FILE) slots epoch (redo_from redo slots.control.redo_end)
+calls_of files slots (DurableAt epoch mask) = system_calls (files SYSTEM_FILE) slots epoch mask
+calls_of files slots NothingNew = []
+
+-- the slots in use then
+abbrev pub slots_after : SlotsInUse → Kept → SlotsInUse
+slots_after slots (RowsUpTo epoch redo) = rows_saved slots epoch (redo_from redo slots.control.redo_end)
+slots_after slots (DurableAt epoch mask) = system_saved slots epoch mask
+slots_after slots NothingNew = slots

@@ -1,0 +1,4 @@
+pub mod Disks
+pub mod Keeping
+pub mod Records
+pub mod Starting

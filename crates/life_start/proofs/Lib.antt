@@ -1,0 +1,2 @@
+mod SlotsLemmas
+mod BeginLemmas

@@ -1,0 +1,20 @@
+use Rattle.std.proofs.Common.{◌≡◌, ◌∙◌, map, sym, subst}
+use Rattle.std.specs.Prelude.{OnOk}
+use Rattle.sys_restart.specs.declared.restored.Restored.{Restored}
+use Rattle.sys_restart.specs.Files.{disks_of}
+use Rattle.sys_restart.specs.ReadyDisks.{AreReady, AreToPrepare}
+use Rattle.sys_restart.specs.Restored.{restored_of}
+use Rattle.life_start.proofs.BeginLemmas.{same_answer}
+use Rattle.life_start.proofs.begin.begin_life.Goals as goal
+
+-- what may be prepared is what was restored
+pub returns-in-Ok-clause-ready : goal.returns-in-Ok-clause-ready
+returns-in-Ok-clause-ready g c = λ records restored told may.
+    let same : c.in-Ok.restored ≡ restored =
+    same_answer c.in-Ok.restored restored (restored_of c.args.shape (disks_of records))
+    (c.in-Ok.ensures.read records told) may.restored in
+    subst
+    (λ (r : Restored). OnOk c.begin_from.result (AreReady c.args.shape r (map g.D.Disk.told c.begin_from.new.disks)))
+    same
+    (c.begin_from.ensures.ready records (c.in-Ok.ensures.unrecorded ∙ told)
+    (subst (λ (r : Restored). AreToPrepare c.args.shape r records) (sym same) may))
