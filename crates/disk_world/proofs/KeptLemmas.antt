@@ -39,7 +39,8 @@ get_any (x ∷ xs) zero a b below = refl
 get_any (x ∷ xs) (suc at) a b below = get_any xs at a b (omega (arith, below))
 
 -- what is told of all where one was put
-map_set : {A B : Type 0} (T : A → B) (xs : List A) (at : ℕ) (new : A) → map T (set xs at new) ≡ set (map T xs) at (T new)
+map_set : {A B : Type 0} (T : A → B) (xs : List A) (at : ℕ) (new : A)
+    → map T (set xs at new) ≡ set (map T xs) at (T new)
 map_set T [] at new = refl
 map_set T (x ∷ xs) zero new = refl
 map_set T (x ∷ xs) (suc at) new = ap (λ ys. T x ∷ ys) (map_set T xs at new)
