@@ -4,3 +4,4 @@ pub mod OpenLemmas
 pub mod RecordLemmas
 pub mod RowLemmas
 pub mod TakenLemmas
+pub mod Stays
