@@ -3,7 +3,11 @@ pub mod PeacefulLemmas
 pub mod EndLemmas
 pub mod GivingUp
 pub mod LivedLemmas
-pub mod OpenLemmas
+pub mod BetweenLemmas
+pub mod ChapterLemmas
+pub mod FreshLemmas
+pub mod LivesLemmas
+pub mod SettingLemmas
 pub mod PrintedLemmas
 pub mod SafeLemmas
 pub mod ScriptLemmas

@@ -1,4 +1,4 @@
-use Rattle.std.proofs.Common.{◌≡◌, [], ◌∷◌, ◌-◌, ◌+◌, arith, subst}
+use Rattle.std.proofs.Common.{◌≡◌, [], ◌∷◌, ◌-◌, ◌+◌, arith, subst, ◌∙◌}
 use Rattle.std.proofs.lemmas.Bool.Decides.{nat_tests}
 use Rattle.sig_core.specs.declared.request.ApiReq.TheVariants.{Tick}
 use Rattle.shell_top.specs.Asked.{rounds_behind}
@@ -10,20 +10,22 @@ use Rattle.shell_top.proofs.asked.further_rounds.Goals as goal
 pub returns-in_err-ask-clause-err : goal.returns-in_err-ask-clause-err
 returns-in_err-ask-clause-err g c =
     on_err c.from_residual.result
-    (round_left g.start c.args.rounds c.loop-behind.behind (c.args.rounds - 1) (whole_of c.args.world.now)
-    (whole_of c.loop-behind.world) c.ask.new.world.logs
+    (round_left g.start c.args.rounds c.loop-behind.behind (c.args.rounds - 1) (whole_of c.args.world.now.world)
+    (whole_of c.loop-behind.world.world) c.ask.new.world.world.logs
     (grind (arith, nat_tests, c.loop-behind-test.true, c.saturating_sub-behind-end.ensures))
     c.loop-behind.invariant.served c.in_err-ask.ensures.err)
 
 pub loop-behind-preserved : goal.loop-behind-preserved
 loop-behind-preserved g c =
     record {
-      served = round_served g.start c.args.rounds c.loop-behind.behind (whole_of c.args.world.now)
-          (whole_of c.loop-behind.world) (whole_of c.ask.new.world)
+      served = round_served g.start c.args.rounds c.loop-behind.behind (whole_of c.args.world.now.world)
+          (whole_of c.loop-behind.world.world) (whole_of c.ask.new.world.world)
           c.loop-behind.invariant.served c.in_ok-ask.ensures.ok;
-      sound = served_sound g.start (Tick (c.loop-behind.behind + 2) c.args.rounds ∷ []) (whole_of c.loop-behind.world)
-          (whole_of c.ask.new.world) c.in_ok-ask.ensures.ok
+      sound = served_sound g.start (Tick (c.loop-behind.behind + 2) c.args.rounds ∷ [])
+          (whole_of c.loop-behind.world.world)
+          (whole_of c.ask.new.world.world) c.in_ok-ask.ensures.ok
           c.loop-behind.invariant.sound;
+      setting = c.ask.ensures.setting ∙ c.loop-behind.invariant.setting;
     }
 
 pub returns-clause-ok : goal.returns-clause-ok
@@ -31,5 +33,6 @@ returns-clause-ok g c =
     let all : c.loop-behind.behind ≡ c.args.rounds - 1 =
     omega (arith, c.loop-behind-test.false, c.loop-behind.auto.behind-end, c.saturating_sub-behind-end.ensures) in
     subst
-    (λ n. HasServed g.start (rounds_behind c.args.rounds n) (whole_of c.args.world.now) (whole_of c.loop-behind.world))
+    (λ n. HasServed g.start (rounds_behind c.args.rounds n) (whole_of c.args.world.now.world)
+        (whole_of c.loop-behind.world.world))
     all c.loop-behind.invariant.served

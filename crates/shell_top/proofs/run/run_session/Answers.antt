@@ -28,4 +28,6 @@ returns-in-Ok-None-clause-session g c =
     session_refused _ _ _ _ _ _ c.finish.result _ c.new.ensures.items (sym told) c.finish.ensures.printed
 
 pub returns-in-Err-clause-session : goal.returns-in-Err-clause-session
-returns-in-Err-clause-session g c = session_unstarted _ _ _ _ _ _ c.new-in-Err.ensures.items
+returns-in-Err-clause-session g c =
+    subst (λ e. IsSession _ _ _ _ _ _ _ e c.unstarted.result.lives.items) (sym c.unstarted.ensures.ending)
+    (session_unstarted _ _ _ _ _ c.unstarted.result.lives.items c.unstarted.ensures.lives)

@@ -10,56 +10,66 @@ use Rattle.shell_top.proofs.served.serve.Goals as goal
 
 pub returns-in_err-ask_own-clause-err : goal.returns-in_err-ask_own-clause-err
 returns-in_err-ask_own-clause-err g c =
-    on_err c.from_residual.result (left_own g.start c.args.command.now (whole_of c.args.world.now)
-    c.ask_own.new.world.logs c.requires.1.1 c.in_err-ask_own.ensures.err)
+    on_err c.from_residual.result (left_own g.start c.args.command.now (whole_of c.args.world.now.world)
+    c.ask_own.new.world.world.logs c.requires.1.1.1.0 c.in_err-ask_own.ensures.err)
 
 pub ask_about-requires : goal.ask_about-requires
 ask_about-requires g c lives outlive = (
-  outlive,
-  own_sound g.start c.args.command.now (whole_of c.args.world.now)
-      (whole_of c.ask_own.new.world) c.requires.1.0 c.in_ok-ask_own.ensures.ok,
+  outlive.0,
+  (
+    outlive.1,
+    own_sound g.start c.args.command.now (whole_of c.args.world.now.world)
+        (whole_of c.ask_own.new.world.world) c.requires.1.1.0 c.in_ok-ask_own.ensures.ok,
+  ),
 )
 
 pub returns-in_err-ask_about-clause-err : goal.returns-in_err-ask_about-clause-err
 returns-in_err-ask_about-clause-err g c =
     on_err c.from_residual-in_err-ask_about.result
-    (left_about g.start c.args.command.now (whole_of c.args.world.now) (whole_of c.ask_own.new.world)
-    c.ask_about.new.world.logs c.requires.1.1 c.requires.1.0 c.in_ok-ask_own.ensures.ok
+    (left_about g.start c.args.command.now (whole_of c.args.world.now.world) (whole_of c.ask_own.new.world.world)
+    c.ask_about.new.world.world.logs c.requires.1.1.1.0 c.requires.1.1.0 c.in_ok-ask_own.ensures.ok
     c.in_err-ask_about.ensures.opened c.in_err-ask_about.ensures.err)
 
 pub answers-requires : goal.answers-requires
-answers-requires g c =
-    gone_sound g.start c.args.command.now (whole_of c.args.world.now) (whole_of c.ask_own.new.world)
-    (whole_of c.ask_about.new.world) c.requires.1.0 c.in_ok-ask_own.ensures.ok
-    c.in_ok-ask_about.ensures.ok
+answers-requires g c lives outlive = (
+  outlive,
+  gone_sound g.start c.args.command.now (whole_of c.args.world.now.world) (whole_of c.ask_own.new.world.world)
+      (whole_of c.ask_about.new.world.world) c.requires.1.1.0 c.in_ok-ask_own.ensures.ok
+      c.in_ok-ask_about.ensures.ok,
+)
 
 pub returns-in_err-text-clause-err : goal.returns-in_err-text-clause-err
 returns-in_err-text-clause-err g c =
     on_err c.from_residual-in_err-text.result
-    (left_gone g.start c.args.command.now (whole_of c.args.world.now) (whole_of c.ask_own.new.world)
-    (whole_of c.ask_about.new.world) c.answers.new.world.logs c.requires.1.1 c.requires.1.0 c.in_ok-ask_own.ensures.ok
+    (left_gone g.start c.args.command.now (whole_of c.args.world.now.world) (whole_of c.ask_own.new.world.world)
+    (whole_of c.ask_about.new.world.world) c.answers.new.world.world.logs c.requires.1.1.1.0 c.requires.1.1.0
+        c.in_ok-ask_own.ensures.ok
     c.in_ok-ask_about.ensures.ok c.in_err-text.ensures.err)
 
 pub is_down-requires : goal.is_down-requires
 is_down-requires g c =
-    told_world g.start c.args.command.now (whole_of c.args.world.now) (whole_of c.ask_own.new.world)
-    (whole_of c.ask_about.new.world) (whole_of c.answers.new.world) c.requires.1.0 c.in_ok-ask_own.ensures.ok
+    told_world g.start c.args.command.now (whole_of c.args.world.now.world) (whole_of c.ask_own.new.world.world)
+    (whole_of c.ask_about.new.world.world) (whole_of c.answers.new.world.world) c.requires.1.1.0
+        c.in_ok-ask_own.ensures.ok
     c.in_ok-ask_about.ensures.ok c.in_ok-text.ensures.told
 
 pub returns-in_err-extend_from_slice-clause-err : goal.returns-in_err-extend_from_slice-clause-err
 returns-in_err-extend_from_slice-clause-err g c =
     on_err c.from_residual-in_err-extend_from_slice.result
-    (left_gone g.start c.args.command.now (whole_of c.args.world.now) (whole_of c.ask_own.new.world)
-    (whole_of c.ask_about.new.world) c.answers.new.world.logs c.requires.1.1 c.requires.1.0 c.in_ok-ask_own.ensures.ok
+    (left_gone g.start c.args.command.now (whole_of c.args.world.now.world) (whole_of c.ask_own.new.world.world)
+    (whole_of c.ask_about.new.world.world) c.answers.new.world.world.logs c.requires.1.1.1.0 c.requires.1.1.0
+        c.in_ok-ask_own.ensures.ok
     c.in_ok-ask_about.ensures.ok (ap (λ (x : Whole). x.logs) c.in_ok-text.ensures.told))
 
 pub returns-clause-ok : goal.returns-clause-ok
 returns-clause-ok g c =
-    serves g.start c.args.command.now (whole_of c.args.world.now) (whole_of c.ask_own.new.world)
-    (whole_of c.ask_about.new.world) (whole_of c.answers.new.world) c.extend_from_slice.new.self.items c.requires.1.1
-    c.requires.1.0 c.in_ok-ask_own.ensures.ok c.in_ok-ask_about.ensures.ok c.in_ok-text.ensures.told
-    (down_behind (reply_lines (arranged (subject_in c.args.command.now) (whole_of c.ask_about.new.world).replies))
+    serves g.start c.args.command.now (whole_of c.args.world.now.world) (whole_of c.ask_own.new.world.world)
+    (whole_of c.ask_about.new.world.world) (whole_of c.answers.new.world.world) c.extend_from_slice.new.self.items
+        c.requires.1.1.1.0
+    c.requires.1.1.1.1 c.requires.1.1.0 c.in_ok-ask_own.ensures.ok c.in_ok-ask_about.ensures.ok
+        c.in_ok-text.ensures.told
+    (down_behind (reply_lines (arranged (subject_in c.args.command.now) (whole_of c.ask_about.new.world.world).replies))
     c.in_ok-text.text.items c.down_line.result.now c.extend_from_slice.new.self.items c.is_down-was_down.result
-    c.is_down.result (is_down (whole_of c.args.world.now)) (is_down (whole_of c.answers.new.world))
+    c.is_down.result (is_down (whole_of c.args.world.now.world)) (is_down (whole_of c.answers.new.world.world))
     c.in_ok-extend_from_slice.ensures.items c.in_ok-text.ensures.text c.down_line.ensures c.is_down-was_down.ensures
     c.is_down.ensures)
