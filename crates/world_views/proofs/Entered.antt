@@ -60,7 +60,7 @@ module _ (w : Whole) (lost : ℕ) (x : Addressed) (t : Step HostBody) where
   abbrev pub left_by : HostBody
   left_by = body_at (slice_set w.bodies x.to (told x.to t)) x.to
 
-  entered_by : entered w lost x t ≡ behind_step (links_by (stops_by t.effects.marks) w.made left_by.standing)
+  pub entered_by : entered w lost x t ≡ behind_step (links_by (stops_by t.effects.marks) w.made left_by.standing)
   entered_by = go (stops_by t.effects.marks)
     where
       go : (b : Bool)

@@ -1,3 +1,4 @@
+pub mod AloneLemmas
 pub mod AskDriven
 pub mod BusyLinks
 pub mod CloseLemmas

@@ -1,5 +1,5 @@
 //! The world: all hosts of a cluster that may fail, driven by one thread.
-ghost use Rattle.std.specs.Prelude.{◌≡◌, ◌≤◌, ◌||◌, ◌++◌, [], IfOk, MatchOption, None, OnErr, OnOk, false};
+ghost use Rattle.std.specs.Prelude.{◌≡◌, ◌≤◌, ◌||◌, ◌++◌, [], IfOk, IfSome, MatchOption, None, OnErr, OnOk, false};
 ghost use Rattle.std.specs.Prelude.{is_some, slice_index_or};
 ghost use Rattle.frag_map.specs.Shape.{IsShape};
 ghost use Rattle.node_views.specs.Row.{is_cut};
@@ -51,6 +51,7 @@ impl World {
     ghost use Rattle.world_core.specs.Lives.{fresh_life};
     ghost use Rattle.world_core.specs.Start.{Start};
     ghost use Rattle.world_core.specs.World.{logs_at, next_stamp};
+    ghost use Rattle.world_views.specs.Disks.{GoesAlone};
     ghost use Rattle.world_views.specs.Driven.{HasAsked, HaveGrown, IsDriven, IsSound, IsStepped, IsWorld};
     ghost use Rattle.world_views.specs.Machine.{own_signal};
     ghost use Rattle.world_views.specs.Schedule.{HasTaken, is_discarded};
@@ -147,6 +148,7 @@ impl World {
     pub fn step(&mut self, alloc: Global) -> Result<Option<HostId>, NoMemory>
         requires { IsWorld (whole_of self.old) }
         ensures ok { (start : Start) → IsSound start (whole_of self.old) → IfOk result (λ at. IsStepped start (whole_of self.old) (whole_of self.new) (is_some at)) }
+        ensures alone { IfOk result (λ at. IfSome at (λ host. GoesAlone (whole_of self.old) host.0 (whole_of self.new))) }
         ensures err { OnErr result (self.new.logs ≡ self.old.logs) }
         ensures unscheduled { (disks : Bool) (start : Start) → IsSound start (whole_of self.old) → AreUnscheduled disks start (logs_at self.old.logs) → AreUnscheduled disks start (logs_at self.new.logs) }
     {

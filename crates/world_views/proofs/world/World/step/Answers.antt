@@ -1,6 +1,7 @@
 use Rattle.std.proofs.Common.{ap}
 use Rattle.world_views.specs.Links.{arrival}
 use Rattle.world_views.specs.WorldOf.{whole_of}
+use Rattle.world_views.proofs.AloneLemmas.{step_alone}
 use Rattle.world_views.proofs.DropRight.{with_links}
 use Rattle.world_views.proofs.WorldLemmas.{can_take, first_given, has_stayed, has_stepped, stepped_unscheduled}
 use Rattle.world_views.proofs.world.World.step.Goals as goal
@@ -32,4 +33,10 @@ pub returns-clause-unscheduled : goal.returns-clause-unscheduled
 returns-clause-unscheduled c =
     stepped_unscheduled (whole_of c.args.self.now) (whole_of c.take-2.new.self)
     (arrival c.in-Some.arrived.host c.in-Some.arrived.signal c.take.new.self) c.in-Some.ensures.taken
+    c.in_ok-take.ensures.ok
+
+pub returns-clause-alone : goal.returns-clause-alone
+returns-clause-alone c =
+    step_alone (whole_of c.args.self.now) (whole_of c.take-2.new.self)
+    (arrival c.in-Some.arrived.host c.in-Some.arrived.signal c.take.new.self) c.requires c.in-Some.ensures.taken
     c.in_ok-take.ensures.ok
