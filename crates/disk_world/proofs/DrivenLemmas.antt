@@ -57,7 +57,8 @@ way_off w a logs way grown start sound =
 -- no schedule had a host stop or cut off a node between this world and these logs, where nodes have disks
 abbrev pub GoesUnscheduled : Whole → List HostLog → Type 0
 GoesUnscheduled w logs =
-    (start : Start) → IsSound start w → AreUnscheduled true start (logs_at w.logs) → AreUnscheduled true start (logs_at logs)
+    (start : Start) → IsSound start w → AreUnscheduled true start (logs_at w.logs)
+    → AreUnscheduled true start (logs_at logs)
 
 pub same_unscheduled : (w : Whole) (logs : List HostLog) → logs ≡ w.logs → GoesUnscheduled w logs
 same_unscheduled w logs same start sound was =

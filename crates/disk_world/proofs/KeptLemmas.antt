@@ -10,8 +10,8 @@ use Rattle.sys_restart.specs.Answers.{AreSteady}
 use Rattle.sys_restart.proofs.DisksLemmas.{mapped}
 use Rattle.disk_world.specs.Disks.{Disks, HasKept, slots_if}
 use Rattle.disk_world.specs.Keeping.{Kept, calls_of, slots_after}
-use Rattle.disk_world.specs.Records.{HaveMore, TellsMore}
-use Rattle.disk_world.proofs.RecordLemmas.{runs_more, tells_itself}
+use Rattle.life_start.specs.Records.{HaveMore, TellsMore}
+use Rattle.life_start.proofs.RecordLemmas.{runs_more, tells_itself}
 
 -- an element that was put at a place, the others, and how many there are
 set_here : {A : Type 0} (xs : List A) (at : ℕ) (new none : A) → at < length xs → get_or (set xs at new) at none ≡ new
@@ -39,7 +39,8 @@ get_any (x ∷ xs) zero a b below = refl
 get_any (x ∷ xs) (suc at) a b below = get_any xs at a b (omega (arith, below))
 
 -- what is told of all where one was put
-map_set : {A B : Type 0} (T : A → B) (xs : List A) (at : ℕ) (new : A) → map T (set xs at new) ≡ set (map T xs) at (T new)
+map_set : {A B : Type 0} (T : A → B) (xs : List A) (at : ℕ) (new : A)
+    → map T (set xs at new) ≡ set (map T xs) at (T new)
 map_set T [] at new = refl
 map_set T (x ∷ xs) zero new = refl
 map_set T (x ∷ xs) (suc at) new = ap (λ ys. T x ∷ ys) (map_set T xs at new)

@@ -1,6 +1,7 @@
 pub mod DrivenLemmas
+pub mod GoneOnLemmas
 pub mod KeptLemmas
 pub mod OpenLemmas
-pub mod RecordLemmas
 pub mod RowLemmas
 pub mod TakenLemmas
+pub mod Stays

@@ -1,5 +1,5 @@
 -- What the disks of a cluster keep of a step of a host.
-use Rattle.std.specs.Prelude.{◌≡◌, ◌≤◌, ℕ, ◌-◌, Bool, true, false, List, length, get_or, Option, None, Some}
+use Rattle.std.specs.Prelude.{◌≡◌, ◌≤◌, ◌⊎◌, ℕ, ◌-◌, Bool, true, false, List, length, get_or, Option, None, Some}
 use Rattle.host_io.specs.Call.{Call}
 use Rattle.host_io.specs.Fault.{Rose}
 use Rattle.node_disk.specs.Slots.{SlotsInUse}
@@ -7,8 +7,8 @@ use Rattle.redo_log.specs.Stored.{files_of}
 use Rattle.sig_core.specs.declared.outcome.StopCause.TheVariants.{Disk}
 use Rattle.sys_restart.specs.Answers.{count_of}
 use Rattle.sysfile_core.specs.Runs.{Runs}
-use Rattle.world_views.specs.Disks.{last_taken}
-use Rattle.world_views.specs.World.{body_at, stopped, Whole}
+use Rattle.world_views.specs.Disks.{GoesAlone, last_taken}
+use Rattle.world_views.specs.World.{body_at, has_stopped_in, stopped, Whole}
 use Rattle.disk_world.specs.Keeping.{Kept, calls_of, kept_of, slots_after}
 
 -- what disks tell, and the slots in use of each
@@ -62,3 +62,22 @@ pub record HasKeptStep (w : Whole) (h : ℕ) (old new : Disks) (counts : List �
   pub ok : Bool
   pub kept : HasKept (kept_in w h) (node_of w h - 1) old new ok
   pub goes : GoesOn ok w h (count_of counts (node_of w h)) t
+
+-- a host that runs is one of a node which has a disk
+pub record KeepsStep (w : Whole) (h : ℕ) (disks : Disks) : Type 0 where
+  pub part : 1 ≤ h
+  pub runs : has_stopped_in w h ≡ false
+  pub has : HasDisk (node_of w h) (length disks.told) (length disks.slots)
+
+-- the shell's host keeps nothing, nor does one that has stopped
+abbrev pub KeepsNothing : Whole → ℕ → Type 0
+KeepsNothing w h = (h ≡ 0) ⊎ (has_stopped_in w h ≡ true)
+
+-- A host went on, and then the disk of its node kept what it was to keep of its last step. Where it keeps nothing, all
+-- is as it was.
+pub record HasGoneOn (w : Whole) (old new : Disks) (counts : List ℕ) (t : Whole) : Type 0 where
+  pub host : ℕ
+  pub stepped : Whole
+  pub alone : GoesAlone w host stepped
+  pub kept : KeepsStep stepped host old → HasKeptStep stepped host old new counts t
+  pub nothing : KeepsNothing stepped host → (t ≡ stepped) × (new ≡ old)

@@ -1,4 +1,3 @@
 pub mod Disks
 pub mod Keeping
-pub mod Records
 pub mod Starting

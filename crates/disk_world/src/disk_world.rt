@@ -1,11 +1,11 @@
 //! A cluster whose nodes have disks, in one of its lives.
 ghost use Rattle.std.specs.Prelude.{◌≡◌, ◌≤◌, ◌<◌, ◌+◌, ◌-◌, ◌^◌, ◌++◌, List, [], None, Some, false, true, Ok, Err};
-ghost use Rattle.std.specs.Prelude.{IfErr, IfOk, OnErr, OnOk, is_ok, length, map, option_to_list};
+ghost use Rattle.std.specs.Prelude.{IfErr, IfOk, MatchResult, OnErr, OnOk, is_ok, length, map, option_to_list};
 ghost use Rattle.frag_map.specs.Shape.{IsShape};
 ghost use Rattle.host_io.specs.Call.{Call};
 ghost use Rattle.life_start.specs.Begun.{AreSlotsOf, HasBegun};
 ghost use Rattle.sig_core.specs.declared.fault.RestartFault.TheVariants as fault;
-ghost use Rattle.sys_restart.specs.Answers.{AreSteady, IsCauseAmong};
+ghost use Rattle.sys_restart.specs.Answers.{AreSteady, IsCauseAmong, is_outside};
 ghost use Rattle.sys_restart.specs.declared.restored.Restored.{Restored};
 ghost use Rattle.sys_restart.specs.Files.{disks_of};
 ghost use Rattle.sys_restart.specs.ReadyDisks.{AreReady, AreToPrepare};
@@ -16,8 +16,9 @@ ghost use Rattle.world_views.specs.Driven.{HasAsked, HaveGrown, IsDriven, IsSoun
 ghost use Rattle.world_views.specs.Unscheduled.{AreUnscheduled};
 ghost use Rattle.world_views.specs.World.{IsIdle, has_stopped_in, is_down, is_left_open, new_world};
 ghost use Rattle.world_views.specs.WorldOf.{whole_of};
-ghost use Rattle.disk_world.specs.Disks.{HasDisk, HasFailed, HasKept, HasKeptStep, disks_with, kept_in, node_of};
-ghost use Rattle.disk_world.specs.Records.{HaveMore};
+ghost use Rattle.disk_world.specs.Disks.{HasDisk, HasFailed, HasGoneOn, HasKept, HasKeptStep, KeepsNothing, KeepsStep, disks_with, kept_in, node_of};
+ghost use Rattle.life_start.specs.Records.{AllTellMore, HaveMore};
+ghost use Rattle.life_start.specs.Refusals.{IsRefusedFor};
 ghost use Rattle.disk_world.specs.Starting.{epoch_behind, start_from};
 
 use crate::ended::{Ended, Unopened};
@@ -60,9 +61,14 @@ impl<D: Disk> DiskWorld<D> {
         ensures begun { (records : List (List Call)) → map D.told disks.items ≡ map Some records → IfOk result (λ w. HasBegun shape (disks_of records) w.generation w.start w.rows.items) }
         ensures ready { (records : List (List Call)) (restored : Restored) → map D.told disks.items ≡ map Some records → AreToPrepare shape restored records → IfOk result (λ w. AreReady shape restored (map D.told w.disks.items)) }
         ensures slots { (records : List (List Call)) → IfOk result (λ w. map D.told w.disks.items ≡ map Some records → AreSlotsOf w.generation (disks_of records) w.slots.items) }
+        ensures count { IfOk result (λ w. (length w.disks.items ≡ shape.nodes) × (length w.slots.items ≡ shape.nodes)) }
+        // Why none begins, and that no disk is lost then.
+        ensures refused { (records : List (List Call)) → map D.told disks.items ≡ map Some records → IfErr result (λ u. is_outside u.fault ≡ false → IsRefusedFor shape (disks_of records) (map D.told u.disks.items) u.fault) }
         ensures cause { IfErr result (λ u. IsCauseAmong (map D.faults disks.items) (map D.faults u.disks.items) u.fault) }
-        ensures steady { IfErr result (λ u. AreSteady (map D.faults disks.items) (map D.faults u.disks.items)) }
         ensures all { IfErr result (λ u. length u.disks.items ≡ shape.nodes) }
+        // The records of the disks have only grown, either way.
+        ensures recorded { MatchResult result (λ w. AllTellMore (map D.told disks.items) (map D.told w.disks.items)) (λ u. AllTellMore (map D.told disks.items) (map D.told u.disks.items)) }
+        ensures steady { MatchResult result (λ w. AreSteady (map D.faults disks.items) (map D.faults w.disks.items)) (λ u. AreSteady (map D.faults disks.items) (map D.faults u.disks.items)) }
     {
         let mut disks = disks;
         match begin_life(alloc, disks.as_mut_slice(), shape) {
@@ -187,6 +193,9 @@ impl<D: Disk> DiskWorld<D> {
         ensures err { (start : Start) → IsSound start (whole_of self.old.world) → OnErr result (HaveGrown start (logs_at (whole_of self.old.world).logs) (logs_at (whole_of self.new.world).logs)) }
         ensures labels { (start : Start) → IsSound start (whole_of self.old.world) → OnErr result (AreLabelled start (whole_of self.new.world).logs) }
         ensures unscheduled { (start : Start) → IsSound start (whole_of self.old.world) → AreUnscheduled true start (logs_at (whole_of self.old.world).logs) → AreUnscheduled true start (logs_at (whole_of self.new.world).logs) }
+        // A disk keeps what it is to keep of it.
+        ensures kept { IfOk result (λ went. went ≡ true → HasGoneOn (whole_of self.old.world) (disks_with (map D.told self.old.disks.items) self.old.slots.items) (disks_with (map D.told self.new.disks.items) self.new.slots.items) (map D.faults self.new.disks.items) (whole_of self.new.world)) }
+        ensures nothing { IfOk result (λ went. went ≡ false → disks_with (map D.told self.new.disks.items) self.new.slots.items ≡ disks_with (map D.told self.old.disks.items) self.old.slots.items) }
         ensures more { HaveMore (map D.told self.old.disks.items) (map D.told self.new.disks.items) }
         ensures steady { AreSteady (map D.faults self.old.disks.items) (map D.faults self.new.disks.items) }
         ensures life { (self.new.generation ≡ self.old.generation) × (self.new.start ≡ self.old.start) × (self.new.rows ≡ self.old.rows) }
@@ -208,7 +217,8 @@ impl<D: Disk> DiskWorld<D> {
         ensures err { (start : Start) → IsSound start (whole_of self.old.world) → OnErr result (HaveGrown start (logs_at (whole_of self.old.world).logs) (logs_at (whole_of self.new.world).logs)) }
         ensures same { OnErr result ((whole_of self.new.world).logs ≡ (whole_of self.old.world).logs) }
         ensures unscheduled { (start : Start) → IsSound start (whole_of self.old.world) → AreUnscheduled true start (logs_at (whole_of self.old.world).logs) → AreUnscheduled true start (logs_at (whole_of self.new.world).logs) }
-        ensures kept { 1 ≤ host.0 → has_stopped_in (whole_of self.old.world) host.0 ≡ false → HasDisk (node_of (whole_of self.old.world) host.0) (length self.old.disks.items) (length self.old.slots.items) → OnOk result (HasKeptStep (whole_of self.old.world) host.0 (disks_with (map D.told self.old.disks.items) self.old.slots.items) (disks_with (map D.told self.new.disks.items) self.new.slots.items) (map D.faults self.new.disks.items) (whole_of self.new.world)) }
+        ensures nothing { KeepsNothing (whole_of self.old.world) host.0 → OnOk result ((whole_of self.new.world ≡ whole_of self.old.world) × (disks_with (map D.told self.new.disks.items) self.new.slots.items ≡ disks_with (map D.told self.old.disks.items) self.old.slots.items)) }
+        ensures kept { KeepsStep (whole_of self.old.world) host.0 (disks_with (map D.told self.old.disks.items) self.old.slots.items) → OnOk result (HasKeptStep (whole_of self.old.world) host.0 (disks_with (map D.told self.old.disks.items) self.old.slots.items) (disks_with (map D.told self.new.disks.items) self.new.slots.items) (map D.faults self.new.disks.items) (whole_of self.new.world)) }
         ensures more { HaveMore (map D.told self.old.disks.items) (map D.told self.new.disks.items) }
         ensures steady { AreSteady (map D.faults self.old.disks.items) (map D.faults self.new.disks.items) }
         ensures life { (self.new.generation ≡ self.old.generation) × (self.new.start ≡ self.old.start) × (self.new.rows ≡ self.old.rows) }

@@ -9,7 +9,7 @@ ghost use Rattle.sys_restart.specs.Answers.{AreSteady};
 ghost use Rattle.sysfile_core.specs.Runs.{Runs};
 ghost use Rattle.disk_world.specs.Disks.{HasFailed, HasKept, disks_with};
 ghost use Rattle.disk_world.specs.Keeping.{Kept, calls_of, durable_if, kept_of, slots_after};
-ghost use Rattle.disk_world.specs.Records.{HaveMore};
+ghost use Rattle.life_start.specs.Records.{HaveMore};
 
 use host_io::{Disk, Failed};
 use node_disk::NodeSlots;

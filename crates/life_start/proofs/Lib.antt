@@ -1,2 +1,5 @@
+pub mod RecordLemmas
 mod SlotsLemmas
 mod BeginLemmas
+mod ReadyRecords
+mod RefusalLemmas

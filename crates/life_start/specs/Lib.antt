@@ -1,1 +1,4 @@
 pub mod Begun
+pub mod Lacking
+pub mod Records
+pub mod Refusals

@@ -1,13 +1,16 @@
 //! How a life begins on disks: what they say is restored, and they are made ready.
-ghost use Rattle.std.specs.Prelude.{◌≡◌, ◌≤◌, ◌<◌, ◌-◌, ◌^◌, List, Some, IfOk, OnOk, false, length, map};
+ghost use Rattle.std.specs.Prelude.{◌≡◌, ◌≤◌, ◌<◌, ◌+◌, ◌-◌, ◌^◌, List, Some, IfErr, IfOk, OnOk, false, length, map};
 ghost use Rattle.frag_map.specs.Shape.{IsShape};
 ghost use Rattle.host_io.specs.Call.{Call};
-ghost use Rattle.sys_restart.specs.Answers.{AreSteady, HasCauseAmong};
+ghost use Rattle.sys_restart.specs.Answers.{AreSteady, HasCauseAmong, is_outside};
 ghost use Rattle.sys_restart.specs.Calls.{is_used_up};
 ghost use Rattle.sys_restart.specs.declared.restored.Restored.{Restored};
 ghost use Rattle.sys_restart.specs.Files.{disks_of};
 ghost use Rattle.sys_restart.specs.ReadyDisks.{AreReady, AreToPrepare};
 ghost use Rattle.life_start.specs.Begun.{AreSlotsOf, HasBegun, begins_from, rows_of};
+ghost use Rattle.life_start.specs.Lacking.{IsNoneBehind, Lacks};
+ghost use Rattle.life_start.specs.Records.{AllTellMore};
+ghost use Rattle.life_start.specs.Refusals.{IsRefusedFor};
 
 use crate::begun::Begun;
 use crate::slots::slots_of;
@@ -21,7 +24,7 @@ use sys_restart::{Restored, prepare_life, restore};
 ///
 /// # Errors
 /// As of `restore` and `prepare_life`; `Damaged` too where a disk that was made ready doesn't have the slots
-/// that it was given.
+/// that it was given, at the first byte of its control file where it has none.
 pub fn begin_life<D: Disk>(
     alloc: Global,
     disks: &mut [D],
@@ -36,6 +39,9 @@ pub fn begin_life<D: Disk>(
     ensures slots { (records : List (List Call)) → map D.told disks.new ≡ map Some records → IfOk result (λ b. AreSlotsOf b.generation (disks_of records) b.slots.items) }
     ensures count { IfOk result (λ b. length b.slots.items ≡ shape.nodes) }
     ensures more { IfOk result (λ b. b.epoch < 2 ^ 64 - 2 ^ 32) }
+    // Their records have only grown, also where it doesn't begin, and then this is why.
+    ensures recorded { AllTellMore (map D.told disks.old) (map D.told disks.new) }
+    ensures refused { (records : List (List Call)) → map D.told disks.old ≡ map Some records → IfErr result (λ fault. is_outside fault ≡ false → IsRefusedFor shape (disks_of records) (map D.told disks.new) fault) }
     ensures cause { HasCauseAmong (map D.faults disks.old) (map D.faults disks.new) result }
     ensures steady { AreSteady (map D.faults disks.old) (map D.faults disks.new) }
 {
@@ -59,6 +65,8 @@ fn begin_from<D: Disk>(
     ensures slots { (records : List (List Call)) → map D.told disks.new ≡ map Some records → IfOk result (λ b. AreSlotsOf b.generation (disks_of records) b.slots.items) }
     ensures count { IfOk result (λ b. length b.slots.items ≡ shape.nodes) }
     ensures more { IfOk result (λ b. b.epoch < 2 ^ 64 - 2 ^ 32) }
+    ensures recorded { AllTellMore (map D.told disks.old) (map D.told disks.new) }
+    ensures none { (records : List (List Call)) → map D.told disks.old ≡ map Some records → IfErr result (λ fault. is_outside fault ≡ false → IsNoneBehind restored.now shape.nodes (map D.told disks.new) fault) }
     ensures cause { HasCauseAmong (map D.faults disks.old) (map D.faults disks.new) result }
     ensures steady { AreSteady (map D.faults disks.old) (map D.faults disks.new) }
 {
@@ -79,6 +87,7 @@ fn start_with<D: Disk>(
     ensures begun { IfOk result (λ b. begins_from restored.now b.generation b.epoch b.rows.items) }
     ensures unrecorded { map D.told disks.new ≡ map D.told disks.old }
     ensures slots { (records : List (List Call)) → map D.told disks.old ≡ map Some records → IfOk result (λ b. AreSlotsOf b.generation (disks_of records) b.slots.items) }
+    ensures lacking { IfErr result (λ fault. is_outside fault ≡ false → Lacks (restored.now.generation + 1) (length disks.old) (map D.told disks.old) fault) }
     ensures count { IfOk result (λ b. length b.slots.items ≡ length disks.old) }
     ensures more { IfOk result (λ b. b.epoch < 2 ^ 64 - 2 ^ 32) }
     ensures cause { HasCauseAmong (map D.faults disks.old) (map D.faults disks.new) result }

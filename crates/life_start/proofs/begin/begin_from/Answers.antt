@@ -1,8 +1,12 @@
-use Rattle.std.proofs.Common.{List, map, sym, subst}
+use Rattle.std.proofs.Common.{rules, ◌≡◌, ◌∙◌, List, length, map, ap, sym, subst}
 use Rattle.std.specs.Prelude.{Option}
 use Rattle.host_io.specs.Call.{Call}
 use Rattle.sys_restart.specs.ReadyDisks.{AreReady}
+use Rattle.sys_restart.proofs.DisksLemmas.{mapped}
+use Rattle.life_start.specs.Records.{AllTellMore}
 use Rattle.life_start.proofs.BeginLemmas.{where_ok}
+use Rattle.life_start.proofs.ReadyRecords.{readied_more}
+use Rattle.life_start.proofs.RefusalLemmas.{unready}
 use Rattle.life_start.proofs.begin.begin_from.Goals as goal
 
 -- the disks are as they were made ready
@@ -12,3 +16,30 @@ returns-in-Ok-clause-ready g c = λ records told may.
     (subst (λ (told : List (Option (List Call))). AreReady c.args.shape c.args.restored.now told)
     (sym c.start_with.ensures.unrecorded)
     (c.in-Ok.ensures.ready records told may))
+
+-- their records have only grown, whatever came of it
+pub returns-in-Ok-clause-recorded : goal.returns-in-Ok-clause-recorded
+returns-in-Ok-clause-recorded g c =
+    let before = map g.D.Disk.told c.args.disks.now in
+    let many : length c.prepare_life.new.disks ≡ length c.args.disks.now = search rules in
+    subst (AllTellMore before) (sym c.start_with.ensures.unrecorded)
+    (readied_more c.args.shape c.args.restored.now before (map g.D.Disk.told c.prepare_life.new.disks)
+    c.prepare_life.result
+    (mapped g.D.Disk.told c.prepare_life.new.disks ∙ many ∙ sym (mapped g.D.Disk.told c.args.disks.now))
+    (λ used. ap (map g.D.Disk.told) (c.prepare_life.ensures.used_up used).1) c.prepare_life.ensures.runs)
+
+pub returns-in-Err-clause-recorded : goal.returns-in-Err-clause-recorded
+returns-in-Err-clause-recorded g c =
+    let before = map g.D.Disk.told c.args.disks.now in
+    let many : length c.prepare_life.new.disks ≡ length c.args.disks.now = search rules in
+    readied_more c.args.shape c.args.restored.now before (map g.D.Disk.told c.prepare_life.new.disks)
+    c.prepare_life.result
+    (mapped g.D.Disk.told c.prepare_life.new.disks ∙ many ∙ sym (mapped g.D.Disk.told c.args.disks.now))
+    (λ used. ap (map g.D.Disk.told) (c.prepare_life.ensures.used_up used).1) c.prepare_life.ensures.runs
+
+-- no disk was made ready
+pub returns-in-Err-clause-none : goal.returns-in-Err-clause-none
+returns-in-Err-clause-none g c = λ records told inside.
+    unready c.args.shape c.args.restored.now records (map g.D.Disk.told c.prepare_life.new.disks) c.in-Err.fault
+    c.prepare_life.result c.args.shape.nodes c.in-Err.is (λ used. (c.prepare_life.ensures.used_up used).0)
+    (c.in-Err.ensures.runs records told) inside

@@ -1,6 +1,7 @@
 use Rattle.std.proofs.Common.{rules, ◌∙◌, ◌+◌, ◌-◌, ◌<◌, [], get_or, length, map, sym}
 use Rattle.sys_restart.specs.Files.{disks_of}
 use Rattle.sys_restart.proofs.DisksLemmas.{one_cause, one_steady, same_size, same_told, steady_itself, steady_then, told_node}
+use Rattle.life_start.proofs.RefusalLemmas.{one_lacks}
 use Rattle.life_start.proofs.SlotsLemmas.{next_more, none_yet}
 use Rattle.life_start.proofs.slots.slots_of.Goals as goal
 
@@ -22,6 +23,22 @@ returns-in-Err-clause-cause g c =
     c.slots_on.new.disk c.in-Err.fault below
     (sym (same_size g.D.Disk.told c.loop-index.disks c.args.disks.now c.loop-index.invariant.told))
     c.loop-index.invariant.steady c.in-Err.ensures.cause
+
+pub returns-in-Err-clause-unrecorded : goal.returns-in-Err-clause-unrecorded
+returns-in-Err-clause-unrecorded g c =
+    let below : c.loop-index.index < length c.loop-index.disks = search rules in
+    same_told g.D.Disk.told c.loop-index.disks c.loop-index.index c.index-disks-index.result c.slots_on.new.disk below
+    c.in-Err.ensures.unrecorded
+    ∙ c.loop-index.invariant.told
+
+-- and then it lacks them
+pub returns-in-Err-clause-lacking : goal.returns-in-Err-clause-lacking
+returns-in-Err-clause-lacking g c = λ inside.
+    let below : c.loop-index.index < length c.loop-index.disks = search rules in
+    one_lacks g.D.Disk.told c.args.disks.now c.loop-index.disks c.args.generation c.loop-index.index
+    c.index-disks-index.result c.in-Err.fault below c.loop-index.invariant.told
+    (same_size g.D.Disk.told c.loop-index.disks c.args.disks.now c.loop-index.invariant.told)
+    (λ calls told. c.in-Err.ensures.lacking calls told inside)
 
 -- there is no memory for them
 pub returns-in-Err-push-clause-steady : goal.returns-in-Err-push-clause-steady

@@ -3,7 +3,7 @@ use Rattle.sys_restart.proofs.DisksLemmas.{steady_itself, steady_then}
 use Rattle.world_views.specs.WorldOf.{whole_of}
 use Rattle.world_views.proofs.WorldLemmas.{goes_on, has_ended, is_quiet, under_way}
 use Rattle.disk_world.proofs.DrivenLemmas.{way_labels, way_off, way_unscheduled, where_err}
-use Rattle.disk_world.proofs.RecordLemmas.{more_itself, more_then}
+use Rattle.life_start.proofs.RecordLemmas.{more_itself, more_then}
 use Rattle.disk_world.proofs.disk_world.DiskWorld.drive.Goals as goal
 
 pub loop-init : goal.loop-init
@@ -43,12 +43,14 @@ returns-in_err-step-clause-more g c =
 
 pub returns-then-not-branch-clause-driven : goal.returns-then-not-branch-clause-driven
 returns-then-not-branch-clause-driven g c =
-    has_ended (whole_of c.args.self.now.world) (whole_of c.loop.self.world) (whole_of c.step.new.self.world) _ c.if-not-branch.true
+    has_ended (whole_of c.args.self.now.world) (whole_of c.loop.self.world) (whole_of c.step.new.self.world) _
+    c.if-not-branch.true
     c.loop.invariant.0 c.in_ok-step.ensures.ok
 
 pub returns-then-not-branch-clause-quiet : goal.returns-then-not-branch-clause-quiet
 returns-then-not-branch-clause-quiet g c =
-    is_quiet (whole_of c.args.self.now.world) (whole_of c.loop.self.world) (whole_of c.step.new.self.world) _ c.if-not-branch.true
+    is_quiet (whole_of c.args.self.now.world) (whole_of c.loop.self.world) (whole_of c.step.new.self.world) _
+    c.if-not-branch.true
     c.loop.invariant.0 c.in_ok-step.ensures.ok
 
 pub returns-then-not-branch-clause-unscheduled : goal.returns-then-not-branch-clause-unscheduled

@@ -2,7 +2,7 @@ use Rattle.std.specs.Prelude.{◌≡◌, map}
 use Rattle.sys_restart.specs.Answers.{AreSteady}
 use Rattle.world_views.specs.WorldOf.{whole_of}
 use Rattle.world_views.proofs.WorldLemmas.{IsUnderWay}
-use Rattle.disk_world.specs.Records.{HaveMore}
+use Rattle.life_start.specs.Records.{HaveMore}
 use Rattle.disk_world.proofs.DrivenLemmas.{GoesUnscheduled}
 use Rattle.disk_world.proofs.disk_world.DiskWorld.drive.Given as goal
 

@@ -15,6 +15,8 @@ returns-clause-kept g c = λ has.
     let w = whole_of c.args.self.now.world in
     let same : kept_of c.body-body.result.now (now_of c.last_taken-taken.result) ≡ kept_in w h =
     ap (λ last. kept_of c.body-body.result.now last)
-    (now_same c.last_taken-taken.result (last_taken w h) c.last_taken-taken.ensures.some c.last_taken-taken.ensures.none)
+    (now_same c.last_taken-taken.result (last_taken w h) c.last_taken-taken.ensures.some
+    c.last_taken-taken.ensures.none)
     ∙ ap (λ s. kept_of s (last_taken w h)) c.body-body.ensures in
-    kept_as _ _ _ _ _ _ _ _ _ c.keep_at.ensures.kept same (ap (λ (s : HostBody). s.standing.member.node - 1) c.body-body.ensures) refl refl
+    kept_as _ _ _ _ _ _ _ _ _ c.keep_at.ensures.kept same
+    (ap (λ (s : HostBody). s.standing.member.node - 1) c.body-body.ensures) refl refl

@@ -1,12 +1,10 @@
 -- Records of disks only grow.
-use Rattle.std.proofs.Common.{◌≡◌, ◌∙◌, ◌⊎◌, ℕ, zero, suc, ◌<◌, Bool, false, List, [], ◌∷◌, length, map, get_or, refl, ap, sym, subst, arith, inl, inr}
+use Rattle.std.proofs.Common.{◌≡◌, ◌∙◌, suc, Bool, List, [], ◌∷◌, map, get_or, refl, ap, subst, arith, inl, inr}
 use Rattle.std.specs.Prelude.{Option, None, Some}
-use Rattle.std.proofs.Math.ListN.{set}
 use Rattle.host_io.specs.Call.{Call, Lost, Synced, Tore, Wrote}
-use Rattle.host_io.specs.Image.{IsRecord}
-use Rattle.run_theory.proofs.Pasts.{past_less, past_more, past_self, past_trans}
+use Rattle.run_theory.proofs.Pasts.{past_more, past_self, past_trans}
 use Rattle.sysfile_core.specs.Runs.{Fails, Runs}
-use Rattle.disk_world.specs.Records.{HaveMore, IsLonger, TellsMore}
+use Rattle.life_start.specs.Records.{AllTellMore, HaveMore, IsLonger, TellsMore}
 
 pub same_longer : (calls : List Call) → IsLonger calls calls
 same_longer calls = record { past = past_self calls; allowed = λ was. was }
@@ -19,7 +17,7 @@ pub tells_itself : (told : Option (List Call)) → TellsMore told told
 tells_itself None = tt
 tells_itself (Some calls) = (calls, (refl, same_longer calls))
 
-tells_then : (first second third : Option (List Call)) → TellsMore first second → TellsMore second third
+pub tells_then : (first second third : Option (List Call)) → TellsMore first second → TellsMore second third
     → TellsMore first third
 tells_then None second third one other = tt
 tells_then (Some calls) second third (mid, (is, longer)) other = by (subst (λ told. TellsMore told third) is other)
@@ -73,3 +71,30 @@ more_then first second third one other = record {
   each = λ at.
       tells_then (get_or first at None) (get_or second at None) (get_or third at None) (one.each at) (other.each at);
 }
+
+-- what tells more than a record is a record
+tells_some : (calls : List Call) (told : Option (List Call)) → TellsMore (Some calls) told
+    → (new : List Call) × (told ≡ Some new)
+tells_some calls told (new, (is, longer)) = (new, is)
+
+-- disks that all told their records tell them still
+pub tell_still : (records : List (List Call)) (told : List (Option (List Call))) → HaveMore (map Some records) told
+    → (next : List (List Call)) × (told ≡ map Some next)
+tell_still [] [] more = ([], refl)
+tell_still [] (one ∷ told) more = absurd (omega (arith, more.many))
+tell_still (calls ∷ records) [] more = absurd (omega (arith, more.many))
+tell_still (calls ∷ records) (one ∷ told) more =
+    let first = tells_some calls one (more.each 0) in
+    let rest =
+    tell_still records told (record { many = omega (arith, more.many); each = λ at. more.each (suc at) }) in
+    (first.0 ∷ rest.0, ap (λ x. x ∷ told) first.1 ∙ ap (λ xs. Some (first.0) ∷ xs) rest.1)
+
+pub all_itself : (told : List (Option (List Call))) → AllTellMore told told
+all_itself told = λ records all. more_itself told
+
+pub all_then : (first second third : List (Option (List Call))) → AllTellMore first second → AllTellMore second third
+    → AllTellMore first third
+all_then first second third one other = λ records all.
+    let more = one records all in
+    let next = tell_still records second (subst (λ told. HaveMore told second) all more) in
+    more_then first second third more (other next.0 next.1)
