@@ -3,6 +3,7 @@
 use life_judge::{Fault, Law};
 use sig_core::{NoMemory, WordFault};
 use std::alloc::AllocFailed;
+use trial_requests::DrawFault;
 
 /// Why a run has no verdict that it is fine.
 #[derive(Clone, Copy)]
@@ -37,8 +38,11 @@ where
     }
 }
 
-impl From<WordFault> for RunFault {
-    fn from(fault: WordFault) -> RunFault {
-        RunFault::Word(fault)
+impl From<DrawFault> for RunFault {
+    fn from(fault: DrawFault) -> RunFault {
+        match fault {
+            DrawFault::Word(fault) => RunFault::Word(fault),
+            DrawFault::NoMemory => RunFault::NoMemory,
+        }
     }
 }

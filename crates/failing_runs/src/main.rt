@@ -5,7 +5,6 @@
 
 mod cluster;
 mod fault;
-mod requests;
 mod run;
 
 use fault::RunFault;

@@ -6,11 +6,11 @@ ghost use Rattle.world_views.specs.WorldOf.{whole_of};
 
 use crate::cluster::{ask, drive, fail_one, hear, peek_rows, rows_of, settle, take_one};
 use crate::fault::RunFault;
-use crate::requests::{all_keys, request_of};
 use life_judge::{Dice, NodeRows, judge};
 use sig_core::{ApiReq, NoMemory, Shape};
 use std::alloc::Global;
 use std::sync::Wait;
+use trial_requests::{all_keys, draw_request};
 use world_views::World;
 
 /// How many requests a run has.
@@ -95,7 +95,7 @@ fn live<W: Wait>(
         }
         let failing = if unrest > 0 { FAILING } else { 0 };
         unrest = unrest.saturating_sub(1);
-        let request = request_of(alloc, dice, shape, count, failing)?;
+        let request = draw_request(alloc, dice, shape, count, failing)?;
         ask(alloc, world, request)?;
         go_on(alloc, dice, world, shape, failing)?;
         if dice.roll(6) == 0 {

@@ -52,6 +52,16 @@ impl Epochs {
         is_among(self.closed.as_slice(), epoch, stamp)
             || is_among(self.durable.as_slice(), epoch, stamp)
     }
+
+    /// Whether an epoch behind this one was told durable.
+    pub fn is_durable_behind(&self, epoch: u64) -> bool {
+        for durable in self.durable.as_slice() {
+            if epoch < durable.epoch {
+                return true;
+            }
+        }
+        false
+    }
 }
 
 fn is_among(endings: &[Ending], epoch: u64, stamp: u64) -> bool {

@@ -62,6 +62,10 @@ pub enum Law {
     HistoriesGrow,
     /// Two replicas hold the same image of a transaction's write of a row.
     ImagesAgree,
+    /// A restart comes to no earlier epoch than one that was told durable, or that the life began with.
+    DurableIsRestored,
+    /// The rows of a restart are those of the history, up to its epoch.
+    RestartIsOfHistory,
 }
 
 impl Law {
@@ -96,6 +100,8 @@ impl Law {
             Law::AnswersAsGiven => "an answer of the history was not given",
             Law::HistoriesGrow => "a later history has not what an earlier one has",
             Law::ImagesAgree => "two replicas hold different images",
+            Law::DurableIsRestored => "a durable epoch is not restored",
+            Law::RestartIsOfHistory => "a restart has other rows than the history",
         }
     }
 }

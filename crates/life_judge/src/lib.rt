@@ -17,11 +17,13 @@ mod order;
 mod owed;
 mod records;
 mod reports;
+mod restart;
 mod rows;
 mod verdict;
 mod views;
 
 pub use dice::Dice;
 pub use law::{Fault, Law};
+pub use restart::judge_restart;
 pub use rows::NodeRows;
 pub use verdict::judge;

@@ -16,7 +16,7 @@ use crate::reports::{judge_entries, judge_reports};
 use crate::rows::{NodeRows, judge_rows};
 use crate::views::judge_views;
 use serial_model::{ReplayFault, replay};
-use sig_core::{Entry, Key, Life, Shape, Table};
+use sig_core::{Entry, Key, Life, Shape, Table, Value};
 use std::alloc::Global;
 
 /// How many cuts of a life are judged besides the whole.
@@ -99,25 +99,12 @@ fn judge_all(
 ) -> Result<Vec<Entry>, Fault>
     requires shape { IsShape shape.now }
 {
-    let history = judge_cut(alloc, shape, facts)?;
-    judge_table(alloc, shape, facts, history.as_slice(), nodes, keys)?;
+    let start = life.start_rows.as_slice();
+    let history = judge_cut(alloc, shape, facts, start)?;
+    let table = table_of(alloc, start, history.as_slice())?;
+    judge_rows(facts, shape, &table, nodes, keys)?;
     judge_end(life, facts, history.as_slice(), rests)?;
     Ok(history)
-}
-
-// Judges the rows that nodes told of.
-fn judge_table(
-    alloc: Global,
-    shape: &Shape,
-    facts: &Facts,
-    history: &[Entry],
-    nodes: &[NodeRows],
-    keys: &[Key],
-) -> Result<(), Fault>
-    requires shape { IsShape shape.now }
-{
-    let table = table_of(alloc, history)?;
-    judge_rows(facts, shape, &table, nodes, keys)
 }
 
 // Judges what is left at the end.
@@ -157,7 +144,8 @@ fn part_history(
     requires shape { IsShape shape.now }
 {
     let facts = facts_of(alloc, life, cut)?;
-    judge_part(alloc, shape, &facts, later, whole_history)
+    let start = life.start_rows.as_slice();
+    judge_part(alloc, shape, &facts, start, later, whole_history)
 }
 
 // Judges what such a cut tells.
@@ -165,24 +153,30 @@ fn judge_part(
     alloc: Global,
     shape: &Shape,
     facts: &Facts,
+    start: &[(Key, Value)],
     later: &[Entry],
     whole_history: &[Entry],
 ) -> Result<Vec<Entry>, Fault>
     requires shape { IsShape shape.now }
 {
-    let history = judge_cut(alloc, shape, facts)?;
+    let history = judge_cut(alloc, shape, facts, start)?;
     judge_growth(&facts.epochs, history.as_slice(), later)?;
     judge_records(facts, whole_history)?;
     Ok(history)
 }
 
-// Judges what a cut tells by itself, and gives its history.
-fn judge_cut(alloc: Global, shape: &Shape, facts: &Facts) -> Result<Vec<Entry>, Fault>
+// Judges what a cut tells by itself, in a life that began with these rows, and gives its history.
+fn judge_cut(
+    alloc: Global,
+    shape: &Shape,
+    facts: &Facts,
+    start: &[(Key, Value)],
+) -> Result<Vec<Entry>, Fault>
     requires shape { IsShape shape.now }
 {
     judge_facts(shape, facts)?;
     let history = history_of(alloc, facts)?;
-    judge_history(alloc, facts, history.as_slice())?;
+    judge_history(alloc, facts, start, history.as_slice())?;
     Ok(history)
 }
 
@@ -193,21 +187,29 @@ fn judge_facts(shape: &Shape, facts: &Facts) -> Result<(), Fault>
     judge_reports(facts)
 }
 
-fn judge_history(alloc: Global, facts: &Facts, history: &[Entry]) -> Result<(), Fault> {
+fn judge_history(
+    alloc: Global,
+    facts: &Facts,
+    start: &[(Key, Value)],
+    history: &[Entry],
+) -> Result<(), Fault> {
     judge_order(&facts.client, history)?;
     judge_entries(&facts.client, history)?;
     judge_epochs(&facts.epochs, &facts.decisions, history)?;
-    judge_legal(alloc, history)
+    judge_legal(alloc, start, history)
 }
 
-fn judge_legal(alloc: Global, history: &[Entry]) -> Result<(), Fault> {
-    table_of(alloc, history)?;
+fn judge_legal(alloc: Global, start: &[(Key, Value)], history: &[Entry]) -> Result<(), Fault> {
+    table_of(alloc, start, history)?;
     Ok(())
 }
 
-// The rows that a history leads to.
-fn table_of(alloc: Global, history: &[Entry]) -> Result<Table, Fault> {
-    match replay(alloc, &[], history) {
+/// The rows that a history leads to, in a life that began with these.
+///
+/// # Errors
+/// `Legal`, where it is broken, or `NoMemory`.
+pub fn table_of(alloc: Global, start: &[(Key, Value)], history: &[Entry]) -> Result<Table, Fault> {
+    match replay(alloc, start, history) {
         Ok(table) => Ok(table),
         Err(ReplayFault::NoMemory) => Err(Fault::NoMemory),
         Err(_) => Err(Fault::Broken(Law::Legal)),

@@ -4,11 +4,11 @@ ghost use Rattle.world_views.specs.Driven.{IsWorld};
 ghost use Rattle.world_views.specs.WorldOf.{whole_of};
 
 use crate::fault::Fault;
-use crate::request::{request_of, requests};
 use script_lang::{Command, print_reply};
 use sig_core::{Answer, ApiReply, ApiReq, HostId, NoMemory, UAnswer};
 use std::alloc::Global;
 use std::sync::Wait;
+use trial_requests::{request_of, requests};
 use world_views::{Pick, ScheduleFault, World};
 
 /// What a pick came to.

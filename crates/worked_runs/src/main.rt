@@ -34,7 +34,6 @@ mod fault;
 mod kind;
 mod line;
 mod play;
-mod request;
 mod run;
 mod trace;
 

@@ -1,8 +1,8 @@
-//! The requests of a run.
+//! Requests at random.
 ghost use Rattle.std.specs.Prelude.{◌<◌};
 ghost use Rattle.frag_map.specs.Shape.{IsShape};
 
-use crate::fault::RunFault;
+use crate::fault::DrawFault;
 use life_judge::Dice;
 use sig_core::{ApiReq, HeldOp, Key, NoMemory, Op, Shape, Value};
 use std::alloc::Global;
@@ -14,7 +14,7 @@ const KEYS: u8 = 6;
 ///
 /// # Errors
 /// `NoMemory`.
-pub fn all_keys(alloc: Global) -> Result<Vec<Key>, RunFault> {
+pub fn all_keys(alloc: Global) -> Result<Vec<Key>, DrawFault> {
     let mut keys = Vec::new(alloc);
     for at in 0..KEYS {
         keys.push(Key::new(&[b'a' + at])?)?;
@@ -22,7 +22,7 @@ pub fn all_keys(alloc: Global) -> Result<Vec<Key>, RunFault> {
     Ok(keys)
 }
 
-fn op_of(dice: &mut Dice, count: u64) -> Result<Op, RunFault> {
+fn op_of(dice: &mut Dice, count: u64) -> Result<Op, DrawFault> {
     let key = Key::new(&[b'a' + dice.roll(u64::from(KEYS)) as u8])?;
     let value = Value::new(&[b'0' + (count / 10 % 10) as u8, b'0' + (count % 10) as u8])?;
     Ok(match dice.roll(8) {
@@ -39,13 +39,13 @@ fn op_of(dice: &mut Dice, count: u64) -> Result<Op, RunFault> {
 ///
 /// # Errors
 /// `NoMemory`.
-pub fn request_of(
+pub fn draw_request(
     alloc: Global,
     dice: &mut Dice,
     shape: &Shape,
     count: u64,
     fails: u64,
-) -> Result<ApiReq, RunFault>
+) -> Result<ApiReq, DrawFault>
     requires { IsShape shape.now }
 {
     let name = 1 + dice.roll(6) as u16;

@@ -1,0 +1,136 @@
+//! Making a run.
+ghost use Rattle.std.specs.Prelude.{OnOk};
+ghost use Rattle.frag_map.specs.Shape.{IsShape};
+ghost use Rattle.world_views.specs.Driven.{IsWorld};
+ghost use Rattle.world_views.specs.WorldOf.{whole_of};
+
+use crate::cluster::serve;
+use crate::disks::{change, cut_all, fresh_disks};
+use crate::fault::Fault;
+use crate::line::Line;
+use crate::run::{SHAPE, behind, life_of, lines_down, lines_up, lives_in, shape_of};
+use crate::telling::{tell_calls, tell_fault, tell_flip};
+use disk_world::{DiskWorld, Unopened};
+use host_io::MemDisk;
+use script_lang::{Command, print_reply};
+use sig_core::{ApiReply, NoMemory, Shape};
+use std::alloc::Global;
+use std::sync::Wait;
+
+/// Plays the lines of a run, life after life, and adds what comes of it to a text.
+///
+/// # Errors
+/// `NoMemory`.
+pub fn play<W: Wait>(
+    rt: &W,
+    alloc: Global,
+    lines: &[Line],
+    text: &mut Vec<u8>,
+) -> Result<(), Fault> {
+    let mut shape = shape_of(lines, SHAPE);
+    let mut disks = fresh_disks(alloc, lines, shape.nodes)?;
+    let mut rest = lines;
+    for _ in 0..lives_in(lines) {
+        let part = life_of(rest);
+        shape = shape_of(part, shape);
+        disks = play_life(rt, alloc, disks, shape, part, text)?;
+        rest = behind(rest, part.len());
+    }
+    Ok(())
+}
+
+// A life begins on these disks, and its lines are played, also those while the cluster is down. Gives the disks.
+fn play_life<W: Wait>(
+    rt: &W,
+    alloc: Global,
+    disks: Vec<MemDisk>,
+    shape: Shape,
+    lines: &[Line],
+    text: &mut Vec<u8>,
+) -> Result<Vec<MemDisk>, Fault>
+    requires { IsShape shape }
+{
+    if disks.len() != usize::from(shape.nodes) {
+        return Ok(disks);
+    }
+    match DiskWorld::open(alloc, disks, shape) {
+        Ok(world) => live_in(rt, alloc, world, lines, text),
+        Err(unopened) => Ok(stay_down(alloc, unopened, lines, text)?),
+    }
+}
+
+fn live_in<W: Wait>(
+    rt: &W,
+    alloc: Global,
+    world: DiskWorld<MemDisk>,
+    lines: &[Line],
+    text: &mut Vec<u8>,
+) -> Result<Vec<MemDisk>, Fault>
+    requires { IsWorld (whole_of world.world) }
+{
+    let mut world = world;
+    play_lines(rt, alloc, &mut world, lines_up(lines), text)?;
+    let mut disks = world.end(alloc).disks;
+    tell_down(alloc, &mut disks, lines_down(lines), text)?;
+    Ok(disks)
+}
+
+// No life begins, and it is told why.
+fn stay_down(
+    alloc: Global,
+    unopened: Unopened<MemDisk>,
+    lines: &[Line],
+    text: &mut Vec<u8>,
+) -> Result<Vec<MemDisk>, NoMemory> {
+    let Unopened { fault, mut disks } = unopened;
+    tell_fault(alloc, &fault, text)?;
+    tell_down(alloc, &mut disks, lines, text)?;
+    Ok(disks)
+}
+
+// Plays lines of a life.
+fn play_lines<W: Wait>(
+    rt: &W,
+    alloc: Global,
+    world: &mut DiskWorld<MemDisk>,
+    lines: &[Line],
+    text: &mut Vec<u8>,
+) -> Result<(), NoMemory>
+    requires { IsWorld (whole_of world.old.world) }
+    ensures { OnOk result (IsWorld (whole_of world.new.world)) }
+{
+    if world.generation() > 1 {
+        let epoch = world.start_epoch();
+        print_reply(alloc, &ApiReply::Restarted { epoch }, text)?;
+    }
+    for line in lines {
+        match line {
+            Line::Ask(command) => serve(rt, alloc, world, command, text)?,
+            Line::Calls(node) => tell_calls(alloc, world.disks(), *node, text)?,
+            _ => {}
+        }
+    }
+    Ok(())
+}
+
+// Plays lines while the cluster is down.
+fn tell_down(
+    alloc: Global,
+    disks: &mut [MemDisk],
+    lines: &[Line],
+    text: &mut Vec<u8>,
+) -> Result<(), NoMemory> {
+    for line in lines {
+        match line {
+            Line::Ask(Command::Crash) => {
+                cut_all(disks);
+                print_reply(alloc, &ApiReply::Crashed, text)?;
+            }
+            Line::Ask(_) => text.extend_from_slice(b"down\n")?,
+            Line::Calls(node) => tell_calls(alloc, disks, *node, text)?,
+            Line::Flip(byte) => tell_flip(alloc, change(disks, byte), byte, text)?,
+            _ => {}
+        }
+    }
+    Ok(())
+}
