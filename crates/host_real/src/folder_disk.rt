@@ -40,6 +40,15 @@ impl<R: Files + Drop> FolderDisk<R> {
         })
     }
 
+    /// The disk of a node: the folder `ndb` with its number behind that.
+    ///
+    /// # Errors
+    /// Want of memory.
+    pub fn of_node(alloc: Global, rt: R, node: u8) -> Result<FolderDisk<R>, AllocError> {
+        let folder = format!(in alloc; "ndb{node}")?;
+        FolderDisk::new(alloc, rt, folder.as_str())
+    }
+
     // Counts a fault.
     fn fail(&mut self) -> Failed
         ensures counted { Rose self.old.faults self.new.faults }

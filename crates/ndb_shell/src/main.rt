@@ -1,16 +1,20 @@
 //! `ndb`: a cluster database of any shape in one process. It reads a script from standard input,
-//! answers on standard output, and ends with the session's status.
+//! answers on standard output, and ends with the session's status. What its nodes have on their disks
+//! stands in the folders `ndb1` to `ndb8`, those of the nodes that the cluster has.
 #![tactic(auto)]
 
-use host_io::NoGate;
-use host_real::{StdSink, StdSource};
+use host_io::{Disk, NoGate};
+use host_real::{FolderDisk, StdSink, StdSource};
 use shell_top::run_shell;
-use std::alloc::{AllocError, Global};
+use std::alloc::AllocError;
 use std::process::ExitCode;
 use std::{env, io, mem};
 
 /// The status where memory is wanting before the session begins.
 const NO_MEMORY: u8 = 5;
+
+/// The most nodes that a cluster has.
+const NODES: u8 = 8;
 
 /// The words behind the program's name. Where one is no text, an empty word stands for them.
 fn words(rt: &HostRuntime) -> Result<Vec<String>, AllocError> {
@@ -33,7 +37,18 @@ fn main(rt: HostRuntime) -> ExitCode {
     };
     let mut source = StdSource::new(rt.stdin());
     let mut sink = StdSink::new(rt.stdout());
-    let disks = Vec::new(rt.alloc());
+    let mut disks: Vec<Box<dyn Disk + Send>> = Vec::new(rt.alloc());
+    for node in 1..=NODES {
+        let Ok(disk) = FolderDisk::of_node(rt.alloc(), rt, node) else {
+            return ExitCode::from(NO_MEMORY);
+        };
+        let Ok(boxed) = Box::new(rt.alloc(), disk) else {
+            return ExitCode::from(NO_MEMORY);
+        };
+        if disks.push(boxed).is_err() {
+            return ExitCode::from(NO_MEMORY);
+        }
+    }
     let ended = run_shell(
         &rt,
         rt.alloc(),

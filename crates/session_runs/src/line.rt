@@ -23,6 +23,10 @@ pub enum Line<'a> {
     NoRead(u64),
     /// This call of the sink fails.
     NoWrite(u64),
+    /// This call of a node's disk fails.
+    NoCall { node: u8, at: u64 },
+    /// The program is run again, on the disks that are left: what follows is its script.
+    Again,
     /// The logs are told.
     Logs,
 }
@@ -49,6 +53,7 @@ pub fn parse<'a>(line: &'a str) -> Option<Line<'a>> {
         }),
         "crlf" => Some(Line::Returned(rest)),
         "last" => Some(Line::Last(rest)),
+        "again" if rest.is_empty() => Some(Line::Again),
         "logs" if rest.is_empty() => Some(Line::Logs),
         "no" => failure(rest),
         _ => number(first, rest),
@@ -57,13 +62,22 @@ pub fn parse<'a>(line: &'a str) -> Option<Line<'a>> {
 
 // The line of a call that fails.
 fn failure<'a>(rest: &'a str) -> Option<Line<'a>> {
-    let (call, at) = cut_word(rest);
-    let at = at.parse::<u64>().ok()?;
+    let (call, rest) = cut_word(rest);
     match call {
-        "read" => Some(Line::NoRead(at)),
-        "write" => Some(Line::NoWrite(at)),
+        "read" => Some(Line::NoRead(rest.parse::<u64>().ok()?)),
+        "write" => Some(Line::NoWrite(rest.parse::<u64>().ok()?)),
+        "call" => disk_failure(rest),
         _ => None,
     }
+}
+
+// The node and the call of its disk that fails.
+fn disk_failure<'a>(rest: &'a str) -> Option<Line<'a>> {
+    let (node, at) = cut_word(rest);
+    Some(Line::NoCall {
+        node: node.parse::<u8>().ok()?,
+        at: at.parse::<u64>().ok()?,
+    })
 }
 
 // A line with a number in it.

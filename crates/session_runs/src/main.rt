@@ -12,6 +12,8 @@
 //! | `spaces N` | so many spaces, with no newline behind them |
 //! | `read N` | the script is read in pieces of at most so many bytes |
 //! | `no read N`, `no write N` | the call of this number, from 0, fails |
+//! | `no call N C` | call C of the disk of node N, from 0, fails |
+//! | `again` | the program is run once more, with the words and the script that follow, on the disks that are left |
 //! | `logs` | at the end, the logs of each life are told: how many steps a host has, and which marks stand there |
 //! | `N times > LINE` | a line of the script, so many times |
 //!

@@ -43,10 +43,10 @@ own_closing h x cause asked is =
 
 -- a host stops without a schedule only where it gives up
 want_gives_up : (start : Start) (logs : ℕ → List HostStep) (h : ℕ) (log : List HostStep) (cause : StopCause)
-    → IsWant false start logs h log cause → gives_up_for cause ≡ true
+    → IsWant true start logs h log cause → gives_up_for cause ≡ true
 want_gives_up start logs h log Memory is = refl
 want_gives_up start logs h log Clock is = refl
-want_gives_up start logs h log (Disk count) is = cc
+want_gives_up start logs h log (Disk count) is = refl
 want_gives_up start logs h log cause is = absurd is
 
 module _ (start : Start) (logs : ℕ → List HostStep) (h : ℕ) (log : List HostStep) (e : HostStep)
@@ -61,19 +61,19 @@ module _ (start : Start) (logs : ℕ → List HostStep) (h : ℕ) (log : List Ho
         (own_closing h e.step.taken cause asked is) in
         true≢false (sym (ap (λ b. b || false) want) ∙ sym (ap (list_any gives_up) marks) ∙ none)
 
-    is_request_by : (body : Body) → e.step.taken.body ≡ body → IsUnscheduled false start logs h log body
+    is_request_by : (body : Body) → e.step.taken.body ≡ body → IsUnscheduled true start logs h log body
         → is_request body ≡ true
     is_request_by (Host (Continue (Request request) at)) is own = refl
     is_request_by (Host (Closed cause)) is own = absurd (no_closing cause is (want_gives_up start logs h log cause own))
     is_request_by _ is own = absurd own
 
     -- so it is a request
-    asks : IsUnscheduled false start logs h log e.step.taken.body → is_request e.step.taken.body ≡ true
+    asks : IsUnscheduled true start logs h log e.step.taken.body → is_request e.step.taken.body ≡ true
     asks own = is_request_by e.step.taken.body refl own
 
 along : (start : Start) (logs : ℕ → List HostStep) (h : ℕ) (log : List HostStep) → IsLog (machine start) h log
     → ((newer : List HostStep) (e : HostStep) (before : List HostStep) → log ≡ newer ++ e ∷ before
-    → is_asked h e.step.taken ≡ true → IsUnscheduled false start logs h before e.step.taken.body)
+    → is_asked h e.step.taken ≡ true → IsUnscheduled true start logs h before e.step.taken.body)
     → Each (λ e. list_any gives_up e.step.marks ≡ false) log
     → Each (λ e. is_asked h e.step.taken ≡ true → is_request e.step.taken.body ≡ true) log
 along start logs h [] steps own none = tt
@@ -83,7 +83,7 @@ along start logs h (e ∷ log) steps own none = (
 )
 
 pub none_gives_up : (start : Start) (logs : ℕ → List HostStep) → AreLogs (machine start) logs
-    → AreUnscheduled false start logs → NoneWants logs
+    → AreUnscheduled true start logs → NoneWants logs
     → NoneGivesUp logs
 none_gives_up start logs right own none h = along start logs h (logs h) (right.local h) (own h) (none h)
 
@@ -103,7 +103,8 @@ unspent (m ∷ marks) none = by (gives_up m) (is_spent m) refl refl none (unspen
     by false true given is none rest = absurd (true≢false (sym (spent_gives_up m is) ∙ given))
     by false false given is none rest = rest none
 
-pub none_stops : (start : Start) (logs : ℕ → List HostStep) → AreLogs (machine start) logs → AreUnscheduled false start logs
+pub none_stops : (start : Start) (logs : ℕ → List HostStep) → AreLogs (machine start) logs
+    → AreUnscheduled true start logs
     → NoneWants logs
     → NoneStops logs
 none_stops start logs right own wants =

@@ -1,9 +1,19 @@
+pub mod SeenLemmas
 pub mod PeaceLemmas
 pub mod PeacefulLemmas
+pub mod DisksLemmas
 pub mod EndLemmas
 pub mod GivingUp
 pub mod LivedLemmas
-pub mod OpenLemmas
+pub mod BetweenLemmas
+pub mod ChapterLemmas
+pub mod CutLemmas
+pub mod FreshLemmas
+pub mod KeptLemmas
+pub mod LivesLemmas
+pub mod NextLemmas
+pub mod ObeyLemmas
+pub mod SettingLemmas
 pub mod PrintedLemmas
 pub mod SafeLemmas
 pub mod ScriptLemmas
@@ -11,5 +21,6 @@ pub mod ServedLemmas
 pub mod SessionLemmas
 pub mod TakenLemmas
 pub mod ToldLemmas
+pub mod UnbornLemmas
 pub mod WordsLemmas
 pub mod WriterLemmas

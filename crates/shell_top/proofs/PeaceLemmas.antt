@@ -85,6 +85,8 @@ pub command_peaceful : (c : Command) → is_peaceful_command c ≡ true → are_
 command_peaceful (command.Tick rounds) e = rounds_peaceful rounds (rounds - 1)
 command_peaceful (command.Kill at) e = cc
 command_peaceful (command.Cut one other) e = cc
+command_peaceful command.Crash e = cc
+command_peaceful command.Restart e = cc
 command_peaceful command.Micro e = refl
 command_peaceful command.Gcp e = refl
 command_peaceful (command.Begin name at) e = refl

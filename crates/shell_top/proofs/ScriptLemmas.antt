@@ -12,7 +12,8 @@ use Rattle.script_lang.specs.declared.command.Command.TheVariants as command
 use Rattle.script_lang.specs.declared.fault.LineFault.{LineFault}
 use Rattle.script_lang.specs.declared.fault.LineFault.TheVariants.{UnknownCommand}
 use Rattle.script_lang.specs.Line.{first_word, parsed_line as whole_grammar}
-use Rattle.shell_top.specs.Asked.{is_served}
+use Rattle.shell_top.specs.Asked.{is_asked_for}
+use Rattle.shell_top.specs.declared.script.Parsed.{Parsed}
 use Rattle.shell_top.specs.declared.script.Parsed.TheVariants as parsed
 use Rattle.shell_top.specs.Parsed.{asked as asked_as, available, may_stand, parsed as parsed_line, parsed_as}
 use Rattle.shell_top.specs.Reader.{is_newline}
@@ -186,33 +187,41 @@ after-append first second script =
     ap (λ commands. record { commands = commands; last = script.last }) (append_assoc first second script.commands)
 
 -- what a line asks for is served
-asked_served : (c asked : Command) → asked_as asked ≡ parsed.Ask c → is_served c ≡ true
-asked_served c (command.Begin name at) e = let same : command.Begin name at ≡ c = cc in ap is_served (sym same)
-asked_served c (command.Operate name op) e = let same : command.Operate name op ≡ c = cc in ap is_served (sym same)
-asked_served c (command.Commit name) e = let same : command.Commit name ≡ c = cc in ap is_served (sym same)
-asked_served c (command.Abort name) e = let same : command.Abort name ≡ c = cc in ap is_served (sym same)
-asked_served c (command.Kill at) e = let same : command.Kill at ≡ c = cc in ap is_served (sym same)
-asked_served c (command.Cut one other) e = let same : command.Cut one other ≡ c = cc in ap is_served (sym same)
-asked_served c command.Micro e = let same : command.Micro ≡ c = cc in ap is_served (sym same)
-asked_served c command.Gcp e = let same : command.Gcp ≡ c = cc in ap is_served (sym same)
-asked_served c command.View e = let same : command.View ≡ c = cc in ap is_served (sym same)
-asked_served c (command.Tick rounds) e = let same : command.Tick rounds ≡ c = cc in ap is_served (sym same)
-asked_served c (command.Rows at) e = let same : command.Rows at ≡ c = cc in ap is_served (sym same)
-asked_served c (command.Digest at) e = let same : command.Digest at ≡ c = cc in ap is_served (sym same)
+asked_served : (c asked : Command) → asked_as asked ≡ parsed.Ask c → is_asked_for c ≡ true
+asked_served c (command.Begin name at) e = let same : command.Begin name at ≡ c = cc in ap is_asked_for (sym same)
+asked_served c (command.Operate name op) e = let same : command.Operate name op ≡ c = cc in ap is_asked_for (sym same)
+asked_served c (command.Commit name) e = let same : command.Commit name ≡ c = cc in ap is_asked_for (sym same)
+asked_served c (command.Abort name) e = let same : command.Abort name ≡ c = cc in ap is_asked_for (sym same)
+asked_served c (command.Kill at) e = let same : command.Kill at ≡ c = cc in ap is_asked_for (sym same)
+asked_served c (command.Cut one other) e = let same : command.Cut one other ≡ c = cc in ap is_asked_for (sym same)
+asked_served c command.Micro e = let same : command.Micro ≡ c = cc in ap is_asked_for (sym same)
+asked_served c command.Gcp e = let same : command.Gcp ≡ c = cc in ap is_asked_for (sym same)
+asked_served c command.View e = let same : command.View ≡ c = cc in ap is_asked_for (sym same)
+asked_served c (command.Tick rounds) e = let same : command.Tick rounds ≡ c = cc in ap is_asked_for (sym same)
+asked_served c (command.Rows at) e = let same : command.Rows at ≡ c = cc in ap is_asked_for (sym same)
+asked_served c (command.Digest at) e = let same : command.Digest at ≡ c = cc in ap is_asked_for (sym same)
+asked_served c command.Crash e = let same : command.Crash ≡ c = cc in ap is_asked_for (sym same)
+asked_served c command.Restart e = let same : command.Restart ≡ c = cc in ap is_asked_for (sym same)
 asked_served c command.Quit e = cc
 asked_served c _ e = cc
 
 line_served : (c : Command) (result : Result (Option Command) LineFault) → parsed_as result ≡ parsed.Ask c
-    → is_served c ≡ true
+    → is_asked_for c ≡ true
 line_served c (Ok None) e = cc
 line_served c (Ok (Some asked)) e = asked_served c asked e
 line_served c (Err fault) e = cc
 
 pub command_served : (nodes : ℕ) (line : List ℕ) (c : Command) → parsed_line nodes line ≡ parsed.Ask c
-    → is_served c ≡ true
+    → is_asked_for c ≡ true
 command_served nodes line c e = go (may_stand (first_word line)) e
   where
     go : (b : Bool) → (if b then available nodes line else parsed.Fault UnknownCommand) ≡ parsed.Ask c
-        → is_served c ≡ true
+        → is_asked_for c ≡ true
     go true e = line_served c (whole_grammar false nodes line) e
     go false e = cc
+
+-- what the session took a line for is what it asks for
+pub line_means : (nodes told : ℕ) (line read : List ℕ) (found is : Parsed) → told ≡ nodes → read ≡ line
+    → found ≡ parsed_line told read → found ≡ is → parsed_line nodes line ≡ is
+line_means nodes told line read found is many same takes means =
+    ap (λ n. parsed_line n line) (sym many) ∙ ap (parsed_line told) (sym same) ∙ sym takes ∙ means

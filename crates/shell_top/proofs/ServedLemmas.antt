@@ -17,7 +17,7 @@ use Rattle.sig_core.specs.declared.request.ApiReq.{ApiReq}
 use Rattle.sig_core.specs.declared.request.ApiReq.TheVariants.{Tick}
 use Rattle.shell_top.specs.Arranged.{arranged}
 use Rattle.shell_top.specs.Asked.{AreAsked, AsksInPart, AsksOn, IsAskedNext, are_peaceful, is_peaceful_command}
-use Rattle.shell_top.specs.Asked.{is_served, questions, requests_of}
+use Rattle.shell_top.specs.Asked.{MayAsk, is_served, questions, requests_of}
 use Rattle.shell_top.specs.Subject.{subject_in}
 use Rattle.shell_top.specs.Asked.{rounds_behind}
 use Rattle.shell_top.specs.declared.ended.Ending.TheVariants as ending
@@ -106,7 +106,7 @@ module _ (start : Start) where
 
   -- one thing is
   pub one_served : (request : ApiReq) (w u t : Whole) → HasAsked start request w u → IsDriven start u t → IsIdle t
-      → (AreUnscheduled false start (logs_at u.logs) → AreUnscheduled false start (logs_at t.logs))
+      → (AreUnscheduled true start (logs_at u.logs) → AreUnscheduled true start (logs_at t.logs))
       → HasServed start (request ∷ []) w t
   one_served request w u t asked drove quiet own =
       record {
@@ -118,7 +118,7 @@ module _ (start : Start) where
             (drove.grown.more 0);
         at_quiet = λ still was. drove.grown.asked (asked.asked still was);
         quiet = λ still. quiet;
-        unscheduled = λ was. own (asked.unscheduled false was);
+        unscheduled = λ was. own (asked.unscheduled true was);
         peace = λ sound idle was peaceful none.
             one_peaceful start request w u sound idle was asked (logs_at t.logs) drove.grown
             (first_peaceful request peaceful) none;
@@ -167,7 +167,7 @@ module _ (start : Start) where
   -- or when one thing was
   pub left_undriven : (request : ApiReq) (w u : Whole) (logs : List HostLog) → HasAsked start request w u
       → HaveGrown start (logs_at u.logs) (logs_at logs) → AreLabelled start logs
-      → (AreUnscheduled false start (logs_at u.logs) → AreUnscheduled false start (logs_at logs))
+      → (AreUnscheduled true start (logs_at u.logs) → AreUnscheduled true start (logs_at logs))
       → AreLeftOff start (request ∷ []) w logs
   left_undriven request w u logs asked grown labelled own =
       record {
@@ -182,7 +182,7 @@ module _ (start : Start) where
         begun = inr (next_longer (logs_at w.logs 0) (logs_at u.logs 0) (logs_at logs 0)
             (record { newer = []; asking = asked.asking; is = asked.next; asks = asks_it request w u asked })
             (grown.more 0));
-        unscheduled = λ was. own (asked.unscheduled false was);
+        unscheduled = λ was. own (asked.unscheduled true was);
         peace = λ sound idle was peaceful none.
             one_peaceful start request w u sound idle was asked (logs_at logs) grown (first_peaceful request peaceful)
             none;
@@ -363,12 +363,13 @@ module _ (start : Start) where
       → IsAskedNext (logs_at w.logs 0) (logs_at u.logs 0)
   own_next c has w u own = subst (λ rs. AsksFirst rs (logs_at w.logs 0) (logs_at u.logs 0)) has.are own.next
 
-  pub serves : (c : Command) (w u v t : Whole) (text : List ℕ) → is_served c ≡ true → IsSound start w
+  pub serves : (c : Command) (w u v t : Whole) (text : List ℕ) → is_served c ≡ true → MayAsk c (is_down w)
+      → IsSound start w
       → HasServed start (requests_of c) w u → HasGoneOn start u v (is_left_open u)
       → t ≡ record v { replies = [] }
       → text ≡ reply_lines (arranged (subject_in c) v.replies) ++ down_line (is_down w) (is_down t)
       → ServesCommand start c w t text
-  serves c w u v t text is sound own on taken lines =
+  serves c w u v t text is may sound own on taken lines =
       record {
         served = λ commands was. subst (IsServed start (commands ++ c ∷ [])) (sym taken) (after_it commands was);
         told = λ commands was.
@@ -422,6 +423,7 @@ module _ (start : Start) where
                   earlier = was.asked;
                   asks = record {
                     served = logs_at u.logs 0;
+                    may = subst (MayAsk c) (down_is start was.given w was.right) may;
                     next = own_next c has w u own;
                     own = own.requests;
                     on = on_log u v was.given (own.right was.given was.right) (is_left_open u) refl on;
@@ -466,7 +468,7 @@ module _ (start : Start) (request : ApiReq) where
 
   pub asked_ok : (result : Result (Unit {0}) NoMemory) (w u t : Whole) → IsSound start w → HasAsked start request w u
       → (IsSound start u → OnOk result (IsDriven start u t)) → OnOk result (IsIdle t)
-      → (IsSound start u → AreUnscheduled false start (logs_at u.logs) → AreUnscheduled false start (logs_at t.logs))
+      → (IsSound start u → AreUnscheduled true start (logs_at u.logs) → AreUnscheduled true start (logs_at t.logs))
       → OnOk result (HasServed start (request ∷ []) w t)
   asked_ok (Ok done) w u t sound asked drove quiet own =
       one_served start request w u t asked (drove (asked_sound w u sound asked)) quiet
@@ -477,7 +479,7 @@ module _ (start : Start) (request : ApiReq) where
       → HasAsked start request w u
       → (IsSound start u → OnErr result (HaveGrown start (logs_at u.logs) (logs_at logs)))
       → (IsSound start u → OnErr result (AreLabelled start logs))
-      → (IsSound start u → AreUnscheduled false start (logs_at u.logs) → AreUnscheduled false start (logs_at logs))
+      → (IsSound start u → AreUnscheduled true start (logs_at u.logs) → AreUnscheduled true start (logs_at logs))
       → OnErr result (AreLeftOff start (request ∷ []) w logs)
   asked_err (Ok done) w u logs sound asked grown labelled own = tt
   asked_err (Err fault) w u logs sound asked grown labelled own =

@@ -2,6 +2,7 @@
 use Rattle.std.proofs.Common.{◌≡◌, ℕ, ◌+◌, ◌*◌, ◌≤◌, ◌<◌, List, [], ◌∷◌, ◌++◌, length, take, drop, Bool, true, false}
 use Rattle.std.proofs.Common.{refl, ap, sym, subst, ◌∙◌, append_assoc, arith}
 use Rattle.std.specs.Prelude.{Option, None, Some, MatchOption, position, nat_lt, ◌==◌, ◌&&◌}
+use Rattle.std.proofs.lemmas.Bool.{true≢false}
 use Rattle.std.proofs.lemmas.Bool.Decides.{nat_tests}
 use Rattle.std.specs.Io.KnownBytes.{Consumes, Appends, IsAtEnd}
 use Rattle.std.proofs.KnownBytes.{Appends-trans, Consumes-trans}
@@ -12,20 +13,17 @@ use Rattle.script_lang.specs.declared.fault.LineFault.{LineFault}
 use Rattle.shell_top.specs.declared.script.Parsed.{Parsed}
 use Rattle.shell_top.specs.declared.script.Parsed.TheVariants as parsed
 use Rattle.sig_core.specs.declared.view.Shape.{Shape}
-use Rattle.sig_core.specs.declared.log.HostLog.{HostLog}
+use Rattle.sig_core.specs.declared.log.Life.{Life}
+use Rattle.frag_map.specs.Shape.{IsShape}
 use Rattle.script_lang.specs.declared.command.Command.{Command}
-use Rattle.shell_top.specs.Lived.{AreLived}
-use Rattle.shell_top.specs.Printed.{Prints}
-use Rattle.shell_top.specs.Served.{AreLeft, CommandEnds, PrintsCommand, WrittenInPart, WrittenWhole}
-use Rattle.shell_top.specs.Told.{text_of}
-use Rattle.shell_top.proofs.LivedLemmas.{left_lived, served_lived, told_front, told_part}
-use Rattle.world_core.specs.Start.{Start}
-use Rattle.world_views.specs.Lives.{fresh}
-use Rattle.world_core.specs.World.{logs_at}
-use Rattle.world_views.specs.World.{Whole}
+use Rattle.shell_top.specs.Chapters.{AreLives, is_refusal}
+use Rattle.shell_top.specs.Lives.{EndsIn, Going, HasObeyed, Obeys, all_lives, stops_early}
+use Rattle.shell_top.specs.Printed.{Prints, is_cut_short}
+use Rattle.shell_top.proofs.LivesLemmas.{ends_served, printed_whole, some_life}
 use Rattle.shell_top.specs.Parsed.{parsed as parsed_line}
 use Rattle.shell_top.specs.Reader.{Reads, IsPartial, is_newline}
 use Rattle.shell_top.specs.Script.{Script, nothing_more, ends_with, follow, is_too_long, last_part, script_from}
+use Rattle.shell_top.specs.Seen.{Seen}
 use Rattle.shell_top.specs.Session.{Ends, IsUnderWay, AreLinesDone, after, is_finished}
 use Rattle.shell_top.proofs.ScriptLemmas.{script-part, script-line, script-held, found_within, whole_line-long}
 use Rattle.shell_top.proofs.ScriptLemmas.{whole_line-short, too_long_line, too_long_bytes, short_line, last_part-long}
@@ -69,15 +67,30 @@ empty_held : (held : List ℕ) → length held ≡ 0 → held ≡ []
 empty_held [] none = refl
 empty_held (byte ∷ held) none = absurd (omega arith)
 
-module _ (shape : Shape) (left written : Option (List ℕ)) where
+-- a session that stops early ends so whatever its script asks for
+pub early_ends : (e : Ending) (at_end : Bool) (script : Script) → stops_early e ≡ true → Ends e at_end script
+early_ends ending.WriteFault at_end script early = tt
+early_ends ending.NoMemory at_end script early = tt
+early_ends (ending.DiskFault node count) at_end script early = tt
+early_ends (ending.OtherShape found asked) at_end script early = tt
+early_ends (ending.Damaged node file at byte) at_end script early = tt
+early_ends (ending.UsedUp generation epoch) at_end script early = tt
+early_ends _ at_end script early = cc
+
+pub early_words : (e : Ending) → stops_early e ≡ true → e ≡ ending.Words → ⊥
+early_words e early is = true≢false (sym early ∙ ap stops_early is)
+
+module _ (shape : Shape) (sound : IsShape shape) (left written : Option (List ℕ)) (given : Seen) where
   -- more was read
-  pub read_on : (left_now left_then written_now : Option (List ℕ)) (line : ℕ) (held held_then : List ℕ) (s : Whole)
-      → IsUnderWay shape left left_now written written_now line held s → Reads left_now left_then held held_then
-      → length held_then ≤ 1024
-      → IsUnderWay shape left left_then written written_now line held_then s
-  read_on left_now left_then written_now line held held_then s u r short = record {
+  pub read_on : (left_now left_then written_now : Option (List ℕ)) (seen : Seen) (line : ℕ)
+      (held held_then : List ℕ) (gone : List Life) (now : Option Going)
+      → IsUnderWay shape left left_now written written_now given seen line held gone now
+      → Reads left_now left_then held held_then → length held_then ≤ 1024
+      → IsUnderWay shape left left_then written written_now given seen line held_then gone now
+  read_on left_now left_then written_now seen line held held_then gone now u r short = record {
     consumed = u.consumed;
     commands = u.commands;
+    text = u.text;
     read = subst (Consumes left left_then)
         (append_assoc u.consumed held r.more ∙ ap (λ xs. u.consumed ++ xs) (sym r.kept))
         (Consumes-trans left left_now left_then (u.consumed ++ held) r.more u.read r.consumed);
@@ -89,8 +102,8 @@ module _ (shape : Shape) (left written : Option (List ℕ)) where
     consumed_short = u.consumed_short;
   }
 
-  module _ (left_now written_now : Option (List ℕ)) (line : ℕ) (held : List ℕ) (s : Whole)
-      (u : IsUnderWay shape left left_now written written_now line held s) where
+  module _ (left_now written_now : Option (List ℕ)) (seen : Seen) (line : ℕ) (held : List ℕ) (gone : List Life)
+      (now : Option Going) (u : IsUnderWay shape left left_now written written_now given seen line held gone now) where
     -- what all that was read asks for
     abbrev all_read : Bool → Script
     all_read ended = script_from shape.nodes ended 1 (u.consumed ++ held)
@@ -108,144 +121,120 @@ module _ (shape : Shape) (left written : Option (List ℕ)) where
     all_bounded = omega (arith, length-append u.consumed held, u.consumed_short, u.line_low, u.held_short)
 
     -- the session ends here
-    ends_here : (written_then : Option (List ℕ)) (e : Ending) (ended : Bool) (logs : List HostLog)
-        → (ended ≡ true → IsAtEnd left_now) → Ends e ended (all_read ended)
-        → Prints e e written written_then (text_of (fresh shape) (logs_at logs 0))
-        → AreLived (fresh shape) e (all_read ended).commands logs → (e ≡ ending.Words → ⊥)
-        → AreLinesDone shape left left_now written written_then e logs
-    ends_here written_then e ended logs at_end ends told lived no_words = record {
+    ends_here : (written_then : Option (List ℕ)) (seen_then : Seen) (e : Ending) (ended : Bool) (lives : List Life)
+        (text : List ℕ) → (ended ≡ true → IsAtEnd left_now) → Ends e ended (all_read ended)
+        → Prints e e written written_then text
+        → AreLives shape e (all_read ended).commands given seen_then lives text → (lives ≡ [] → ⊥)
+        → (e ≡ ending.Words → ⊥)
+        → AreLinesDone shape left left_now written written_then given seen_then e lives
+    ends_here written_then seen_then e ended lives text at_end ends told lived some no_words = record {
       input = u.consumed ++ held;
+      text = text;
       ended = ended;
       consumed = u.read;
       at_end = at_end;
       ends = ends;
       told = told;
       lived = lived;
+      some = some;
       no_words = no_words;
       bounded = all_bounded;
     }
 
-    -- where what is held asks for no command, the logs say that all was asked for
-    all_lived : (e : Ending) (ended : Bool) (rest : Script) → script_from shape.nodes ended line held ≡ rest
-        → rest.commands ≡ [] → AreLived (fresh shape) e (all_read ended).commands s.logs
-    all_lived e ended rest is none =
-        served_lived (fresh shape) e u.commands [] s (all_read ended).commands u.served
-        (ap (λ (x : Script). x.commands) (all_asked ended rest is) ∙ ap (λ commands. u.commands ++ commands) none)
-        (λ whole. refl)
+    -- it ends between two commands
+    ends_between : (e : Ending) (ended : Bool) (rest : Script) → is_refusal e ≡ false
+        → script_from shape.nodes ended line held ≡ rest → (is_cut_short e ≡ false → rest.commands ≡ [])
+        → (ended ≡ true → IsAtEnd left_now) → Ends e ended (all_read ended) → (e ≡ ending.Words → ⊥)
+        → AreLinesDone shape left left_now written written_now given seen e (all_lives gone now)
+    ends_between e ended rest none is all at_end ends no_words =
+        ends_here written_now seen e ended (all_lives gone now) u.text at_end ends
+        (printed_whole e u.text written written_now u.printed)
+        (subst (λ cs. AreLives shape e cs given seen (all_lives gone now) u.text)
+        (sym (ap (λ (x : Script). x.commands) (all_asked ended rest is)))
+        (ends_served shape sound gone now u.commands u.text given seen u.served e none rest.commands all))
+        (some_life shape sound gone now u.commands u.text given seen u.served) no_words
 
     -- a line is refused
     pub ends_refused : (fault : LineFault) (ended : Bool) → (ended ≡ true → IsAtEnd left_now)
         → script_from shape.nodes ended line held ≡ ends_with (ending.Refused line fault)
-        → AreLinesDone shape left left_now written written_now (ending.Refused line fault) s.logs
+        → AreLinesDone shape left left_now written written_now given seen (ending.Refused line fault)
+        (all_lives gone now)
     ends_refused fault ended at_end e =
-        ends_here written_now (ending.Refused line fault) ended s.logs at_end (last_asked_for ended _ e)
-        (refl, u.printed)
-        (all_lived (ending.Refused line fault) ended _ e refl) (λ is. cc)
+        ends_between (ending.Refused line fault) ended _ refl e (λ whole. refl) at_end (last_asked_for ended _ e)
+        (λ is. cc)
 
     -- a line is too long
     pub ends_too_long : script_from shape.nodes false line held ≡ ends_with (ending.TooLong line)
-        → AreLinesDone shape left left_now written written_now (ending.TooLong line) s.logs
+        → AreLinesDone shape left left_now written written_now given seen (ending.TooLong line) (all_lives gone now)
     ends_too_long e =
-        ends_here written_now (ending.TooLong line) false s.logs (λ is. cc) (last_asked_for false _ e) (refl, u.printed)
-        (all_lived (ending.TooLong line) false _ e refl) (λ is. cc)
+        ends_between (ending.TooLong line) false _ refl e (λ whole. refl) (λ is. cc) (last_asked_for false _ e)
+        (λ is. cc)
 
     -- the source failed, and no line is whole
     pub ends_unread : script_from shape.nodes false line held ≡ nothing_more
-        → AreLinesDone shape left left_now written written_now ending.ReadFault s.logs
+        → AreLinesDone shape left left_now written written_now given seen ending.ReadFault (all_lives gone now)
     ends_unread e =
-        ends_here written_now ending.ReadFault false s.logs (λ is. cc) (refl, last_asked_for false _ e)
-        (refl, u.printed)
-        (all_lived ending.ReadFault false _ e refl) (λ is. cc)
+        ends_between ending.ReadFault false _ refl e (λ whole. refl) (λ is. cc) (refl, last_asked_for false _ e)
+        (λ is. cc)
 
     -- the source was read to its end, and nothing is left to do
     pub ends_finished : IsAtEnd left_now → script_from shape.nodes true line held ≡ nothing_more
-        → AreLinesDone shape left left_now written written_now ending.Finished s.logs
+        → AreLinesDone shape left left_now written written_now given seen ending.Finished (all_lives gone now)
     ends_finished at_end e =
-        ends_here written_now ending.Finished true s.logs (λ is. at_end)
-        (ap (is_finished true) (last_asked_for true _ e)) (refl, u.printed)
-        (all_lived ending.Finished true _ e refl) (λ is. cc)
+        ends_between ending.Finished true _ refl e (λ whole. refl) (λ is. at_end)
+        (ap (is_finished true) (last_asked_for true _ e)) (λ is. cc)
 
     -- or the session is to end
     pub ends_quit : (ended : Bool) → (ended ≡ true → IsAtEnd left_now)
         → script_from shape.nodes ended line held ≡ ends_with ending.Finished
-        → AreLinesDone shape left left_now written written_now ending.Finished s.logs
+        → AreLinesDone shape left left_now written written_now given seen ending.Finished (all_lives gone now)
     ends_quit ended at_end e =
-        ends_here written_now ending.Finished ended s.logs at_end (ap (is_finished ended) (last_asked_for ended _ e))
-        (refl, u.printed)
-        (all_lived ending.Finished ended _ e refl) (λ is. cc)
+        ends_between ending.Finished ended _ refl e (λ whole. refl) at_end
+        (ap (is_finished ended) (last_asked_for ended _ e)) (λ is. cc)
 
     -- memory is wanting
-    pub ends_unremembered : AreLinesDone shape left left_now written written_now ending.NoMemory s.logs
+    pub ends_unremembered
+        : AreLinesDone shape left left_now written written_now given seen ending.NoMemory (all_lives gone now)
     ends_unremembered =
-        ends_here written_now ending.NoMemory false s.logs (λ is. cc) tt
-        (told_front (text_of (fresh shape) (logs_at s.logs 0)) [] (text_of (fresh shape) (logs_at s.logs 0)) written
-        written_now (sym (append-nil (text_of (fresh shape) (logs_at s.logs 0)))) u.printed)
-        (served_lived (fresh shape) ending.NoMemory u.commands (script_from shape.nodes false line held).commands s
-        (all_read false).commands u.served
-        (ap (λ (x : Script). x.commands) (u.lines false held)) (λ whole. cc))
-        (λ is. cc)
+        ends_between ending.NoMemory false (script_from shape.nodes false line held) refl refl (λ whole. cc) (λ is. cc)
+        tt (λ is. cc)
 
-    -- what is held begins with a command
-    module _ (written_then : Option (List ℕ)) (c : Command) (ended : Bool) (rest : Script)
-        (asked : script_from shape.nodes ended line held ≡ after (c ∷ []) rest) where
-      -- the commands are those before, this one, and those behind it
-      all_commands : (all_read ended).commands ≡ u.commands ++ c ∷ rest.commands
-      all_commands = ap (λ (x : Script). x.commands) (all_asked ended _ asked)
-
-      -- its text was printed in part
-      pub ends_unwritten : (t : Whole) → (ended ≡ true → IsAtEnd left_now)
-          → WrittenInPart (fresh shape) u.commands c s t written_now written_then
-          → AreLinesDone shape left left_now written written_then ending.WriteFault t.logs
-      ends_unwritten t at_end part =
-          ends_here written_then ending.WriteFault ended t.logs at_end tt
-          (told_part (text_of (fresh shape) (logs_at s.logs 0)) part.text (text_of (fresh shape) (logs_at t.logs 0))
-          written written_now written_then part.told u.printed part.part)
-          (served_lived (fresh shape) ending.WriteFault (u.commands ++ c ∷ []) rest.commands t (all_read ended).commands
-          part.served
-          (all_commands ∙ sym (append_assoc u.commands (c ∷ []) rest.commands)) (λ whole. cc))
-          (λ is. cc)
-
-      -- or memory was wanting meanwhile
-      pub ends_forgotten : (t : Whole) → (ended ≡ true → IsAtEnd left_now) → written_then ≡ written_now
-          → AreLeft (fresh shape) c s t.logs
-          → AreLinesDone shape left left_now written written_then ending.NoMemory t.logs
-      ends_forgotten t at_end same left_logs =
-          ends_here written_then ending.NoMemory ended t.logs at_end tt
-          (told_front (text_of (fresh shape) (logs_at s.logs 0)) left_logs.more
-          (text_of (fresh shape) (logs_at t.logs 0)) written written_then left_logs.text
-          (subst (λ now. Appends written now (text_of (fresh shape) (logs_at s.logs 0))) (sym same) u.printed))
-          (left_lived (fresh shape) u.commands c rest.commands s t.logs (all_read ended).commands u.served left_logs
-          all_commands)
-          (λ is. cc)
-
-      pub cut_command : (t : Whole) → (ended ≡ true → IsAtEnd left_now) → (e : Ending)
-          → CommandEnds (fresh shape) e u.commands c s t written_now written_then
-          → AreLinesDone shape left left_now written written_then e t.logs
-      cut_command t at_end ending.WriteFault cut = ends_unwritten t at_end cut
-      cut_command t at_end ending.NoMemory cut = ends_forgotten t at_end cut.0 cut.1
-      cut_command t at_end _ cut = absurd cut
+    -- what is held begins with a command, in which the session ends
+    pub ends_in : (written_then : Option (List ℕ)) (seen_then : Seen) (c : Command) (ended : Bool) (rest : Script)
+        → script_from shape.nodes ended line held ≡ after (c ∷ []) rest → (ended ≡ true → IsAtEnd left_now)
+        → (later : List Life) (next : Option Going) (e : Ending)
+        → EndsIn shape c u.commands u.text given seen_then later next written_now written_then e
+        → AreLinesDone shape left left_now written written_then given seen_then e (all_lives later next)
+    ends_in written_then seen_then c ended rest asked at_end later next e cut =
+        ends_here written_then seen_then e ended (all_lives later next) cut.told at_end
+        (early_ends e ended (all_read ended) cut.early) (cut.printed written u.printed)
+        (subst (λ cs. AreLives shape e cs given seen_then (all_lives later next) cut.told)
+        (sym (ap (λ (x : Script). x.commands) (all_asked ended _ asked))) (cut.lived rest.commands))
+        cut.some (early_words e cut.early)
 
     -- the text of a command behind the text before
-    printed_on : (written_then : Option (List ℕ)) (c : Command) (t : Whole)
-        → WrittenWhole (fresh shape) u.commands c s t written_now written_then
-        → Appends written written_then (text_of (fresh shape) (logs_at t.logs 0))
-    printed_on written_then c t all =
-        subst (Appends written written_then) (sym all.told)
-        (Appends-trans written written_now written_then (text_of (fresh shape) (logs_at s.logs 0)) all.text
-        u.printed all.all)
+    printed_on : (written_then : Option (List ℕ)) (seen_then : Seen) (c : Command) (later : List Life)
+        (next : Option Going)
+        → (o : HasObeyed shape c u.commands u.text given seen_then later next written_now written_then)
+        → Appends written written_then (u.text ++ o.more)
+    printed_on written_then seen_then c later next o =
+        Appends-trans written written_now written_then u.text o.more u.printed o.printed
 
     -- the last line is a command, and it was served
-    pub ends_answered : (written_then : Option (List ℕ)) (c : Command) (t : Whole)
+    pub ends_answered : (written_then : Option (List ℕ)) (seen_then : Seen) (c : Command) (later : List Life)
+        (next : Option Going)
         → script_from shape.nodes true line held ≡ after (c ∷ []) nothing_more → IsAtEnd left_now
-        → WrittenWhole (fresh shape) u.commands c s t written_now written_then
-        → AreLinesDone shape left left_now written written_then ending.Finished t.logs
-    ends_answered written_then c t asked at_end all =
-        ends_here written_then ending.Finished true t.logs (λ is. at_end)
+        → HasObeyed shape c u.commands u.text given seen_then later next written_now written_then
+        → AreLinesDone shape left left_now written written_then given seen_then ending.Finished (all_lives later next)
+    ends_answered written_then seen_then c later next asked at_end o =
+        ends_here written_then seen_then ending.Finished true (all_lives later next) (u.text ++ o.more) (λ is. at_end)
         (ap (is_finished true) (last_asked_for true _ asked))
-        (refl, printed_on written_then c t all)
-        (served_lived (fresh shape) ending.Finished (u.commands ++ c ∷ []) [] t (all_read true).commands all.served
-        (ap (λ (x : Script). x.commands) (all_asked true _ asked) ∙ sym (append-nil (u.commands ++ c ∷ [])))
-        (λ whole. refl))
+        (refl, printed_on written_then seen_then c later next o)
+        (subst (λ cs. AreLives shape ending.Finished cs given seen_then (all_lives later next) (u.text ++ o.more))
+        (append-nil (u.commands ++ c ∷ []) ∙ sym (ap (λ (x : Script). x.commands) (all_asked true _ asked)))
+        (ends_served shape sound later next (u.commands ++ c ∷ []) (u.text ++ o.more) given seen_then o.served
+        ending.Finished refl [] (λ whole. refl)))
+        (some_life shape sound later next (u.commands ++ c ∷ []) (u.text ++ o.more) given seen_then o.served)
         (λ is. cc)
 
     -- a whole line is passed
@@ -291,10 +280,11 @@ module _ (shape : Shape) (left written : Option (List ℕ)) where
 
       -- the line asks for nothing
       pub goes_on : parsed_line shape.nodes (take at held) ≡ parsed.Nothing
-          → IsUnderWay shape left left_now written written_now (line + 1) (drop (at + 1) held) s
+          → IsUnderWay shape left left_now written written_now given seen (line + 1) (drop (at + 1) held) gone now
       goes_on e = record {
         consumed = u.consumed ++ take (at + 1) held;
         commands = u.commands;
+        text = u.text;
         read = read_rest;
         lines = λ ended more. lines_on [] parsed.Nothing e (λ rest. refl) ended more
             ∙ ap (λ commands. after commands (script_from shape.nodes ended (line + 1) more)) (append-nil u.commands);
@@ -306,49 +296,62 @@ module _ (shape : Shape) (left written : Option (List ℕ)) where
       }
 
       -- the line is a command, and it was served
-      goes_on_asked : (written_then : Option (List ℕ)) (t : Whole) (c : Command)
-          → parsed_line shape.nodes (take at held) ≡ parsed.Ask c
-          → WrittenWhole (fresh shape) u.commands c s t written_now written_then
-          → IsUnderWay shape left left_now written written_then (line + 1) (drop (at + 1) held) t
-      goes_on_asked written_then t c e all =
+      goes_on_asked : (written_then : Option (List ℕ)) (seen_then : Seen) (later : List Life) (next : Option Going)
+          (c : Command) → parsed_line shape.nodes (take at held) ≡ parsed.Ask c
+          → HasObeyed shape c u.commands u.text given seen_then later next written_now written_then
+          → IsUnderWay shape left left_now written written_then given seen_then (line + 1) (drop (at + 1) held) later
+          next
+      goes_on_asked written_then seen_then later next c e o =
           record {
             consumed = u.consumed ++ take (at + 1) held;
             commands = u.commands ++ c ∷ [];
+            text = u.text ++ o.more;
             read = read_rest;
             lines = lines_on (c ∷ []) (parsed.Ask c) e (λ rest. refl);
-            printed = printed_on written_then c t all;
-            served = all.served;
+            printed = printed_on written_then seen_then c later next o;
+            served = o.served;
             line_low = omega arith;
             held_short = omega (arith, u.held_short, length-drop (at + 1) held);
             consumed_short =
                 omega (arith, u.consumed_short, length-append u.consumed (take (at + 1) held), front_length);
           }
 
-      -- or it was cut short
-      pub line_asked : (written_then : Option (List ℕ)) (t : Whole) (c : Command) (result : Option Ending)
+      -- or the session ends in it
+      pub line_asked : (written_then : Option (List ℕ)) (seen_then : Seen) (shape_now : Shape) (later : List Life)
+          (next : Option Going) (c : Command) (result : Option Ending) → shape_now ≡ shape
           → parsed_line shape.nodes (take at held) ≡ parsed.Ask c
-          → PrintsCommand (fresh shape) c s t result written_now written_then
-          → MatchOption result ((shape ≡ shape) × IsUnderWay shape left left_now written written_then (line + 1)
-          (drop (at + 1) held) t)
-          (λ ending. AreLinesDone shape left left_now written written_then ending t.logs)
-      line_asked written_then t c None e p = (refl, goes_on_asked written_then t c e (p.printed u.commands u.served))
-      line_asked written_then t c (Some ending) e p =
-          cut_command written_then c false _ (first_asked false (parsed.Ask c) e) t (λ is. cc) ending
-          (p.printed u.commands u.served)
+          → Obeys shape c seen seen_then gone later now next written_now written_then result
+          → MatchOption result
+          ((shape_now ≡ shape) × IsUnderWay shape_now left left_now written written_then given seen_then (line + 1)
+          (drop (at + 1) held) later next)
+          (λ ending. AreLinesDone shape left left_now written written_then given seen_then ending
+          (all_lives later next))
+      line_asked written_then seen_then shape_now later next c None same e obeys = (
+        same,
+        subst
+            (λ sh. IsUnderWay sh left left_now written written_then given seen_then (line + 1) (drop (at + 1) held)
+            later next)
+            (sym same)
+            (goes_on_asked written_then seen_then later next c e (obeys u.commands u.text given u.served)),
+      )
+      line_asked written_then seen_then shape_now later next c (Some ending) same e obeys =
+          ends_in written_then seen_then c false _ (first_asked false (parsed.Ask c) e) (λ is. cc) later next ending
+          (obeys u.commands u.text given u.served)
 
       -- the session is to end
       pub line_quit : parsed_line shape.nodes (take at held) ≡ parsed.Quit
-          → AreLinesDone shape left left_now written written_now ending.Finished s.logs
+          → AreLinesDone shape left left_now written written_now given seen ending.Finished (all_lives gone now)
       line_quit e = ends_quit false (λ is. cc) (first_asked false parsed.Quit e)
 
       -- the line is refused
       pub line_fault : (fault : LineFault) → parsed_line shape.nodes (take at held) ≡ parsed.Fault fault
-          → AreLinesDone shape left left_now written written_now (ending.Refused line fault) s.logs
+          → AreLinesDone shape left left_now written written_now given seen (ending.Refused line fault)
+          (all_lives gone now)
       line_fault fault e = ends_refused fault false (λ is. cc) (first_asked false (parsed.Fault fault) e)
 
     -- a whole line is too long
     pub line_too_long : (at : ℕ) → position is_newline held ≡ Some at → 512 < at
-        → AreLinesDone shape left left_now written written_now (ending.TooLong line) s.logs
+        → AreLinesDone shape left left_now written written_now given seen (ending.TooLong line) (all_lives gone now)
     line_too_long at found long =
         let size : length (take at held) ≡ at =
         length-take-le at held (let within = found_within held at found in omega arith) in
@@ -357,7 +360,7 @@ module _ (shape : Shape) (left written : Option (List ℕ)) where
 
     -- what is held can't be a line any more
     pub part_too_long : position is_newline held ≡ None → 512 < length held
-        → AreLinesDone shape left left_now written written_now (ending.TooLong line) s.logs
+        → AreLinesDone shape left left_now written written_now given seen (ending.TooLong line) (all_lives gone now)
     part_too_long none long =
         let some : 0 < length held = omega arith in
         ends_too_long (script-part shape.nodes false line held none ∙ last_part-long shape.nodes false line held some
@@ -365,7 +368,7 @@ module _ (shape : Shape) (left written : Option (List ℕ)) where
 
     -- there is a line after the last that may be
     past_by : (found : Option ℕ) → position is_newline held ≡ found → 65536 < line → 0 < length held
-        → AreLinesDone shape left left_now written written_now (ending.TooLong line) s.logs
+        → AreLinesDone shape left left_now written written_now given seen (ending.TooLong line) (all_lives gone now)
     past_by None e past some = ends_too_long
         (script-part shape.nodes false line held e
         ∙ last_part-long shape.nodes false line held some (too_long_line line held past))
@@ -374,19 +377,20 @@ module _ (shape : Shape) (left written : Option (List ℕ)) where
         ∙ whole_line-long shape.nodes line (take at held) _ (too_long_line line (take at held) past))
 
     pub line_past : 65536 < line → 0 < length held
-        → AreLinesDone shape left left_now written written_now (ending.TooLong line) s.logs
+        → AreLinesDone shape left left_now written written_now given seen (ending.TooLong line) (all_lives gone now)
     line_past past some = past_by (position is_newline held) refl past some
 
     -- the source failed
     pub part_unread : IsPartial held → (0 < length held → line ≤ 65536)
-        → AreLinesDone shape left left_now written written_now ending.ReadFault s.logs
+        → AreLinesDone shape left left_now written written_now given seen ending.ReadFault (all_lives gone now)
     part_unread partial low = ends_unread
         (script-part shape.nodes false line held partial.no_newline
         ∙ last_part-partial shape.nodes line held (λ some. short_line line held (low some) partial.short))
 
     -- the last line
     module _ (partial : IsPartial held) (low : 0 < length held → line ≤ 65536) (at_end : IsAtEnd left_now) where
-      pub last_none : length held ≡ 0 → AreLinesDone shape left left_now written written_now ending.Finished s.logs
+      pub last_none : length held ≡ 0
+          → AreLinesDone shape left left_now written written_now given seen ending.Finished (all_lives gone now)
       last_none none = ends_finished at_end
           (script-part shape.nodes true line held partial.no_newline
           ∙ ap (last_part shape.nodes true line) (empty_held held none))
@@ -399,32 +403,30 @@ module _ (shape : Shape) (left written : Option (List ℕ)) where
           ∙ ap (λ p. follow line p nothing_more) e
 
       pub last_nothing : 0 < length held → parsed_line shape.nodes held ≡ parsed.Nothing
-          → AreLinesDone shape left left_now written written_now ending.Finished s.logs
+          → AreLinesDone shape left left_now written written_now given seen ending.Finished (all_lives gone now)
       last_nothing some e = ends_finished at_end (last_asked parsed.Nothing some e)
 
       pub last_fault : (fault : LineFault) → 0 < length held → parsed_line shape.nodes held ≡ parsed.Fault fault
-          → AreLinesDone shape left left_now written written_now (ending.Refused line fault) s.logs
+          → AreLinesDone shape left left_now written written_now given seen (ending.Refused line fault)
+          (all_lives gone now)
       last_fault fault some e = ends_refused fault true (λ is. at_end) (last_asked (parsed.Fault fault) some e)
 
       pub last_quit : 0 < length held → parsed_line shape.nodes held ≡ parsed.Quit
-          → AreLinesDone shape left left_now written written_now ending.Finished s.logs
+          → AreLinesDone shape left left_now written written_now given seen ending.Finished (all_lives gone now)
       last_quit some e = ends_quit true (λ is. at_end) (last_asked parsed.Quit some e)
 
-      pub last_command : (written_then : Option (List ℕ)) (t : Whole) (c : Command) (result : Option Ending)
-          → 0 < length held → parsed_line shape.nodes held ≡ parsed.Ask c
-          → PrintsCommand (fresh shape) c s t result written_now written_then
-          → MatchOption result (AreLinesDone shape left left_now written written_then ending.Finished t.logs)
-          (λ ending. AreLinesDone shape left left_now written written_then ending t.logs)
-      last_command written_then t c None some e p =
-          ends_answered written_then c t (last_asked (parsed.Ask c) some e) at_end (p.printed u.commands u.served)
-      last_command written_then t c (Some ending) some e p =
-          cut_command written_then c true nothing_more (last_asked (parsed.Ask c) some e) t (λ is. at_end) ending
-          (p.printed u.commands u.served)
-
--- a start that is that of a fresh world
-pub served_as : {start : Start} {shape : Shape} {c : Command} {s t : Whole} {result : Option Ending}
-    {written written_now : Option (List ℕ)} → start ≡ fresh shape
-    → PrintsCommand start c s t result written written_now
-    → PrintsCommand (fresh shape) c s t result written written_now
-served_as {start} {shape} {c} {s} {t} {result} {written} {written_now} is printed =
-    subst (λ start. PrintsCommand start c s t result written written_now) is printed
+      pub last_command : (written_then : Option (List ℕ)) (seen_then : Seen) (later : List Life)
+          (next : Option Going) (c : Command) (result : Option Ending) → 0 < length held
+          → parsed_line shape.nodes held ≡ parsed.Ask c
+          → Obeys shape c seen seen_then gone later now next written_now written_then result
+          → MatchOption result
+          (AreLinesDone shape left left_now written written_then given seen_then ending.Finished
+          (all_lives later next))
+          (λ ending. AreLinesDone shape left left_now written written_then given seen_then ending
+          (all_lives later next))
+      last_command written_then seen_then later next c None some e obeys =
+          ends_answered written_then seen_then c later next (last_asked (parsed.Ask c) some e) at_end
+          (obeys u.commands u.text given u.served)
+      last_command written_then seen_then later next c (Some ending) some e obeys =
+          ends_in written_then seen_then c true nothing_more (last_asked (parsed.Ask c) some e) (λ is. at_end) later
+          next ending (obeys u.commands u.text given u.served)

@@ -1,6 +1,9 @@
 -- The shell takes the replies of a world, one after the other.
-use Rattle.std.proofs.Common.{◌≡◌, ◌<◌, List, [], ◌∷◌, ◌++◌, length, ap, sym, ◌∙◌, append_assoc, arith}
+use Rattle.std.proofs.Common.{◌≡◌, ◌<◌, ℕ, List, [], ◌∷◌, ◌++◌, length, ap, subst, sym, ◌∙◌, append_assoc, arith}
 use Rattle.std.proofs.lemmas.List.{append-nil}
+use Rattle.std.specs.Global.{Vec}
+use Rattle.std.specs.Prelude.{IfOk, Result}
+use Rattle.shell_top.specs.Text.{reply_lines}
 use Rattle.sig_core.specs.declared.reply.ApiReply.{ApiReply}
 use Rattle.world_views.specs.World.{Whole}
 
@@ -37,3 +40,10 @@ pub told_all : (w now next : Whole) (taken : List ApiReply) → w ≡ with_repli
     → next ≡ with_replies w []
 told_all w now next taken is none from =
     sym (ap (λ (u : Whole). with_replies u []) is ∙ ap (with_replies now) (sym none) ∙ from)
+
+-- the lines of given replies are those of the replies that they are
+pub lines_are : {E : Type 0} (result : Result (Vec ℕ) E) (given replies : List ApiReply)
+    → IfOk result (λ text. text.items ≡ reply_lines given) → given ≡ replies
+    → IfOk result (λ text. text.items ≡ reply_lines replies)
+lines_are result given replies told same =
+    subst (λ (rs : List ApiReply). IfOk result (λ (text : Vec ℕ). text.items ≡ reply_lines rs)) same told

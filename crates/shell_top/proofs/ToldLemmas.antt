@@ -227,4 +227,6 @@ has_first (command.Digest at) e = record {
   subject = refl;
   none = refl;
 }
+has_first command.Restart e =
+    record { first = request.Restart; rest = []; are = refl; begins_it = refl; subject = refl; none = refl }
 has_first _ e = absurd (true≢false (sym e))

@@ -1,19 +1,14 @@
 -- What the words behind the program's name ask for.
-use Rattle.std.proofs.Common.{◌≡◌, ℕ, Bool, true, false, not, List, [], ◌∷◌, codes, refl, ap, ap₂, sym, ◌∙◌, arith, inl}
-use Rattle.std.proofs.Common.{inr}
+use Rattle.std.proofs.Common.{◌≡◌, ℕ, Bool, true, false, not, List, [], codes, refl, ap, ap₂, sym, ◌∙◌}
 use Rattle.std.specs.Prelude.{◌&&◌, if◌then◌else◌, Option, None}
 use Rattle.std.specs.List.{list_any}
-use Rattle.std.proofs.lemmas.Bool.Decides.{nat_tests}
 use Rattle.clap.proofs.OnLiterals.{clap_on_literals}
 use Rattle.clap.proofs.WalkLemmas.{first_value-rows}
 use Rattle.clap.specs.Faults.{fault_of, is_simple_and_free}
-use Rattle.clap.specs.Kinds.{HasKind, Kinds}
+use Rattle.clap.specs.Kinds.{Kinds}
 use Rattle.clap.specs.Matches.{first_value, found_of}
 use Rattle.clap.specs.Simple.{App, HasMatchesOf, is_simple, matches_of}
-use Rattle.clap.specs.Values.{kind_of}
 use Rattle.clap.specs.Walk.{first_of, is_empty, rows_of}
-use Rattle.clap.specs.declared.error.Error.{Error}
-use Rattle.clap.specs.declared.error.kind.ErrorKind.TheVariants.{OutOfMemory}
 use Rattle.clap.specs.declared.parser.matches.ArgMatches.{ArgMatches}
 use Rattle.sig_core.specs.declared.view.Shape.{Shape}
 use Rattle.shell_top.specs.Words.{are_taken, asked_shape, is_separator, ndb, number_or, shape_in, shape_of}

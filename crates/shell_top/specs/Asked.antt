@@ -10,7 +10,7 @@ use Rattle.sig_core.specs.declared.request.ApiReq.{ApiReq}
 use Rattle.sig_core.specs.declared.request.ApiReq.TheVariants as request
 use Rattle.world_core.specs.Start.{Start}
 use Rattle.world_views.specs.Requests.{request_of, requests}
-use Rattle.world_views.specs.Shell.{leaves_open}
+use Rattle.world_views.specs.Shell.{finds_down, leaves_open}
 
 -- n rounds more behind the first one, of so many
 abbrev pub rounds_behind : ℕ → ℕ → List ApiReq
@@ -31,9 +31,10 @@ requests_of command.View = request.View ∷ []
 requests_of (command.Tick rounds) = request.Tick 1 rounds ∷ rounds_behind rounds (rounds - 1)
 requests_of (command.Rows at) = request.Rows at ∷ []
 requests_of (command.Digest at) = request.Digest at ∷ []
+requests_of command.Restart = request.Restart ∷ []
 requests_of _ = []
 
--- the session serves it
+-- a life serves it
 abbrev pub is_served : Command → Bool
 is_served (command.Begin name at) = true
 is_served (command.Operate name op) = true
@@ -47,12 +48,20 @@ is_served command.Gcp = true
 is_served command.View = true
 is_served (command.Rows at) = true
 is_served (command.Digest at) = true
+is_served command.Restart = true
 is_served _ = false
 
--- the command stops nobody and cuts nobody off
+-- the session does: a life, or what ends it
+abbrev pub is_asked_for : Command → Bool
+is_asked_for command.Crash = true
+is_asked_for command = is_served command
+
+-- the command stops nobody, cuts nobody off, and is none of the cluster's lives
 abbrev pub is_peaceful_command : Command → Bool
 is_peaceful_command (command.Kill at) = false
 is_peaceful_command (command.Cut one other) = false
+is_peaceful_command command.Crash = false
+is_peaceful_command command.Restart = false
 is_peaceful_command _ = true
 
 abbrev pub are_peaceful : List Command → Bool
@@ -75,9 +84,15 @@ abbrev pub AsksOn : List HostStep → List HostStep → Bool → Type 0
 AsksOn served log false = log ≡ served
 AsksOn served log true = IsAskedNext served log × (requests log ≡ requests served ++ questions)
 
+-- a command may be asked of a cluster that is down, or not: one that is down is restarted by the session itself
+abbrev pub MayAsk : Command → Bool → Type 0
+MayAsk command.Restart down = down ≡ false
+MayAsk command down = Unit {0}
+
 -- A command was asked for behind `before`, in host 0's log.
 pub record AsksCommand (start : Start) (command : Command) (before log : List HostStep) : Type 0 where
   pub served : List HostStep
+  pub may : MayAsk command (finds_down start before)
   pub next : IsAskedNext before served
   pub own : requests served ≡ requests before ++ requests_of command
   pub on : AsksOn served log (leaves_open start served)

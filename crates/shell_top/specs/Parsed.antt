@@ -24,7 +24,8 @@ abbrev pub is_order : List ℕ → Bool
 is_order word =
     bytes_eq word (codes "begin") || bytes_eq word (codes "commit") || bytes_eq word (codes "abort")
     || bytes_eq word (codes "tick")
-    || bytes_eq word (codes "rows") || bytes_eq word (codes "digest") || bytes_eq word (codes "quit")
+    || bytes_eq word (codes "rows") || bytes_eq word (codes "digest") || bytes_eq word (codes "crash")
+    || bytes_eq word (codes "restart") || bytes_eq word (codes "quit")
 
 -- and those on nodes and epochs
 abbrev pub is_operator : List ℕ → Bool
@@ -55,6 +56,8 @@ asked command.Gcp = Ask command.Gcp
 asked command.View = Ask command.View
 asked (command.Rows at) = Ask (command.Rows at)
 asked (command.Digest at) = Ask (command.Digest at)
+asked command.Crash = Ask command.Crash
+asked command.Restart = Ask command.Restart
 asked _ = Fault UnknownCommand
 
 abbrev pub parsed_as : Result (Option Command) LineFault → Parsed

@@ -56,7 +56,7 @@ pub record HasServed (start : Start) (asked : List ApiReq) (w t : Whole) : Type 
   pub next : AsksFirst asked (logs_at w.logs 0) (logs_at t.logs 0)
   pub at_quiet : IsIdle w → AreAskedAtQuiet start (logs_at w.logs) → AreAskedAtQuiet start (logs_at t.logs)
   pub quiet : IsIdle w → IsIdle t
-  pub unscheduled : AreUnscheduled false start (logs_at w.logs) → AreUnscheduled false start (logs_at t.logs)
+  pub unscheduled : AreUnscheduled true start (logs_at w.logs) → AreUnscheduled true start (logs_at t.logs)
   pub peace : IsSound start w → IsIdle w → AreInPeace start (logs_at w.logs) → are_peaceful_requests asked ≡ true
       → NoneStops (logs_at t.logs)
       → AreInPeace start (logs_at t.logs)
@@ -73,7 +73,7 @@ pub record AreLeftOff (start : Start) (asked : List ApiReq) (w : Whole) (logs : 
   pub requests : requests (logs_at logs 0) ≡ requests (logs_at w.logs 0) ++ take part asked
   pub at_quiet : IsIdle w → AreAskedAtQuiet start (logs_at w.logs) → AreAskedAtQuiet start (logs_at logs)
   pub begun : (logs_at logs 0 ≡ logs_at w.logs 0) ⊎ IsAskedNext (logs_at w.logs 0) (logs_at logs 0)
-  pub unscheduled : AreUnscheduled false start (logs_at w.logs) → AreUnscheduled false start (logs_at logs)
+  pub unscheduled : AreUnscheduled true start (logs_at w.logs) → AreUnscheduled true start (logs_at logs)
   pub peace : IsSound start w → IsIdle w → AreInPeace start (logs_at w.logs) → are_peaceful_requests asked ≡ true
       → NoneStops (logs_at logs)
       → AreInPeace start (logs_at logs)
@@ -92,7 +92,7 @@ pub record IsServed (start : Start) (commands : List Command) (w : Whole) : Type
   pub asked : AreAsked start (reverse commands) (logs_at w.logs 0)
   pub at_quiet : AreAskedAtQuiet start (logs_at w.logs)
   pub none_left : w.replies ≡ []
-  pub unscheduled : AreUnscheduled false start (logs_at w.logs)
+  pub unscheduled : AreUnscheduled true start (logs_at w.logs)
   pub peace : are_peaceful commands ≡ true → NoneStops (logs_at w.logs) → AreInPeace start (logs_at w.logs)
 
 -- Memory was wanting while a command was served, after these commands: what the logs are then. The questions were asked

@@ -8,7 +8,7 @@ use Rattle.sig_core.specs.declared.log.LogStep.{LogStep}
 use Rattle.sig_core.specs.declared.mark.Mark.{Mark}
 use Rattle.sig_core.specs.declared.mark.Mark.TheVariants.{Stopped}
 use Rattle.sig_core.specs.declared.outcome.StopCause.{StopCause}
-use Rattle.sig_core.specs.declared.outcome.StopCause.TheVariants.{Clock, Memory}
+use Rattle.sig_core.specs.declared.outcome.StopCause.TheVariants.{Clock, Disk, Memory}
 use Rattle.world_core.specs.Steps.{HostStep}
 
 abbrev pub wants : StopCause → Bool
@@ -31,10 +31,11 @@ ends_by_want log = is_last_want (slice_get log.steps (length log.steps - 1))
 abbrev pub has_wanted : Life → Bool
 has_wanted life = list_any ends_by_want life.logs
 
--- a host gives up for want of memory or of stamps
+-- a host gives up for want of memory or of stamps, or since its node's disk failed
 abbrev pub gives_up_for : StopCause → Bool
 gives_up_for Memory = true
 gives_up_for Clock = true
+gives_up_for (Disk count) = true
 gives_up_for _ = false
 
 -- a mark of a host that did so

@@ -4,36 +4,53 @@ ghost use Rattle.script_lang.specs.declared.command.Command.{Command};
 ghost use Rattle.shell_top.specs.Asked.{is_served, questions, requests_of, rounds_behind};
 ghost use Rattle.shell_top.specs.Served.{AreLeftOff, HasGoneOn, HasServed};
 ghost use Rattle.world_views.specs.Driven.{IsSound};
+ghost use Rattle.shell_top.specs.Seen.{HasGrown, seen_on};
+ghost use Rattle.shell_top.specs.Setting.{setting_of};
 ghost use Rattle.world_core.specs.Start.{Start};
 ghost use Rattle.world_views.specs.World.{is_left_open};
 ghost use Rattle.world_views.specs.WorldOf.{whole_of};
 
+use disk_world::DiskWorld;
+use host_io::Disk;
 use script_lang::Command;
 use sig_core::{ApiReq, HeldOp, NoMemory};
 use std::alloc::Global;
 use std::sync::Wait;
-use world_views::World;
 
 /// Asks the world for something, and drives it to quiet.
 ///
 /// # Errors
 /// `NoMemory`, and then the world is of use for its logs alone.
-fn ask<R: Wait>(rt: &R, alloc: Global, world: &mut World, request: ApiReq) -> Result<(), NoMemory>
+fn ask<R: Wait, D: Disk>(
+    rt: &R,
+    alloc: Global,
+    world: &mut DiskWorld<D>,
+    request: ApiReq,
+) -> Result<(), NoMemory>
     ghost start: { Start }
-    requires { IsSound start (whole_of world.old) }
-    ensures ok { OnOk result (HasServed start (request ∷ []) (whole_of world.old) (whole_of world.new)) }
-    ensures err { OnErr result (AreLeftOff start (request ∷ []) (whole_of world.old) (whole_of world.new).logs) }
+    requires { IsSound start (whole_of world.old.world) }
+    ensures ok { OnOk result (HasServed start (request ∷ []) (whole_of world.old.world) (whole_of world.new.world)) }
+    ensures err { OnErr result (AreLeftOff start (request ∷ []) (whole_of world.old.world) (whole_of world.new.world).logs) }
+    ensures setting { setting_of world.new ≡ setting_of world.old }
+    ensures grown { HasGrown (seen_on D.told D.faults world.old.disks.items) (seen_on D.told D.faults world.new.disks.items) }
 {
     world.ask(alloc, request)?;
     world.drive(rt, alloc)
 }
 
 /// Lets rounds pass, with quiet after each.
-fn tick<R: Wait>(rt: &R, alloc: Global, world: &mut World, rounds: u8) -> Result<(), NoMemory>
+fn tick<R: Wait, D: Disk>(
+    rt: &R,
+    alloc: Global,
+    world: &mut DiskWorld<D>,
+    rounds: u8,
+) -> Result<(), NoMemory>
     ghost start: { Start }
-    requires { IsSound start (whole_of world.old) }
-    ensures ok { OnOk result (HasServed start (requests_of (Command.Tick rounds)) (whole_of world.old) (whole_of world.new)) }
-    ensures err { OnErr result (AreLeftOff start (requests_of (Command.Tick rounds)) (whole_of world.old) (whole_of world.new).logs) }
+    requires { IsSound start (whole_of world.old.world) }
+    ensures ok { OnOk result (HasServed start (requests_of (Command.Tick rounds)) (whole_of world.old.world) (whole_of world.new.world)) }
+    ensures err { OnErr result (AreLeftOff start (requests_of (Command.Tick rounds)) (whole_of world.old.world) (whole_of world.new.world).logs) }
+    ensures setting { setting_of world.new ≡ setting_of world.old }
+    ensures grown { HasGrown (seen_on D.told D.faults world.old.disks.items) (seen_on D.told D.faults world.new.disks.items) }
 {
     let first = ApiReq::Tick {
         round: 1,
@@ -44,16 +61,18 @@ fn tick<R: Wait>(rt: &R, alloc: Global, world: &mut World, rounds: u8) -> Result
 }
 
 /// Lets all rounds but the first pass.
-fn further_rounds<R: Wait>(
+fn further_rounds<R: Wait, D: Disk>(
     rt: &R,
     alloc: Global,
-    world: &mut World,
+    world: &mut DiskWorld<D>,
     rounds: u8,
 ) -> Result<(), NoMemory>
     ghost start: { Start }
-    requires { IsSound start (whole_of world.old) }
-    ensures ok { OnOk result (HasServed start (rounds_behind rounds (rounds - 1)) (whole_of world.old) (whole_of world.new)) }
-    ensures err { OnErr result (AreLeftOff start (rounds_behind rounds (rounds - 1)) (whole_of world.old) (whole_of world.new).logs) }
+    requires { IsSound start (whole_of world.old.world) }
+    ensures ok { OnOk result (HasServed start (rounds_behind rounds (rounds - 1)) (whole_of world.old.world) (whole_of world.new.world)) }
+    ensures err { OnErr result (AreLeftOff start (rounds_behind rounds (rounds - 1)) (whole_of world.old.world) (whole_of world.new.world).logs) }
+    ensures setting { setting_of world.new ≡ setting_of world.old }
+    ensures grown { HasGrown (seen_on D.told D.faults world.old.disks.items) (seen_on D.told D.faults world.new.disks.items) }
 {
     for behind in 0..rounds.saturating_sub(1) {
         let next = ApiReq::Tick {
@@ -69,17 +88,19 @@ fn further_rounds<R: Wait>(
 ///
 /// # Errors
 /// `NoMemory`, and then the world is of use for its logs alone.
-pub fn ask_own<R: Wait>(
+pub fn ask_own<R: Wait, D: Disk>(
     rt: &R,
     alloc: Global,
-    world: &mut World,
+    world: &mut DiskWorld<D>,
     command: &Command,
 ) -> Result<(), NoMemory>
     ghost start: { Start }
-    requires opened { IsSound start (whole_of world.old) }
+    requires opened { IsSound start (whole_of world.old.world) }
     requires served { is_served command.now ≡ true }
-    ensures ok { OnOk result (HasServed start (requests_of command.now) (whole_of world.old) (whole_of world.new)) }
-    ensures err { OnErr result (AreLeftOff start (requests_of command.now) (whole_of world.old) (whole_of world.new).logs) }
+    ensures ok { OnOk result (HasServed start (requests_of command.now) (whole_of world.old.world) (whole_of world.new.world)) }
+    ensures err { OnErr result (AreLeftOff start (requests_of command.now) (whole_of world.old.world) (whole_of world.new.world).logs) }
+    ensures setting { setting_of world.new ≡ setting_of world.old }
+    ensures grown { HasGrown (seen_on D.told D.faults world.old.disks.items) (seen_on D.told D.faults world.new.disks.items) }
 {
     match command {
         Command::Begin { name, node } => {
@@ -112,16 +133,23 @@ pub fn ask_own<R: Wait>(
         Command::View => ask(rt, alloc, world, ApiReq::View),
         Command::Rows { node } => ask(rt, alloc, world, ApiReq::Rows { node: *node }),
         Command::Digest { node } => ask(rt, alloc, world, ApiReq::Digest { node: *node }),
+        Command::Restart => ask(rt, alloc, world, ApiReq::Restart),
         _ => Ok(()),
     }
 }
 
 /// Asks the world what the last command waits for, and for the replies about that.
-fn ask_questions<R: Wait>(rt: &R, alloc: Global, world: &mut World) -> Result<(), NoMemory>
+fn ask_questions<R: Wait, D: Disk>(
+    rt: &R,
+    alloc: Global,
+    world: &mut DiskWorld<D>,
+) -> Result<(), NoMemory>
     ghost start: { Start }
-    requires { IsSound start (whole_of world.old) }
-    ensures ok { OnOk result (HasServed start questions (whole_of world.old) (whole_of world.new)) }
-    ensures err { OnErr result (AreLeftOff start questions (whole_of world.old) (whole_of world.new).logs) }
+    requires { IsSound start (whole_of world.old.world) }
+    ensures ok { OnOk result (HasServed start questions (whole_of world.old.world) (whole_of world.new.world)) }
+    ensures err { OnErr result (AreLeftOff start questions (whole_of world.old.world) (whole_of world.new.world).logs) }
+    ensures setting { setting_of world.new ≡ setting_of world.old }
+    ensures grown { HasGrown (seen_on D.told D.faults world.old.disks.items) (seen_on D.told D.faults world.new.disks.items) }
 {
     ask(rt, alloc, world, ApiReq::Waits)?;
     ask(rt, alloc, world, ApiReq::Pending)
@@ -131,12 +159,18 @@ fn ask_questions<R: Wait>(rt: &R, alloc: Global, world: &mut World) -> Result<()
 ///
 /// # Errors
 /// `NoMemory`, and then the world is of use for its logs alone.
-pub fn ask_about<R: Wait>(rt: &R, alloc: Global, world: &mut World) -> Result<(), NoMemory>
+pub fn ask_about<R: Wait, D: Disk>(
+    rt: &R,
+    alloc: Global,
+    world: &mut DiskWorld<D>,
+) -> Result<(), NoMemory>
     ghost start: { Start }
-    requires { IsSound start (whole_of world.old) }
-    ensures ok { OnOk result (HasGoneOn start (whole_of world.old) (whole_of world.new) (is_left_open (whole_of world.old))) }
-    ensures opened { OnErr result (is_left_open (whole_of world.old) ≡ true) }
-    ensures err { OnErr result (AreLeftOff start questions (whole_of world.old) (whole_of world.new).logs) }
+    requires { IsSound start (whole_of world.old.world) }
+    ensures ok { OnOk result (HasGoneOn start (whole_of world.old.world) (whole_of world.new.world) (is_left_open (whole_of world.old.world))) }
+    ensures opened { OnErr result (is_left_open (whole_of world.old.world) ≡ true) }
+    ensures err { OnErr result (AreLeftOff start questions (whole_of world.old.world) (whole_of world.new.world).logs) }
+    ensures setting { setting_of world.new ≡ setting_of world.old }
+    ensures grown { HasGrown (seen_on D.told D.faults world.old.disks.items) (seen_on D.told D.faults world.new.disks.items) }
 {
     if world.is_left_open() {
         return ask_questions(rt, alloc, world);

@@ -3,7 +3,9 @@
 
 mod arranged;
 mod asked;
+mod disks;
 mod ended;
+mod lives;
 mod reader;
 mod run;
 mod script;

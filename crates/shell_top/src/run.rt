@@ -1,15 +1,19 @@
 //! The top call: a whole session.
-ghost use Rattle.std.specs.Prelude.{◌≡◌, ◌≤◌, ◌⊎◌, true, IfOk, Some, map, string_bytes};
+ghost use Rattle.std.specs.Prelude.{◌≡◌, ◌≤◌, ◌⊎◌, [], true, IfOk, None, Some, drop, length, map, string_bytes, take};
 ghost use Rattle.frag_map.specs.Shape.{IsShape};
 ghost use Rattle.host_io.specs.Fault.{Rose};
 ghost use Rattle.shell_top.specs.declared.ended.Ending.TheVariants as ending;
-ghost use Rattle.shell_top.specs.Opened.{HasOpened};
+ghost use Rattle.shell_top.specs.Lives.{AreKept, HasBegun, IsGoing, disks_of, now_of};
 ghost use Rattle.shell_top.specs.Printed.{Prints, is_cut_short};
-ghost use Rattle.shell_top.specs.Session.{IsSession, HasSession};
+ghost use Rattle.shell_top.specs.Seen.{HasGrown, Seen, seen_on};
+ghost use Rattle.shell_top.specs.Session.{HasSession, IsSession, nodes_of};
 ghost use Rattle.shell_top.specs.Text.{fault_line};
 ghost use Rattle.shell_top.specs.Words.{asked_shape};
 
+use crate::disks::{put_aside, put_back};
 use crate::ended::{Ended, Ending, is_cut_short};
+use crate::lives::{Lives, Parts};
+use crate::reader::Reader;
 use crate::session::Session;
 use crate::text::{fault_line, status_after};
 use crate::words::shape_asked;
@@ -21,8 +25,10 @@ use std::sync::Wait;
 use std::thread::Threads;
 
 /// Runs a session of a cluster of the shape that the words ask for: reads a script from the source,
-/// has the cluster serve each command, and writes the replies to the sink. Where the words are
-/// refused nothing is read. The disks are handed back as they came.
+/// has the cluster serve each command, and writes the replies to the sink. Its nodes have the first
+/// of the eight disks: a life begins from what these say, the first one here, and each later one at a
+/// `restart` of a cluster that is down. Where the words are refused, or the first life doesn't begin,
+/// nothing is read. The disks are handed back in their order.
 pub fn run_shell<R: Threads + Wait + Sync, S: Source, K: Sink, G: Gate + Sync>(
     rt: &R,
     alloc: Global,
@@ -32,115 +38,165 @@ pub fn run_shell<R: Threads + Wait + Sync, S: Source, K: Sink, G: Gate + Sync>(
     disks: Vec<Box<dyn Disk + Send>>,
     _gate: &G,
 ) -> Ended
-    ensures session { HasSession (asked_shape (map string_bytes words.now)) (S.left source.old) (S.left source.new) (K.written sink.old) (K.written sink.new) (Rose (S.faults source.old) (S.faults source.new)) (Rose (K.faults sink.old) (K.faults sink.new)) result.status result.lives.items }
+    requires { length disks.items ≡ 8 }
+    ensures session { HasSession (asked_shape (map string_bytes words.now)) (S.left source.old) (S.left source.new) (K.written sink.old) (K.written sink.new) (Rose (S.faults source.old) (S.faults source.new)) (Rose (K.faults sink.old) (K.faults sink.new)) (seen_on ⟦<Box<dyn Disk + Send> as Disk>⟧.told ⟦<Box<dyn Disk + Send> as Disk>⟧.faults (take (nodes_of (asked_shape (map string_bytes words.now))) disks.items)) (seen_on ⟦<Box<dyn Disk + Send> as Disk>⟧.told ⟦<Box<dyn Disk + Send> as Disk>⟧.faults (take (nodes_of (asked_shape (map string_bytes words.now))) result.disks.items)) result.status result.lives.items }
     ensures read_fault { result.status ≡ 3 → Rose (S.faults source.old) (S.faults source.new) }
     ensures write_fault { result.status ≡ 4 → Rose (K.faults sink.old) (K.faults sink.new) }
-    ensures disks { result.disks ≡ disks }
+    ensures disks { length result.disks.items ≡ 8 }
+    ensures unused { drop (nodes_of (asked_shape (map string_bytes words.now))) result.disks.items ≡ drop (nodes_of (asked_shape (map string_bytes words.now))) disks.items }
 {
-    let outcome = run_session(rt, alloc, words, source, sink);
+    let outcome = run_session(rt, alloc, words, source, sink, disks);
     Ended {
         status: status_after(&outcome.ending, outcome.lives.as_slice()),
         lives: outcome.lives,
-        disks,
+        disks: outcome.disks,
     }
 }
 
-/// How a session ended, and what the hosts did in it.
+/// How a session ended, what the hosts did in it, and the disks.
 #[derive(Drop)]
-struct Outcome {
+struct Outcome<D: Disk> {
     ending: Ending,
     lives: Vec<Life>,
+    disks: Vec<D>,
 }
 
 /// Runs a session, and says how it ended.
-fn run_session<R: Wait, S: Source, K: Sink>(
+fn run_session<R: Wait, S: Source, K: Sink, D: Disk>(
     rt: &R,
     alloc: Global,
     words: &[String],
     source: &mut S,
     sink: &mut K,
-) -> Outcome
-    ensures session { IsSession (asked_shape (map string_bytes words.now)) (S.left source.old) (S.left source.new) (K.written sink.old) (K.written sink.new) (Rose (S.faults source.old) (S.faults source.new)) (Rose (K.faults sink.old) (K.faults sink.new)) result.ending result.lives.items }
+    disks: Vec<D>,
+) -> Outcome<D>
+    requires { length disks.items ≡ 8 }
+    ensures session { IsSession (asked_shape (map string_bytes words.now)) (S.left source.old) (S.left source.new) (K.written sink.old) (K.written sink.new) (Rose (S.faults source.old) (S.faults source.new)) (Rose (K.faults sink.old) (K.faults sink.new)) (seen_on D.told D.faults (take (nodes_of (asked_shape (map string_bytes words.now))) disks.items)) (seen_on D.told D.faults (take (nodes_of (asked_shape (map string_bytes words.now))) result.disks.items)) result.ending result.lives.items }
     ensures read_fault { result.ending ≡ ending.ReadFault → Rose (S.faults source.old) (S.faults source.new) }
     ensures write_fault { result.ending ≡ ending.WriteFault → Rose (K.faults sink.old) (K.faults sink.new) }
+    ensures disks { length result.disks.items ≡ 8 }
+    ensures unused { drop (nodes_of (asked_shape (map string_bytes words.now))) result.disks.items ≡ drop (nodes_of (asked_shape (map string_bytes words.now))) disks.items }
 {
     match shape_asked(alloc, words) {
-        Ok(Some(shape)) => run_shape(rt, alloc, shape, source, sink),
+        Ok(Some(shape)) => run_shape(rt, alloc, shape, source, sink, disks),
         Ok(None) => Outcome {
             ending: finish(alloc, sink, Ending::Words),
             lives: Vec::new(alloc),
+            disks,
         },
-        Err(NoMemory) => Outcome {
-            ending: Ending::NoMemory,
-            lives: Vec::new(alloc),
-        },
+        Err(NoMemory) => unstarted(alloc, disks),
     }
 }
 
-/// Runs a session of a cluster of this shape, and says how it ended.
-fn run_shape<R: Wait, S: Source, K: Sink>(
+/// Memory was wanting before anything was done.
+fn unstarted<D: Disk>(alloc: Global, disks: Vec<D>) -> Outcome<D>
+    ensures ending { result.ending ≡ ending.NoMemory }
+    ensures lives { result.lives.items ≡ [] }
+    ensures disks { result.disks ≡ disks }
+{
+    Outcome {
+        ending: Ending::NoMemory,
+        lives: Vec::new(alloc),
+        disks,
+    }
+}
+
+/// Runs a session of a cluster of this shape on the first of these disks, and says how it ended.
+fn run_shape<R: Wait, S: Source, K: Sink, D: Disk>(
     rt: &R,
     alloc: Global,
     shape: Shape,
     source: &mut S,
     sink: &mut K,
-) -> Outcome
-    requires { IsShape shape }
-    ensures session { IsSession (Some shape) (S.left source.old) (S.left source.new) (K.written sink.old) (K.written sink.new) (Rose (S.faults source.old) (S.faults source.new)) (Rose (K.faults sink.old) (K.faults sink.new)) result.ending result.lives.items }
+    disks: Vec<D>,
+) -> Outcome<D>
+    requires shape { IsShape shape }
+    requires eight { length disks.items ≡ 8 }
+    ensures session { IsSession (Some shape) (S.left source.old) (S.left source.new) (K.written sink.old) (K.written sink.new) (Rose (S.faults source.old) (S.faults source.new)) (Rose (K.faults sink.old) (K.faults sink.new)) (seen_on D.told D.faults (take shape.nodes disks.items)) (seen_on D.told D.faults (take shape.nodes result.disks.items)) result.ending result.lives.items }
     ensures read_fault { result.ending ≡ ending.ReadFault → Rose (S.faults source.old) (S.faults source.new) }
     ensures write_fault { result.ending ≡ ending.WriteFault → Rose (K.faults sink.old) (K.faults sink.new) }
+    ensures disks { length result.disks.items ≡ 8 }
+    ensures unused { drop shape.nodes result.disks.items ≡ drop shape.nodes disks.items }
 {
-    match open(alloc, shape) {
-        Ok(opened) => run_opened(rt, alloc, opened, source, sink),
-        Err(NoMemory) => Outcome {
-            ending: Ending::NoMemory,
-            lives: Vec::new(alloc),
-        },
+    let mut disks = disks;
+    match put_aside(alloc, &mut disks, usize::from(shape.nodes)) {
+        Ok(aside) => {
+            let outcome = run_lives(rt, alloc, source, sink, Lives::new(alloc, shape, disks));
+            Outcome {
+                ending: outcome.ending,
+                lives: outcome.lives,
+                disks: put_back(outcome.disks, aside),
+            }
+        }
+        Err(NoMemory) => unstarted(alloc, disks),
     }
 }
 
-/// A session before its first line, and room for its life.
-#[derive(Drop)]
-struct Opened {
-    session: Session,
-    lives: Vec<Life>,
-}
-
-/// Opens a session of a cluster of this shape, and makes the room for what it will hand back.
-///
-/// # Errors
-/// `NoMemory`.
-fn open(alloc: Global, shape: Shape) -> Result<Opened, NoMemory>
-    requires { IsShape shape }
-    ensures shape { IfOk result (λ opened. opened.session.shape ≡ shape) }
-    ensures opened { IfOk result (λ opened. HasOpened opened.session opened.lives) }
-{
-    let lives = Vec::with_capacity(alloc, 1)?;
-    let session = Session::new(alloc, shape)?;
-    Ok(Opened { session, lives })
-}
-
-/// Runs a session that was opened, and says how it ended.
-fn run_opened<R: Wait, S: Source, K: Sink>(
+/// Begins the first life of a cluster, runs a session of it, and says how that ended.
+fn run_lives<R: Wait, S: Source, K: Sink, D: Disk>(
     rt: &R,
     alloc: Global,
-    opened: Opened,
     source: &mut S,
     sink: &mut K,
-) -> Outcome
-    requires { HasOpened opened.session opened.lives }
-    ensures session { IsSession (Some opened.session.shape) (S.left source.old) (S.left source.new) (K.written sink.old) (K.written sink.new) (Rose (S.faults source.old) (S.faults source.new)) (Rose (K.faults sink.old) (K.faults sink.new)) result.ending result.lives.items }
+    lives: Lives<D>,
+) -> Outcome<D>
+    requires kept { AreKept lives }
+    requires none { lives.ended.items ≡ [] }
+    requires unopened { lives.world ≡ None }
+    ensures session { IsSession (Some lives.shape) (S.left source.old) (S.left source.new) (K.written sink.old) (K.written sink.new) (Rose (S.faults source.old) (S.faults source.new)) (Rose (K.faults sink.old) (K.faults sink.new)) (seen_on D.told D.faults (disks_of lives)) (seen_on D.told D.faults (result.disks.items)) result.ending result.lives.items }
     ensures read_fault { result.ending ≡ ending.ReadFault → Rose (S.faults source.old) (S.faults source.new) }
     ensures write_fault { result.ending ≡ ending.WriteFault → Rose (K.faults sink.old) (K.faults sink.new) }
+    ensures disks { length result.disks.items ≡ lives.shape.nodes }
 {
-    let Opened {
-        mut session,
-        mut lives,
-    } = opened;
+    let mut lives = lives;
+    let Ok(reader) = Reader::new(alloc) else {
+        return end(alloc, sink, Ending::NoMemory, lives.into_parts(alloc));
+    };
+    match lives.open(alloc) {
+        None => run_opened(rt, alloc, source, sink, Session::new(reader, lives)),
+        Some(refused) => end(alloc, sink, refused, lives.into_parts(alloc)),
+    }
+}
+
+/// Runs a session whose first life has begun, on disks of which so much was seen before that, and says
+/// how it ended.
+fn run_opened<R: Wait, S: Source, K: Sink, D: Disk>(
+    rt: &R,
+    alloc: Global,
+    source: &mut S,
+    sink: &mut K,
+    session: Session<D>,
+) -> Outcome<D>
+    requires kept { AreKept session.lives }
+    requires going { IsGoing (now_of session.lives) }
+    requires none { session.lives.ended.items ≡ [] }
+    requires reader { session.reader ≡ [] }
+    requires line { session.line ≡ 1 }
+    ensures session { (given : Seen) → HasBegun session.lives.shape given (now_of session.lives) → HasGrown given (seen_on D.told D.faults (disks_of session.lives)) → IsSession (Some session.lives.shape) (S.left source.old) (S.left source.new) (K.written sink.old) (K.written sink.new) (Rose (S.faults source.old) (S.faults source.new)) (Rose (K.faults sink.old) (K.faults sink.new)) given (seen_on D.told D.faults (result.disks.items)) result.ending result.lives.items }
+    ensures read_fault { result.ending ≡ ending.ReadFault → Rose (S.faults source.old) (S.faults source.new) }
+    ensures write_fault { result.ending ≡ ending.WriteFault → Rose (K.faults sink.old) (K.faults sink.new) }
+    ensures disks { length result.disks.items ≡ session.lives.shape.nodes }
+{
+    let mut session = session;
     let meant = session.run(rt, alloc, source, sink);
-    lives.push_reserved(session.end_life(alloc));
-    let ending = finish(alloc, sink, meant);
-    Outcome { ending, lives }
+    end(alloc, sink, meant, session.into_parts(alloc))
+}
+
+/// Ends a session that is meant to end so.
+fn end<K: Sink, D: Disk>(alloc: Global, sink: &mut K, meant: Ending, parts: Parts<D>) -> Outcome<D>
+    ensures printed { Prints result.ending meant (K.written sink.old) (K.written sink.new) (fault_line meant) }
+    ensures cut_short { is_cut_short meant ≡ true → result.ending ≡ meant }
+    ensures read_fault { result.ending ≡ ending.ReadFault → meant ≡ ending.ReadFault }
+    ensures write_fault { result.ending ≡ ending.WriteFault → meant ≡ ending.WriteFault ⊎ Rose (K.faults sink.old) (K.faults sink.new) }
+    ensures steady { K.faults sink.old ≤ K.faults sink.new }
+    ensures lives { result.lives ≡ parts.lives }
+    ensures disks { result.disks ≡ parts.disks }
+{
+    Outcome {
+        ending: finish(alloc, sink, meant),
+        lives: parts.lives,
+        disks: parts.disks,
+    }
 }
 
 /// Prints the line of the fault by which a session is meant to end, and says how it ends. Where the

@@ -11,7 +11,7 @@ use script_lang::{Command, LineFault, first_word, parse_line};
 pub enum Parsed {
     /// The line is empty or a comment.
     Nothing,
-    /// A command for the cluster.
+    /// A command for the cluster, or for its lives.
     Ask(Command),
     /// The session is to end.
     Quit,
@@ -73,6 +73,8 @@ fn is_order(word: &[u8]) -> bool
         || word == b"tick".as_slice()
         || word == b"rows".as_slice()
         || word == b"digest".as_slice()
+        || word == b"crash".as_slice()
+        || word == b"restart".as_slice()
         || word == b"quit".as_slice()
 }
 
@@ -113,7 +115,9 @@ fn asked(command: &Command) -> Parsed
         | Command::Gcp
         | Command::View
         | Command::Rows { .. }
-        | Command::Digest { .. } => Parsed::Ask(*command),
+        | Command::Digest { .. }
+        | Command::Crash
+        | Command::Restart => Parsed::Ask(*command),
         _ => Parsed::Fault(LineFault::UnknownCommand),
     }
 }

@@ -2,13 +2,16 @@
 ghost use Rattle.std.specs.Prelude.{◌≡◌, ◌≤◌, [], true, Some, IfOk, IfNone, OnOk, OnErr};
 ghost use Rattle.host_io.specs.Fault.{Rose};
 ghost use Rattle.shell_top.specs.Arranged.{arranged};
-ghost use Rattle.shell_top.specs.Asked.{is_served};
+ghost use Rattle.shell_top.specs.Asked.{MayAsk, is_served};
 ghost use Rattle.shell_top.specs.declared.ended.Ending.TheVariants as ending;
 ghost use Rattle.shell_top.specs.Served.{AreLeft, PrintsCommand, ServesCommand};
 ghost use Rattle.shell_top.specs.Subject.{subject_in};
 ghost use Rattle.shell_top.specs.Text.{down_line, reply_lines};
+ghost use Rattle.shell_top.specs.Seen.{HasGrown, seen_on};
+ghost use Rattle.shell_top.specs.Setting.{setting_of};
 ghost use Rattle.world_core.specs.Start.{Start};
 ghost use Rattle.world_views.specs.Driven.{IsSound};
+ghost use Rattle.world_views.specs.World.{is_down};
 ghost use Rattle.world_views.specs.WorldOf.{whole_of};
 
 use crate::arranged::arranged;
@@ -17,12 +20,12 @@ use crate::ended::Ending;
 use crate::subject::{is_own, subject_of};
 use crate::taken::take_replies;
 use crate::writer::write_all;
-use host_io::Sink;
+use disk_world::DiskWorld;
+use host_io::{Disk, Sink};
 use script_lang::{Command, print_reply};
 use sig_core::{ApiReply, NoMemory};
 use std::alloc::Global;
 use std::sync::Wait;
-use world_views::World;
 
 /// For how many bytes of text there is room at first. That of nearly all commands fits.
 const TEXT: usize = 64;
@@ -42,12 +45,18 @@ fn lines(alloc: Global, replies: &[ApiReply]) -> Result<Vec<u8>, NoMemory>
 ///
 /// # Errors
 /// `NoMemory`, and then some replies may be lost.
-fn answers(alloc: Global, world: &mut World, command: &Command) -> Result<Vec<u8>, NoMemory>
+fn answers<D: Disk>(
+    alloc: Global,
+    world: &mut DiskWorld<D>,
+    command: &Command,
+) -> Result<Vec<u8>, NoMemory>
     ghost start: { Start }
-    requires { IsSound start (whole_of world.old) }
-    ensures told { OnOk result (whole_of world.new ≡ record (whole_of world.old) { replies = [] }) }
-    ensures text { IfOk result (λ text. text.items ≡ reply_lines (arranged (subject_in command.now) (whole_of world.old).replies)) }
-    ensures err { OnErr result ((whole_of world.new).logs ≡ (whole_of world.old).logs) }
+    requires { IsSound start (whole_of world.old.world) }
+    ensures told { OnOk result (whole_of world.new.world ≡ record (whole_of world.old.world) { replies = [] }) }
+    ensures text { IfOk result (λ text. text.items ≡ reply_lines (arranged (subject_in command.now) (whole_of world.old.world).replies)) }
+    ensures err { OnErr result ((whole_of world.new.world).logs ≡ (whole_of world.old.world).logs) }
+    ensures setting { setting_of world.new ≡ setting_of world.old }
+    ensures grown { HasGrown (seen_on D.told D.faults world.old.disks.items) (seen_on D.told D.faults world.new.disks.items) }
 {
     let replies = take_replies(alloc, world)?;
     let subject = subject_of(command);
@@ -62,17 +71,20 @@ fn answers(alloc: Global, world: &mut World, command: &Command) -> Result<Vec<u8
 ///
 /// # Errors
 /// `NoMemory`, and then the world is of use for its logs alone.
-fn serve<R: Wait>(
+fn serve<R: Wait, D: Disk>(
     rt: &R,
     alloc: Global,
-    world: &mut World,
+    world: &mut DiskWorld<D>,
     command: &Command,
 ) -> Result<Vec<u8>, NoMemory>
     ghost start: { Start }
-    requires opened { IsSound start (whole_of world.old) }
+    requires opened { IsSound start (whole_of world.old.world) }
     requires served { is_served command.now ≡ true }
-    ensures ok { IfOk result (λ text. ServesCommand start command.now (whole_of world.old) (whole_of world.new) text.items) }
-    ensures err { OnErr result (AreLeft start command.now (whole_of world.old) (whole_of world.new).logs) }
+    requires may { MayAsk command.now (is_down (whole_of world.old.world)) }
+    ensures ok { IfOk result (λ text. ServesCommand start command.now (whole_of world.old.world) (whole_of world.new.world) text.items) }
+    ensures err { OnErr result (AreLeft start command.now (whole_of world.old.world) (whole_of world.new.world).logs) }
+    ensures setting { setting_of world.new ≡ setting_of world.old }
+    ensures grown { HasGrown (seen_on D.told D.faults world.old.disks.items) (seen_on D.told D.faults world.new.disks.items) }
 {
     let was_down = world.is_down();
     ask_own(rt, alloc, world, command)?;
@@ -92,21 +104,24 @@ fn down_line(before: bool, now: bool) -> &'static [u8]
 /// Has the world serve a command, and prints the replies to it. Says why the session ends, if it
 /// does.
 #[tactic(auto, using(crate::proofs::ServedLemmas::prints))]
-pub fn serve_command<R: Wait, K: Sink>(
+pub fn serve_command<R: Wait, D: Disk, K: Sink>(
     rt: &R,
     alloc: Global,
-    world: &mut World,
+    world: &mut DiskWorld<D>,
     sink: &mut K,
     command: &Command,
 ) -> Option<Ending>
     ghost start: { Start }
-    requires opened { IsSound start (whole_of world.old) }
+    requires opened { IsSound start (whole_of world.old.world) }
     requires served { is_served command.now ≡ true }
-    ensures printed { PrintsCommand start command.now (whole_of world.old) (whole_of world.new) result (K.written sink.old) (K.written sink.new) }
-    ensures opened { IfNone result (IsSound start (whole_of world.new)) }
+    requires may { MayAsk command.now (is_down (whole_of world.old.world)) }
+    ensures printed { PrintsCommand start command.now (whole_of world.old.world) (whole_of world.new.world) result (K.written sink.old) (K.written sink.new) }
+    ensures opened { IfNone result (IsSound start (whole_of world.new.world)) }
     ensures unread { result ≡ Some ending.ReadFault → ⊥ }
     ensures cause { result ≡ Some ending.WriteFault → Rose (K.faults sink.old) (K.faults sink.new) }
     ensures steady { K.faults sink.old ≤ K.faults sink.new }
+    ensures setting { setting_of world.new ≡ setting_of world.old }
+    ensures grown { HasGrown (seen_on D.told D.faults world.old.disks.items) (seen_on D.told D.faults world.new.disks.items) }
 {
     let text = match serve(rt, alloc, world, command) {
         Ok(text) => text,

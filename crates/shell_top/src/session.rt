@@ -1,72 +1,53 @@
 //! A session: line after line is read, served and answered.
-ghost use Rattle.std.specs.Prelude.{◌≡◌, ◌≤◌, ◌<◌, ◌+◌, ℕ, List, Option, [], None, Some, IfOk, IfNone, length};
+ghost use Rattle.std.specs.Prelude.{◌≡◌, ◌≤◌, ◌<◌, ◌+◌, ℕ, List, Option, None, Some, IfNone, length};
 ghost use Rattle.std.specs.Prelude.{position, nat_lt, ◌&&◌};
 ghost use Rattle.std.specs.Io.KnownBytes.{IsAtEnd};
 ghost use Rattle.host_io.specs.Fault.{Rose};
 ghost use Rattle.shell_top.specs.declared.ended.Ending.TheVariants as ending;
 ghost use Rattle.shell_top.specs.Reader.{IsPartial, is_newline};
-ghost use Rattle.shell_top.specs.Session.{GoesOn, GoesToEnd, IsOpen};
-ghost use Rattle.frag_map.specs.Shape.{IsShape};
-ghost use Rattle.world_core.specs.Lives.{fresh_life};
-ghost use Rattle.world_core.specs.Start.{Start};
-ghost use Rattle.world_views.specs.Lives.{fresh};
-ghost use Rattle.world_views.specs.World.{new_world};
-ghost use Rattle.world_views.specs.WorldOf.{whole_of};
+ghost use Rattle.shell_top.specs.Lives.{AreKept, IsGoing, disks_of, now_of};
+ghost use Rattle.shell_top.specs.Seen.{seen_on};
+ghost use Rattle.shell_top.specs.Session.{GoesOn, GoesToEnd, lives_in};
 
 use crate::ended::Ending;
+use crate::lives::{Lives, Parts};
 use crate::reader::{Filled, LINE_BYTES, Reader};
 use crate::script::{Parsed, parse};
-use crate::served::serve_command;
-use host_io::{Sink, Source};
-use sig_core::{Life, NoMemory, Shape};
+use host_io::{Disk, Sink, Source};
 use std::alloc::Global;
 use std::sync::Wait;
-use world_views::World;
-
-/// The epoch in which a fresh cluster begins: the first of the first checkpoint number.
-const FIRST_EPOCH: u64 = 4_294_967_296;
 
 /// The most lines that a script has.
 const LINES: u32 = 65_536;
 
 /// What a session works with.
 #[derive(Drop)]
-pub struct Session {
-    shape: Shape,
+pub struct Session<D: Disk> {
     reader: Reader,
-    world: World,
+    lives: Lives<D>,
     /// The number of the next line, from 1.
     line: u32,
 }
 
-impl Session {
-    /// Before the first line, over a fresh world of a cluster of this shape.
-    ///
-    /// # Errors
-    /// `NoMemory`.
-    pub fn new(alloc: Global, shape: Shape) -> Result<Session, NoMemory>
-        requires { IsShape shape }
-        ensures shape { IfOk result (λ s. s.shape ≡ shape) }
-        ensures reader { IfOk result (λ s. s.reader ≡ []) }
-        ensures world { IfOk result (λ s. whole_of s.world ≡ new_world (fresh shape)) }
-        ensures opened { IfOk result (λ s. IsOpen shape (whole_of s.world)) }
-        ensures line { IfOk result (λ s. s.line ≡ 1) }
+impl<D: Disk> Session<D> {
+    /// Before the first line, with the lives of a cluster.
+    pub fn new(reader: Reader, lives: Lives<D>) -> Session<D>
+        ensures { result ≡ record { reader = reader; lives = lives; line = 1 } }
     {
-        let reader = Reader::new(alloc)?;
-        let world = World::new(alloc, shape, FIRST_EPOCH, 0, &[])?;
-        Ok(Session {
-            shape,
+        Session {
             reader,
-            world,
+            lives,
             line: 1,
-        })
+        }
     }
 
-    /// What the hosts did. Takes no memory.
-    pub fn end_life(self, alloc: Global) -> Life
-        ensures { result ≡ fresh_life (whole_of self.world).logs }
+    /// Ends the life that goes on, if one does, and gives all lives and the disks. Takes no memory.
+    pub fn into_parts(self, alloc: Global) -> Parts<D>
+        requires { AreKept self.lives }
+        ensures lives { result.lives.items ≡ lives_in self }
+        ensures disks { result.disks.items ≡ disks_of self.lives }
     {
-        self.world.end_life(alloc)
+        self.lives.into_parts(alloc)
     }
 
     /// Reads, serves and answers line after line, and says why that ends.
@@ -77,8 +58,11 @@ impl Session {
         source: &mut S,
         sink: &mut K,
     ) -> Ending
-        requires opened { IsOpen self.old.shape (whole_of self.old.world) }
-        ensures done { GoesToEnd self.old self.new (S.left source.old) (S.left source.new) (K.written sink.old) (K.written sink.new) result }
+        requires kept { AreKept self.old.lives }
+        requires going { IsGoing (now_of self.old.lives) }
+        ensures done { GoesToEnd self.old self.new (S.left source.old) (S.left source.new) (K.written sink.old) (K.written sink.new) (seen_on D.told D.faults (disks_of self.old.lives)) (seen_on D.told D.faults (disks_of self.new.lives)) result }
+        ensures kept { AreKept self.new.lives }
+        ensures shape { self.new.lives.shape ≡ self.old.lives.shape }
         ensures read_cause { result ≡ ending.ReadFault → Rose (S.faults source.old) (S.faults source.new) }
         ensures write_cause { result ≡ ending.WriteFault → Rose (K.faults sink.old) (K.faults sink.new) }
         ensures read_steady { S.faults source.old ≤ S.faults source.new }
@@ -99,9 +83,12 @@ impl Session {
         source: &mut S,
         sink: &mut K,
     ) -> Option<Ending>
-        requires opened { IsOpen self.old.shape (whole_of self.old.world) }
-        ensures done { GoesOn self.old self.new (S.left source.old) (S.left source.new) (K.written sink.old) (K.written sink.new) result }
-        ensures opened { IfNone result (IsOpen self.new.shape (whole_of self.new.world)) }
+        requires kept { AreKept self.old.lives }
+        requires going { IsGoing (now_of self.old.lives) }
+        ensures done { GoesOn self.old self.new (S.left source.old) (S.left source.new) (K.written sink.old) (K.written sink.new) (seen_on D.told D.faults (disks_of self.old.lives)) (seen_on D.told D.faults (disks_of self.new.lives)) result }
+        ensures kept { AreKept self.new.lives }
+        ensures shape { self.new.lives.shape ≡ self.old.lives.shape }
+        ensures going { IfNone result (IsGoing (now_of self.new.lives)) }
         ensures next { IfNone result ((self.new.line ≡ self.old.line + 1) × (self.old.line ≤ 65536)) }
         ensures read_cause { result ≡ Some ending.ReadFault → Rose (S.faults source.old) (S.faults source.new) }
         ensures write_cause { result ≡ Some ending.WriteFault → Rose (K.faults sink.old) (K.faults sink.new) }
@@ -137,13 +124,14 @@ impl Session {
         sink: &mut K,
         at: usize,
     ) -> Option<Ending>
-        ghost start: { Start }
-        requires start { start ≡ fresh self.old.shape }
         requires found { position is_newline self.old.reader ≡ Some at }
         requires low { self.old.line ≤ 65536 }
-        requires opened { IsOpen self.old.shape (whole_of self.old.world) }
-        ensures opened { IfNone result (IsOpen self.new.shape (whole_of self.new.world)) }
-        ensures done { (left : Option (List ℕ)) → GoesOn self.old self.new left left (K.written sink.old) (K.written sink.new) result }
+        requires kept { AreKept self.old.lives }
+        requires going { IsGoing (now_of self.old.lives) }
+        ensures going { IfNone result (IsGoing (now_of self.new.lives)) }
+        ensures done { (left : Option (List ℕ)) → GoesOn self.old self.new left left (K.written sink.old) (K.written sink.new) (seen_on D.told D.faults (disks_of self.old.lives)) (seen_on D.told D.faults (disks_of self.new.lives)) result }
+        ensures kept { AreKept self.new.lives }
+        ensures shape { self.new.lives.shape ≡ self.old.lives.shape }
         ensures next { IfNone result (self.new.line ≡ self.old.line + 1) }
         ensures unread { result ≡ Some ending.ReadFault → ⊥ }
         ensures write_cause { result ≡ Some ending.WriteFault → Rose (K.faults sink.old) (K.faults sink.new) }
@@ -153,12 +141,12 @@ impl Session {
         if at > LINE_BYTES {
             return Some(Ending::TooLong { line });
         }
-        let parsed = parse(self.shape.nodes, &self.reader.held()[..at]);
+        let parsed = parse(self.lives.nodes(), &self.reader.held()[..at]);
         self.reader.drop_front(at + 1);
         self.line = line + 1;
         match &parsed {
             Parsed::Nothing => None,
-            Parsed::Ask(command) => serve_command(rt, alloc, &mut self.world, sink, command),
+            Parsed::Ask(command) => self.lives.obey(rt, alloc, sink, command),
             Parsed::Quit => Some(Ending::Finished),
             Parsed::Fault(fault) => Some(Ending::Refused {
                 line,
@@ -169,12 +157,13 @@ impl Session {
 
     /// Serves and answers what stands behind the last newline, at the end of the source.
     fn last_line<R: Wait, K: Sink>(&mut self, rt: &R, alloc: Global, sink: &mut K) -> Ending
-        ghost start: { Start }
-        requires start { start ≡ fresh self.old.shape }
         requires partial { IsPartial self.old.reader }
         requires low { 0 < length self.old.reader → self.old.line ≤ 65536 }
-        requires opened { IsOpen self.old.shape (whole_of self.old.world) }
-        ensures done { (left : Option (List ℕ)) → IsAtEnd left → GoesToEnd self.old self.new left left (K.written sink.old) (K.written sink.new) result }
+        requires kept { AreKept self.old.lives }
+        requires going { IsGoing (now_of self.old.lives) }
+        ensures done { (left : Option (List ℕ)) → IsAtEnd left → GoesToEnd self.old self.new left left (K.written sink.old) (K.written sink.new) (seen_on D.told D.faults (disks_of self.old.lives)) (seen_on D.told D.faults (disks_of self.new.lives)) result }
+        ensures kept { AreKept self.new.lives }
+        ensures shape { self.new.lives.shape ≡ self.old.lives.shape }
         ensures unread { result ≡ ending.ReadFault → ⊥ }
         ensures write_cause { result ≡ ending.WriteFault → Rose (K.faults sink.old) (K.faults sink.new) }
         ensures write_steady { K.faults sink.old ≤ K.faults sink.new }
@@ -184,10 +173,10 @@ impl Session {
         if held.is_empty() {
             return Ending::Finished;
         }
-        let parsed = parse(self.shape.nodes, held);
+        let parsed = parse(self.lives.nodes(), held);
         match &parsed {
             Parsed::Nothing => Ending::Finished,
-            Parsed::Ask(command) => match serve_command(rt, alloc, &mut self.world, sink, command) {
+            Parsed::Ask(command) => match self.lives.obey(rt, alloc, sink, command) {
                 None => Ending::Finished,
                 Some(ending) => ending,
             },

@@ -6,5 +6,6 @@ use Rattle.shell_top.proofs.asked.ask_own.Goals as goal
 
 pub returns-in_err-new-in-Operate-clause-err : goal.returns-in_err-new-in-Operate-clause-err
 returns-in_err-new-in-Operate-clause-err g c =
-    on_err c.from_residual.result (left_unasked g.start (requests_of c.args.command.now) (whole_of c.args.world.now)
-    c.args.world.now.logs c.requires.1.0 refl)
+    on_err c.from_residual.result (left_unasked g.start (requests_of c.args.command.now)
+    (whole_of c.args.world.now.world)
+    c.args.world.now.world.logs c.requires.1.1.0 refl)

@@ -1,13 +1,19 @@
 use Rattle.std.proofs.Common.{◌≡◌, ◌++◌, length}
+use Rattle.shell_top.specs.Seen.{HasGrown, seen_on}
+use Rattle.shell_top.specs.Setting.{setting_of}
 use Rattle.world_views.specs.WorldOf.{whole_of}
 use Rattle.shell_top.proofs.TakenLemmas.{with_replies}
 use Rattle.shell_top.proofs.taken.take_replies.Given as goal
 
--- the replies so far and those that are left are all
+-- The replies so far and those that are left are all, of the same life, whose disks tell what they told.
 abbrev pub invariant-loop-reply : goal.invariant-loop-reply
 invariant-loop-reply g l = record {
-  world : whole_of l.initial.world ≡ with_replies (whole_of l.world) (l.replies.items ++ (whole_of l.world).replies);
+  setting : setting_of l.world ≡ setting_of l.initial.world;
+  grown : HasGrown (seen_on g.D.Disk.told g.D.Disk.faults l.initial.world.disks.items)
+      (seen_on g.D.Disk.told g.D.Disk.faults l.world.disks.items);
+  world : whole_of l.initial.world.world ≡ with_replies (whole_of l.world.world)
+      (l.replies.items ++ (whole_of l.world.world).replies);
 }
 
 abbrev pub decreases-loop-reply : goal.decreases-loop-reply
-decreases-loop-reply g l = length (whole_of l.world).replies
+decreases-loop-reply g l = length (whole_of l.world.world).replies

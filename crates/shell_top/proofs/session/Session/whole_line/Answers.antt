@@ -1,61 +1,61 @@
-use Rattle.std.proofs.Common.{◌≡◌, take, refl, ap, sym, subst, ◌∙◌}
-use Rattle.world_views.specs.Driven.{IsSound}
-use Rattle.world_views.specs.WorldOf.{whole_of}
-use Rattle.shell_top.specs.Parsed.{parsed as parsed_line}
+use Rattle.std.proofs.Common.{take, refl, ap}
 use Rattle.shell_top.specs.declared.script.Parsed.TheVariants as parsed
-use Rattle.shell_top.proofs.ScriptLemmas.{command_served}
-use Rattle.shell_top.proofs.SessionLemmas.{served_as, line_too_long, goes_on, line_asked, line_quit, line_fault}
+use Rattle.shell_top.proofs.ScriptLemmas.{command_served, line_means}
+use Rattle.shell_top.proofs.SessionLemmas.{line_too_long, goes_on, line_asked, line_quit, line_fault}
 use Rattle.shell_top.proofs.session.Session.whole_line.Goals as goal
 
 pub returns-then-at-gt-LINE_BYTES-clause-done : goal.returns-then-at-gt-LINE_BYTES-clause-done
-returns-then-at-gt-LINE_BYTES-clause-done g c left_now left written u =
-    line_too_long c.args.self.now.shape left written left_now _ c.args.self.now.line c.args.self.now.reader _ u
-    c.args.at c.requires.1.1.1.0 c.if-at-gt-LINE_BYTES.true
+returns-then-at-gt-LINE_BYTES-clause-done g c left_now left written given u =
+    line_too_long c.args.self.now.lives.shape c.requires.kept.shape left written given left_now _ _ c.args.self.now.line
+    c.args.self.now.reader _ _ u
+    c.args.at c.requires.found c.if-at-gt-LINE_BYTES.true
 
 pub returns-in-Nothing-clause-done : goal.returns-in-Nothing-clause-done
-returns-in-Nothing-clause-done g c left_now left written u =
-    let means : parsed_line c.args.self.now.shape.nodes (take c.args.at c.args.self.now.reader) ≡ parsed.Nothing =
-    ap (λ held. parsed_line c.args.self.now.shape.nodes (take c.args.at held)) (sym c.held.ensures)
-    ∙ sym c.parse-parsed.ensures ∙ c.in-Nothing.is in
+returns-in-Nothing-clause-done g c left_now left written given u =
+    let means = line_means c.args.self.now.lives.shape.nodes _ (take c.args.at c.args.self.now.reader) _ _
+    parsed.Nothing c.nodes.ensures (ap (take c.args.at) c.held.ensures) c.parse-parsed.ensures c.in-Nothing.is in
     rw c.drop_front.ensures (
       refl,
-      goes_on c.args.self.now.shape left written left_now _ c.args.self.now.line c.args.self.now.reader _ u
-          c.args.at c.requires.1.1.1.0 c.requires.1.1.1.1.0 c.if-at-gt-LINE_BYTES.false means,
+      goes_on c.args.self.now.lives.shape c.requires.kept.shape left written given left_now _ _ c.args.self.now.line
+          c.args.self.now.reader _ _ u
+          c.args.at c.requires.found c.requires.low c.if-at-gt-LINE_BYTES.false means,
     )
 
 pub returns-in-Ask-clause-done : goal.returns-in-Ask-clause-done
-returns-in-Ask-clause-done g c left_now left written u =
-    let means : parsed_line c.args.self.now.shape.nodes (take c.args.at c.args.self.now.reader)
-    ≡ parsed.Ask c.in-Ask.command =
-    ap (λ held. parsed_line c.args.self.now.shape.nodes (take c.args.at held)) (sym c.held.ensures)
-    ∙ sym c.parse-parsed.ensures ∙ c.in-Ask.is in
+returns-in-Ask-clause-done g c left_now left written given u =
+    let means = line_means c.args.self.now.lives.shape.nodes _ (take c.args.at c.args.self.now.reader) _ _
+    (parsed.Ask c.in-Ask.command) c.nodes.ensures (ap (take c.args.at) c.held.ensures) c.parse-parsed.ensures
+    c.in-Ask.is in
     rw c.drop_front.ensures
-    (line_asked c.args.self.now.shape left written left_now _ c.args.self.now.line c.args.self.now.reader _ u c.args.at
-    c.requires.1.1.1.0 c.requires.1.1.1.1.0 c.if-at-gt-LINE_BYTES.false _ _ c.in-Ask.command
-    c.serve_command.result means (served_as c.requires.1.1.0 c.serve_command.ensures.printed))
+    (line_asked c.args.self.now.lives.shape c.requires.kept.shape left written given left_now _ _ c.args.self.now.line
+    c.args.self.now.reader _ _ u c.args.at
+    c.requires.found c.requires.low c.if-at-gt-LINE_BYTES.false _ _ _ _ _
+    c.in-Ask.command c.obey.result c.obey.ensures.shape means c.obey.ensures.obeyed)
 
 pub returns-in-Fault-clause-done : goal.returns-in-Fault-clause-done
-returns-in-Fault-clause-done g c left_now left written u =
-    let means : parsed_line c.args.self.now.shape.nodes (take c.args.at c.args.self.now.reader)
-    ≡ parsed.Fault c.in-Fault.fault =
-    ap (λ held. parsed_line c.args.self.now.shape.nodes (take c.args.at held)) (sym c.held.ensures)
-    ∙ sym c.parse-parsed.ensures ∙ c.in-Fault.is in
-    line_fault c.args.self.now.shape left written left_now _ c.args.self.now.line c.args.self.now.reader _ u c.args.at
-    c.requires.1.1.1.0 c.requires.1.1.1.1.0 c.if-at-gt-LINE_BYTES.false c.in-Fault.fault means
+returns-in-Fault-clause-done g c left_now left written given u =
+    let means = line_means c.args.self.now.lives.shape.nodes _ (take c.args.at c.args.self.now.reader) _ _
+    (parsed.Fault c.in-Fault.fault) c.nodes.ensures (ap (take c.args.at) c.held.ensures) c.parse-parsed.ensures
+    c.in-Fault.is in
+    line_fault c.args.self.now.lives.shape c.requires.kept.shape left written given left_now _ _ c.args.self.now.line
+    c.args.self.now.reader _ _ u c.args.at
+    c.requires.found c.requires.low c.if-at-gt-LINE_BYTES.false c.in-Fault.fault means
 
 pub returns-in-Quit-clause-done : goal.returns-in-Quit-clause-done
-returns-in-Quit-clause-done g c left_now left written u =
-    let means : parsed_line c.args.self.now.shape.nodes (take c.args.at c.args.self.now.reader) ≡ parsed.Quit =
-    ap (λ held. parsed_line c.args.self.now.shape.nodes (take c.args.at held)) (sym c.held.ensures)
-    ∙ sym c.parse-parsed.ensures ∙ c.in-Quit.is in
-    line_quit c.args.self.now.shape left written left_now _ c.args.self.now.line c.args.self.now.reader _ u c.args.at
-    c.requires.1.1.1.0 c.requires.1.1.1.1.0 c.if-at-gt-LINE_BYTES.false means
+returns-in-Quit-clause-done g c left_now left written given u =
+    let means = line_means c.args.self.now.lives.shape.nodes _ (take c.args.at c.args.self.now.reader) _ _
+    parsed.Quit c.nodes.ensures (ap (take c.args.at) c.held.ensures) c.parse-parsed.ensures c.in-Quit.is in
+    line_quit c.args.self.now.lives.shape c.requires.kept.shape left written given left_now _ _ c.args.self.now.line
+    c.args.self.now.reader _ _ u c.args.at
+    c.requires.found c.requires.low c.if-at-gt-LINE_BYTES.false means
 
-pub serve_command-requires : goal.serve_command-requires
-serve_command-requires g c lives outlive =
-    let opened =
-    subst (λ start. IsSound start (whole_of c.args.self.now.world)) (sym c.requires.1.1.0) c.requires.1.1.1.1.1 in
-    let served = command_served c.args.self.now.shape.nodes (take c.args.at c.args.self.now.reader) c.in-Ask.command
-    (ap (λ held. parsed_line c.args.self.now.shape.nodes (take c.args.at held)) (sym c.held.ensures)
-    ∙ sym c.parse-parsed.ensures ∙ c.in-Ask.is) in
-    (outlive.0, (outlive.1, (opened, served)))
+pub obey-requires : goal.obey-requires
+obey-requires g c =
+    record {
+      kept = c.requires.kept;
+      going = c.requires.going;
+      asked = command_served c.args.self.now.lives.shape.nodes (take c.args.at c.args.self.now.reader) c.in-Ask.command
+          (line_means c.args.self.now.lives.shape.nodes _ (take c.args.at c.args.self.now.reader) _ _
+          (parsed.Ask c.in-Ask.command) c.nodes.ensures (ap (take c.args.at) c.held.ensures) c.parse-parsed.ensures
+          c.in-Ask.is);
+    }

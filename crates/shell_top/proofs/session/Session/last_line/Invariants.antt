@@ -1,4 +1,0 @@
-use Rattle.shell_top.proofs.session.Session.last_line.Given as goal
-
-abbrev pub ghost-serve_command : goal.ghost-serve_command
-ghost-serve_command g a = g.start
