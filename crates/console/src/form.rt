@@ -34,10 +34,12 @@ pub enum Form {
     Micro,
     Gcp,
     View,
+    Crash,
+    Restart,
 }
 
 /// All of them, in the order of the manual.
-pub const FORMS: [Form; 18] = [
+pub const FORMS: [Form; 20] = [
     Form::Get,
     Form::GetX,
     Form::Put,
@@ -53,6 +55,8 @@ pub const FORMS: [Form; 18] = [
     Form::Gcp,
     Form::Micro,
     Form::View,
+    Form::Crash,
+    Form::Restart,
     Form::Rows,
     Form::Digest,
     Form::Quit,
@@ -129,6 +133,10 @@ fn operator_of(word: &[u8]) -> Option<Form>
         Some(Form::Gcp)
     } else if word == b"view".as_slice() {
         Some(Form::View)
+    } else if word == b"crash".as_slice() {
+        Some(Form::Crash)
+    } else if word == b"restart".as_slice() {
+        Some(Form::Restart)
     } else {
         None
     }
@@ -156,6 +164,8 @@ impl Form {
             Form::Micro => "micro",
             Form::Gcp => "gcp",
             Form::View => "view",
+            Form::Crash => "crash",
+            Form::Restart => "restart",
         }
     }
 
@@ -180,6 +190,8 @@ impl Form {
             Form::Micro => "micro",
             Form::Gcp => "gcp",
             Form::View => "view",
+            Form::Crash => "crash",
+            Form::Restart => "restart",
         }
     }
 
@@ -193,7 +205,7 @@ impl Form {
             Form::Tick => &[Kind::Rounds],
             Form::Kill | Form::Rows | Form::Digest => &[Kind::Node],
             Form::Cut => &[Kind::Node, Kind::Node],
-            Form::Quit | Form::Micro | Form::Gcp | Form::View => &[],
+            Form::Quit | Form::Micro | Form::Gcp | Form::View | Form::Crash | Form::Restart => &[],
         }
     }
 

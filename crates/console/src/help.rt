@@ -25,7 +25,8 @@ without it yet. `tick 1` lets a round pass; `view` shows who is left.
 
 /// The cluster is down.
 pub const DOWN: &str = "\
-down: each node has stopped, and the rows are gone. `quit`, and begin anew.
+down: each node has stopped. `restart` begins anew, with the rows as they were
+in the last epoch that was durable.
 ";
 
 /// An operation of a transaction.
@@ -39,7 +40,7 @@ pub const ALL: &str = "\
 rows           get K   getx K   put K V   ins K V   upd K V   del K
 transactions   begin T   @T OP   commit T   abort T   (OP: one of the above)
 nodes          view   kill N   cut A B   rows N   digest N
-epochs, time   gcp   micro   tick C
+epochs, time   gcp   micro   tick C   crash   restart
 this session   help WORD   quit
 K is a key, V a value or nothing, T a transaction's number; N, A and B are
 nodes, C rounds. An operation without `@T` is a transaction of its own: behind
@@ -86,7 +87,15 @@ cut A B: nodes A and B no longer hear each other. Missing heartbeats are
 noticed in the fourth round: `tick 4`.
 ",
         Form::Micro => "micro: closes the current epoch, in memory alone: `closed E`.\n",
-        Form::Gcp => "gcp: closes the current epoch with a new checkpoint number: `durable E`.\n",
+        Form::Gcp => "\
+gcp: closes the current epoch, and makes it durable: `durable E`. What was
+committed up to then outlasts a crash.
+",
+        Form::Crash => "crash: all nodes stop at once, as by a loss of power.\n",
+        Form::Restart => "\
+restart: a cluster that is down begins anew, from the last epoch that was
+durable: `restarted E`.
+",
         Form::View => "view: its number, and the nodes that are its members, the oldest first.\n",
     }
 }

@@ -4,7 +4,7 @@ use std::alloc::{AllocError, Global};
 use strsim::osa_distance;
 
 /// Words for what commands do, and the commands.
-const OTHERS: [(&str, &str); 40] = [
+const OTHERS: [(&str, &str); 43] = [
     ("fetch", "get"),
     ("read", "get"),
     ("select", "get"),
@@ -39,7 +39,10 @@ const OTHERS: [(&str, &str); 40] = [
     ("bye", "quit"),
     ("q", "quit"),
     ("stop", "kill"),
-    ("crash", "kill"),
+    ("panic", "crash"),
+    ("reboot", "restart"),
+    ("recover", "restart"),
+    ("resume", "restart"),
     ("partition", "cut"),
     ("split", "cut"),
     ("checkpoint", "gcp"),

@@ -80,7 +80,7 @@ impl<'a, K: Sink> Screen<'a, K> {
             fragments,
         } = self.numbers;
         let mut text = format!(in self.alloc;
-            "ndb: nodes {nodes}, replicas {replicas}, fragments {fragments}, in memory. "
+            "ndb: nodes {nodes}, replicas {replicas}, fragments {fragments}. "
         )?;
         text.push_str("`help` tells more, ^D ends.\n")?;
         Ok(text)

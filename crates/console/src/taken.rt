@@ -51,6 +51,8 @@ fn is_served(command: &Command) -> bool
         | Command::Micro
         | Command::Gcp
         | Command::View
+        | Command::Crash
+        | Command::Restart
         | Command::Rows { .. }
         | Command::Digest { .. } => true,
         _ => false,

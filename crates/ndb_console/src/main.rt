@@ -9,19 +9,23 @@
 mod laws;
 
 use console::{Board, Console, Noted, Screen, numbers_of};
-use host_io::NoGate;
-use host_real::{StdSink, StdSource};
+use host_io::{Disk, NoGate};
+use host_real::{FolderDisk, StdSink, StdSource};
 use shell_top::run_shell;
 use std::alloc::{AllocError, Global};
 use std::cell::RefCell;
 use std::io::{Read, Write};
 use std::process::ExitCode;
+use std::rt::Files;
 use std::sync::Wait;
 use std::thread::Threads;
 use std::{env, io, mem};
 
 /// The status where memory is wanting before the session begins.
 const NO_MEMORY: u8 = 5;
+
+/// The most nodes that a cluster has.
+const NODES: u8 = 8;
 
 /// The words behind the program's name. Where one is no text, an empty word stands for them.
 fn words(rt: &HostRuntime) -> Result<Vec<String>, AllocError> {
@@ -72,14 +76,19 @@ struct Terminal<I, O, N, C> {
 }
 
 /// Runs the session at a terminal, and gives its status.
-fn serve<R, I, O, N, C>(
+///
+/// # Errors
+/// Want of memory before the session begins.
+fn serve<R, F, I, O, N, C>(
     rt: &R,
     alloc: Global,
+    files: F,
     words: &[String],
     terminal: Terminal<I, O, N, C>,
-) -> u8
+) -> Result<u8, AllocError>
 where
     R: Threads + Wait + Sync,
+    F: Files + Copy + Drop + Send + 'static,
     I: Read + Drop,
     O: Write + Drop,
     N: Write + Drop,
@@ -101,12 +110,15 @@ where
     let screen = Screen::new(alloc, StdSink::new(notes), &board, numbers, has_colours);
     let mut console = Console::new(alloc, StdSource::new(input), screen, numbers.nodes);
     let mut noted = Noted::new(alloc, StdSink::new(output), colours, &board);
-    let disks = Vec::new(alloc);
+    let mut disks: Vec<Box<dyn Disk + Send>> = Vec::new(alloc);
+    for node in 1..=NODES {
+        disks.push(Box::new(alloc, FolderDisk::of_node(alloc, files, node)?)?)?;
+    }
     let ended = run_shell(rt, alloc, words, &mut console, &mut noted, disks, &NoGate);
     let status = ended.status;
     // The logs hold nearly all of the memory; the process ends here, which frees all at once.
     mem::forget(ended);
-    status
+    Ok(status)
 }
 
 fn main(rt: HostRuntime) -> ExitCode {
@@ -129,7 +141,7 @@ fn main(rt: HostRuntime) -> ExitCode {
                 notes,
                 colours,
             };
-            serve(&rt, rt.alloc(), words, terminal)
+            serve(&rt, rt.alloc(), rt, words, terminal)
         }
         Manner::Plain | Manner::Colours => {
             let notes = rt.stderr();
@@ -139,8 +151,11 @@ fn main(rt: HostRuntime) -> ExitCode {
                 notes,
                 colours,
             };
-            serve(&rt, rt.alloc(), words, terminal)
+            serve(&rt, rt.alloc(), rt, words, terminal)
         }
     };
-    ExitCode::from(status)
+    match status {
+        Ok(status) => ExitCode::from(status),
+        Err(_) => ExitCode::from(NO_MEMORY),
+    }
 }
