@@ -2,13 +2,13 @@
 use Rattle.std.proofs.Common.{◌≡◌, ℕ, zero, suc, ◌+◌, ◌≤◌, List, [], ◌∷◌, length, take, Bool, true, false}
 use Rattle.std.proofs.Common.{cond, refl, ap, sym, subst, arith}
 use Rattle.std.specs.Prelude.{◌==◌, ◌&&◌, ◌||◌, not, nat_lt, if◌then◌else◌, filter, slice_index, Option, None, Some}
-use Rattle.std.specs.Prelude.{Result, Ok, Err}
+use Rattle.std.specs.Prelude.{Result, Ok, Err, bytes_eq, codes}
 use Rattle.std.specs.List.{All, slice_split, onto_first}
 use Rattle.std.proofs.lemmas.Bool.Decides.{nat_tests}
 use Rattle.std.proofs.lemmas.List.Elements.{All-nil, All-cons}
 use Rattle.std.proofs.lemmas.List.Splits.{length-slice_split, slice_split_at, slice_split-cons_yes, slice_split-cons_no}
 use Rattle.console.specs.Given.{is_newline, text_of}
-use Rattle.console.specs.Taken.{asks, is_operation, is_operator, is_order, is_taken, may_begin}
+use Rattle.console.specs.Taken.{asks, is_operation, is_taken, may_begin}
 use Rattle.script_lang.specs.declared.command.Command.{Command}
 use Rattle.script_lang.specs.declared.command.Command.TheVariants as command
 use Rattle.script_lang.specs.declared.fault.LineFault.{LineFault}
@@ -84,13 +84,36 @@ both_back false b e = cc
 begins_one : (word : Option (List ℕ)) → may_begin word ≡ true → may_stand word ≡ true
 begins_one None e = refl
 begins_one (Some word) e =
-    go (slice_index word 0 == 35) (slice_index word 0 == 64) (is_operation word) (is_order word) (is_operator word) e
+    go (slice_index word 0 == 35) (slice_index word 0 == 64) (is_operation word) (bytes_eq word (codes "begin"))
+    (bytes_eq word (codes "commit")) (bytes_eq word (codes "abort")) (bytes_eq word (codes "tick"))
+    (bytes_eq word (codes "rows")) (bytes_eq word (codes "digest")) (bytes_eq word (codes "crash"))
+    (bytes_eq word (codes "restart")) (bytes_eq word (codes "quit"))
+    (bytes_eq word (codes "kill") || bytes_eq word (codes "cut") || bytes_eq word (codes "micro")
+    || bytes_eq word (codes "gcp") || bytes_eq word (codes "view")) e
   where
-    go : (sign name operation order last : Bool) → (name || ((operation || order) || last)) ≡ true
-        → ((((sign || name) || operation) || order) || last) ≡ true
-    go true name operation order last e = refl
-    go false true operation order last e = refl
-    go false false operation order last e = e
+    last_one : (last : Bool) → ((last || false) || false) ≡ true → last ≡ true
+    last_one true e = refl
+    last_one false e = e
+
+    go : (sign name operation begin commit abort tick rows digest crash restart quit last : Bool)
+        → (name || ((operation || ((((((begin || commit) || abort) || tick) || rows) || digest) || quit))
+        || ((last || crash) || restart))) ≡ true
+        → ((((sign || name) || operation)
+        || ((((((((begin || commit) || abort) || tick) || rows) || digest) || crash) || restart) || quit)) || last)
+        ≡ true
+    go true name operation begin commit abort tick rows digest crash restart quit last e = refl
+    go false true operation begin commit abort tick rows digest crash restart quit last e = refl
+    go false false true begin commit abort tick rows digest crash restart quit last e = refl
+    go false false false true commit abort tick rows digest crash restart quit last e = refl
+    go false false false false true abort tick rows digest crash restart quit last e = refl
+    go false false false false false true tick rows digest crash restart quit last e = refl
+    go false false false false false false true rows digest crash restart quit last e = refl
+    go false false false false false false false true digest crash restart quit last e = refl
+    go false false false false false false false false true crash restart quit last e = refl
+    go false false false false false false false false false true restart quit last e = refl
+    go false false false false false false false false false false true quit last e = refl
+    go false false false false false false false false false false false true last e = refl
+    go false false false false false false false false false false false false last e = last_one last e
 
 -- a command that is asked for goes on with the script, or ends it as finished
 goes_on : (line : ℕ) (p : Result (Option Command) LineFault) (rest : Script) → asks p ≡ true → HasNoFault rest.last
@@ -107,6 +130,8 @@ goes_on line (Ok (Some (command.Tick rounds))) rest e none = none
 goes_on line (Ok (Some command.Micro)) rest e none = none
 goes_on line (Ok (Some command.Gcp)) rest e none = none
 goes_on line (Ok (Some command.View)) rest e none = none
+goes_on line (Ok (Some command.Crash)) rest e none = none
+goes_on line (Ok (Some command.Restart)) rest e none = none
 goes_on line (Ok (Some (command.Rows at))) rest e none = none
 goes_on line (Ok (Some (command.Digest at))) rest e none = none
 goes_on line (Ok (Some _)) rest e none = cc

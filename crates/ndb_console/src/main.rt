@@ -12,11 +12,10 @@ use console::{Board, Console, Noted, Screen, numbers_of};
 use host_io::{Disk, NoGate};
 use host_real::{FolderDisk, StdSink, StdSource};
 use shell_top::run_shell;
-use std::alloc::{AllocError, Global};
+use std::alloc::AllocError;
 use std::cell::RefCell;
 use std::io::{Read, Write};
 use std::process::ExitCode;
-use std::rt::Files;
 use std::sync::Wait;
 use std::thread::Threads;
 use std::{env, io, mem};
@@ -79,21 +78,20 @@ struct Terminal<I, O, N, C> {
 ///
 /// # Errors
 /// Want of memory before the session begins.
-fn serve<R, F, I, O, N, C>(
+fn serve<R, I, O, N, C>(
     rt: &R,
-    alloc: Global,
-    files: F,
+    host: HostRuntime,
     words: &[String],
     terminal: Terminal<I, O, N, C>,
 ) -> Result<u8, AllocError>
 where
     R: Threads + Wait + Sync,
-    F: Files + Copy + Drop + Send + 'static,
     I: Read + Drop,
     O: Write + Drop,
     N: Write + Drop,
     C: Write + Drop,
 {
+    let alloc = host.alloc();
     let Terminal {
         input,
         output,
@@ -112,7 +110,10 @@ where
     let mut noted = Noted::new(alloc, StdSink::new(output), colours, &board);
     let mut disks: Vec<Box<dyn Disk + Send>> = Vec::new(alloc);
     for node in 1..=NODES {
-        disks.push(Box::new(alloc, FolderDisk::of_node(alloc, files, node)?)?)?;
+        disks.push(Box::new(alloc, FolderDisk::of_node(alloc, host, node)?)?)?;
+    }
+    if disks.len() != usize::from(NODES) {
+        return Err(AllocError);
     }
     let ended = run_shell(rt, alloc, words, &mut console, &mut noted, disks, &NoGate);
     let status = ended.status;
@@ -141,7 +142,7 @@ fn main(rt: HostRuntime) -> ExitCode {
                 notes,
                 colours,
             };
-            serve(&rt, rt.alloc(), rt, words, terminal)
+            serve(&rt, rt, words, terminal)
         }
         Manner::Plain | Manner::Colours => {
             let notes = rt.stderr();
@@ -151,7 +152,7 @@ fn main(rt: HostRuntime) -> ExitCode {
                 notes,
                 colours,
             };
-            serve(&rt, rt.alloc(), rt, words, terminal)
+            serve(&rt, rt, words, terminal)
         }
     };
     match status {

@@ -8,6 +8,8 @@ use host_real::{FolderDisk, StdSink, StdSource};
 use shell_top::run_shell;
 use std::alloc::AllocError;
 use std::process::ExitCode;
+use std::sync::Wait;
+use std::thread::Threads;
 use std::{env, io, mem};
 
 /// The status where memory is wanting before the session begins.
@@ -31,36 +33,39 @@ fn words(rt: &HostRuntime) -> Result<Vec<String>, AllocError> {
     Ok(words)
 }
 
-fn main(rt: HostRuntime) -> ExitCode {
-    let Ok(words) = words(&rt) else {
-        return ExitCode::from(NO_MEMORY);
-    };
-    let mut source = StdSource::new(rt.stdin());
-    let mut sink = StdSink::new(rt.stdout());
-    let mut disks: Vec<Box<dyn Disk + Send>> = Vec::new(rt.alloc());
+/// Runs the session of these words, and gives its status.
+///
+/// # Errors
+/// Want of memory before the session begins.
+fn serve<R: Threads + Wait + Sync>(
+    rt: &R,
+    host: HostRuntime,
+    words: &[String],
+) -> Result<u8, AllocError> {
+    let alloc = host.alloc();
+    let mut source = StdSource::new(host.stdin());
+    let mut sink = StdSink::new(host.stdout());
+    let mut disks: Vec<Box<dyn Disk + Send>> = Vec::new(alloc);
     for node in 1..=NODES {
-        let Ok(disk) = FolderDisk::of_node(rt.alloc(), rt, node) else {
-            return ExitCode::from(NO_MEMORY);
-        };
-        let Ok(boxed) = Box::new(rt.alloc(), disk) else {
-            return ExitCode::from(NO_MEMORY);
-        };
-        if disks.push(boxed).is_err() {
-            return ExitCode::from(NO_MEMORY);
-        }
+        disks.push(Box::new(alloc, FolderDisk::of_node(alloc, host, node)?)?)?;
     }
-    let ended = run_shell(
-        &rt,
-        rt.alloc(),
-        &words,
-        &mut source,
-        &mut sink,
-        disks,
-        &NoGate,
-    );
+    if disks.len() != usize::from(NODES) {
+        return Err(AllocError);
+    }
+    let ended = run_shell(rt, alloc, words, &mut source, &mut sink, disks, &NoGate);
     let status = ended.status;
     // The logs hold nearly all of the memory. To free them step by step would take long, and the
     // process ends here, which frees all at once.
     mem::forget(ended);
-    ExitCode::from(status)
+    Ok(status)
+}
+
+fn main(rt: HostRuntime) -> ExitCode {
+    let Ok(words) = words(&rt) else {
+        return ExitCode::from(NO_MEMORY);
+    };
+    match serve(&rt, rt, &words) {
+        Ok(status) => ExitCode::from(status),
+        Err(_) => ExitCode::from(NO_MEMORY),
+    }
 }
