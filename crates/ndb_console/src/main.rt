@@ -114,6 +114,9 @@ where
     for node in 1..=NODES {
         disks.push(Box::new(alloc, FolderDisk::of_node(alloc, files, node)?)?)?;
     }
+    if disks.len() != usize::from(NODES) {
+        return Err(AllocError);
+    }
     let ended = run_shell(rt, alloc, words, &mut console, &mut noted, disks, &NoGate);
     let status = ended.status;
     // The logs hold nearly all of the memory; the process ends here, which frees all at once.

@@ -31,23 +31,26 @@ fn words(rt: &HostRuntime) -> Result<Vec<String>, AllocError> {
     Ok(words)
 }
 
+/// The disks of as many nodes as a cluster may have, that of node 1 first.
+fn folders(rt: &HostRuntime) -> Result<Vec<Box<dyn Disk + Send>>, AllocError> {
+    let mut disks: Vec<Box<dyn Disk + Send>> = Vec::new(rt.alloc());
+    for node in 1..=NODES {
+        disks.push(Box::new(rt.alloc(), FolderDisk::of_node(rt.alloc(), *rt, node)?)?)?;
+    }
+    Ok(disks)
+}
+
 fn main(rt: HostRuntime) -> ExitCode {
     let Ok(words) = words(&rt) else {
         return ExitCode::from(NO_MEMORY);
     };
     let mut source = StdSource::new(rt.stdin());
     let mut sink = StdSink::new(rt.stdout());
-    let mut disks: Vec<Box<dyn Disk + Send>> = Vec::new(rt.alloc());
-    for node in 1..=NODES {
-        let Ok(disk) = FolderDisk::of_node(rt.alloc(), rt, node) else {
-            return ExitCode::from(NO_MEMORY);
-        };
-        let Ok(boxed) = Box::new(rt.alloc(), disk) else {
-            return ExitCode::from(NO_MEMORY);
-        };
-        if disks.push(boxed).is_err() {
-            return ExitCode::from(NO_MEMORY);
-        }
+    let Ok(disks) = folders(&rt) else {
+        return ExitCode::from(NO_MEMORY);
+    };
+    if disks.len() != usize::from(NODES) {
+        return ExitCode::from(NO_MEMORY);
     }
     let ended = run_shell(
         &rt,
