@@ -1,5 +1,5 @@
 -- Steps of a world, and what disks keep of them.
-use Rattle.std.proofs.Common.{◌≡◌, true, ℕ, List, subst, sym}
+use Rattle.std.proofs.Common.{◌≡◌, true, List, subst, sym}
 use Rattle.std.specs.Prelude.{OnErr, OnOk, Option, None, Some, Result, Ok, Err, false, is_some}
 use Rattle.sig_core.specs.declared.log.HostLog.{HostLog}
 use Rattle.sig_core.specs.declared.no_memory.NoMemory.{NoMemory}
@@ -58,7 +58,7 @@ way_off w a logs way grown start sound =
 abbrev pub GoesUnscheduled : Whole → List HostLog → Type 0
 GoesUnscheduled w logs =
     (start : Start) → IsSound start w → AreUnscheduled true start (logs_at w.logs)
-    → AreUnscheduled true start (logs_at logs)
+        → AreUnscheduled true start (logs_at logs)
 
 pub same_unscheduled : (w : Whole) (logs : List HostLog) → logs ≡ w.logs → GoesUnscheduled w logs
 same_unscheduled w logs same start sound was =

@@ -1,5 +1,4 @@
 pub mod DrivenLemmas
-pub mod GoneOnLemmas
 pub mod KeptLemmas
 pub mod OpenLemmas
 pub mod RowLemmas

@@ -10,5 +10,5 @@ returns-in-Some-default-clause-runs g c = λ calls told.
 pub returns-in-Some-default-clause-kept : goal.returns-in-Some-default-clause-kept
 returns-in-Some-default-clause-kept g c =
     rows_used c.save_rows.result c.args.body.now c.in-Some-default.redo.now.log g.last c.args.slots.now
-    c.save_rows.new.self
+        c.save_rows.new.self
     c.saved.result (search rules) c.saved.ensures c.save_rows.ensures.saved

@@ -22,9 +22,9 @@ returns-in-Ok-clause-more g c =
 pub returns-in-Ok-clause-steady : goal.returns-in-Ok-clause-steady
 returns-in-Ok-clause-steady g c =
     let here : c.index_mut-disk.result.now ≡ get_or c.args.disks.now.items c.args.at c.index_mut-disk.result.now =
-    search rules in
+        search rules in
     one_steady g.D.Disk.faults c.args.disks.now.items c.args.at c.index_mut-disk.result.now c.keep.new.disk
-    (search rules)
+        (search rules)
     (subst (λ (was : ℕ). was ≤ g.D.Disk.faults c.keep.new.disk) (ap g.D.Disk.faults here) c.in-Ok.ensures.steady)
 
 pub returns-in-Err-clause-kept : goal.returns-in-Err-clause-kept
@@ -43,16 +43,16 @@ returns-in-Err-clause-more g c =
 pub returns-in-Err-clause-steady : goal.returns-in-Err-clause-steady
 returns-in-Err-clause-steady g c =
     let here : c.index_mut-disk.result.now ≡ get_or c.args.disks.now.items c.args.at c.index_mut-disk.result.now =
-    search rules in
+        search rules in
     one_steady g.D.Disk.faults c.args.disks.now.items c.args.at c.index_mut-disk.result.now c.keep.new.disk
-    (search rules)
+        (search rules)
     (subst (λ (was : ℕ). was ≤ g.D.Disk.faults c.keep.new.disk) (ap g.D.Disk.faults here) c.in-Err.ensures.steady)
 
 pub returns-in-Err-clause-failed : goal.returns-in-Err-clause-failed
 returns-in-Err-clause-failed g c =
     let low : c.args.at < length c.args.disks.now.items = search rules in
     let here : c.index_mut-disk.result.now ≡ get_or c.args.disks.now.items c.args.at c.index_mut-disk.result.now =
-    search rules in (
+        search rules in (
       subst (λ (now : ℕ). Rose (get_or (map g.D.Disk.faults c.args.disks.now.items) c.args.at 0) now)
           (sym c.faults.ensures)
           (subst (λ (was : ℕ). Rose was (g.D.Disk.faults c.keep.new.disk))

@@ -6,7 +6,6 @@ use Rattle.sys_restart.proofs.DisksLemmas.{mapped}
 use Rattle.life_start.specs.Records.{AllTellMore}
 use Rattle.life_start.proofs.BeginLemmas.{where_ok}
 use Rattle.life_start.proofs.ReadyRecords.{readied_more}
-use Rattle.life_start.proofs.RefusalLemmas.{unready}
 use Rattle.life_start.proofs.begin.begin_from.Goals as goal
 
 -- the disks are as they were made ready
@@ -36,10 +35,3 @@ returns-in-Err-clause-recorded g c =
     c.prepare_life.result
     (mapped g.D.Disk.told c.prepare_life.new.disks ∙ many ∙ sym (mapped g.D.Disk.told c.args.disks.now))
     (λ used. ap (map g.D.Disk.told) (c.prepare_life.ensures.used_up used).1) c.prepare_life.ensures.runs
-
--- no disk was made ready
-pub returns-in-Err-clause-none : goal.returns-in-Err-clause-none
-returns-in-Err-clause-none g c = λ records told inside.
-    unready c.args.shape c.args.restored.now records (map g.D.Disk.told c.prepare_life.new.disks) c.in-Err.fault
-    c.prepare_life.result c.args.shape.nodes c.in-Err.is (λ used. (c.prepare_life.ensures.used_up used).0)
-    (c.in-Err.ensures.runs records told) inside

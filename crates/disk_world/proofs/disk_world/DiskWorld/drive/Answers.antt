@@ -44,13 +44,13 @@ returns-in_err-step-clause-more g c =
 pub returns-then-not-branch-clause-driven : goal.returns-then-not-branch-clause-driven
 returns-then-not-branch-clause-driven g c =
     has_ended (whole_of c.args.self.now.world) (whole_of c.loop.self.world) (whole_of c.step.new.self.world) _
-    c.if-not-branch.true
+        c.if-not-branch.true
     c.loop.invariant.0 c.in_ok-step.ensures.ok
 
 pub returns-then-not-branch-clause-quiet : goal.returns-then-not-branch-clause-quiet
 returns-then-not-branch-clause-quiet g c =
     is_quiet (whole_of c.args.self.now.world) (whole_of c.loop.self.world) (whole_of c.step.new.self.world) _
-    c.if-not-branch.true
+        c.if-not-branch.true
     c.loop.invariant.0 c.in_ok-step.ensures.ok
 
 pub returns-then-not-branch-clause-unscheduled : goal.returns-then-not-branch-clause-unscheduled

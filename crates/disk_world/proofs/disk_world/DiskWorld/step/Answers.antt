@@ -38,7 +38,7 @@ returns-in-Err-keep-clause-unscheduled g c =
 pub returns-in-Ok-None-clause-ok : goal.returns-in-Ok-None-clause-ok
 returns-in-Ok-None-clause-ok g c =
     stepped_none c.in-Ok-None.field-0 (whole_of c.args.self.now.world) (whole_of c.step.new.self)
-    c.in-Ok-None.field-0-is c.in-Ok-None.ensures.ok
+        c.in-Ok-None.field-0-is c.in-Ok-None.ensures.ok
 
 pub returns-in-Ok-None-clause-unscheduled : goal.returns-in-Ok-None-clause-unscheduled
 returns-in-Ok-None-clause-unscheduled g c = c.in-Ok-None.ensures.unscheduled true
