@@ -1,5 +1,6 @@
 pub mod RecordLemmas
-mod SlotsLemmas
 mod BeginLemmas
+mod LackLemmas
 mod ReadyRecords
 mod RefusalLemmas
+mod SlotsLemmas

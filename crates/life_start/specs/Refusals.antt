@@ -16,6 +16,10 @@ use Rattle.sys_restart.specs.Files.{Disks}
 use Rattle.sys_restart.specs.LifeCalls.{told_by}
 use Rattle.sys_restart.specs.Restored.{restored_of}
 
+-- the numbers of what is restored are used up, and the fault says so
+abbrev pub IsUsedUpBy : Restored → RestartFault → Type 0
+IsUsedUpBy r fault = (is_used_up r ≡ true) × (fault ≡ UsedUp r.generation r.epoch)
+
 -- what is restored has the last generation, or the last checkpoint number
 pub record AreUsedUp (shape : Shape) (disks : Disks) (fault : RestartFault) : Type 0 where
   pub restored : Restored

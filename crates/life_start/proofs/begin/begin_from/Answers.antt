@@ -5,8 +5,8 @@ use Rattle.sys_restart.specs.ReadyDisks.{AreReady}
 use Rattle.sys_restart.proofs.DisksLemmas.{mapped}
 use Rattle.life_start.specs.Records.{AllTellMore}
 use Rattle.life_start.proofs.BeginLemmas.{where_ok}
+use Rattle.life_start.proofs.LackLemmas.{begins_if_ready}
 use Rattle.life_start.proofs.ReadyRecords.{readied_more}
-use Rattle.life_start.proofs.RefusalLemmas.{unready}
 use Rattle.life_start.proofs.begin.begin_from.Goals as goal
 
 -- the disks are as they were made ready
@@ -37,9 +37,10 @@ returns-in-Err-clause-recorded g c =
     (mapped g.D.Disk.told c.prepare_life.new.disks ∙ many ∙ sym (mapped g.D.Disk.told c.args.disks.now))
     (λ used. ap (map g.D.Disk.told) (c.prepare_life.ensures.used_up used).1) c.prepare_life.ensures.runs
 
--- no disk was made ready
-pub returns-in-Err-clause-none : goal.returns-in-Err-clause-none
-returns-in-Err-clause-none g c = λ records told inside.
-    unready c.args.shape c.args.restored.now records (map g.D.Disk.told c.prepare_life.new.disks) c.in-Err.fault
-    c.prepare_life.result c.args.shape.nodes c.in-Err.is (λ used. (c.prepare_life.ensures.used_up used).0)
-    (c.in-Err.ensures.runs records told) inside
+-- disks that are ready lack no slots
+pub returns-in-Ok-clause-unless : goal.returns-in-Ok-clause-unless
+returns-in-Ok-clause-unless g c = λ records told may.
+    let many : length c.prepare_life.new.disks ≡ c.args.shape.nodes = search rules in
+    begins_if_ready c.args.shape c.args.restored.now (map g.D.Disk.told c.prepare_life.new.disks)
+    (length c.prepare_life.new.disks) c.start_with.result (c.in-Ok.ensures.ready records told may) many
+    c.start_with.ensures.lacking

@@ -1,12 +1,12 @@
-use Rattle.std.proofs.Common.{◌≡◌, ◌∙◌, map, inl, sym, subst}
-use Rattle.std.specs.Prelude.{OnOk}
+use Rattle.std.proofs.Common.{◌≡◌, ◌∙◌, map, sym, subst}
+use Rattle.std.specs.Prelude.{false, IfErr, OnOk}
+use Rattle.sys_restart.specs.Answers.{is_outside}
 use Rattle.sys_restart.specs.declared.restored.Restored.{Restored}
 use Rattle.sys_restart.specs.Files.{disks_of}
 use Rattle.sys_restart.specs.ReadyDisks.{AreReady, AreToPrepare}
 use Rattle.sys_restart.specs.Restored.{restored_of}
-use Rattle.life_start.specs.Records.{AllTellMore}
+use Rattle.life_start.specs.Refusals.{IsUsedUpBy}
 use Rattle.life_start.proofs.BeginLemmas.{same_answer}
-use Rattle.life_start.proofs.RecordLemmas.{all_itself}
 use Rattle.life_start.proofs.RefusalLemmas.{none_begins}
 use Rattle.life_start.proofs.begin.begin_life.Goals as goal
 
@@ -22,23 +22,20 @@ returns-in-Ok-clause-ready g c = λ records restored told may.
     (c.begin_from.ensures.ready records (c.in-Ok.ensures.unrecorded ∙ told)
     (subst (λ (r : Restored). AreToPrepare c.args.shape r records) (sym same) may))
 
--- the records are as they were, or as they were made
-pub returns-in-Ok-clause-recorded : goal.returns-in-Ok-clause-recorded
-returns-in-Ok-clause-recorded g c =
-    subst (λ before. AllTellMore before (map g.D.Disk.told c.begin_from.new.disks)) c.in-Ok.ensures.unrecorded
-    c.begin_from.ensures.recorded
-
-pub returns-in-Err-clause-recorded : goal.returns-in-Err-clause-recorded
-returns-in-Err-clause-recorded g c =
-    subst (AllTellMore (map g.D.Disk.told c.args.disks.now)) (sym c.in-Err.ensures.unrecorded)
-    (all_itself (map g.D.Disk.told c.args.disks.now))
-
--- no life begins behind what was restored, or a restart is refused
+-- no life begins behind what was restored
 pub returns-in-Ok-clause-refused : goal.returns-in-Ok-clause-refused
 returns-in-Ok-clause-refused g c = λ records told.
     none_begins c.args.shape (disks_of records) c.in-Ok.restored (map g.D.Disk.told c.begin_from.new.disks)
     c.begin_from.result (c.in-Ok.ensures.read records told)
     (c.begin_from.ensures.none records (c.in-Ok.ensures.unrecorded ∙ told))
 
-pub returns-in-Err-clause-refused : goal.returns-in-Err-clause-refused
-returns-in-Err-clause-refused g c = λ records told inside. inl (c.in-Err.ensures.read records told inside)
+-- what may be prepared is what was restored, here too
+pub returns-in-Ok-clause-unless : goal.returns-in-Ok-clause-unless
+returns-in-Ok-clause-unless g c = λ records restored told may.
+    let same : c.in-Ok.restored ≡ restored =
+    same_answer c.in-Ok.restored restored (restored_of c.args.shape (disks_of records))
+    (c.in-Ok.ensures.read records told) may.restored in
+    subst
+    (λ (r : Restored). IfErr c.begin_from.result (λ fault. is_outside fault ≡ false → IsUsedUpBy r fault)) same
+    (c.begin_from.ensures.unless records (c.in-Ok.ensures.unrecorded ∙ told)
+    (subst (λ (r : Restored). AreToPrepare c.args.shape r records) (sym same) may))
