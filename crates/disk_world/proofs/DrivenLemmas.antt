@@ -1,5 +1,5 @@
 -- Steps of a world, and what disks keep of them.
-use Rattle.std.proofs.Common.{◌≡◌, true, ℕ, List, subst, sym}
+use Rattle.std.proofs.Common.{◌≡◌, true, List, subst, sym}
 use Rattle.std.specs.Prelude.{OnErr, OnOk, Option, None, Some, Result, Ok, Err, false, is_some}
 use Rattle.sig_core.specs.declared.log.HostLog.{HostLog}
 use Rattle.sig_core.specs.declared.no_memory.NoMemory.{NoMemory}

@@ -1,7 +1,8 @@
 pub mod DrivenLemmas
-pub mod GoneOnLemmas
 pub mod KeptLemmas
 pub mod OpenLemmas
+pub mod PickLemmas
 pub mod RowLemmas
 pub mod TakenLemmas
 pub mod Stays
+pub mod WayLemmas

@@ -1,12 +1,8 @@
 -- A life that begins.
-use Rattle.std.proofs.Common.{◌≡◌, ◌∙◌, ℕ, zero, suc, false, List, [], ◌∷◌, ◌++◌, length, take, refl, ap, subst, sym, arith}
-use Rattle.std.specs.Prelude.{IfErr, IfOk, MatchResult, Option, Result, Ok, Err}
-use Rattle.std.proofs.lemmas.Bool.{true≢false}
+use Rattle.std.proofs.Common.{◌≡◌, ℕ, zero, suc, List, [], ◌∷◌, ◌++◌, length, take, refl, ap, subst, sym, arith}
+use Rattle.std.specs.Prelude.{IfOk, Option, Result, Ok, Err}
 use Rattle.host_io.specs.Call.{Call}
-use Rattle.sig_core.specs.declared.fault.RestartFault.{RestartFault}
-use Rattle.sig_core.specs.declared.fault.RestartFault.TheVariants.{NoMemory}
 use Rattle.sig_core.specs.declared.view.Shape.{Shape}
-use Rattle.sys_restart.specs.Answers.{is_outside}
 use Rattle.sys_restart.specs.declared.restored.Restored.{Restored}
 use Rattle.sys_restart.specs.ReadyDisks.{AreReady}
 use Rattle.world_core.specs.Start.{Start}
@@ -26,19 +22,6 @@ pub opened_ready : {A E V D : Type 0} (result : Result A E) (disks : A → V) (m
 opened_ready (Ok w) disks made items told shape r same here ready =
     subst (λ v. AreReady shape r (told (items v))) (sym same) (subst (λ v. AreReady shape r (told v)) here ready)
 opened_ready (Err unopened) disks made items told shape r same here ready = tt
-
--- what holds of the disks on which no life began, or on which one did
-pub opened_either : {A E V : Type 0} (result : Result A E) (disks : A → V) (back : E → V) (made : V) (P : V → Type 0)
-    → IfOk result (λ w. disks w ≡ made) → IfErr result (λ u. back u ≡ made) → P made
-    → MatchResult result (λ w. P (disks w)) (λ u. P (back u))
-opened_either (Ok w) disks back made P same handed holds = subst P (sym same) holds
-opened_either (Err unopened) disks back made P same handed holds = subst P (sym handed) holds
-
--- where memory is wanting no disk is to blame
-pub unopened_by_want : {A E : Type 0} (result : Result A E) (why : E → RestartFault) (P : E → Type 0)
-    → IfErr result (λ u. why u ≡ NoMemory) → IfErr result (λ u. is_outside (why u) ≡ false → P u)
-unopened_by_want (Ok w) why P want = tt
-unopened_by_want (Err unopened) why P want = λ inside. absurd (true≢false (ap is_outside (sym want) ∙ inside))
 
 -- a list that was written over the head of another as long
 pub written_back : {A : Type 0} (new rest : List A) (n : ℕ) → length new ≡ n → new ≡ take n (new ++ rest)

@@ -1,5 +1,5 @@
 -- What the disks of a cluster keep of a step of a host.
-use Rattle.std.specs.Prelude.{◌≡◌, ◌≤◌, ◌⊎◌, ℕ, ◌-◌, Bool, true, false, List, length, get_or, Option, None, Some}
+use Rattle.std.specs.Prelude.{◌≡◌, ◌≤◌, ◌⊎◌, ℕ, zero, suc, ◌-◌, Bool, true, false, List, length, get_or, Option, None, Some}
 use Rattle.host_io.specs.Call.{Call}
 use Rattle.host_io.specs.Fault.{Rose}
 use Rattle.node_disk.specs.Slots.{SlotsInUse}
@@ -7,7 +7,9 @@ use Rattle.redo_log.specs.Stored.{files_of}
 use Rattle.sig_core.specs.declared.outcome.StopCause.TheVariants.{Disk}
 use Rattle.sys_restart.specs.Answers.{count_of}
 use Rattle.sysfile_core.specs.Runs.{Runs}
+use Rattle.world_core.specs.Start.{Start}
 use Rattle.world_views.specs.Disks.{GoesAlone, last_taken}
+use Rattle.world_views.specs.Driven.{IsDriven, IsSound}
 use Rattle.world_views.specs.World.{body_at, has_stopped_in, stopped, Whole}
 use Rattle.disk_world.specs.Keeping.{Kept, calls_of, kept_of, slots_after}
 
@@ -79,5 +81,17 @@ pub record HasGoneOn (w : Whole) (old new : Disks) (counts : List ℕ) (t : Whol
   pub host : ℕ
   pub stepped : Whole
   pub alone : GoesAlone w host stepped
+  pub driven : (start : Start) → IsSound start w → IsDriven start w stepped
   pub kept : KeepsStep stepped host old → HasKeptStep stepped host old new counts t
   pub nothing : KeepsNothing stepped host → (t ≡ stepped) × (new ≡ old)
+
+-- so many steps of hosts, each with what a disk kept of it, led from a world and its disks to others
+abbrev pub HaveGoneOn : ℕ → Whole → Disks → Whole → Disks → Type 0
+HaveGoneOn zero w old t new = (t ≡ w) × (new ≡ old)
+HaveGoneOn (suc steps) w old t new =
+    (between : Whole) × ((disks : Disks) × ((counts : List ℕ) × (HaveGoneOn steps w old between disks
+    × HasGoneOn between disks new counts t)))
+
+-- steps of hosts led there
+abbrev pub WayOn : Whole → Disks → Whole → Disks → Type 0
+WayOn w old t new = (steps : ℕ) × HaveGoneOn steps w old t new

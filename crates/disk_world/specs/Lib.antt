@@ -1,3 +1,4 @@
 pub mod Disks
 pub mod Keeping
+pub mod Picking
 pub mod Starting

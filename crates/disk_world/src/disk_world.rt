@@ -16,9 +16,10 @@ ghost use Rattle.world_views.specs.Driven.{HasAsked, HaveGrown, IsDriven, IsSoun
 ghost use Rattle.world_views.specs.Unscheduled.{AreUnscheduled};
 ghost use Rattle.world_views.specs.World.{IsIdle, has_stopped_in, is_down, is_left_open, new_world};
 ghost use Rattle.world_views.specs.WorldOf.{whole_of};
-ghost use Rattle.disk_world.specs.Disks.{HasDisk, HasFailed, HasGoneOn, HasKept, HasKeptStep, KeepsNothing, KeepsStep, disks_with, kept_in, node_of};
+ghost use Rattle.disk_world.specs.Disks.{HasDisk, HasFailed, HasGoneOn, HasKept, HasKeptStep, KeepsNothing, KeepsStep, WayOn, disks_with, kept_in, node_of};
 ghost use Rattle.life_start.specs.Records.{AllTellMore, HaveMore};
 ghost use Rattle.life_start.specs.Refusals.{IsRefusedFor};
+ghost use Rattle.disk_world.specs.Picking.{LeavesWorld};
 ghost use Rattle.disk_world.specs.Starting.{epoch_behind, start_from};
 
 use crate::ended::{Ended, Unopened};
@@ -167,6 +168,8 @@ impl<D: Disk> DiskWorld<D> {
         requires { IsWorld (whole_of self.old.world) }
         ensures driven { (start : Start) → IsSound start (whole_of self.old.world) → OnOk result (IsDriven start (whole_of self.old.world) (whole_of self.new.world)) }
         ensures quiet { OnOk result (IsIdle (whole_of self.new.world)) }
+        // Step by step, each with what a disk keeps of it.
+        ensures way { OnOk result (WayOn (whole_of self.old.world) (disks_with (map D.told self.old.disks.items) self.old.slots.items) (whole_of self.new.world) (disks_with (map D.told self.new.disks.items) self.new.slots.items)) }
         ensures err { (start : Start) → IsSound start (whole_of self.old.world) → OnErr result (HaveGrown start (logs_at (whole_of self.old.world).logs) (logs_at (whole_of self.new.world).logs)) }
         ensures labels { (start : Start) → IsSound start (whole_of self.old.world) → OnErr result (AreLabelled start (whole_of self.new.world).logs) }
         ensures unscheduled { (start : Start) → IsSound start (whole_of self.old.world) → AreUnscheduled true start (logs_at (whole_of self.old.world).logs) → AreUnscheduled true start (logs_at (whole_of self.new.world).logs) }
@@ -260,9 +263,10 @@ impl<D: Disk> DiskWorld<D> {
     ///
     /// # Errors
     /// As of `World::schedule` with this pick alone.
+    #[tactic(auto, using(crate::proofs::PickLemmas::leaves_world))]
     pub fn pick(&mut self, alloc: Global, pick: Pick) -> Result<(), ScheduleFault>
         requires { IsWorld (whole_of self.old.world) }
-        ensures is { OnOk result (IsWorld (whole_of self.new.world)) }
+        ensures is { LeavesWorld (whole_of self.new.world) result }
         ensures more { HaveMore (map D.told self.old.disks.items) (map D.told self.new.disks.items) }
         ensures steady { AreSteady (map D.faults self.old.disks.items) (map D.faults self.new.disks.items) }
         ensures life { (self.new.generation ≡ self.old.generation) × (self.new.start ≡ self.old.start) × (self.new.rows ≡ self.old.rows) }
@@ -276,7 +280,7 @@ impl<D: Disk> DiskWorld<D> {
     // A disk keeps what it is to keep of a pick that was done.
     fn keep_pick(&mut self, alloc: Global, pick: &Pick) -> Result<(), ScheduleFault>
         requires { IsWorld (whole_of self.old.world) }
-        ensures is { OnOk result (IsWorld (whole_of self.new.world)) }
+        ensures is { LeavesWorld (whole_of self.new.world) result }
         ensures more { HaveMore (map D.told self.old.disks.items) (map D.told self.new.disks.items) }
         ensures steady { AreSteady (map D.faults self.old.disks.items) (map D.faults self.new.disks.items) }
         ensures life { (self.new.generation ≡ self.old.generation) × (self.new.start ≡ self.old.start) × (self.new.rows ≡ self.old.rows) }

@@ -4,6 +4,8 @@ use Rattle.world_views.specs.WorldOf.{whole_of}
 use Rattle.world_views.proofs.WorldLemmas.{goes_on, has_ended, is_quiet, under_way}
 use Rattle.disk_world.proofs.DrivenLemmas.{way_labels, way_off, way_unscheduled, where_err}
 use Rattle.life_start.proofs.RecordLemmas.{more_itself, more_then}
+use Rattle.disk_world.specs.Disks.{disks_with}
+use Rattle.disk_world.proofs.WayLemmas.{no_way, way_ends, way_further}
 use Rattle.disk_world.proofs.disk_world.DiskWorld.drive.Goals as goal
 
 pub loop-init : goal.loop-init
@@ -15,6 +17,8 @@ loop-init g c = (
   refl,
   refl,
   refl,
+  no_way (whole_of c.args.self.now.world)
+      (disks_with (map g.D.Disk.told c.args.self.now.disks.items) c.args.self.now.slots.items),
   tt,
   tt,
 )
@@ -63,6 +67,17 @@ returns-then-not-branch-clause-more g c =
     more_then (map g.D.Disk.told c.args.self.now.disks.items) (map g.D.Disk.told c.loop.self.disks.items)
     (map g.D.Disk.told c.step.new.self.disks.items) c.loop.invariant.2 c.in_ok-step.ensures.more
 
+pub returns-then-not-branch-clause-way : goal.returns-then-not-branch-clause-way
+returns-then-not-branch-clause-way g c =
+    way_ends (whole_of c.args.self.now.world)
+    (disks_with (map g.D.Disk.told c.args.self.now.disks.items) c.args.self.now.slots.items)
+    (whole_of c.loop.self.world)
+    (disks_with (map g.D.Disk.told c.loop.self.disks.items) c.loop.self.slots.items)
+    (whole_of c.step.new.self.world)
+    (disks_with (map g.D.Disk.told c.step.new.self.disks.items) c.step.new.self.slots.items) _
+    c.if-not-branch.true c.loop.invariant.7 c.loop.invariant.0.is c.in_ok-step.ensures.ok
+    c.in_ok-step.ensures.nothing
+
 pub loop-preserved : goal.loop-preserved
 loop-preserved g c = (
   goes_on (whole_of c.args.self.now.world) (whole_of c.loop.self.world) (whole_of c.step.new.self.world)
@@ -76,6 +91,14 @@ loop-preserved g c = (
   c.in_ok-step.ensures.life.0 ∙ c.loop.invariant.4,
   c.in_ok-step.ensures.life.1 ∙ c.loop.invariant.5,
   c.in_ok-step.ensures.life.2 ∙ c.loop.invariant.6,
+  way_further (whole_of c.args.self.now.world)
+      (disks_with (map g.D.Disk.told c.args.self.now.disks.items) c.args.self.now.slots.items)
+      (whole_of c.loop.self.world)
+      (disks_with (map g.D.Disk.told c.loop.self.disks.items) c.loop.self.slots.items)
+      (whole_of c.step.new.self.world)
+      (disks_with (map g.D.Disk.told c.step.new.self.disks.items) c.step.new.self.slots.items)
+      (map g.D.Disk.faults c.step.new.self.disks.items) c.in_ok-step.field-0 c.if-not-branch.false
+      c.loop.invariant.7 c.in_ok-step.ensures.kept,
   tt,
   tt,
 )

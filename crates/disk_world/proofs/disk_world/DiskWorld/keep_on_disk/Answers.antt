@@ -1,10 +1,9 @@
-use Rattle.std.proofs.Common.{rules, ◌≡◌, ◌∙◌, length, map, is_ok, ap, refl, ◌-◌}
-use Rattle.host_io.specs.Call.{Call}
+use Rattle.std.proofs.Common.{◌≡◌, ◌∙◌, ap, refl, ◌-◌}
 use Rattle.node_views.specs.declared.host_body.HostBody.{HostBody}
 use Rattle.world_views.specs.Disks.{last_taken}
 use Rattle.world_views.specs.WorldOf.{whole_of}
-use Rattle.disk_world.specs.Disks.{HasKept, disks_with, kept_in, node_of}
-use Rattle.disk_world.specs.Keeping.{Kept, kept_of}
+use Rattle.disk_world.specs.Disks.{kept_in}
+use Rattle.disk_world.specs.Keeping.{kept_of}
 use Rattle.disk_world.proofs.KeptLemmas.{kept_as}
 use Rattle.disk_world.proofs.TakenLemmas.{now_of, now_same}
 use Rattle.disk_world.proofs.disk_world.DiskWorld.keep_on_disk.Goals as goal

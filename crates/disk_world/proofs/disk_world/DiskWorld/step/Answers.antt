@@ -1,5 +1,8 @@
 use Rattle.world_views.specs.WorldOf.{whole_of}
-use Rattle.std.specs.Prelude.{true}
+use Rattle.std.specs.Prelude.{true, map}
+use Rattle.sig_core.specs.declared.member.HostId.{HostId}
+use Rattle.disk_world.specs.Disks.{disks_with}
+use Rattle.disk_world.proofs.WayLemmas.{gone_on}
 use Rattle.disk_world.proofs.DrivenLemmas.{same_grown, step_labels, stepped_none, stepped_off, stepped_some, stepped_then, then_unscheduled}
 use Rattle.disk_world.proofs.disk_world.DiskWorld.step.Goals as goal
 
@@ -46,3 +49,13 @@ returns-in-Ok-None-clause-unscheduled g c = c.in-Ok-None.ensures.unscheduled tru
 pub returns-in-Err-clause-err : goal.returns-in-Err-clause-err
 returns-in-Err-clause-err g c =
     same_grown (whole_of c.args.self.now.world) (whole_of c.step.new.self).logs c.in-Err.ensures.err
+
+-- a host went on, and the disk of its node kept what it was to keep
+pub returns-in-Ok-clause-kept : goal.returns-in-Ok-clause-kept
+returns-in-Ok-clause-kept g c = λ went.
+    gone_on c.in-Ok-Some.field-0 c.in-Ok-Some.host (λ (host : HostId). host.0) (whole_of c.args.self.now.world)
+    (whole_of c.step.new.self) (whole_of c.keep.new.self.world)
+    (disks_with (map g.D.Disk.told c.args.self.now.disks.items) c.args.self.now.slots.items)
+    (disks_with (map g.D.Disk.told c.keep.new.self.disks.items) c.keep.new.self.slots.items)
+    (map g.D.Disk.faults c.keep.new.self.disks.items) c.in-Ok-Some.field-0-is c.in-Ok-Some.ensures.alone
+    c.in-Ok-Some.ensures.ok c.in-Ok.ensures.kept c.in-Ok.ensures.nothing
