@@ -155,7 +155,8 @@ for c in crates:
     if os.path.isdir(s+'/specs'): shutil.copytree(s+'/specs',o+'/specs')
     if os.path.isdir(s+'/proofs'):
         def ign(d,names):
-            return [x for x in names if os.path.isdir(os.path.join(d,x)) and (d!=s+'/proofs' or x[:1].islower())]
+            # the folders of answers, which are named as files of src
+            return [x for x in names if d==s+'/proofs' and (os.path.exists(s+'/src/'+x+'.rt') or os.path.isdir(s+'/src/'+x))]
         shutil.copytree(s+'/proofs',o+'/proofs',ignore=ign)
     for dp,dn,fn in os.walk(s+'/src'):
         if 'tests' in dp.split('/'): continue

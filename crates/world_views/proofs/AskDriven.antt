@@ -1,6 +1,7 @@
 -- The shell asks for something: a step of host 0, at quiet.
-use Rattle.std.proofs.Common.{◌≡◌, ℕ, List, [], ◌∷◌, ◌++◌, false, refl, ap, sym, ◌∙◌, arith}
-use Rattle.run_theory.specs.Lists.{IsPast}
+use Rattle.std.proofs.Common.{◌≡◌, ℕ, List, [], ◌∷◌, ◌++◌, false, refl, ap, subst, sym, ◌∙◌, arith}
+use Rattle.std.proofs.lemmas.Bool.{true≢false}
+use Rattle.run_theory.specs.Lists.{IsIn, IsPast}
 use Rattle.sig_core.specs.declared.reply.ApiReply.{ApiReply}
 use Rattle.sig_core.specs.declared.request.ApiReq.{ApiReq}
 use Rattle.sig_core.specs.Step.{Step}
@@ -8,11 +9,15 @@ use Rattle.node_views.specs.declared.host_body.HostBody.{HostBody}
 use Rattle.world_core.specs.Start.{Start}
 use Rattle.world_core.specs.Steps.{Addressed, HostStep}
 use Rattle.world_core.specs.World.{logs_at}
+use Rattle.world_views.specs.Disks.{GoesAlone}
 use Rattle.world_views.specs.Driven.{HasAsked}
+use Rattle.world_views.specs.Links.{LinkState}
 use Rattle.world_views.specs.Machine.{has_stopped, request_body, step_by}
 use Rattle.world_views.specs.Requests.{AreAskedAtQuiet, QuietBefore, requests}
 use Rattle.world_views.specs.Right.{IsRight}
-use Rattle.world_views.specs.World.{IsIdle, Whole, asked, asking, body_at}
+use Rattle.world_views.specs.World.{IsIdle, Whole, asked, asking, body_at, step_made}
+use Rattle.world_views.proofs.AloneLinks.{entered_other}
+use Rattle.world_views.proofs.AloneSteps.{logs_of_entered, one_more}
 use Rattle.world_views.proofs.MoveRight.{logs_are, move_right}
 use Rattle.world_views.proofs.OwnReady.{ask_ready}
 use Rattle.world_views.proofs.QuietLemmas.{quiet_logs}
@@ -56,6 +61,15 @@ module _ (start : Start) (given : List ApiReply) (w : Whole) (right : IsRight st
           quiet_before start (logs_at w.logs) (logs_at (asked w request).logs) before grows
           (was newer e before rest asks)
 
+  -- a request is no stop, and others put nothing on links
+  alone : GoesAlone w 0 (asked w request)
+  alone =
+      one_more w (asked w request) 0 (step_made w wish step) (omega (arith, right.sizes.logs))
+      (logs_of_entered w 0 wish step)
+      (λ i j x apart on.
+      subst (λ (l : LinkState). IsIn x l.signals) (entered_other w 0 wish step i j apart) on)
+      (λ unasked. absurd (true≢false unasked)) (λ count stops. cc)
+
   pub has_asked : HasAsked start request w (asked w request)
   has_asked =
       let now = move_right start given w 0 wish step (ready given right) in
@@ -71,4 +85,5 @@ module _ (start : Start) (given : List ApiReply) (w : Whole) (right : IsRight st
         requests = ap requests log_is;
         asked = at_quiet;
         unscheduled = λ disks. entered_unscheduled disks start given w 0 wish step (ready given right) (λ asks. tt);
+        alone = alone;
       }

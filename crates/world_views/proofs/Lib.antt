@@ -1,4 +1,6 @@
 pub mod AloneLemmas
+pub mod AloneLinks
+pub mod AloneSteps
 pub mod AskDriven
 pub mod BusyLinks
 pub mod CloseLemmas

@@ -8,6 +8,7 @@ use Rattle.world_core.specs.Hosts.{hosts}
 use Rattle.world_core.specs.Start.{Start}
 use Rattle.world_core.specs.Steps.{HostStep}
 use Rattle.world_core.specs.World.{logs_at}
+use Rattle.world_views.specs.Disks.{GoesAlone}
 use Rattle.world_views.specs.Machine.{machine}
 use Rattle.world_views.specs.Requests.{AreAskedAtQuiet, requests}
 use Rattle.world_views.specs.Right.{IsRight}
@@ -54,6 +55,7 @@ pub record HasAsked (start : Start) (request : ApiReq) (w t : Whole) : Type 0 wh
   pub asked : IsIdle w → AreAskedAtQuiet start (logs_at w.logs) → AreAskedAtQuiet start (logs_at t.logs)
   pub unscheduled : (disks : Bool) → AreUnscheduled disks start (logs_at w.logs)
       → AreUnscheduled disks start (logs_at t.logs)
+  pub alone : GoesAlone w 0 t
 
 -- a step was taken, or nothing was under way and nothing has changed
 abbrev pub IsStepped : Start → Whole → Whole → Bool → Type 0
