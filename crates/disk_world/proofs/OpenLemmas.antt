@@ -2,9 +2,6 @@
 use Rattle.std.proofs.Common.{◌≡◌, ℕ, zero, suc, List, [], ◌∷◌, ◌++◌, length, take, refl, ap, subst, sym, arith}
 use Rattle.std.specs.Prelude.{IfOk, Option, Result, Ok, Err}
 use Rattle.host_io.specs.Call.{Call}
-use Rattle.sig_core.specs.declared.view.Shape.{Shape}
-use Rattle.sys_restart.specs.declared.restored.Restored.{Restored}
-use Rattle.sys_restart.specs.ReadyDisks.{AreReady}
 use Rattle.world_core.specs.Start.{Start}
 use Rattle.world_views.specs.Driven.{IsWorld}
 use Rattle.world_views.specs.World.{new_world, Whole}
@@ -15,13 +12,14 @@ pub opened_world : {A E : Type 0} (result : Result A E) (whole : A → Whole) (f
 opened_world (Ok w) whole from same = begun_world (whole w) (from w) same
 opened_world (Err unopened) whole from same = tt
 
-pub opened_ready : {A E V D : Type 0} (result : Result A E) (disks : A → V) (made : V) (items : V → List D)
-    (told : List D → List (Option (List Call))) (shape : Shape) (r : Restored)
-    → IfOk result (λ w. disks w ≡ made) → {now : List D} → now ≡ items made → AreReady shape r (told now)
-    → IfOk result (λ w. AreReady shape r (told (items (disks w))))
-opened_ready (Ok w) disks made items told shape r same here ready =
-    subst (λ v. AreReady shape r (told (items v))) (sym same) (subst (λ v. AreReady shape r (told v)) here ready)
-opened_ready (Err unopened) disks made items told shape r same here ready = tt
+-- what is so of the disks that it begins on is so of its own
+pub opened_so : {A E V D : Type 0} (result : Result A E) (disks : A → V) (made : V) (items : V → List D)
+    (told : List D → List (Option (List Call))) (Holds : List (Option (List Call)) → Type 0)
+    → IfOk result (λ w. disks w ≡ made) → {now : List D} → now ≡ items made → Holds (told now)
+    → IfOk result (λ w. Holds (told (items (disks w))))
+opened_so (Ok w) disks made items told Holds same here holds =
+    subst (λ v. Holds (told (items v))) (sym same) (subst (λ v. Holds (told v)) here holds)
+opened_so (Err unopened) disks made items told Holds same here holds = tt
 
 -- a list that was written over the head of another as long
 pub written_back : {A : Type 0} (new rest : List A) (n : ℕ) → length new ≡ n → new ≡ take n (new ++ rest)

@@ -15,16 +15,18 @@ no_way w disks = (0, (refl, refl))
 pub gone_on : {A : Type 0} (at : Option A) (x : A) (number : A → ℕ) (w stepped t : Whole) (old new : Disks)
     (counts : List ℕ) → at ≡ Some x → IfSome at (λ host. GoesAlone w (number host) stepped)
     → ((start : Start) → IsSound start w → IsStepped start w stepped (is_some at))
+    → ((start : Start) → IsSound start w → IsStepped start w t true)
     → (KeepsStep stepped (number x) old → HasKeptStep stepped (number x) old new counts t)
     → (KeepsNothing stepped (number x) → (t ≡ stepped) × (new ≡ old)) → HasGoneOn w old new counts t
-gone_on None x number w stepped t old new counts is alone driven kept nothing = absurd cc
-gone_on (Some y) x number w stepped t old new counts is alone driven kept nothing =
+gone_on None x number w stepped t old new counts is alone driven goes kept nothing = absurd cc
+gone_on (Some y) x number w stepped t old new counts is alone driven goes kept nothing =
     let same : y ≡ x = cc in
     record {
       host = number x;
       stepped = stepped;
       alone = subst (λ host. GoesAlone w (number host) stepped) same alone;
       driven = driven;
+      goes = goes;
       kept = kept;
       nothing = nothing;
     }

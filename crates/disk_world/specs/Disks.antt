@@ -82,6 +82,7 @@ pub record HasGoneOn (w : Whole) (old new : Disks) (counts : List ℕ) (t : Whol
   pub stepped : Whole
   pub alone : GoesAlone w host stepped
   pub driven : (start : Start) → IsSound start w → IsDriven start w stepped
+  pub goes : (start : Start) → IsSound start w → IsDriven start w t
   pub kept : KeepsStep stepped host old → HasKeptStep stepped host old new counts t
   pub nothing : KeepsNothing stepped host → (t ≡ stepped) × (new ≡ old)
 

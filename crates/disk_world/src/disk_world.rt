@@ -19,6 +19,7 @@ ghost use Rattle.world_views.specs.WorldOf.{whole_of};
 ghost use Rattle.disk_world.specs.Disks.{HasDisk, HasFailed, HasGoneOn, HasKept, HasKeptStep, KeepsNothing, KeepsStep, WayOn, disks_with, kept_in, node_of};
 ghost use Rattle.life_start.specs.Records.{AllTellMore, HaveMore};
 ghost use Rattle.life_start.specs.Refusals.{IsRefusedFor};
+ghost use Rattle.life_start.specs.Shapes.{HaveShape};
 ghost use Rattle.disk_world.specs.Picking.{LeavesWorld};
 ghost use Rattle.disk_world.specs.Starting.{epoch_behind, start_from};
 
@@ -61,6 +62,7 @@ impl<D: Disk> DiskWorld<D> {
         ensures is { IfOk result (λ w. IsWorld (whole_of w.world)) }
         ensures begun { (records : List (List Call)) → map D.told disks.items ≡ map Some records → IfOk result (λ w. HasBegun shape (disks_of records) w.generation w.start w.rows.items) }
         ensures ready { (records : List (List Call)) (restored : Restored) → map D.told disks.items ≡ map Some records → AreToPrepare shape restored records → IfOk result (λ w. AreReady shape restored (map D.told w.disks.items)) }
+        ensures shapes { (records : List (List Call)) (restored : Restored) → map D.told disks.items ≡ map Some records → AreToPrepare shape restored records → IfOk result (λ w. HaveShape shape (map D.told w.disks.items)) }
         ensures slots { (records : List (List Call)) → IfOk result (λ w. map D.told w.disks.items ≡ map Some records → AreSlotsOf w.generation (disks_of records) w.slots.items) }
         ensures count { IfOk result (λ w. (length w.disks.items ≡ shape.nodes) × (length w.slots.items ≡ shape.nodes)) }
         // Why none begins, and that no disk is lost then.

@@ -3,4 +3,6 @@ mod BeginLemmas
 mod LackLemmas
 mod ReadyRecords
 mod RefusalLemmas
+mod ShapeLemmas
+pub mod SlotShape
 mod SlotsLemmas

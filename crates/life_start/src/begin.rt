@@ -11,6 +11,7 @@ ghost use Rattle.life_start.specs.Begun.{AreSlotsOf, HasBegun, begins_from, rows
 ghost use Rattle.life_start.specs.Lacking.{IsNoneBehind, Lacks};
 ghost use Rattle.life_start.specs.Records.{AllTellMore};
 ghost use Rattle.life_start.specs.Refusals.{IsRefusedFor, IsUsedUpBy};
+ghost use Rattle.life_start.specs.Shapes.{HaveShape};
 
 use crate::begun::Begun;
 use crate::slots::slots_of;
@@ -42,6 +43,8 @@ pub fn begin_life<D: Disk>(
     // Their records have only grown, also where it doesn't begin, and then this is why.
     ensures recorded { AllTellMore (map D.told disks.old) (map D.told disks.new) }
     ensures refused { (records : List (List Call)) → map D.told disks.old ≡ map Some records → IfErr result (λ fault. is_outside fault ≡ false → IsRefusedFor shape (disks_of records) (map D.told disks.new) fault) }
+    // Their system slots are all of this shape then.
+    ensures shapes { (records : List (List Call)) (restored : Restored) → map D.told disks.old ≡ map Some records → AreToPrepare shape restored records → OnOk result (HaveShape shape (map D.told disks.new)) }
     // Where they may be prepared for it, only numbers that are used up refuse it.
     ensures unless { (records : List (List Call)) (restored : Restored) → map D.told disks.old ≡ map Some records → AreToPrepare shape restored records → IfErr result (λ fault. is_outside fault ≡ false → IsUsedUpBy restored fault) }
     ensures cause { HasCauseAmong (map D.faults disks.old) (map D.faults disks.new) result }
@@ -69,6 +72,7 @@ fn begin_from<D: Disk>(
     ensures more { IfOk result (λ b. b.epoch < 2 ^ 64 - 2 ^ 32) }
     ensures recorded { AllTellMore (map D.told disks.old) (map D.told disks.new) }
     ensures none { (records : List (List Call)) → map D.told disks.old ≡ map Some records → IfErr result (λ fault. is_outside fault ≡ false → IsNoneBehind restored.now shape.nodes (map D.told disks.new) fault) }
+    ensures shapes { (records : List (List Call)) → map D.told disks.old ≡ map Some records → AreToPrepare shape restored.now records → OnOk result (HaveShape shape (map D.told disks.new)) }
     ensures unless { (records : List (List Call)) → map D.told disks.old ≡ map Some records → AreToPrepare shape restored.now records → IfErr result (λ fault. is_outside fault ≡ false → IsUsedUpBy restored.now fault) }
     ensures cause { HasCauseAmong (map D.faults disks.old) (map D.faults disks.new) result }
     ensures steady { AreSteady (map D.faults disks.old) (map D.faults disks.new) }

@@ -5,4 +5,8 @@ pub mod ReplayLaw
 pub mod RestoredLaw
 pub mod SaveLaw
 pub mod StartLaw
+pub mod StorableFiles
+pub mod StorableLaw
+pub mod StorableMaps
+pub mod StorableRedo
 pub mod SystemLaw

@@ -1,7 +1,7 @@
 -- What a restart finds of the rows that a node saved.
 use Rattle.std.specs.Prelude.{◌≡◌, ◌⊎◌, ◌≤◌, ℕ, ◌+◌, Bool, true, List, [], ◌++◌, length, Some, Ok}
 use Rattle.host_io.specs.Call.{Call}
-use Rattle.host_io.specs.Image.{IsLeft, IsRecord, LeavesOnly}
+use Rattle.host_io.specs.Image.{AreBytes, IsLeft, IsRecord, LeavesOnly}
 use Rattle.redo_log.specs.Replaying.{AreRecords, log_bytes, replayed}
 use Rattle.redo_log.specs.Stored.{files_of}
 use Rattle.sig_core.specs.Table.{Rows}
@@ -11,8 +11,9 @@ use Rattle.sysfile_core.specs.declared.place.TheConstants.{CONTROL_FILE, SYSTEM_
 use Rattle.sysfile_core.specs.Runs.{Runs}
 use Rattle.sys_restart.specs.declared.restored.Restored.{Restored}
 use Rattle.sys_restart.specs.Calls.{rows_of_node}
-use Rattle.sys_restart.specs.Files.{Files}
-use Rattle.sys_restart.specs.Prepared.{IsReady}
+use Rattle.sys_restart.specs.Files.{Disks, Files}
+use Rattle.sys_restart.specs.Prepared.{AreStorable, IsReady}
+use Rattle.sys_restart.specs.Restored.{restored_of}
 use Rattle.node_disk.specs.Found.{slots_in}
 use Rattle.node_disk.specs.Laws.{MaySaveRows}
 use Rattle.node_disk.specs.Saving.{next_control, rows_calls, rows_saved, system_calls, system_saved}
@@ -59,3 +60,9 @@ abbrev pub ReplaysStopAtEpochs : Type 0
 ReplaysStopAtEpochs =
     (epoch : ℕ) (start : Rows) (newer redo : List Redo) → AreLater epoch newer
     → replayed epoch start (newer ++ redo) ≡ replayed epoch start redo
+
+-- Of disks whose files have bytes, the rows that are restored are such as a checkpoint has.
+abbrev pub RestoredRowsAreStorable : Type 0
+RestoredRowsAreStorable =
+    (shape : Shape) (disks : Disks) (r : Restored) → ((node file : ℕ) → AreBytes (disks node file))
+    → restored_of shape disks ≡ Ok r → (node : ℕ) → AreStorable (rows_of_node shape node r)

@@ -1,5 +1,6 @@
 //! The rows that the control slot in use names, at each moment of a node's life.
-ghost use Rattle.node_restart.specs.Laws.{ReadyDisksHaveRows, ReplaysStopAtEpochs, RowsAreRestored, SavesKeepRows, SystemSavesKeepRows};
+ghost use Rattle.node_restart.specs.Laws.{ReadyDisksHaveRows, ReplaysStopAtEpochs, RestoredRowsAreStorable};
+ghost use Rattle.node_restart.specs.Laws.{RowsAreRestored, SavesKeepRows, SystemSavesKeepRows};
 
 /// Whatever a crash leaves of a disk that has a node's rows, the control slot in use restores them, up to
 /// any epoch.
@@ -27,4 +28,9 @@ pub fn ready_disks_have_rows()
 /// Records that commit nothing up to an epoch may be left out where rows are replayed up to it.
 pub fn replays_stop_at_epochs()
     ensures { ReplaysStopAtEpochs }
+{}
+
+/// The rows that are restored are such as a checkpoint has.
+pub fn restored_rows_are_storable()
+    ensures { RestoredRowsAreStorable }
 {}

@@ -39,3 +39,12 @@ returns-in-Ok-clause-unless g c = λ records restored told may.
     (λ (r : Restored). IfErr c.begin_from.result (λ fault. is_outside fault ≡ false → IsUsedUpBy r fault)) same
     (c.begin_from.ensures.unless records (c.in-Ok.ensures.unrecorded ∙ told)
     (subst (λ (r : Restored). AreToPrepare c.args.shape r records) (sym same) may))
+
+-- and the slots of such disks are of the shape
+pub returns-in-Ok-clause-shapes : goal.returns-in-Ok-clause-shapes
+returns-in-Ok-clause-shapes g c = λ records restored told may.
+    let same : c.in-Ok.restored ≡ restored =
+    same_answer c.in-Ok.restored restored (restored_of c.args.shape (disks_of records))
+    (c.in-Ok.ensures.read records told) may.restored in
+    c.begin_from.ensures.shapes records (c.in-Ok.ensures.unrecorded ∙ told)
+    (subst (λ (r : Restored). AreToPrepare c.args.shape r records) (sym same) may)

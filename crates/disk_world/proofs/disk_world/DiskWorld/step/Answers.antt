@@ -58,4 +58,4 @@ returns-in-Ok-clause-kept g c = λ went.
     (disks_with (map g.D.Disk.told c.args.self.now.disks.items) c.args.self.now.slots.items)
     (disks_with (map g.D.Disk.told c.keep.new.self.disks.items) c.keep.new.self.slots.items)
     (map g.D.Disk.faults c.keep.new.self.disks.items) c.in-Ok-Some.field-0-is c.in-Ok-Some.ensures.alone
-    c.in-Ok-Some.ensures.ok c.in-Ok.ensures.kept c.in-Ok.ensures.nothing
+    c.in-Ok-Some.ensures.ok (returns-in-Ok-clause-ok g c) c.in-Ok.ensures.kept c.in-Ok.ensures.nothing

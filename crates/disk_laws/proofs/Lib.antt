@@ -1,0 +1,25 @@
+-- A disk keeps up with two logs, that of its member's rows and that of its coordinator: `IsOnDisk` has a half for each.
+-- A half says what the disk has, or, once a call failed, what it leaves. A step of a host is told in its own half by
+-- `RowSteps` and `NoteSteps`, over one save of `RowsSaved` and `SystemSaved`; the other half depends on other files.
+-- `StepLaw` goes through whose step it was, by what `GoneLemmas` make of the world, and `OtherHosts` say that of a main
+-- host nothing is kept: `CopyOrders` follow the only order that could be.
+pub mod CopyOrders
+pub mod GoneLemmas
+pub mod ImageLemmas
+pub mod JournalLemmas
+pub mod KeptLaw
+pub mod KeptParts
+pub mod NoteSteps
+pub mod NotedSignals
+pub mod OtherHosts
+pub mod ReadyLaw
+pub mod RecordLemmas
+pub mod RequestLaw
+pub mod RowSteps
+pub mod RowsSaved
+pub mod SavedLemmas
+pub mod SlotNumbers
+pub mod StepLaw
+pub mod StopsKeepSaved
+pub mod SystemSaved
+pub mod shapes_of

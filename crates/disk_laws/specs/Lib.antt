@@ -1,0 +1,5 @@
+pub mod Found
+pub mod Laws
+pub mod Noted
+pub mod OnDisk
+pub mod Shapes

@@ -1,0 +1,90 @@
+-- What a node's disk has of its member's hosts at each moment of a life.
+use Rattle.std.specs.Prelude.{◌≡◌, ◌≢◌, ◌⊎◌, ◌≤◌, ◌<◌, ℕ, ◌+◌, ◌-◌, true, List, get_or, None, Some}
+use Rattle.host_io.specs.Call.{Call}
+use Rattle.host_io.specs.DiskState.{state_of}
+use Rattle.host_io.specs.Image.{IsImage, IsRecord}
+use Rattle.host_io.specs.declared.limits.TheConstants.{FILES}
+use Rattle.run_theory.specs.Lists.{IsIn, IsPast}
+use Rattle.sig_core.specs.declared.member.Member.{Member}
+use Rattle.sig_core.specs.declared.slots.SystemSlot.{SystemSlot}
+use Rattle.sig_core.specs.Table.{Rows}
+use Rattle.local_ckpt.specs.Events.{Event}
+use Rattle.request_laws.specs.Blocks.{rows_after}
+use Rattle.sys_restart.specs.Files.{Files}
+use Rattle.sysfile_core.specs.declared.place.TheConstants.{SYSTEM_FILE}
+use Rattle.world_core.specs.Start.{Start, made}
+use Rattle.world_core.specs.Steps.{HostStep}
+use Rattle.world_core.specs.World.{logs_at}
+use Rattle.world_views.specs.World.{Whole}
+use Rattle.world_views.specs.Machine.{has_stopped}
+use Rattle.moment_laws.specs.Places.{ldm_of, tc_of}
+use Rattle.node_disk.specs.Laws.{HasSystem}
+use Rattle.node_disk.specs.Slots.{SlotsInUse}
+use Rattle.node_restart.specs.Rows.{HasRows}
+use Rattle.disk_world.specs.Disks.{Disks}
+use Rattle.journal_laws.specs.Events.{records_behind}
+use Rattle.journal_laws.specs.Journal.{AreEventsOf, first_rows, lqh_after, outlet_with}
+use Rattle.disk_laws.specs.Found.{HasLatest, HasSavedRows}
+use Rattle.disk_laws.specs.Noted.{IsFirstOrNoted, WasNoted}
+
+module _ (start : Start) (member : Member) (before : Rows) (first : SystemSlot) where
+  -- The disk has the rows that were saved last, and nothing of them is dirty.
+  pub record HasAllRows (log : List HostStep) (s : SlotsInUse) (calls : List Call) : Type 0 where
+    pub generation_is : s.control.generation ≡ first.generation
+    pub begins : s.control.redo_start ≡ 0
+    pub serial : s.control.serial ≤ 1 + s.control.saved
+    pub older : List HostStep
+    pub past : IsPast older log
+    pub saved : s.control.saved ≡ (rows_after start member older).saved
+    pub latest : (rows_after start member log).saved ≡ s.control.saved
+    pub events : List Event
+    pub events_of : AreEventsOf start member older events
+    -- the journal had just these records then
+    pub outlet : (lqh_after start member older).outlet ≡ outlet_with (records_behind (first_rows start member) events)
+    pub rows : HasRows s before (records_behind (first_rows start member) events) calls
+
+  -- A call for the rows failed, and their host has stopped: whatever a crash leaves of the other files, what was saved
+  -- is found.
+  pub record LeavesRows (log : List HostStep) (calls : List Call) : Type 0 where
+    pub kept : IsRecord calls
+    pub stopped : has_stopped log ≡ true
+    pub leaves :
+        (image : Files)
+        → ((file : ℕ) → file < FILES → file ≢ SYSTEM_FILE → IsImage (state_of calls file) (image file))
+        → HasSavedRows start member before first.generation log image
+
+  -- the same of the system slot
+  pub record HasAllNoted (log : List HostStep) (s : SlotsInUse) (calls : List Call) : Type 0 where
+    pub slot : HasSystem s calls
+    pub shape : first.shape ≡ start.shape
+    pub is : IsFirstOrNoted start (tc_of start member) log first s.system
+    pub least : first.epoch ≤ s.system.epoch
+    pub latest : (epoch mask : ℕ) → WasNoted start (tc_of start member) log epoch mask → epoch ≤ s.system.epoch
+
+  pub record LeavesNoted (log : List HostStep) (calls : List Call) : Type 0 where
+    pub kept : IsRecord calls
+    pub stopped : has_stopped log ≡ true
+    pub leaves :
+        (image : Files) → IsImage (state_of calls SYSTEM_FILE) (image SYSTEM_FILE)
+        → HasLatest start member before first log image
+
+  -- what holds of the rows, and of the system slot, at each moment: no call failed, or their host has stopped
+  abbrev pub KeepsRows : List HostStep → SlotsInUse → List Call → Type 0
+  KeepsRows log s calls = HasAllRows log s calls ⊎ LeavesRows log calls
+
+  abbrev pub KeepsNoted : List HostStep → SlotsInUse → List Call → Type 0
+  KeepsNoted log s calls = HasAllNoted log s calls ⊎ LeavesNoted log calls
+
+  -- the disk of the member's node tells these calls, and has what its hosts gave it to keep
+  pub record IsOnDisk (ldm_log tc_log : List HostStep) (s : SlotsInUse) (calls : List Call) : Type 0 where
+    pub rows : KeepsRows ldm_log s calls
+    pub noted : KeepsNoted tc_log s calls
+
+  -- so it is at a moment of a world and its disks
+  pub record KeepsUp (w : Whole) (disks : Disks) : Type 0 where
+    pub there : IsIn member (made start)
+    pub slots : SlotsInUse
+    pub slots_are : (other : SlotsInUse) → get_or disks.slots (member.node - 1) other ≡ slots
+    pub calls : List Call
+    pub told : get_or disks.told (member.node - 1) None ≡ Some calls
+    pub is : IsOnDisk (logs_at w.logs (ldm_of start member)) (logs_at w.logs (tc_of start member)) slots calls

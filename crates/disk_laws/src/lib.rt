@@ -1,0 +1,8 @@
+//! What the disks of nodes have of their hosts at each moment of a life.
+#![tactic(auto)]
+
+mod laws;
+mod shapes;
+
+pub use laws::{ready_disks_keep_up, requests_are_kept, steps_are_kept, what_is_kept_is_found};
+pub use shapes::{shapes_are_kept, shapes_are_read};

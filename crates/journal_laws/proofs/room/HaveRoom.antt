@@ -1,0 +1,61 @@
+-- The journal of a member's rows has its room after every log of their host.
+use Rattle.std.proofs.Common.{◌≡◌, ℕ, List, [], ◌∷◌, refl, arith}
+use Rattle.sig_core.specs.declared.member.Member.{Member}
+use Rattle.sig_core.specs.declared.signal.Signal.{Signal}
+use Rattle.sig_core.specs.declared.view.View.{View}
+use Rattle.sig_core.specs.Rows.{RowsState, no_rows, put_row}
+use Rattle.lqh_block.specs.Fresh.{unused}
+use Rattle.lqh_block.proofs.DueLemmas.{covered_at_rest}
+use Rattle.lqh_views.specs.Replica.{installed, replica_row}
+use Rattle.lqh_views.specs.State.{ReplicaState}
+use Rattle.lqh_views.proofs.Walk.{replica_outcomes}
+use Rattle.node_core.specs.Fresh.{own_rows, with_rows}
+use Rattle.moment_laws.specs.Moments.{logs_of}
+use Rattle.moment_laws.specs.Places.{ldm_of}
+use Rattle.request_laws.proofs.replicas.AlongLogs.{always, first_rows}
+use Rattle.world_core.specs.Start.{Start}
+use Rattle.journal_laws.specs.Laws.{JournalsHaveRoom}
+use Rattle.journal_laws.proofs.room.RowsKeepRoom.{RowsHaveRoom, rows_keep_room}
+
+-- so have rows under views
+abbrev ReplicaHasRoom : ReplicaState → Type 0
+ReplicaHasRoom s = RowsHaveRoom s.lqh
+
+takes : (s : ReplicaState) (x : Signal) → ReplicaHasRoom s → ReplicaHasRoom (replica_row s x).state
+takes s x has =
+    replica_outcomes s x (λ step. ReplicaHasRoom step.state) (record {
+      passes = λ of_rows. rows_keep_room s.lqh x.body has;
+      stales = λ of_waits stale. has;
+      unasked = λ at is none. has;
+      ignores = λ signal is. has;
+      promises = λ proposal is. has;
+      closes = λ epoch is. has;
+      saves = λ epoch is. has;
+      states = λ is. has;
+      tells_record = λ r under_way at one last there. has;
+      tells_marker = λ r under_way at m none last there. has;
+      ends = λ r under_way none no_more. has;
+    })
+
+installs : (s : ReplicaState) (view : View) → ReplicaHasRoom s → ReplicaHasRoom (installed s view)
+installs s view has = has
+
+-- rows that are put leave the records as they were, and of these there are none at first
+put_leaves : (s : RowsState) (rows : List (List ℕ × List ℕ)) (epoch : ℕ) → (with_rows s rows epoch).pending ≡ s.pending
+put_leaves s [] epoch = refl
+put_leaves s (r ∷ rows) epoch = put_leaves (put_row s r.0 r.1 epoch) rows epoch
+
+begins : (start : Start) (member : Member) → ReplicaHasRoom (first_rows start member)
+begins start member = record {
+  used = omega arith;
+  room = omega arith;
+  covered =
+      covered_at_rest (with_rows no_rows (own_rows start.shape member.node start.rows) start.start_epoch) unused
+      (put_leaves no_rows (own_rows start.shape member.node start.rows) start.start_epoch);
+}
+
+pub journals_have_room : JournalsHaveRoom
+journals_have_room start all es moment member there =
+    let has = always ReplicaHasRoom takes installs start member there (begins start member)
+    (logs_of start es (ldm_of start member)) in
+    omega (arith, has.used, has.room)

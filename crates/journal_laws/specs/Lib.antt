@@ -1,0 +1,4 @@
+pub mod Asked
+pub mod Events
+pub mod Journal
+pub mod Laws

@@ -1,0 +1,4 @@
+pub mod masters
+pub mod others
+pub mod rows
+pub mod settled

@@ -1,0 +1,4 @@
+pub mod Closings
+pub mod Copied
+pub mod History
+pub mod Keys

@@ -1,0 +1,14 @@
+//! What members have saved is the history, and what was told before an epoch is durable.
+#![tactic(auto)]
+
+mod closings;
+mod copied;
+mod history;
+mod keys;
+
+pub use closings::{
+    closed_ones_are_committed, commits_were_decided, committed_ones_are_final, saved_were_closed,
+};
+pub use copied::{copied_were_saved, durable_were_noted};
+pub use history::saved_rows_are_history;
+pub use keys::{other_keys_stay, saved_are_below_the_last};
