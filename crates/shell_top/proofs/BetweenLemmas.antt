@@ -25,6 +25,7 @@ use Rattle.shell_top.proofs.ChapterLemmas.{going_life}
 use Rattle.shell_top.proofs.FreshLemmas.{fresh_served, fresh_told}
 use Rattle.shell_top.proofs.LivedLemmas.{served_lived, told_front, told_part}
 use Rattle.shell_top.proofs.LivesLemmas.{ends_served, printed_whole, some_last, some_life}
+use Rattle.shell_top.proofs.OnDisksLemmas.{left_as_history}
 use Rattle.shell_top.proofs.UnbornLemmas.{unborn_early}
 use Rattle.world_core.specs.World.{logs_at}
 use Rattle.world_views.proofs.ShellLemmas.{down_is}
@@ -134,6 +135,7 @@ module _ (shape : Shape) (sound : IsShape shape) where
               restored = was.is.restored;
               life = was.is.life;
               ends = subst (EndsBy shape further) (sym was.crashed) was.crashed;
+              restarts = was.is.restarts;
             };
             crashed = was.crashed;
             asked = ap (λ cs. cs ++ c ∷ []) was.asked
@@ -193,6 +195,7 @@ module _ (shape : Shape) (sound : IsShape shape) where
               restored = s.is_now.restored;
               life = ended_life g s.chapters s.own s.own_text given seen ended s.is_now;
               ends = refl;
+              restarts = left_as_history shape s.is_now.opened seen g s.is_now.begins s.is_now.lived;
             };
             crashed = refl;
             asked = refl;
@@ -227,6 +230,7 @@ module _ (shape : Shape) (sound : IsShape shape) where
                   (sym (down_is g.start s.is_now.served.given g.whole s.is_now.served.right)
                   ∙ down_is_not (is_down g.whole) down_now),
             );
+            restarts = left_as_history shape s.is_now.opened seen g s.is_now.begins s.is_now.lived;
           },
           s.are,
         );
@@ -284,7 +288,7 @@ module _ (shape : Shape) (sound : IsShape shape) where
 
   -- it begins
   pub restarts : (seen seen_now : Seen) (ended : List Life) (now next : Option Going) → is_up now ≡ false
-      → (begun : HasBegun shape seen next) → HasGrown seen seen_now
+      → (begun : HasBegun shape seen seen_now next) → HasGrown seen seen_now
       → (commands : List Command) (text : List ℕ) (given : Seen) → AreServed shape commands text given seen ended now
       → AreServed shape (commands ++ command.Restart ∷ [])
       (text ++ reply_text (Restarted begun.going.start.start_epoch)) given seen_now (all_lives ended now) next
@@ -305,6 +309,7 @@ module _ (shape : Shape) (sound : IsShape shape) where
           disks = (closed.disks, grown);
           begins = begun.begins;
           restored = begun.restored;
+          lived = begun.lived;
           were = closed.were;
           served = fresh_served g.start g.whole begun.fresh;
           told = sym
@@ -325,8 +330,8 @@ module _ (shape : Shape) (sound : IsShape shape) where
       closed = closes seen ended now commands text given s may
 
   -- before the first command
-  pub first_served : (next : Option Going) (opened seen : Seen) → HasBegun shape opened next → HasGrown opened seen
-      → AreServed shape [] [] opened seen [] next
+  pub first_served : (next : Option Going) (opened seen : Seen) → HasBegun shape opened seen next
+      → HasGrown opened seen → AreServed shape [] [] opened seen [] next
   first_served next opened seen begun grown =
       subst (AreServed shape [] [] opened seen []) (sym begun.is)
       (record {
@@ -341,6 +346,7 @@ module _ (shape : Shape) (sound : IsShape shape) where
           disks = (refl, grown);
           begins = begun.begins;
           restored = begun.restored;
+          lived = begun.lived;
           were = refl;
           served = fresh_served begun.going.start begun.going.whole begun.fresh;
           told = sym

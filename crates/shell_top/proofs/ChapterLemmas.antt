@@ -13,9 +13,10 @@ use Rattle.script_lang.specs.declared.command.Command.{Command}
 use Rattle.sig_core.specs.declared.log.Life.{Life}
 use Rattle.sig_core.specs.declared.view.Shape.{Shape}
 use Rattle.shell_top.specs.Chapters.{AreFirst, AreHandedOn, AreLives, Chapter, Crash, IsChapter, IsRestored, Living}
-use Rattle.shell_top.specs.Chapters.{asked_in, asked_in_all, chapter_text, chapters_text, first_line, is_refusal}
-use Rattle.shell_top.specs.Chapters.{life_text, lives_of}
+use Rattle.shell_top.specs.Chapters.{RestartsAsHistory, asked_in, asked_in_all, chapter_text, chapters_text}
+use Rattle.shell_top.specs.Chapters.{first_line, is_refusal, life_text, lives_of}
 use Rattle.shell_top.specs.declared.ended.Ending.{Ending}
+use Rattle.shell_top.specs.declared.ended.Ending.TheVariants.{NoMemory}
 use Rattle.shell_top.specs.Lived.{AreLived, IsLife}
 use Rattle.shell_top.specs.Lives.{Going, life_of}
 use Rattle.shell_top.specs.Seen.{HasGrown, Seen}
@@ -69,15 +70,16 @@ module _ (shape : Shape) (sound : IsShape shape) where
         → AreHandedOn given chapters opened × HasGrown opened seen → (ended : List Life) → ended ≡ lives_of chapters
         → (g : Going) → g.start ≡ start_of shape (life_of g) → IsRestored shape opened (life_of g)
         → AreLived g.start e own g.whole.logs
+        → ((e ≡ NoMemory → ⊥) → RestartsAsHistory shape opened seen (life_of g))
         → (text : List ℕ) → text ≡ chapters_text shape chapters ++ life_text shape chapters (life_of g)
         → AreLives shape e all given seen (ended ++ life_of g ∷ []) text
-    ends_living e none all own asked opened disks ended were g begins restored lived text is =
+    ends_living e none all own asked opened disks ended were g begins restored lived left text is =
         record {
           chapters = chapters;
           last = Living (life_of g) opened;
           own = own;
           are = are;
-          is_last = (restored, going_life e own g begins lived, none);
+          is_last = (restored, going_life e own g begins lived, none, left);
           disks = disks;
           asked = asked;
           all = ap (λ ls. ls ++ life_of g ∷ []) were;
@@ -106,12 +108,12 @@ module _ (shape : Shape) (sound : IsShape shape) where
 
 -- the text of a life goes on as its log does
 pub life_longer : (shape : Shape) (chapters : List Chapter) (start : Start) (w t : Whole) (more : List ℕ)
-    → start ≡ start_of shape (life_of (record { start = start; whole = w }))
+    → start ≡ start_of shape (life_of (record { start = start; whole = w; slots = [] }))
     → text_of start (logs_at t.logs 0) ≡ text_of start (logs_at w.logs 0) ++ more
-    → life_text shape chapters (life_of (record { start = start; whole = t }))
-    ≡ life_text shape chapters (life_of (record { start = start; whole = w })) ++ more
+    → life_text shape chapters (life_of (record { start = start; whole = t; slots = [] }))
+    ≡ life_text shape chapters (life_of (record { start = start; whole = w; slots = [] })) ++ more
 life_longer shape chapters start w t more begins longer =
-    let was : Life = life_of (record { start = start; whole = w }) in
+    let was : Life = life_of (record { start = start; whole = w; slots = [] }) in
     let first : List ℕ = first_line chapters start.start_epoch in
     ap (λ xs. first ++ xs)
     (subst (λ s. text_of s (logs_at t.logs 0) ≡ text_of s (logs_at w.logs 0) ++ more) begins longer)

@@ -28,7 +28,7 @@ use Rattle.shell_top.proofs.UnbornLemmas.{unborn_early, unborn_may}
 -- the session is before its first line
 pub starts : (left written : Option (List ℕ)) (shape : Shape) (sound : IsShape shape) (opened seen : Seen) (line : ℕ)
     (held : List ℕ) (gone : List Life) (now : Option Going) → held ≡ [] → line ≡ 1 → gone ≡ []
-    → HasBegun shape opened now → HasGrown opened seen
+    → HasBegun shape opened seen now → HasGrown opened seen
     → IsUnderWay shape left left written written opened seen line held gone now
 starts left written shape sound opened seen line held gone now empty first none begun grown =
     record {

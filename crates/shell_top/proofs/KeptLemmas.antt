@@ -23,8 +23,8 @@ use Rattle.shell_top.specs.Chapters.{IsUnborn, ending_for}
 use Rattle.shell_top.specs.declared.ended.Ending.{Ending}
 use Rattle.shell_top.specs.declared.ended.Ending.TheVariants as ending
 use Rattle.shell_top.specs.declared.lives.Lives.{Lives}
-use Rattle.shell_top.specs.Lives.{AreKept, Going, HasBegun, HasRoom, IsGoing, disks_by, disks_of, going_from}
-use Rattle.shell_top.specs.Lives.{going_in, is_up, life_of, now_of, start_in}
+use Rattle.shell_top.specs.Lives.{AreKept, Going, HasBegun, HasRoom, IsGoing, IsLivedSince, disks_by, disks_of}
+use Rattle.shell_top.specs.Lives.{going_from, going_in, is_up, life_of, now_of, start_in}
 use Rattle.shell_top.specs.Seen.{Seen, seen, seen_on}
 use Rattle.shell_top.specs.Setting.{Setting, setting_of}
 use Rattle.shell_top.proofs.FreshLemmas.{fresh_going}
@@ -85,8 +85,9 @@ no_world (Some w) none = cc
 
 -- a world in the same setting is that of a life that began as it did
 pub goes_same : {D : Type 0} → (shape : Shape) (w t : DiskWorld D) → setting_of t ≡ setting_of w
-    → going_in shape t ≡ record { start = (going_in shape w).start; whole = whole_of t.world }
-goes_same shape w t same = ap (λ (setting : Setting). going_from shape setting (whole_of t.world)) same
+    → going_in shape t ≡ record { start = (going_in shape w).start; whole = whole_of t.world; slots = t.slots.items }
+goes_same shape w t same =
+    ap (λ (setting : Setting). going_from shape setting (whole_of t.world) t.slots.items) same
 
 -- what is kept where a life goes on in a world in the same setting
 module _ {D : Type 0} (lives : Lives D) (w : DiskWorld D) (is : lives.world ≡ Some w) where
@@ -138,16 +139,19 @@ ended_life l g logs epoch rows slots =
 -- a life that has begun
 module _ {D : Type 0} (shape : Shape) (told : List (Option (List Call))) (faults : List ℕ) (w : DiskWorld D)
     (fresh : whole_of w.world ≡ new_world (start_from shape w.start w.rows.items)) where
-  pub has_begun : ((records : List (List Call)) → told ≡ map Some records
+  pub has_begun : (now : Seen)
+      → ((records : List (List Call)) → told ≡ map Some records
       → life.HasBegun shape (disks_told records) w.generation w.start w.rows.items)
-      → HasBegun shape (seen told faults) (Some (going_in shape w))
-  has_begun restored =
+      → IsLivedSince shape (seen told faults) now (going_in shape w)
+      → HasBegun shape (seen told faults) now (Some (going_in shape w))
+  has_begun now restored lived =
       record {
         going = going_in shape w;
         is = refl;
         begins = refl;
         restored = λ records all. (w.generation, restored records all);
         fresh = fresh;
+        lived = lived;
       }
 
   pub goes_on : IsGoing (Some (going_in shape w))

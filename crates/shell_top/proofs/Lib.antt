@@ -12,6 +12,7 @@ pub mod FreshLemmas
 pub mod KeptLemmas
 pub mod LivesLemmas
 pub mod NextLemmas
+pub mod OnDisksLemmas
 pub mod ObeyLemmas
 pub mod SettingLemmas
 pub mod PrintedLemmas

@@ -63,7 +63,7 @@ module _ {D : Type 0} (told : D → Option (List Call)) (faults : D → ℕ) (ol
     grown_since = subst (λ s. HasGrown s (seen_of new)) same_seen grown
 
     -- it did
-    pub begun_obeys : HasBegun over.shape (seen_of over) (now_of new)
+    pub begun_obeys : HasBegun over.shape (seen_of over) (seen_of new) (now_of new)
         → IsLineTold result (reply_text (Restarted (start_in new.shape (now_of new)).start_epoch)) written written_now
         → Obeys old.shape command.Restart (seen_of old) (seen_of new) old.ended.items new.ended.items (now_of old)
         (now_of new) written written_now result
@@ -75,8 +75,8 @@ module _ {D : Type 0} (told : D → Option (List Call)) (faults : D → ℕ) (ol
         (sym (new_ended ∙ ended))
         (obeys_restart old.shape sound old.ended.items written written_now result (seen_of old) (seen_of new)
         (now_of old) (now_of new) down
-        (subst (λ s. HasBegun old.shape s (now_of new)) same_seen
-        (subst (λ sh. HasBegun sh (seen_of over) (now_of new)) shape begun)) grown_since
+        (subst (λ s. HasBegun old.shape s (seen_of new) (now_of new)) same_seen
+        (subst (λ sh. HasBegun sh (seen_of over) (seen_of new) (now_of new)) shape begun)) grown_since
         (subst (λ sh.
         IsLineTold result (reply_text (Restarted (start_in sh (now_of new)).start_epoch)) written written_now)
         (new_shape ∙ shape) line))

@@ -14,6 +14,7 @@ use Rattle.shell_top.specs.declared.ended.Ending.{Ending}
 use Rattle.shell_top.specs.declared.lives.Lives.{Lives}
 use Rattle.shell_top.specs.Lives.{Going, HasBegun, IsLineTold, Obeys, all_lives, disks_of, going_in, is_up, now_of}
 use Rattle.shell_top.specs.Lives.{start_in}
+use Rattle.shell_top.specs.OnDisks.{LivesOn, UnlessWanting}
 use Rattle.shell_top.specs.Seen.{HasGrown, HaveLost, Seen, seen_on}
 use Rattle.shell_top.specs.Served.{PrintsCommand}
 use Rattle.shell_top.specs.Setting.{setting_of}
@@ -44,8 +45,8 @@ module _ (shape : Shape) (sound : IsShape shape) (ended : List Life) (written wr
       written written_now (crashes shape sound seen lost cut ended g) result told
 
   -- the next life begins
-  pub obeys_restart : (seen seen_now : Seen) (now next : Option Going) → is_up now ≡ false → HasBegun shape seen next
-      → HasGrown seen seen_now
+  pub obeys_restart : (seen seen_now : Seen) (now next : Option Going) → is_up now ≡ false
+      → HasBegun shape seen seen_now next → HasGrown seen seen_now
       → IsLineTold result (reply_text (Restarted (start_in shape next).start_epoch)) written written_now
       → Obeys shape command.Restart seen seen_now ended (all_lives ended now) now next written written_now result
   obeys_restart seen seen_now now next down begun grown told =
@@ -60,11 +61,12 @@ module _ {D : Type 0} (told : D → Option (List Call)) (faults : D → ℕ) (li
     (w t : DiskWorld D) (is : lives.world ≡ Some w) (same : setting_of t ≡ setting_of w)
     (grown : HasGrown (seen_on told faults w.disks.items) (seen_on told faults t.disks.items)) where
   pub obeys_within : (c : Command) (written written_now : Option (List ℕ)) (result : Option Ending)
+      → UnlessWanting result (LivesOn (start_in lives.shape (now_of lives)) told w t)
       → PrintsCommand (start_in lives.shape (now_of lives)) c (whole_of w.world) (whole_of t.world) result written
       written_now
       → Obeys lives.shape c (seen_on told faults (disks_of lives)) (seen_on told faults t.disks.items)
       lives.ended.items lives.ended.items (now_of lives) (Some (going_in lives.shape t)) written written_now result
-  obeys_within c written written_now result printed =
+  obeys_within c written written_now result on printed =
       subst
       (λ disks.
       Obeys lives.shape c (seen_on told faults disks) (seen_on told faults t.disks.items) lives.ended.items
@@ -72,22 +74,24 @@ module _ {D : Type 0} (told : D → Option (List Call)) (faults : D → ℕ) (li
       (sym (disks_within lives w is))
       (subst
       (λ now.
-      PrintsCommand (start_in lives.shape now) c (whole_of w.world) (whole_of t.world) result written written_now
+      UnlessWanting result (LivesOn (start_in lives.shape now) told w t)
+      → PrintsCommand (start_in lives.shape now) c (whole_of w.world) (whole_of t.world) result written written_now
       → Obeys lives.shape c (seen_on told faults w.disks.items) (seen_on told faults t.disks.items) lives.ended.items
       lives.ended.items now (Some (going_in lives.shape t)) written written_now result)
-      (sym (goes lives w is)) by printed)
+      (sym (goes lives w is)) by on printed)
     where
-      by : PrintsCommand (going_in lives.shape w).start c (whole_of w.world) (whole_of t.world) result written
+      by : UnlessWanting result (LivesOn (going_in lives.shape w).start told w t)
+          → PrintsCommand (going_in lives.shape w).start c (whole_of w.world) (whole_of t.world) result written
           written_now
           → Obeys lives.shape c (seen_on told faults w.disks.items) (seen_on told faults t.disks.items)
           lives.ended.items lives.ended.items (Some (going_in lives.shape w)) (Some (going_in lives.shape t)) written
           written_now result
-      by prints =
+      by comes prints =
           subst
           (λ next.
           Obeys lives.shape c (seen_on told faults w.disks.items) (seen_on told faults t.disks.items) lives.ended.items
           lives.ended.items (Some (going_in lives.shape w)) (Some next) written written_now result)
           (sym (goes_same lives.shape w t same))
           (obeys_served lives.shape sound lives.ended.items c (going_in lives.shape w) (whole_of t.world)
-          (seen_on told faults w.disks.items) (seen_on told faults t.disks.items) grown written written_now result
-          prints)
+          t.slots.items (seen_on told faults w.disks.items) (seen_on told faults t.disks.items) grown written
+          written_now result comes prints)

@@ -6,13 +6,18 @@ use Rattle.std.specs.List.{position_or_len, slice_split, onto_first}
 use Rattle.std.proofs.lemmas.Bool.Decides.{nat_tests}
 use Rattle.std.proofs.lemmas.List.{take-append-drop}
 use Rattle.std.proofs.lemmas.List.Splits.{slice_split-cons_yes, slice_split-cons_no, length-slice_split}
+use Rattle.journal_laws.specs.Asked as asked
+use Rattle.script_lang.proofs.ReadIsSpelled.{lines_are_spelled}
+use Rattle.script_lang.specs.Spelling.{IsCommand, IsOperation}
+use Rattle.sig_core.specs.declared.op.Op.{Op}
+use Rattle.sig_core.specs.declared.op.Op.TheVariants as op
 use Rattle.script_lang.specs.declared.command.Command.{Command}
 use Rattle.shell_top.specs.declared.ended.Ending.TheVariants.{TooLong}
 use Rattle.script_lang.specs.declared.command.Command.TheVariants as command
 use Rattle.script_lang.specs.declared.fault.LineFault.{LineFault}
 use Rattle.script_lang.specs.declared.fault.LineFault.TheVariants.{UnknownCommand}
 use Rattle.script_lang.specs.Line.{first_word, parsed_line as whole_grammar}
-use Rattle.shell_top.specs.Asked.{is_asked_for}
+use Rattle.shell_top.specs.Asked.{IsOfWords, is_asked_for}
 use Rattle.shell_top.specs.declared.script.Parsed.{Parsed}
 use Rattle.shell_top.specs.declared.script.Parsed.TheVariants as parsed
 use Rattle.shell_top.specs.Parsed.{asked as asked_as, available, may_stand, parsed as parsed_line, parsed_as}
@@ -186,39 +191,64 @@ pub after-append : (first second : List Command) (script : Script)
 after-append first second script =
     ap (λ commands. record { commands = commands; last = script.last }) (append_assoc first second script.commands)
 
--- what a line asks for is served
-asked_served : (c asked : Command) → asked_as asked ≡ parsed.Ask c → is_asked_for c ≡ true
-asked_served c (command.Begin name at) e = let same : command.Begin name at ≡ c = cc in ap is_asked_for (sym same)
-asked_served c (command.Operate name op) e = let same : command.Operate name op ≡ c = cc in ap is_asked_for (sym same)
-asked_served c (command.Commit name) e = let same : command.Commit name ≡ c = cc in ap is_asked_for (sym same)
-asked_served c (command.Abort name) e = let same : command.Abort name ≡ c = cc in ap is_asked_for (sym same)
-asked_served c (command.Kill at) e = let same : command.Kill at ≡ c = cc in ap is_asked_for (sym same)
-asked_served c (command.Cut one other) e = let same : command.Cut one other ≡ c = cc in ap is_asked_for (sym same)
-asked_served c command.Micro e = let same : command.Micro ≡ c = cc in ap is_asked_for (sym same)
-asked_served c command.Gcp e = let same : command.Gcp ≡ c = cc in ap is_asked_for (sym same)
-asked_served c command.View e = let same : command.View ≡ c = cc in ap is_asked_for (sym same)
-asked_served c (command.Tick rounds) e = let same : command.Tick rounds ≡ c = cc in ap is_asked_for (sym same)
-asked_served c (command.Rows at) e = let same : command.Rows at ≡ c = cc in ap is_asked_for (sym same)
-asked_served c (command.Digest at) e = let same : command.Digest at ≡ c = cc in ap is_asked_for (sym same)
-asked_served c command.Crash e = let same : command.Crash ≡ c = cc in ap is_asked_for (sym same)
-asked_served c command.Restart e = let same : command.Restart ≡ c = cc in ap is_asked_for (sym same)
-asked_served c command.Quit e = cc
-asked_served c _ e = cc
+-- what a line asks for is a command of the whole grammar, which is served
+asks_it : (c found : Command) → asked_as found ≡ parsed.Ask c → (found ≡ c) × (is_asked_for found ≡ true)
+asks_it c (command.Begin name at) e = (cc, refl)
+asks_it c (command.Operate name op) e = (cc, refl)
+asks_it c (command.Commit name) e = (cc, refl)
+asks_it c (command.Abort name) e = (cc, refl)
+asks_it c (command.Kill at) e = (cc, refl)
+asks_it c (command.Cut one other) e = (cc, refl)
+asks_it c command.Micro e = (cc, refl)
+asks_it c command.Gcp e = (cc, refl)
+asks_it c command.View e = (cc, refl)
+asks_it c (command.Tick rounds) e = (cc, refl)
+asks_it c (command.Rows at) e = (cc, refl)
+asks_it c (command.Digest at) e = (cc, refl)
+asks_it c command.Crash e = (cc, refl)
+asks_it c command.Restart e = (cc, refl)
+asks_it c command.Quit e = absurd cc
+asks_it c _ e = absurd cc
 
-line_served : (c : Command) (result : Result (Option Command) LineFault) → parsed_as result ≡ parsed.Ask c
-    → is_asked_for c ≡ true
-line_served c (Ok None) e = cc
-line_served c (Ok (Some asked)) e = asked_served c asked e
-line_served c (Err fault) e = cc
+line_asks : (nodes : ℕ) (line : List ℕ) (c : Command) → parsed_line nodes line ≡ parsed.Ask c
+    → (whole_grammar false nodes line ≡ Ok (Some c)) × (is_asked_for c ≡ true)
+line_asks nodes line c e = go (may_stand (first_word line)) e
+  where
+    by : (result : Result (Option Command) LineFault) → parsed_as result ≡ parsed.Ask c
+        → (result ≡ Ok (Some c)) × (is_asked_for c ≡ true)
+    by (Ok None) e = absurd cc
+    by (Ok (Some found)) e =
+        let it = asks_it c found e in
+        (ap (λ x. Ok (Some x)) it.0, ap is_asked_for (sym it.0) ∙ it.1)
+    by (Err fault) e = absurd cc
+
+    go : (b : Bool) → (if b then available nodes line else parsed.Fault UnknownCommand) ≡ parsed.Ask c
+        → (whole_grammar false nodes line ≡ Ok (Some c)) × (is_asked_for c ≡ true)
+    go true e = by (whole_grammar false nodes line) e
+    go false e = absurd cc
 
 pub command_served : (nodes : ℕ) (line : List ℕ) (c : Command) → parsed_line nodes line ≡ parsed.Ask c
     → is_asked_for c ≡ true
-command_served nodes line c e = go (may_stand (first_word line)) e
+command_served nodes line c e = (line_asks nodes line c e).1
+
+-- and one for an operation is for one of words
+pub command_words : (nodes : ℕ) (line : List ℕ) (c : Command) → nodes ≤ 8 → parsed_line nodes line ≡ parsed.Ask c
+    → IsOfWords c
+command_words nodes line c few e =
+    of_words c (lines_are_spelled false nodes line c (omega (arith, few)) (line_asks nodes line c e).0).1
   where
-    go : (b : Bool) → (if b then available nodes line else parsed.Fault UnknownCommand) ≡ parsed.Ask c
-        → is_asked_for c ≡ true
-    go true e = line_served c (whole_grammar false nodes line) e
-    go false e = cc
+    of_operation : (op : Op) → IsOperation op → asked.IsOfWords op
+    of_operation (op.Get key) is = (is, tt)
+    of_operation (op.GetX key) is = (is, tt)
+    of_operation (op.Put key value) is = is
+    of_operation (op.Ins key value) is = is
+    of_operation (op.Upd key value) is = is
+    of_operation (op.Del key) is = (is, tt)
+
+    of_words : (c : Command) → IsCommand false nodes c → IsOfWords c
+    of_words (command.Operate None op) is = of_operation op is.1
+    of_words (command.Operate (Some name) op) is = of_operation op is.1
+    of_words _ is = tt
 
 -- what the session took a line for is what it asks for
 pub line_means : (nodes told : ℕ) (line read : List ℕ) (found is : Parsed) → told ≡ nodes → read ≡ line

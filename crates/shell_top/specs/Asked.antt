@@ -2,6 +2,7 @@
 use Rattle.std.specs.Prelude.{◌≡◌, ◌⊎◌, ℕ, zero, suc, ◌+◌, ◌-◌, Bool, true, false, List, [], ◌∷◌, ◌++◌, reverse, take}
 use Rattle.std.specs.Prelude.{slice_get, is_some, Option, None, Some}
 use Rattle.std.specs.List.{list_all}
+use Rattle.journal_laws.specs.Asked as asked
 use Rattle.run_theory.specs.Lists.{IsPast}
 use Rattle.script_lang.specs.declared.command.Command.{Command}
 use Rattle.script_lang.specs.declared.command.Command.TheVariants as command
@@ -88,6 +89,11 @@ AsksOn served log true = IsAskedNext served log × (requests log ≡ requests se
 abbrev pub MayAsk : Command → Bool → Type 0
 MayAsk command.Restart down = down ≡ false
 MayAsk command down = Unit {0}
+
+-- a command for an operation is for one of words
+abbrev pub IsOfWords : Command → Type 0
+IsOfWords (command.Operate name op) = asked.IsOfWords op
+IsOfWords command = Unit {0}
 
 -- A command was asked for behind `before`, in host 0's log.
 pub record AsksCommand (start : Start) (command : Command) (before log : List HostStep) : Type 0 where

@@ -1,14 +1,18 @@
 -- The chapters of a session: a life of the cluster that ended, and what came behind it, up to the next.
-use Rattle.std.specs.Prelude.{◌≡◌, Bool, true, false, List, [], ◌∷◌, ◌++◌, ℕ, codes, map, Some}
+use Rattle.std.specs.Prelude.{◌≡◌, Bool, true, false, List, [], ◌∷◌, ◌++◌, ℕ, codes, map, Some, Ok}
 use Rattle.host_io.specs.Call.{Call}
+use Rattle.host_io.specs.Image.{IsLeft}
 use Rattle.life_start.specs.Begun as life
 use Rattle.life_start.specs.Refusals.{IsRefusedFor}
+use Rattle.restart_laws.specs.Lived.{IsHonest}
+use Rattle.restart_laws.specs.Restart.{IsOfLife}
 use Rattle.run_theory.specs.Lists.{Each}
 use Rattle.script_lang.specs.declared.command.Command.{Command}
 use Rattle.script_lang.specs.declared.command.Command.TheVariants as command
 use Rattle.script_lang.specs.ReplyText.{newline, reply_text}
 use Rattle.shell_top.specs.declared.ended.Ending.{Ending}
 use Rattle.shell_top.specs.declared.ended.Ending.TheVariants as ending
+use Rattle.shell_top.specs.declared.ended.Ending.TheVariants.{NoMemory}
 use Rattle.shell_top.specs.Lived.{IsLife}
 use Rattle.shell_top.specs.Printed.{is_cut_short}
 use Rattle.shell_top.specs.Seen.{HasGrown, HaveLostIf, Seen}
@@ -19,7 +23,10 @@ use Rattle.sig_core.specs.declared.log.Life.{Life}
 use Rattle.sig_core.specs.declared.reply.ApiReply.TheVariants.{Crashed, Restarted}
 use Rattle.sig_core.specs.declared.view.Shape.{Shape}
 use Rattle.sys_restart.specs.Answers.{IsCauseAmong, is_outside}
-use Rattle.sys_restart.specs.Files.{disks_of}
+use Rattle.sys_restart.specs.declared.restored.Restored.{Restored}
+use Rattle.sys_restart.specs.Files.{Disks, disks_of}
+use Rattle.sys_restart.specs.LifeCalls.{told_by}
+use Rattle.sys_restart.specs.Restored.{restored_of}
 use Rattle.world_core.specs.Lives.{logs_of}
 use Rattle.world_views.specs.Lives.{start_of}
 use Rattle.world_views.specs.Shell.{finds_down}
@@ -91,12 +98,23 @@ IsRestored shape opened l =
     (records : List (List Call)) → opened.told ≡ map Some records
     → (generation : ℕ) × life.HasBegun shape (disks_of records) generation l.start_epoch l.start_rows
 
+-- Whatever a crash leaves of the disks of a life, which were honest as it was to begin, a restart comes to its history.
+abbrev pub RestartsAsHistory : Shape → (opened left : Seen) → Life → Type 0
+RestartsAsHistory shape opened left life =
+    (records : List (List Call)) → opened.told ≡ map Some records → (r : Restored) → IsHonest shape r records
+    → (images : Disks)
+    → ((node : ℕ) (calls : List Call) → told_by left.told node ≡ Some calls → IsLeft calls (images node))
+    → (found : Restored)
+    × ((restored_of shape images ≡ Ok found) × IsOfLife (start_of shape life) r (logs_of life) found)
+
 -- What a chapter says: its life began with what its disks had, served these commands, and each was answered at quiet;
--- it ended by a crash, or the cluster was down.
+-- it ended by a crash, or the cluster was down; and whatever a crash leaves of its disks, a restart comes to its
+-- history.
 pub record IsChapter (shape : Shape) (c : Chapter) : Type 0 where
   pub restored : IsRestored shape c.opened c.life
   pub life : IsLife shape ending.Finished c.served c.life
   pub ends : EndsBy shape c c.crashed
+  pub restarts : RestartsAsHistory shape c.opened c.left c.life
 
 -- The disks of a cluster behind chapters, from those that it was given on: each life begins on the disks that the one
 -- before left, whose power is cut at a crash, and in it their records only grow.
@@ -166,10 +184,12 @@ pub record IsUnborn (shape : Shape) (ending : Ending) (opened now : Seen) : Type
       (records : List (List Call)) → opened.told ≡ map Some records → is_outside fault ≡ false
       → IsRefusedFor shape (disks_of records) now.told fault
 
--- what is said of a session that ends so, of whose commands these came behind the last restart, and of its disks
+-- what is said of a session that ends so, of whose commands these came behind the last restart, and of its disks; of
+-- what a restart from them comes to nothing where memory was wanting in a life that went on
 abbrev pub IsLast : Shape → Ending → List Command → Seen → Last → Type 0
 IsLast shape ending commands now (Living life opened) =
     IsRestored shape opened life × IsLife shape ending commands life × (is_refusal ending ≡ false)
+    × ((ending ≡ NoMemory → ⊥) → RestartsAsHistory shape opened now life)
 IsLast shape ending commands now (Crash c) =
     IsChapter shape c × (c.crashed ≡ true) × (is_refusal ending ≡ false) × AreFirst ending (asked_in c) commands
 IsLast shape ending commands now (Unopened opened) = IsUnborn shape ending opened now

@@ -5,6 +5,7 @@ pub mod Chapters
 pub mod Lived
 pub mod Parsed
 pub mod Lives
+pub mod OnDisks
 pub mod Printed
 pub mod Reader
 pub mod Safe

@@ -1,24 +1,30 @@
 -- A session's cluster, life after life, between two commands.
-use Rattle.std.specs.Prelude.{◌≡◌, ◌<◌, ℕ, Bool, true, false, not, List, [], ◌∷◌, ◌++◌, length, option_map, Option, None, Some}
-use Rattle.std.specs.Prelude.{MatchOption}
+use Rattle.std.specs.Prelude.{◌≡◌, ◌<◌, ℕ, Bool, true, false, not, List, [], ◌∷◌, ◌++◌, length, map, option_map}
+use Rattle.std.specs.Prelude.{MatchOption, Option, None, Some}
 use Rattle.std.specs.Vec.{vec_capacity}
 use Rattle.std.specs.Io.KnownBytes.{Appends}
 use Rattle.disk_world.specs.declared.disk_world.DiskWorld.{DiskWorld}
 use Rattle.shell_top.specs.Setting.{Setting, setting_of}
+use Rattle.disk_world.specs.Disks.{disks_with}
 use Rattle.disk_world.specs.Starting.{start_from}
 use Rattle.frag_map.specs.Shape.{IsShape}
+use Rattle.host_io.specs.Call.{Call}
+use Rattle.node_disk.specs.Slots.{SlotsInUse}
+use Rattle.restart_laws.specs.Lived.{IsHonest, IsLived}
 use Rattle.run_theory.specs.Lists.{Each}
 use Rattle.script_lang.specs.declared.command.Command.{Command}
 use Rattle.sig_core.specs.declared.log.Life.{Life}
 use Rattle.sig_core.specs.declared.view.Shape.{Shape}
-use Rattle.shell_top.specs.Chapters.{AreHandedOn, AreLives, Chapter, IsChapter, IsRestored, IsUnborn, asked_in}
-use Rattle.shell_top.specs.Chapters.{asked_in_all, chapter_text, chapters_text, is_refusal, life_text, lives_of}
+use Rattle.shell_top.specs.Chapters.{AreHandedOn, AreLives, Chapter, IsChapter, IsRestored, IsUnborn}
+use Rattle.shell_top.specs.Chapters.{asked_in, asked_in_all, chapter_text, chapters_text, is_refusal, life_text}
+use Rattle.shell_top.specs.Chapters.{lives_of}
 use Rattle.shell_top.specs.declared.ended.Ending.{Ending}
 use Rattle.shell_top.specs.declared.ended.Ending.TheVariants as ending
 use Rattle.shell_top.specs.declared.lives.Lives.{Lives}
 use Rattle.shell_top.specs.Printed.{AppendsPart, Prints}
 use Rattle.shell_top.specs.Seen.{HasGrown, Seen}
 use Rattle.shell_top.specs.Served.{IsServed}
+use Rattle.sys_restart.specs.declared.restored.Restored.{Restored}
 use Rattle.world_core.specs.Start.{Start}
 use Rattle.world_views.specs.Driven.{IsSound}
 use Rattle.world_views.specs.Lives.{start_of}
@@ -31,18 +37,19 @@ stops_early ending.WriteFault = true
 stops_early ending.NoMemory = true
 stops_early ending = is_refusal ending
 
--- a life that goes on: how it began, and what its world is
+-- a life that goes on: how it began, what its world is, and the slots in use of its disks
 pub record Going : Type 0 where
   pub start : Start
   pub whole : Whole
+  pub slots : List SlotsInUse
 
 -- the life of a cluster of this shape that goes on in this setting
-abbrev pub going_from : Shape → Setting → Whole → Going
-going_from shape setting whole =
-    record { start = start_from shape setting.start setting.rows; whole = whole }
+abbrev pub going_from : Shape → Setting → Whole → List SlotsInUse → Going
+going_from shape setting whole slots =
+    record { start = start_from shape setting.start setting.rows; whole = whole; slots = slots }
 
 abbrev pub going_in : {D : Type 0} → Shape → DiskWorld D → Going
-going_in shape w = going_from shape (setting_of w) (whole_of w.world)
+going_in shape w = going_from shape (setting_of w) (whole_of w.world) w.slots.items
 
 -- the life that goes on, if one does
 abbrev pub now_of : {D : Type 0} → Lives D → Option Going
@@ -82,13 +89,20 @@ pub record AreKept {D : Type 0} (lives : Lives D) : Type 0 where
   pub disks : length (disks_of lives) ≡ lives.shape.nodes
   pub room : HasRoom (now_of lives) (length lives.ended.items) (vec_capacity lives.ended)
 
+-- a life that began on disks of which the first was seen, and were honest, has come to what is seen of them now
+abbrev pub IsLivedSince : Shape → (opened seen : Seen) → Going → Type 0
+IsLivedSince shape opened seen g =
+    (records : List (List Call)) → opened.told ≡ map Some records → (r : Restored) → IsHonest shape r records
+    → IsLived r g.whole (disks_with seen.told g.slots) g.start
+
 -- a life began with what its disks had, in a world in which nothing has happened
-pub record HasBegun (shape : Shape) (opened : Seen) (now : Option Going) : Type 0 where
+pub record HasBegun (shape : Shape) (opened seen : Seen) (now : Option Going) : Type 0 where
   pub going : Going
   pub is : now ≡ Some going
   pub begins : going.start ≡ start_of shape (life_of going)
   pub restored : IsRestored shape opened (life_of going)
   pub fresh : going.whole ≡ new_world going.start
+  pub lived : IsLivedSince shape opened seen going
 
 -- a life that was to begin, and didn't
 pub record IsUnopened (shape : Shape) (opened seen : Seen) (now : Option Going) (e : Ending) : Type 0 where
@@ -112,6 +126,7 @@ pub record IsUp (shape : Shape) (chapters : List Chapter) (own : List Command) (
   pub disks : AreHandedOn given chapters opened × HasGrown opened seen
   pub begins : g.start ≡ start_of shape (life_of g)
   pub restored : IsRestored shape opened (life_of g)
+  pub lived : IsLivedSince shape opened seen g
   pub were : ended ≡ lives_of chapters
   pub served : IsServed g.start own g.whole
   pub told : text ≡ life_text shape chapters (life_of g)

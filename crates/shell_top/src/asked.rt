@@ -1,7 +1,9 @@
 //! What the shell asks the world for: what a command asks for, and about what it left unanswered.
 ghost use Rattle.std.specs.Prelude.{◌≡◌, ◌-◌, ◌∷◌, [], true, OnOk, OnErr};
+ghost use Rattle.journal_laws.specs.Asked.{IsOfRequest};
 ghost use Rattle.script_lang.specs.declared.command.Command.{Command};
-ghost use Rattle.shell_top.specs.Asked.{is_served, questions, requests_of, rounds_behind};
+ghost use Rattle.shell_top.specs.Asked.{IsOfWords, is_served, questions, requests_of, rounds_behind};
+ghost use Rattle.shell_top.specs.OnDisks.{LivesOn};
 ghost use Rattle.shell_top.specs.Served.{AreLeftOff, HasGoneOn, HasServed};
 ghost use Rattle.world_views.specs.Driven.{IsSound};
 ghost use Rattle.shell_top.specs.Seen.{HasGrown, seen_on};
@@ -28,11 +30,13 @@ fn ask<R: Wait, D: Disk>(
     request: ApiReq,
 ) -> Result<(), NoMemory>
     ghost start: { Start }
-    requires { IsSound start (whole_of world.old.world) }
+    requires opened { IsSound start (whole_of world.old.world) }
+    requires words { IsOfRequest request }
     ensures ok { OnOk result (HasServed start (request ∷ []) (whole_of world.old.world) (whole_of world.new.world)) }
     ensures err { OnErr result (AreLeftOff start (request ∷ []) (whole_of world.old.world) (whole_of world.new.world).logs) }
     ensures setting { setting_of world.new ≡ setting_of world.old }
     ensures grown { HasGrown (seen_on D.told D.faults world.old.disks.items) (seen_on D.told D.faults world.new.disks.items) }
+    ensures lived { OnOk result (LivesOn start D.told world.old world.new) }
 {
     world.ask(alloc, request)?;
     world.drive(rt, alloc)
@@ -51,6 +55,7 @@ fn tick<R: Wait, D: Disk>(
     ensures err { OnErr result (AreLeftOff start (requests_of (Command.Tick rounds)) (whole_of world.old.world) (whole_of world.new.world).logs) }
     ensures setting { setting_of world.new ≡ setting_of world.old }
     ensures grown { HasGrown (seen_on D.told D.faults world.old.disks.items) (seen_on D.told D.faults world.new.disks.items) }
+    ensures lived { OnOk result (LivesOn start D.told world.old world.new) }
 {
     let first = ApiReq::Tick {
         round: 1,
@@ -73,6 +78,7 @@ fn further_rounds<R: Wait, D: Disk>(
     ensures err { OnErr result (AreLeftOff start (rounds_behind rounds (rounds - 1)) (whole_of world.old.world) (whole_of world.new.world).logs) }
     ensures setting { setting_of world.new ≡ setting_of world.old }
     ensures grown { HasGrown (seen_on D.told D.faults world.old.disks.items) (seen_on D.told D.faults world.new.disks.items) }
+    ensures lived { OnOk result (LivesOn start D.told world.old world.new) }
 {
     for behind in 0..rounds.saturating_sub(1) {
         let next = ApiReq::Tick {
@@ -97,10 +103,12 @@ pub fn ask_own<R: Wait, D: Disk>(
     ghost start: { Start }
     requires opened { IsSound start (whole_of world.old.world) }
     requires served { is_served command.now ≡ true }
+    requires words { IsOfWords command.now }
     ensures ok { OnOk result (HasServed start (requests_of command.now) (whole_of world.old.world) (whole_of world.new.world)) }
     ensures err { OnErr result (AreLeftOff start (requests_of command.now) (whole_of world.old.world) (whole_of world.new.world).logs) }
     ensures setting { setting_of world.new ≡ setting_of world.old }
     ensures grown { HasGrown (seen_on D.told D.faults world.old.disks.items) (seen_on D.told D.faults world.new.disks.items) }
+    ensures lived { OnOk result (LivesOn start D.told world.old world.new) }
 {
     match command {
         Command::Begin { name, node } => {
@@ -150,6 +158,7 @@ fn ask_questions<R: Wait, D: Disk>(
     ensures err { OnErr result (AreLeftOff start questions (whole_of world.old.world) (whole_of world.new.world).logs) }
     ensures setting { setting_of world.new ≡ setting_of world.old }
     ensures grown { HasGrown (seen_on D.told D.faults world.old.disks.items) (seen_on D.told D.faults world.new.disks.items) }
+    ensures lived { OnOk result (LivesOn start D.told world.old world.new) }
 {
     ask(rt, alloc, world, ApiReq::Waits)?;
     ask(rt, alloc, world, ApiReq::Pending)
@@ -171,6 +180,7 @@ pub fn ask_about<R: Wait, D: Disk>(
     ensures err { OnErr result (AreLeftOff start questions (whole_of world.old.world) (whole_of world.new.world).logs) }
     ensures setting { setting_of world.new ≡ setting_of world.old }
     ensures grown { HasGrown (seen_on D.told D.faults world.old.disks.items) (seen_on D.told D.faults world.new.disks.items) }
+    ensures lived { OnOk result (LivesOn start D.told world.old world.new) }
 {
     if world.is_left_open() {
         return ask_questions(rt, alloc, world);

@@ -4,7 +4,7 @@ ghost use Rattle.host_io.specs.Fault.{Rose};
 ghost use Rattle.script_lang.specs.declared.command.Command.TheVariants as commands;
 ghost use Rattle.script_lang.specs.ReplyText.{reply_text};
 ghost use Rattle.sig_core.specs.declared.reply.ApiReply.TheVariants.{Restarted};
-ghost use Rattle.shell_top.specs.Asked.{is_asked_for, is_served};
+ghost use Rattle.shell_top.specs.Asked.{IsOfWords, is_asked_for, is_served};
 ghost use Rattle.shell_top.specs.declared.ended.Ending.TheVariants as ending;
 ghost use Rattle.shell_top.specs.Seen.{HasGrown, HaveLost, seen_on};
 ghost use Rattle.shell_top.specs.Lives.{AreKept, HasBegun, IsGoing, IsLineTold, IsUnopened, Obeys};
@@ -64,7 +64,7 @@ impl<D: Disk> Lives<D> {
         requires unopened { self.old.world ≡ None }
         ensures shape { self.new.shape ≡ self.old.shape }
         ensures ended { self.new.ended.items ≡ self.old.ended.items }
-        ensures begun { IfNone result (HasBegun self.old.shape (seen_on D.told D.faults (disks_of self.old)) (now_of self.new)) }
+        ensures begun { IfNone result (HasBegun self.old.shape (seen_on D.told D.faults (disks_of self.old)) (seen_on D.told D.faults (disks_of self.new)) (now_of self.new)) }
         ensures going { IfNone result (IsGoing (now_of self.new)) }
         ensures refused { IfSome result (λ e. IsUnopened self.old.shape (seen_on D.told D.faults (disks_of self.old)) (seen_on D.told D.faults (disks_of self.new)) (now_of self.new) e) }
         ensures grown { HasGrown (seen_on D.told D.faults (disks_of self.old)) (seen_on D.told D.faults (disks_of self.new)) }
@@ -97,6 +97,7 @@ impl<D: Disk> Lives<D> {
         requires kept { AreKept self.old }
         requires going { IsGoing (now_of self.old) }
         requires asked { is_asked_for command.now ≡ true }
+        requires words { IsOfWords command.now }
         ensures shape { self.new.shape ≡ self.old.shape }
         ensures obeyed { Obeys self.old.shape command.now (seen_on D.told D.faults (disks_of self.old)) (seen_on D.told D.faults (disks_of self.new)) self.old.ended.items self.new.ended.items (now_of self.old) (now_of self.new) (K.written sink.old) (K.written sink.new) result }
         ensures kept { AreKept self.new }
@@ -137,6 +138,7 @@ impl<D: Disk> Lives<D> {
         requires going { IsGoing (now_of self.old) }
         requires served { is_served command.now ≡ true }
         requires may { command.now ≡ commands.Restart → is_up (now_of self.old) ≡ true }
+        requires words { IsOfWords command.now }
         ensures shape { self.new.shape ≡ self.old.shape }
         ensures obeyed { Obeys self.old.shape command.now (seen_on D.told D.faults (disks_of self.old)) (seen_on D.told D.faults (disks_of self.new)) self.old.ended.items self.new.ended.items (now_of self.old) (now_of self.new) (K.written sink.old) (K.written sink.new) result }
         ensures kept { AreKept self.new }

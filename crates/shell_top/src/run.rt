@@ -172,7 +172,7 @@ fn run_opened<R: Wait, S: Source, K: Sink, D: Disk>(
     requires none { session.lives.ended.items ≡ [] }
     requires reader { session.reader ≡ [] }
     requires line { session.line ≡ 1 }
-    ensures session { (given : Seen) → HasBegun session.lives.shape given (now_of session.lives) → HasGrown given (seen_on D.told D.faults (disks_of session.lives)) → IsSession (Some session.lives.shape) (S.left source.old) (S.left source.new) (K.written sink.old) (K.written sink.new) (Rose (S.faults source.old) (S.faults source.new)) (Rose (K.faults sink.old) (K.faults sink.new)) given (seen_on D.told D.faults (result.disks.items)) result.ending result.lives.items }
+    ensures session { (given : Seen) → HasBegun session.lives.shape given (seen_on D.told D.faults (disks_of session.lives)) (now_of session.lives) → HasGrown given (seen_on D.told D.faults (disks_of session.lives)) → IsSession (Some session.lives.shape) (S.left source.old) (S.left source.new) (K.written sink.old) (K.written sink.new) (Rose (S.faults source.old) (S.faults source.new)) (Rose (K.faults sink.old) (K.faults sink.new)) given (seen_on D.told D.faults (result.disks.items)) result.ending result.lives.items }
     ensures read_fault { result.ending ≡ ending.ReadFault → Rose (S.faults source.old) (S.faults source.new) }
     ensures write_fault { result.ending ≡ ending.WriteFault → Rose (K.faults sink.old) (K.faults sink.new) }
     ensures disks { length result.disks.items ≡ session.lives.shape.nodes }

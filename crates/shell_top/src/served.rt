@@ -2,8 +2,9 @@
 ghost use Rattle.std.specs.Prelude.{◌≡◌, ◌≤◌, [], true, Some, IfOk, IfNone, OnOk, OnErr};
 ghost use Rattle.host_io.specs.Fault.{Rose};
 ghost use Rattle.shell_top.specs.Arranged.{arranged};
-ghost use Rattle.shell_top.specs.Asked.{MayAsk, is_served};
+ghost use Rattle.shell_top.specs.Asked.{IsOfWords, MayAsk, is_served};
 ghost use Rattle.shell_top.specs.declared.ended.Ending.TheVariants as ending;
+ghost use Rattle.shell_top.specs.OnDisks.{LivesOn, UnlessWanting};
 ghost use Rattle.shell_top.specs.Served.{AreLeft, PrintsCommand, ServesCommand};
 ghost use Rattle.shell_top.specs.Subject.{subject_in};
 ghost use Rattle.shell_top.specs.Text.{down_line, reply_lines};
@@ -57,6 +58,7 @@ fn answers<D: Disk>(
     ensures err { OnErr result ((whole_of world.new.world).logs ≡ (whole_of world.old.world).logs) }
     ensures setting { setting_of world.new ≡ setting_of world.old }
     ensures grown { HasGrown (seen_on D.told D.faults world.old.disks.items) (seen_on D.told D.faults world.new.disks.items) }
+    ensures lived { OnOk result (LivesOn start D.told world.old world.new) }
 {
     let replies = take_replies(alloc, world)?;
     let subject = subject_of(command);
@@ -81,10 +83,12 @@ fn serve<R: Wait, D: Disk>(
     requires opened { IsSound start (whole_of world.old.world) }
     requires served { is_served command.now ≡ true }
     requires may { MayAsk command.now (is_down (whole_of world.old.world)) }
+    requires words { IsOfWords command.now }
     ensures ok { IfOk result (λ text. ServesCommand start command.now (whole_of world.old.world) (whole_of world.new.world) text.items) }
     ensures err { OnErr result (AreLeft start command.now (whole_of world.old.world) (whole_of world.new.world).logs) }
     ensures setting { setting_of world.new ≡ setting_of world.old }
     ensures grown { HasGrown (seen_on D.told D.faults world.old.disks.items) (seen_on D.told D.faults world.new.disks.items) }
+    ensures lived { OnOk result (LivesOn start D.told world.old world.new) }
 {
     let was_down = world.is_down();
     ask_own(rt, alloc, world, command)?;
@@ -115,6 +119,7 @@ pub fn serve_command<R: Wait, D: Disk, K: Sink>(
     requires opened { IsSound start (whole_of world.old.world) }
     requires served { is_served command.now ≡ true }
     requires may { MayAsk command.now (is_down (whole_of world.old.world)) }
+    requires words { IsOfWords command.now }
     ensures printed { PrintsCommand start command.now (whole_of world.old.world) (whole_of world.new.world) result (K.written sink.old) (K.written sink.new) }
     ensures opened { IfNone result (IsSound start (whole_of world.new.world)) }
     ensures unread { result ≡ Some ending.ReadFault → ⊥ }
@@ -122,6 +127,7 @@ pub fn serve_command<R: Wait, D: Disk, K: Sink>(
     ensures steady { K.faults sink.old ≤ K.faults sink.new }
     ensures setting { setting_of world.new ≡ setting_of world.old }
     ensures grown { HasGrown (seen_on D.told D.faults world.old.disks.items) (seen_on D.told D.faults world.new.disks.items) }
+    ensures lived { UnlessWanting result (LivesOn start D.told world.old world.new) }
 {
     let text = match serve(rt, alloc, world, command) {
         Ok(text) => text,

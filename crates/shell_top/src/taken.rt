@@ -1,5 +1,6 @@
 //! The replies that a world has for the shell.
 ghost use Rattle.std.specs.Prelude.{◌≡◌, [], IfOk, OnOk, OnErr};
+ghost use Rattle.shell_top.specs.OnDisks.{LivesOn};
 ghost use Rattle.shell_top.specs.Seen.{HasGrown, seen_on};
 ghost use Rattle.shell_top.specs.Setting.{setting_of};
 ghost use Rattle.world_core.specs.Start.{Start};
@@ -26,6 +27,7 @@ pub fn take_replies<D: Disk>(
     ensures err { OnErr result ((whole_of world.new.world).logs ≡ (whole_of world.old.world).logs) }
     ensures setting { setting_of world.new ≡ setting_of world.old }
     ensures grown { HasGrown (seen_on D.told D.faults world.old.disks.items) (seen_on D.told D.faults world.new.disks.items) }
+    ensures lived { OnOk result (LivesOn start D.told world.old world.new) }
 {
     let mut replies = Vec::new(alloc);
     while let Some(reply) = world.next_reply() {

@@ -2,6 +2,7 @@ use Rattle.std.proofs.Common.{[], ◌∷◌, ◌∙◌}
 use Rattle.sig_core.specs.declared.request.ApiReq.TheVariants.{Waits, Pending}
 use Rattle.world_views.specs.WorldOf.{whole_of}
 use Rattle.shell_top.proofs.ServedLemmas.{both_ok, first_err, on_err, second_err, served_sound}
+use Rattle.shell_top.proofs.OnDisksLemmas.{lives_both}
 use Rattle.shell_top.proofs.SeenLemmas.{world_grown}
 use Rattle.shell_top.proofs.asked.ask_questions.Goals as goal
 
@@ -15,8 +16,11 @@ ask-requires-2 g c lives outlive = (
   outlive.0,
   (
     outlive.1,
-    served_sound g.start (Waits ∷ []) (whole_of c.args.world.now.world)
-        (whole_of c.ask.new.world.world) c.in_ok-ask.ensures.ok c.requires.1.1,
+    (
+      served_sound g.start (Waits ∷ []) (whole_of c.args.world.now.world)
+          (whole_of c.ask.new.world.world) c.in_ok-ask.ensures.ok c.requires.1.1,
+      tt,
+    ),
   ),
 )
 
@@ -41,3 +45,8 @@ pub returns-clause-grown : goal.returns-clause-grown
 returns-clause-grown g c =
     world_grown g.D.Disk.told g.D.Disk.faults c.args.world.now c.ask.new.world c.ask-2.new.world
     c.ask.ensures.grown c.ask-2.ensures.grown
+
+pub returns-clause-lived : goal.returns-clause-lived
+returns-clause-lived g c =
+    lives_both g.start g.D.Disk.told c.ask-2.result c.args.world.now c.ask.new.world c.ask-2.new.world
+    c.in_ok-ask.ensures.lived c.ask-2.ensures.lived

@@ -5,6 +5,7 @@ use Rattle.shell_top.specs.Asked.{rounds_behind}
 use Rattle.shell_top.specs.Served.{HasServed}
 use Rattle.world_views.specs.WorldOf.{whole_of}
 use Rattle.shell_top.proofs.ServedLemmas.{none_served, on_err, round_left, round_served, served_sound}
+use Rattle.shell_top.proofs.OnDisksLemmas.{lives_then}
 use Rattle.shell_top.proofs.SeenLemmas.{grown_itself, seen_in, world_grown}
 use Rattle.shell_top.proofs.asked.further_rounds.Goals as goal
 
@@ -15,6 +16,7 @@ loop-behind-init g c =
       sound = c.requires.1.1;
       setting = refl;
       grown = grown_itself (seen_in g.D.Disk.told g.D.Disk.faults c.args.world.now);
+      lived = λ r was. was;
     }
 
 pub returns-in_err-ask-clause-err : goal.returns-in_err-ask-clause-err
@@ -38,6 +40,8 @@ loop-behind-preserved g c =
       setting = c.ask.ensures.setting ∙ c.loop-behind.invariant.setting;
       grown = world_grown g.D.Disk.told g.D.Disk.faults c.args.world.now c.loop-behind.world c.ask.new.world
           c.loop-behind.invariant.grown c.ask.ensures.grown;
+      lived = lives_then g.start g.D.Disk.told c.args.world.now c.loop-behind.world c.ask.new.world
+          c.loop-behind.invariant.lived c.in_ok-ask.ensures.lived;
     }
 
 pub returns-in_err-ask-clause-setting : goal.returns-in_err-ask-clause-setting

@@ -1,5 +1,6 @@
 use Rattle.std.proofs.Common.{◌≡◌}
 use Rattle.shell_top.specs.Asked.{rounds_behind}
+use Rattle.shell_top.specs.OnDisks.{LivesOn}
 use Rattle.shell_top.specs.Seen.{HasGrown, seen_on}
 use Rattle.shell_top.specs.Served.{HasServed}
 use Rattle.shell_top.specs.Setting.{setting_of}
@@ -7,7 +8,7 @@ use Rattle.world_views.specs.Driven.{IsSound}
 use Rattle.world_views.specs.WorldOf.{whole_of}
 use Rattle.shell_top.proofs.asked.further_rounds.Given as goal
 
--- the rounds so far were served, in the same life, whose disks tell more
+-- the rounds so far were served, in the same life, which goes on with its disks, and these tell more
 abbrev pub invariant-loop-behind : goal.invariant-loop-behind
 invariant-loop-behind g l = record {
   served : HasServed g.start (rounds_behind l.rounds l.behind) (whole_of l.initial.world.world)
@@ -16,6 +17,7 @@ invariant-loop-behind g l = record {
   setting : setting_of l.world ≡ setting_of l.initial.world;
   grown : HasGrown (seen_on g.D.Disk.told g.D.Disk.faults l.initial.world.disks.items)
       (seen_on g.D.Disk.told g.D.Disk.faults l.world.disks.items);
+  lived : LivesOn g.start g.D.Disk.told l.initial.world l.world;
 }
 
 abbrev pub ghost-ask : goal.ghost-ask

@@ -3,6 +3,7 @@ use Rattle.sig_core.specs.declared.request.ApiReq.TheVariants.{Tick}
 use Rattle.shell_top.specs.Asked.{rounds_behind}
 use Rattle.world_views.specs.WorldOf.{whole_of}
 use Rattle.shell_top.proofs.ServedLemmas.{both_ok, first_err, on_err, second_err, served_sound}
+use Rattle.shell_top.proofs.OnDisksLemmas.{lives_both}
 use Rattle.shell_top.proofs.SeenLemmas.{world_grown}
 use Rattle.shell_top.proofs.asked.tick.Goals as goal
 
@@ -41,3 +42,8 @@ pub returns-clause-grown : goal.returns-clause-grown
 returns-clause-grown g c =
     world_grown g.D.Disk.told g.D.Disk.faults c.args.world.now c.ask.new.world c.further_rounds.new.world
     c.ask.ensures.grown c.further_rounds.ensures.grown
+
+pub returns-clause-lived : goal.returns-clause-lived
+returns-clause-lived g c =
+    lives_both g.start g.D.Disk.told c.further_rounds.result c.args.world.now c.ask.new.world c.further_rounds.new.world
+    c.in_ok-ask.ensures.lived c.further_rounds.ensures.lived

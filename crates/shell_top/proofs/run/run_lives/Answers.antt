@@ -24,10 +24,14 @@ pub returns-in-None-clause-session : goal.returns-in-None-clause-session
 returns-in-None-clause-session g c =
     let given : Seen = seen_on g.D.Disk.told g.D.Disk.faults (disks_of c.args.lives) in
     let same : c.new-in-None.result.lives ≡ c.open.new.self = ap (λ s. s.lives) c.new-in-None.ensures in
-    let begun : HasBegun c.new-in-None.result.lives.shape given (now_of c.new-in-None.result.lives) =
-    subst (λ ls. HasBegun ls.shape given (now_of ls)) (sym same)
-    (subst (λ shape. HasBegun shape given (now_of c.open.new.self)) (sym c.in-None.ensures.shape)
-    c.in-None.ensures.begun) in
+    let begun : HasBegun c.new-in-None.result.lives.shape given
+    (seen_on g.D.Disk.told g.D.Disk.faults (disks_of c.new-in-None.result.lives))
+    (now_of c.new-in-None.result.lives) =
+    subst (λ ls. HasBegun ls.shape given (seen_on g.D.Disk.told g.D.Disk.faults (disks_of ls)) (now_of ls)) (sym same)
+    (subst
+    (λ shape.
+    HasBegun shape given (seen_on g.D.Disk.told g.D.Disk.faults (disks_of c.open.new.self)) (now_of c.open.new.self))
+    (sym c.in-None.ensures.shape) c.in-None.ensures.begun) in
     let grown : HasGrown given (seen_on g.D.Disk.told g.D.Disk.faults (disks_of c.new-in-None.result.lives)) =
     subst (λ ls. HasGrown given (seen_on g.D.Disk.told g.D.Disk.faults (disks_of ls))) (sym same)
     c.in-None.ensures.grown in

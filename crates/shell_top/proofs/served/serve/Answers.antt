@@ -6,6 +6,7 @@ use Rattle.world_views.specs.World.{Whole, is_down}
 use Rattle.world_views.specs.WorldOf.{whole_of}
 use Rattle.shell_top.proofs.ServedLemmas.{down_behind, gone_sound, left_about, left_gone, left_own, on_err, own_sound}
 use Rattle.shell_top.proofs.ServedLemmas.{serves, told_world}
+use Rattle.shell_top.proofs.OnDisksLemmas.{lives_then}
 use Rattle.shell_top.proofs.SeenLemmas.{thrice_grown, world_grown}
 use Rattle.shell_top.proofs.served.serve.Goals as goal
 
@@ -102,10 +103,17 @@ returns-clause-ok g c =
     serves g.start c.args.command.now (whole_of c.args.world.now.world) (whole_of c.ask_own.new.world.world)
     (whole_of c.ask_about.new.world.world) (whole_of c.answers.new.world.world) c.extend_from_slice.new.self.items
     c.requires.1.1.1.0
-    c.requires.1.1.1.1 c.requires.1.1.0 c.in_ok-ask_own.ensures.ok c.in_ok-ask_about.ensures.ok
+    c.requires.1.1.1.1.0 c.requires.1.1.0 c.in_ok-ask_own.ensures.ok c.in_ok-ask_about.ensures.ok
     c.in_ok-text.ensures.told
     (down_behind (reply_lines (arranged (subject_in c.args.command.now) (whole_of c.ask_about.new.world.world).replies))
     c.in_ok-text.text.items c.down_line.result.now c.extend_from_slice.new.self.items c.is_down-was_down.result
     c.is_down.result (is_down (whole_of c.args.world.now.world)) (is_down (whole_of c.answers.new.world.world))
     c.in_ok-extend_from_slice.ensures.items c.in_ok-text.ensures.text c.down_line.ensures c.is_down-was_down.ensures
     c.is_down.ensures)
+
+pub returns-clause-lived : goal.returns-clause-lived
+returns-clause-lived g c =
+    lives_then g.start g.D.Disk.told c.args.world.now c.ask_about.new.world c.answers.new.world
+    (lives_then g.start g.D.Disk.told c.args.world.now c.ask_own.new.world c.ask_about.new.world
+    c.in_ok-ask_own.ensures.lived c.in_ok-ask_about.ensures.lived)
+    c.in_ok-text.ensures.lived

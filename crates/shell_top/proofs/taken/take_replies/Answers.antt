@@ -1,5 +1,6 @@
 use Rattle.std.proofs.Common.{refl, ◌∙◌}
 use Rattle.world_views.specs.WorldOf.{whole_of}
+use Rattle.shell_top.proofs.OnDisksLemmas.{heard_lives, same_disks}
 use Rattle.shell_top.proofs.SeenLemmas.{grown_itself, seen_in, then_still}
 use Rattle.shell_top.proofs.SettingLemmas.{still_setting}
 use Rattle.shell_top.proofs.TakenLemmas.{all_taken, fewer_left, none_taken, one_taken, told_all}
@@ -10,6 +11,7 @@ loop-reply-init g c =
     record {
       setting = refl;
       grown = grown_itself (seen_in g.D.Disk.told g.D.Disk.faults c.args.world.now);
+      disks = refl;
       world = none_taken (whole_of c.args.world.now.world) c.new-replies.result.items c.new-replies.ensures.items;
     }
 
@@ -25,6 +27,8 @@ loop-reply-preserved g c =
           c.next_reply.ensures.disks.0 ∙ c.loop-reply.invariant.setting;
       grown = then_still g.D.Disk.told g.D.Disk.faults c.args.world.now c.loop-reply.world c.next_reply.new.self
           c.loop-reply.invariant.grown c.next_reply.ensures.disks.0;
+      disks = same_disks g.D.Disk.told c.loop-reply.world c.next_reply.new.self c.next_reply.ensures.disks
+          ∙ c.loop-reply.invariant.disks;
       world = one_taken (whole_of c.args.world.now.world) (whole_of c.loop-reply.world.world)
           (whole_of c.next_reply.new.self.world)
           c.loop-reply.replies.items c.extend_from_slice.new.self.items c.in-Some.reply c.loop-reply.invariant.world
@@ -61,3 +65,12 @@ pub returns-clause-replies : goal.returns-clause-replies
 returns-clause-replies g c =
     all_taken (whole_of c.args.world.now.world) (whole_of c.loop-reply.world.world) c.loop-reply.replies.items
     c.loop-reply.invariant.world (c.in_default.ensures.none refl)
+
+pub returns-clause-lived : goal.returns-clause-lived
+returns-clause-lived g c =
+    heard_lives g.start g.D.Disk.told c.args.world.now c.next_reply.new.self c.requires.1
+    (same_disks g.D.Disk.told c.loop-reply.world c.next_reply.new.self c.next_reply.ensures.disks
+    ∙ c.loop-reply.invariant.disks)
+    (told_all (whole_of c.args.world.now.world) (whole_of c.loop-reply.world.world)
+    (whole_of c.next_reply.new.self.world)
+    c.loop-reply.replies.items c.loop-reply.invariant.world (c.in_default.ensures.none refl) c.in_default.ensures.some)

@@ -1,6 +1,7 @@
 use Rattle.std.proofs.Common.{◌∙◌, ap, subst, sym}
 use Rattle.std.specs.Prelude.{IfNone, is_some}
 use Rattle.shell_top.specs.Lives.{disks_of, now_of}
+use Rattle.shell_top.specs.OnDisks.{LivesOn, UnlessWanting}
 use Rattle.shell_top.specs.Seen.{seen_on}
 use Rattle.shell_top.specs.Served.{PrintsCommand}
 use Rattle.shell_top.proofs.KeptLemmas.{goes_where, may_ask, sound_within, still_sound}
@@ -22,7 +23,10 @@ serve_command-requires g c lives outlive = (
             (sound_within c.args.self.now c.in-Some.world c.in-Some.is c.requires.1.1.1.1.1.0),
         (
           c.requires.1.1.1.1.1.1.0,
-          may_ask c.args.self.now c.in-Some.world c.in-Some.is c.args.command.now c.requires.1.1.1.1.1.1.1,
+          (
+            may_ask c.args.self.now c.in-Some.world c.in-Some.is c.args.command.now c.requires.1.1.1.1.1.1.1.0,
+            c.requires.1.1.1.1.1.1.1.1,
+          ),
         ),
       ),
     ),
@@ -36,6 +40,8 @@ returns-in-Some-clause-obeyed g c =
     obeys_within g.D.Disk.told g.D.Disk.faults c.args.self.now c.requires.1.1.1.1.0.shape w t c.in-Some.is
     c.serve_command.ensures.setting c.serve_command.ensures.grown c.args.command.now
     (g.K.Sink.written c.args.sink.now) (g.K.Sink.written c.serve_command.new.sink) c.serve_command.result
+    (subst (λ (start : Start). UnlessWanting c.serve_command.result (LivesOn start g.D.Disk.told w t))
+    c.requires.1.1.1.0 c.serve_command.ensures.lived)
     (subst
     (λ (start : Start).
     PrintsCommand start c.args.command.now (whole_of w.world) (whole_of t.world) c.serve_command.result

@@ -1,6 +1,6 @@
 use Rattle.std.specs.Prelude.{None, Some}
 use Rattle.shell_top.specs.declared.script.Parsed.TheVariants as parsed
-use Rattle.shell_top.proofs.ScriptLemmas.{command_served, line_means}
+use Rattle.shell_top.proofs.ScriptLemmas.{command_served, command_words, line_means}
 use Rattle.shell_top.proofs.SessionLemmas.{none_held, some_held, last_none, last_nothing, last_command}
 use Rattle.shell_top.proofs.SessionLemmas.{last_quit, last_fault}
 use Rattle.shell_top.proofs.session.Session.last_line.Goals as goal
@@ -69,6 +69,10 @@ obey-requires g c =
       kept = c.requires.kept;
       going = c.requires.going;
       asked = command_served c.args.self.now.lives.shape.nodes c.args.self.now.reader c.in-Ask.command
+          (line_means c.args.self.now.lives.shape.nodes _ c.args.self.now.reader _ _ (parsed.Ask c.in-Ask.command)
+          c.nodes.ensures c.held-held.ensures c.parse-parsed.ensures c.in-Ask.is);
+      words = command_words c.args.self.now.lives.shape.nodes c.args.self.now.reader c.in-Ask.command
+          c.requires.kept.shape.nodes_few
           (line_means c.args.self.now.lives.shape.nodes _ c.args.self.now.reader _ _ (parsed.Ask c.in-Ask.command)
           c.nodes.ensures c.held-held.ensures c.parse-parsed.ensures c.in-Ask.is);
     }

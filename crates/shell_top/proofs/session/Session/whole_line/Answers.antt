@@ -1,6 +1,6 @@
 use Rattle.std.proofs.Common.{take, refl, ap}
 use Rattle.shell_top.specs.declared.script.Parsed.TheVariants as parsed
-use Rattle.shell_top.proofs.ScriptLemmas.{command_served, line_means}
+use Rattle.shell_top.proofs.ScriptLemmas.{command_served, command_words, line_means}
 use Rattle.shell_top.proofs.SessionLemmas.{line_too_long, goes_on, line_asked, line_quit, line_fault}
 use Rattle.shell_top.proofs.session.Session.whole_line.Goals as goal
 
@@ -55,6 +55,11 @@ obey-requires g c =
       kept = c.requires.kept;
       going = c.requires.going;
       asked = command_served c.args.self.now.lives.shape.nodes (take c.args.at c.args.self.now.reader) c.in-Ask.command
+          (line_means c.args.self.now.lives.shape.nodes _ (take c.args.at c.args.self.now.reader) _ _
+          (parsed.Ask c.in-Ask.command) c.nodes.ensures (ap (take c.args.at) c.held.ensures) c.parse-parsed.ensures
+          c.in-Ask.is);
+      words = command_words c.args.self.now.lives.shape.nodes (take c.args.at c.args.self.now.reader) c.in-Ask.command
+          c.requires.kept.shape.nodes_few
           (line_means c.args.self.now.lives.shape.nodes _ (take c.args.at c.args.self.now.reader) _ _
           (parsed.Ask c.in-Ask.command) c.nodes.ensures (ap (take c.args.at) c.held.ensures) c.parse-parsed.ensures
           c.in-Ask.is);

@@ -1,0 +1,4 @@
+pub mod begun
+pub mod groups
+pub mod lived
+pub mod telling

@@ -1,0 +1,6 @@
+-- The rows with which a life begins behind what was restored. The start has the entries of each group's map, one map
+-- behind the other; put into one map they give at each key what the only map gives that has it (Entries), and that is
+-- the map of the key's group (Groups). A member begins with those of its group, and so with its group's map (Rows).
+pub mod Entries
+pub mod Groups
+pub mod Rows

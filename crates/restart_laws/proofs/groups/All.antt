@@ -1,0 +1,200 @@
+-- What is restored of the disks of a life is its history up to the epoch of the latest system slot.
+use Rattle.std.proofs.Common.{◌≡◌, ◌≤◌, ◌<◌, ◌+◌, ◌*◌, ◌==◌, ◌∙◌, ℕ, true, false, List, [], sym, ap, subst, arith, get_or}
+use Rattle.std.specs.FinMap as map
+use Rattle.std.specs.Prelude.{None, Some, Ok}
+use Rattle.frag_map.specs.Fragment.{group_of_key}
+use Rattle.frag_map.specs.Layout.{holds}
+use Rattle.frag_map.specs.Replicas.{first_start}
+use Rattle.frag_map.specs.Shape.{group_of, groups}
+use Rattle.redo_log.specs.Replaying.{replayed}
+use Rattle.run_theory.proofs.Pasts.{each_in}
+use Rattle.run_theory.specs.Lists.{IsIn}
+use Rattle.sig_core.specs.declared.mark.Mark.TheVariants.{Durable}
+use Rattle.sig_core.specs.declared.member.Member.{Member}
+use Rattle.sig_core.specs.declared.slots.SystemSlot.{SystemSlot}
+use Rattle.sig_core.specs.Table.{Rows}
+use Rattle.sysfile_core.specs.declared.place.TheConstants.{CONTROL_FILE}
+use Rattle.sysfile_core.specs.Reading.{control_of_file}
+use Rattle.sys_restart.proofs.RestoredLemmas.{restored_as, rows_under}
+use Rattle.sys_restart.specs.declared.restored.Restored.{Restored}
+use Rattle.sys_restart.specs.Calls.{rows_of_node}
+use Rattle.sys_restart.specs.Files.{Disks}
+use Rattle.sys_restart.specs.Groups.{is_listed}
+use Rattle.sys_restart.specs.Restored.{restored_of}
+use Rattle.world_core.specs.Hosts.{hosts}
+use Rattle.world_core.specs.Start.{Start, made}
+use Rattle.world_core.specs.Steps.{HostStep}
+use Rattle.view_laws.proofs.runs.AllSound.{have_orderly}
+use Rattle.view_laws.proofs.runs.ChosenViews.{viable}
+use Rattle.view_laws.proofs.runs.FirstMembers.{first_in}
+use Rattle.moment_laws.proofs.MomentMembers.{full_made}
+use Rattle.moment_laws.proofs.MomentRuns.{are_moments}
+use Rattle.moment_laws.specs.Places.{ldm_of, tc_of}
+use Rattle.outcome_laws.specs.Decided.{IsMarked}
+use Rattle.closing_laws.proofs.settled.Cuts.{events_of, logs_are}
+use Rattle.journal_laws.specs.Events.{records_behind}
+use Rattle.journal_laws.specs.Journal.{first_rows}
+use Rattle.journal_laws.specs.Laws.{ReplaysGiveOwnRows}
+use Rattle.saved_laws.specs.Copied.{CopiedWereSaved, DurableWereNoted, IsOfDurable, TellsDurable, WasTold}
+use Rattle.saved_laws.specs.History.{SavedRowsAreHistory, row_up_to}
+use Rattle.saved_laws.specs.Keys.{OtherKeysStay}
+use Rattle.disk_laws.specs.Found.{HasSavedRows}
+use Rattle.restart_laws.specs.Restart.{AreGrouped, AreLeft, IsOfLife, RestartsAreHistory}
+use Rattle.restart_laws.proofs.groups.Left.{begins, told_durable}
+use Rattle.restart_laws.proofs.groups.Nodes.{first_below, group_low, has_full, node_group, node_low_group}
+use Rattle.restart_laws.proofs.groups.Rows.{none_pending}
+use Rattle.restart_laws.proofs.groups.Sources.{AreGroups, AreOfOne, HasOwnRows, IsGroup, all_groups, group_is}
+use Rattle.restart_laws.proofs.groups.System.{latest, listed_saved, manned, system_generation, system_least, system_up}
+
+module _ (copied : CopiedWereSaved) (durable : DurableWereNoted) (saved : SavedRowsAreHistory)
+    (replays : ReplaysGiveOwnRows) (stay : OtherKeysStay) (start : Start) (r : Restored) (logs : ℕ → List HostStep) (images : Disks)
+    (left : AreLeft start r logs images) where
+  abbrev system : SystemSlot
+  system = (latest start r logs images left).slot
+
+  -- a node's rows are those of the history up to the epoch of the slot, of its keys alone
+  abbrev AreHistory : ℕ → Rows → Type 0
+  AreHistory node rows =
+      ((key : List ℕ) → holds start.shape node key ≡ true → map.get rows key ≡ row_up_to start logs system.epoch key)
+      × ((key : List ℕ) → holds start.shape node key ≡ false → map.get rows key ≡ None)
+
+  -- the disk of each node that it lists has such
+  own_rows : (node : ℕ) → 1 ≤ node → node ≤ start.shape.nodes → is_listed system.mask node ≡ true
+      → HasOwnRows images system AreHistory node
+  own_rows node some low listed = record {
+    slot = has.slot;
+    rows = replayed system.epoch before (records_behind (first_rows start member) has.events);
+    control =
+        ap (λ generation. control_of_file generation (images node CONTROL_FILE))
+        (system_generation start r logs images left ∙ sym has.generation_is)
+        ∙ has.restores.0;
+    rows_are = has.restores.1 system.epoch;
+    so = (own, others);
+  }
+    where
+      member : Member
+      member = first_start node
+
+      there : IsIn member (made start)
+      there = first_in start.shape.nodes node some low
+
+      before : Rows
+      before = rows_of_node start.shape node r
+
+      has : HasSavedRows start member before (r.generation + 1) (logs (ldm_of start member)) (images node)
+      has = (left.each member there).saved
+
+      own : (key : List ℕ) → holds start.shape node key ≡ true
+          → map.get (replayed system.epoch before (records_behind (first_rows start member) has.events)) key
+          ≡ row_up_to start logs system.epoch key
+      own key holding =
+          ap (λ (rows : Rows). map.get rows key)
+          (replays (first_rows start member) before has.events system.epoch (none_pending start member there))
+          ∙ saved start logs (begins start r logs images left) left.cluster member there has.older has.past has.events
+          has.events_of before (left.each member there).begun system.epoch
+          (subst (λ k. system.epoch ≤ k) has.saved (listed_saved start r logs images left copied member there listed)) key
+          holding
+
+      others : (key : List ℕ) → holds start.shape node key ≡ false
+          → map.get (replayed system.epoch before (records_behind (first_rows start member) has.events)) key ≡ None
+      others key apart =
+          ap (λ (rows : Rows). map.get rows key)
+          (replays (first_rows start member) before has.events system.epoch (none_pending start member there))
+          ∙ stay start logs left.cluster member there has.older has.past has.events has.events_of before system.epoch key
+          apart
+          ∙ left.grouped node key some low apart
+
+  group_rows : (group : ℕ) → group < groups start.shape
+      → IsGroup images system AreHistory (group * start.shape.replicas + 1) start.shape.replicas
+  group_rows group below =
+      let whole = group_low start.shape left.cluster.shape group below in
+      group_is images system AreHistory (group * start.shape.replicas + 1) start.shape.replicas
+      (λ node from under. own_rows node (omega (arith, from)) (omega (arith, under, whole)))
+      (manned start r logs images left copied group below)
+
+  all : AreGroups images system AreHistory start.shape.replicas 0 (groups start.shape) []
+  all = all_groups images system AreHistory start.shape group_rows
+
+  abbrev restored : Restored
+  restored = record { generation = system.generation; epoch = system.epoch; groups = all.all }
+
+  is_restored : restored_of start.shape images ≡ Ok restored
+  is_restored =
+      restored_as start.shape images (Ok (Some system)) (latest start r logs images left).is
+      ∙ rows_under start.shape images system all.all all.is
+
+  -- those of each node are the rows of one of its group
+  of_one : (node : ℕ) → 1 ≤ node → node ≤ start.shape.nodes
+      → AreOfOne images system AreHistory (group_of start.shape node * start.shape.replicas + 1)
+      start.shape.replicas (get_or all.all (group_of start.shape node) map.empty)
+  of_one node some low =
+      subst
+      (λ group. AreOfOne images system AreHistory (group * start.shape.replicas + 1) start.shape.replicas
+      (get_or all.all (group_of start.shape node) map.empty))
+      (let e : 0 + group_of start.shape node ≡ group_of start.shape node = omega arith in e)
+      (all.each (group_of start.shape node) (node_low_group start.shape left.cluster.shape node some low))
+
+  rows_so : (node : ℕ) (key : List ℕ) → 1 ≤ node → node ≤ start.shape.nodes → holds start.shape node key ≡ true
+      → map.get (rows_of_node start.shape node restored) key ≡ row_up_to start logs restored.epoch key
+  rows_so node key some low holding =
+      (of_one node some low).so.0 key
+      (ap (λ group. group == group_of_key start.shape key)
+      (node_group start.shape (group_of start.shape node) (of_one node some low).node (of_one node some low).from
+      (of_one node some low).below)
+      ∙ holding)
+
+  grouped : AreGrouped start.shape restored
+  grouped node key some low apart =
+      (of_one node some low).so.1 key
+      (ap (λ group. group == group_of_key start.shape key)
+      (node_group start.shape (group_of start.shape node) (of_one node some low).node (of_one node some low).from
+      (of_one node some low).below)
+      ∙ apart)
+
+  -- no epoch that was reported durable is later
+  durable_low : (h epoch : ℕ) → h < hosts start → IsMarked (Durable epoch) (logs h) → epoch ≤ system.epoch
+  durable_low h epoch below marked = by noted
+    where
+      noted : IsOfDurable start logs epoch
+      noted =
+          subst
+          (λ (ls : ℕ → List HostStep). IsMarked (Durable epoch) (ls h) → IsOfDurable start ls epoch)
+          (logs_are start logs left.cluster)
+          (durable start logs (events_of start logs) (begins start r logs images left)
+          (are_moments start logs left.cluster) h epoch below)
+          marked
+
+      by : IsOfDurable start logs epoch → epoch ≤ system.epoch
+      by of =
+          let one =
+          has_full start.shape left.cluster.shape of.view
+          (viable have_orderly start logs left.cluster of.view of.installed) 0
+          (first_below start.shape left.cluster.shape) in
+          let there = full_made start logs left.cluster of.view of.installed one.member one.full in
+          let own =
+          told_durable start r logs images left one.member there epoch
+          (each_in (λ (m : Member). WasTold start logs (TellsDurable epoch) (tc_of start m)) one.member of.view.full
+          of.told one.full) in
+          let up = system_up start r logs images left one.member there in
+          omega (arith, own, up)
+
+  of_life : IsOfLife start r logs restored
+  of_life = record {
+    generation_is = system_generation start r logs images left;
+    least = system_least start r logs images left;
+    durable = durable_low;
+    groups_are = all.many;
+    rows = rows_so;
+    grouped = grouped;
+  }
+
+-- what the laws of members and their journals say leads to it
+pub restarts_history : CopiedWereSaved → DurableWereNoted → SavedRowsAreHistory → ReplaysGiveOwnRows → OtherKeysStay
+    → RestartsAreHistory
+restarts_history copied durable saved replays stay start r logs images left = (
+  restored copied durable saved replays stay start r logs images left,
+  (
+    is_restored copied durable saved replays stay start r logs images left,
+    of_life copied durable saved replays stay start r logs images left,
+  ),
+)

@@ -1,0 +1,3 @@
+pub mod Lived
+pub mod Restart
+pub mod Told
