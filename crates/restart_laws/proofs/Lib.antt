@@ -1,4 +1,5 @@
 pub mod begun
 pub mod groups
+pub mod handed
 pub mod lived
 pub mod telling

@@ -1,3 +1,4 @@
+pub mod HandedOn
 pub mod Lived
 pub mod Restart
 pub mod Told

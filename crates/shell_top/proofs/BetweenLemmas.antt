@@ -25,6 +25,7 @@ use Rattle.shell_top.proofs.ChapterLemmas.{going_life}
 use Rattle.shell_top.proofs.FreshLemmas.{fresh_served, fresh_told}
 use Rattle.shell_top.proofs.LivedLemmas.{served_lived, told_front, told_part}
 use Rattle.shell_top.proofs.LivesLemmas.{ends_served, printed_whole, some_last, some_life}
+use Rattle.shell_top.proofs.FitLemmas.{disks_are_handed_on}
 use Rattle.shell_top.proofs.OnDisksLemmas.{left_as_history}
 use Rattle.shell_top.proofs.UnbornLemmas.{unborn_early}
 use Rattle.world_core.specs.World.{logs_at}
@@ -136,6 +137,7 @@ module _ (shape : Shape) (sound : IsShape shape) where
               life = was.is.life;
               ends = subst (EndsBy shape further) (sym was.crashed) was.crashed;
               restarts = was.is.restarts;
+              hands_on = was.is.hands_on;
             };
             crashed = was.crashed;
             asked = ap (λ cs. cs ++ c ∷ []) was.asked
@@ -196,6 +198,8 @@ module _ (shape : Shape) (sound : IsShape shape) where
               life = ended_life g s.chapters s.own s.own_text given seen ended s.is_now;
               ends = refl;
               restarts = left_as_history shape s.is_now.opened seen g s.is_now.begins s.is_now.lived;
+              hands_on = disks_are_handed_on shape s.is_now.opened seen g s.is_now.disks.1 s.is_now.restored
+                  s.is_now.begins s.is_now.lived;
             };
             crashed = refl;
             asked = refl;
@@ -231,6 +235,8 @@ module _ (shape : Shape) (sound : IsShape shape) where
                   ∙ down_is_not (is_down g.whole) down_now),
             );
             restarts = left_as_history shape s.is_now.opened seen g s.is_now.begins s.is_now.lived;
+            hands_on = disks_are_handed_on shape s.is_now.opened seen g s.is_now.disks.1 s.is_now.restored
+                s.is_now.begins s.is_now.lived;
           },
           s.are,
         );

@@ -1,10 +1,7 @@
 -- How the lives of a session are told: what a life says, and what a session says of its lives where it ends.
-use Rattle.std.proofs.Common.{◌≡◌, ◌<◌, ◌+◌, ◌*◌, ◌/◌, ℕ, List, [], ◌∷◌, ◌++◌, Bool, true, false, refl, ap, sym, subst}
+use Rattle.std.proofs.Common.{◌≡◌, ◌<◌, ℕ, List, [], ◌∷◌, ◌++◌, true, false, ap, sym, subst}
 use Rattle.std.proofs.Common.{◌∙◌, append_assoc, arith}
-use Rattle.std.proofs.lemmas.List.{append-nil}
-use Rattle.std.specs.Prelude.{Option, None, Some}
 use Rattle.frag_map.specs.Shape.{IsShape}
-use Rattle.gcp_master.specs.declared.numbers.TheConstants.{MICROS}
 use Rattle.peace_laws.proofs.lives.Peaceful.{closings_answered, lives_plain}
 use Rattle.report_laws.proofs.Growing.{histories_grow}
 use Rattle.run_theory.proofs.Merging.{merged_run}

@@ -3,6 +3,7 @@ pub mod PeaceLemmas
 pub mod PeacefulLemmas
 pub mod DisksLemmas
 pub mod EndLemmas
+pub mod FitLemmas
 pub mod GivingUp
 pub mod LivedLemmas
 pub mod BetweenLemmas

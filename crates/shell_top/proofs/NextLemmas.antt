@@ -1,11 +1,11 @@
 -- How the next life of a cluster begins, or doesn't, as what is kept of its lives tells it.
-use Rattle.std.proofs.Common.{◌≡◌, List, ◌++◌, ℕ, false, true, refl, ap, sym, subst, ◌∙◌}
-use Rattle.std.specs.Prelude.{IfSome, Option, None, Some, codes, is_some}
+use Rattle.std.proofs.Common.{◌≡◌, List, ℕ, false, true, refl, ap, sym, subst, ◌∙◌}
+use Rattle.std.specs.Prelude.{IfSome, Option, None, Some, is_some}
 use Rattle.frag_map.specs.Shape.{IsShape}
 use Rattle.host_io.specs.Call.{Call}
 use Rattle.script_lang.specs.declared.command.Command.{Command}
 use Rattle.script_lang.specs.declared.command.Command.TheVariants as command
-use Rattle.script_lang.specs.ReplyText.{newline, reply_text}
+use Rattle.script_lang.specs.ReplyText.{reply_text}
 use Rattle.sig_core.specs.declared.log.Life.{Life}
 use Rattle.sig_core.specs.declared.reply.ApiReply.TheVariants.{Crashed, Restarted}
 use Rattle.sig_core.specs.declared.view.Shape.{Shape}

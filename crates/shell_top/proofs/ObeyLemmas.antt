@@ -1,5 +1,5 @@
 -- A cluster obeys a crash, a restart where it is down, or a command that is refused: what comes of it is one line.
-use Rattle.std.proofs.Common.{◌≡◌, ℕ, List, [], ◌++◌, Bool, true, false, ap, sym, subst}
+use Rattle.std.proofs.Common.{◌≡◌, ℕ, List, ◌++◌, true, false, ap, sym, subst}
 use Rattle.std.specs.Prelude.{Option, None, Some, codes, is_some}
 use Rattle.disk_world.specs.declared.disk_world.DiskWorld.{DiskWorld}
 use Rattle.frag_map.specs.Shape.{IsShape}

@@ -2,7 +2,7 @@
 -- history.
 use Rattle.std.proofs.Common.{◌≡◌, ◌+◌, ◌∙◌, ◌++◌, ℕ, List, [], length, map, ap, subst, sym}
 use Rattle.std.specs.Global.{Vec}
-use Rattle.std.specs.Prelude.{OnOk, Option, None, Some, Ok, Err, Result}
+use Rattle.std.specs.Prelude.{OnOk, Option, Some, Ok, Err, Result}
 use Rattle.disk_world.specs.declared.disk_world.DiskWorld.{DiskWorld}
 use Rattle.disk_world.specs.Disks.{WayOn, disks_with}
 use Rattle.disk_world.specs.Starting.{start_from}

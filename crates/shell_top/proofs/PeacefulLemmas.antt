@@ -1,9 +1,8 @@
 -- What peaceful lives say.
-use Rattle.std.proofs.Common.{◌<◌, ◌≡◌, ◌⊎◌, ◌≤◌, ℕ, List, [], ◌∷◌, ◌++◌, true, refl, ap, sym, subst, ◌∙◌, append_assoc}
+use Rattle.std.proofs.Common.{◌<◌, ◌≡◌, ◌⊎◌, ℕ, List, [], ◌∷◌, ◌++◌, true, refl, ap, sym, subst, ◌∙◌, append_assoc}
 use Rattle.std.proofs.Common.{inl, inr}
 use Rattle.frag_map.specs.Shape.{IsShape}
 use Rattle.run_theory.proofs.Pasts.{past_self, past_trans}
-use Rattle.run_theory.specs.Cuts.{IsCut}
 use Rattle.sig_core.specs.declared.request.ApiReq.{ApiReq}
 use Rattle.cause_laws.proofs.Causes.{replies_caused}
 use Rattle.command_laws.proofs.ends.RepliesLive.{replies_live}

@@ -1,5 +1,5 @@
 -- Every closed cut is safe.
-use Rattle.std.proofs.Common.{◌<◌, ◌≤◌, ℕ, List, subst}
+use Rattle.std.proofs.Common.{◌<◌, ℕ, List, subst}
 use Rattle.frag_map.specs.Shape.{IsShape}
 use Rattle.run_theory.proofs.Cuts.{logs_of_closed}
 use Rattle.run_theory.proofs.Pasts.{past_trans}

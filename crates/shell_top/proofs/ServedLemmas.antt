@@ -1,8 +1,7 @@
 -- A world that has served some commands serves one more.
 use Rattle.std.proofs.Common.{◌≡◌, ◌⊎◌, inl, inr, ℕ, zero, suc, ◌+◌, ◌-◌, ◌≤◌, ◌<◌, arith, List, [], ◌∷◌, ◌++◌, length}
 use Rattle.std.proofs.Common.{take, drop, Bool, true, false, refl, ap, ap₂, sym, subst, ◌∙◌, append_assoc}
-use Rattle.std.specs.Global.{Vec}
-use Rattle.std.specs.Prelude.{Option, None, Some, IfOk, OnErr, OnOk, Result, Ok, Err, is_some, option_to_list}
+use Rattle.std.specs.Prelude.{Option, None, Some, OnErr, OnOk, Result, Ok, Err, is_some, option_to_list}
 use Rattle.std.specs.Io.KnownBytes.{Appends}
 use Rattle.std.proofs.lemmas.List.{append-nil, append_cancel_left, drop_at, reverse-append}
 use Rattle.std.proofs.Math.Seq.{take-append-add}
@@ -40,7 +39,6 @@ use Rattle.world_views.specs.World.{IsIdle, Whole, is_down, is_left_open}
 use Rattle.world_views.specs.Right.{replies_in}
 use Rattle.world_views.specs.Shell.{finds_down, leaves_open}
 use Rattle.world_views.specs.Unscheduled.{AreUnscheduled}
-use Rattle.world_views.proofs.QuietLemmas.{quiet_logs}
 use Rattle.world_views.proofs.ShellLemmas.{down_is, open_is, told_right}
 use Rattle.world_views.proofs.StepDriven.{right_logs, within}
 use Rattle.world_views.proofs.WorldLemmas.{sound_labels}

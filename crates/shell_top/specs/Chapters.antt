@@ -13,6 +13,7 @@ use Rattle.script_lang.specs.ReplyText.{newline, reply_text}
 use Rattle.shell_top.specs.declared.ended.Ending.{Ending}
 use Rattle.shell_top.specs.declared.ended.Ending.TheVariants as ending
 use Rattle.shell_top.specs.declared.ended.Ending.TheVariants.{NoMemory}
+use Rattle.shell_top.specs.Fit.{HandsOn}
 use Rattle.shell_top.specs.Lived.{IsLife}
 use Rattle.shell_top.specs.Printed.{is_cut_short}
 use Rattle.shell_top.specs.Seen.{HasGrown, HaveLostIf, Seen}
@@ -108,13 +109,14 @@ RestartsAsHistory shape opened left life =
     × ((restored_of shape images ≡ Ok found) × IsOfLife (start_of shape life) r (logs_of life) found)
 
 -- What a chapter says: its life began with what its disks had, served these commands, and each was answered at quiet;
--- it ended by a crash, or the cluster was down; and whatever a crash leaves of its disks, a restart comes to its
--- history.
+-- it ended by a crash, or the cluster was down; whatever a crash leaves of its disks, a restart comes to its history,
+-- and they are fit for the next life.
 pub record IsChapter (shape : Shape) (c : Chapter) : Type 0 where
   pub restored : IsRestored shape c.opened c.life
   pub life : IsLife shape ending.Finished c.served c.life
   pub ends : EndsBy shape c c.crashed
   pub restarts : RestartsAsHistory shape c.opened c.left c.life
+  pub hands_on : HandsOn shape c.opened c.left c.life
 
 -- The disks of a cluster behind chapters, from those that it was given on: each life begins on the disks that the one
 -- before left, whose power is cut at a crash, and in it their records only grow.

@@ -2,6 +2,7 @@ pub mod Arranged
 pub mod Asked
 pub mod Peace
 pub mod Chapters
+pub mod Fit
 pub mod Lived
 pub mod Parsed
 pub mod Lives

@@ -10,7 +10,7 @@ use Rattle.shell_top.specs.declared.ended.Ending.TheVariants.{Finished, Words, R
 use Rattle.shell_top.specs.declared.ended.Ending.TheVariants.{Damaged, DiskFault, OtherShape, TooLong, UsedUp}
 use Rattle.shell_top.specs.declared.session.Session.{Session}
 use Rattle.shell_top.specs.Chapters.{AreLives, may_be_unborn}
-use Rattle.shell_top.specs.Lives.{AreServed, Going, IsGoing, all_lives, now_of}
+use Rattle.shell_top.specs.Lives.{AreServed, Going, all_lives, now_of}
 use Rattle.shell_top.specs.Printed.{Prints, is_cut_short}
 use Rattle.shell_top.specs.Script.{Script, script_from}
 use Rattle.shell_top.specs.Seen.{Seen}

@@ -1,0 +1,29 @@
+-- Disks that are fit for a life.
+use Rattle.std.specs.Prelude.{◌≡◌, ◌<◌, ℕ, ◌-◌, ◌^◌, List, length, map, Some, Ok}
+use Rattle.host_io.specs.Call.{Call}
+use Rattle.restart_laws.specs.Lived.{IsHonest}
+use Rattle.shell_top.specs.Seen.{HaveLost, Seen}
+use Rattle.sig_core.specs.declared.log.Life.{Life}
+use Rattle.sig_core.specs.declared.view.Shape.{Shape}
+use Rattle.sys_restart.specs.declared.restored.Restored.{Restored}
+use Rattle.sys_restart.specs.Files.{disks_of}
+use Rattle.sys_restart.specs.Restored.{restored_of}
+
+-- the least epoch behind which no life may begin
+abbrev pub end_of_epochs : ℕ
+end_of_epochs = 2 ^ 64 - 2 ^ 32
+
+-- The disks of all nodes tell what was done to them, and are fit for the life behind what is restored of them, if there
+-- is an epoch for it.
+pub record AreFit (shape : Shape) (s : Seen) : Type 0 where
+  pub records : List (List Call)
+  pub many : length records ≡ shape.nodes
+  pub tell : s.told ≡ map Some records
+  pub honest :
+      (r : Restored) → restored_of shape (disks_of records) ≡ Ok r → r.epoch < end_of_epochs
+      → IsHonest shape r records
+
+-- Where the disks of a life were fit as it was to begin, those that a crash leaves of it are.
+abbrev pub HandsOn : Shape → (opened left : Seen) → Life → Type 0
+HandsOn shape opened left life =
+    AreFit shape opened → life.start_epoch < end_of_epochs → (now : Seen) → HaveLost left now → AreFit shape now
