@@ -1,9 +1,9 @@
 //! A cluster whose nodes have disks, in one of its lives.
-ghost use Rattle.std.specs.Prelude.{◌≡◌, ◌≤◌, ◌<◌, ◌+◌, ◌-◌, ◌^◌, ◌++◌, List, [], None, Some, false, true, Ok, Err};
+ghost use Rattle.std.specs.Prelude.{◌≡◌, ◌≤◌, ◌<◌, ◌+◌, ◌-◌, ◌++◌, List, [], None, Some, false, true, Ok, Err};
 ghost use Rattle.std.specs.Prelude.{IfErr, IfOk, MatchResult, OnErr, OnOk, is_ok, length, map, option_to_list};
 ghost use Rattle.frag_map.specs.Shape.{IsShape};
 ghost use Rattle.host_io.specs.Call.{Call};
-ghost use Rattle.life_start.specs.Begun.{AreSlotsOf, HasBegun};
+ghost use Rattle.life_start.specs.Begun.{AreSlotsOf, HasBegun, end_of_epochs};
 ghost use Rattle.sig_core.specs.declared.fault.RestartFault.TheVariants as fault;
 ghost use Rattle.sys_restart.specs.Answers.{AreSteady, IsCauseAmong, is_outside};
 ghost use Rattle.sys_restart.specs.declared.restored.Restored.{Restored};
@@ -88,7 +88,7 @@ impl<D: Disk> DiskWorld<D> {
         begun: Begun,
     ) -> Result<DiskWorld<D>, Unopened<D>>
         requires shape { IsShape shape }
-        requires more { begun.epoch < 2 ^ 64 - 2 ^ 32 }
+        requires more { begun.epoch < end_of_epochs }
         ensures world { IfOk result (λ w. whole_of w.world ≡ new_world (start_from shape w.start w.rows.items)) }
         ensures disks { IfOk result (λ w. w.disks ≡ disks) }
         ensures slots { IfOk result (λ w. w.slots ≡ begun.slots) }
@@ -352,7 +352,7 @@ impl<D: Disk> DiskWorld<D> {
 
 // The first epoch of the checkpoint number behind that of an epoch.
 fn epoch_behind(epoch: u64) -> u64
-    requires { epoch < 2 ^ 64 - 2 ^ 32 }
+    requires { epoch < end_of_epochs }
     ensures { result ≡ epoch_behind epoch }
 {
     (epoch / MICROS + 1) * MICROS

@@ -1,5 +1,5 @@
 //! How a life begins on disks: what they say is restored, and they are made ready.
-ghost use Rattle.std.specs.Prelude.{◌≡◌, ◌≤◌, ◌<◌, ◌+◌, ◌-◌, ◌^◌, List, Some, IfErr, IfOk, OnOk, false, length, map};
+ghost use Rattle.std.specs.Prelude.{◌≡◌, ◌≤◌, ◌<◌, ◌+◌, List, Some, IfErr, IfOk, OnOk, false, length, map};
 ghost use Rattle.frag_map.specs.Shape.{IsShape};
 ghost use Rattle.host_io.specs.Call.{Call};
 ghost use Rattle.sys_restart.specs.Answers.{AreSteady, HasCauseAmong, is_outside};
@@ -7,7 +7,7 @@ ghost use Rattle.sys_restart.specs.Calls.{is_used_up};
 ghost use Rattle.sys_restart.specs.declared.restored.Restored.{Restored};
 ghost use Rattle.sys_restart.specs.Files.{disks_of};
 ghost use Rattle.sys_restart.specs.ReadyDisks.{AreReady, AreToPrepare};
-ghost use Rattle.life_start.specs.Begun.{AreSlotsOf, HasBegun, begins_from, rows_of};
+ghost use Rattle.life_start.specs.Begun.{AreSlotsOf, HasBegun, begins_from, end_of_epochs, rows_of};
 ghost use Rattle.life_start.specs.Lacking.{IsNoneBehind, Lacks};
 ghost use Rattle.life_start.specs.Records.{AllTellMore};
 ghost use Rattle.life_start.specs.Refusals.{IsRefusedFor, IsUsedUpBy};
@@ -39,7 +39,7 @@ pub fn begin_life<D: Disk>(
     ensures ready { (records : List (List Call)) (restored : Restored) → map D.told disks.old ≡ map Some records → AreToPrepare shape restored records → OnOk result (AreReady shape restored (map D.told disks.new)) }
     ensures slots { (records : List (List Call)) → map D.told disks.new ≡ map Some records → IfOk result (λ b. AreSlotsOf b.generation (disks_of records) b.slots.items) }
     ensures count { IfOk result (λ b. length b.slots.items ≡ shape.nodes) }
-    ensures more { IfOk result (λ b. b.epoch < 2 ^ 64 - 2 ^ 32) }
+    ensures more { IfOk result (λ b. b.epoch < end_of_epochs) }
     // Their records have only grown, also where it doesn't begin, and then this is why.
     ensures recorded { AllTellMore (map D.told disks.old) (map D.told disks.new) }
     ensures refused { (records : List (List Call)) → map D.told disks.old ≡ map Some records → IfErr result (λ fault. is_outside fault ≡ false → IsRefusedFor shape (disks_of records) (map D.told disks.new) fault) }
@@ -69,7 +69,7 @@ fn begin_from<D: Disk>(
     ensures ready { (records : List (List Call)) → map D.told disks.old ≡ map Some records → AreToPrepare shape restored.now records → OnOk result (AreReady shape restored.now (map D.told disks.new)) }
     ensures slots { (records : List (List Call)) → map D.told disks.new ≡ map Some records → IfOk result (λ b. AreSlotsOf b.generation (disks_of records) b.slots.items) }
     ensures count { IfOk result (λ b. length b.slots.items ≡ shape.nodes) }
-    ensures more { IfOk result (λ b. b.epoch < 2 ^ 64 - 2 ^ 32) }
+    ensures more { IfOk result (λ b. b.epoch < end_of_epochs) }
     ensures recorded { AllTellMore (map D.told disks.old) (map D.told disks.new) }
     ensures none { (records : List (List Call)) → map D.told disks.old ≡ map Some records → IfErr result (λ fault. is_outside fault ≡ false → IsNoneBehind restored.now shape.nodes (map D.told disks.new) fault) }
     ensures shapes { (records : List (List Call)) → map D.told disks.old ≡ map Some records → AreToPrepare shape restored.now records → OnOk result (HaveShape shape (map D.told disks.new)) }
@@ -96,7 +96,7 @@ fn start_with<D: Disk>(
     ensures slots { (records : List (List Call)) → map D.told disks.old ≡ map Some records → IfOk result (λ b. AreSlotsOf b.generation (disks_of records) b.slots.items) }
     ensures lacking { IfErr result (λ fault. is_outside fault ≡ false → Lacks (restored.now.generation + 1) (length disks.old) (map D.told disks.old) fault) }
     ensures count { IfOk result (λ b. length b.slots.items ≡ length disks.old) }
-    ensures more { IfOk result (λ b. b.epoch < 2 ^ 64 - 2 ^ 32) }
+    ensures more { IfOk result (λ b. b.epoch < end_of_epochs) }
     ensures cause { HasCauseAmong (map D.faults disks.old) (map D.faults disks.new) result }
     ensures steady { AreSteady (map D.faults disks.old) (map D.faults disks.new) }
 {
@@ -120,7 +120,7 @@ fn start_with<D: Disk>(
 fn epoch_of(restored: &Restored) -> u64
     requires { is_used_up restored.now ≡ false }
     ensures value { result ≡ restored.now.epoch }
-    ensures more { result < 2 ^ 64 - 2 ^ 32 }
+    ensures more { result < end_of_epochs }
 {
     restored.epoch
 }

@@ -1,5 +1,5 @@
 -- A life on disks, moment by moment.
-use Rattle.std.specs.Prelude.{◌≡◌, ◌≤◌, ◌<◌, ℕ, ◌+◌, ◌-◌, ◌^◌, List, get_or, length, map, Option, Some, Ok}
+use Rattle.std.specs.Prelude.{◌≡◌, ◌≤◌, ◌<◌, ℕ, ◌+◌, ◌-◌, List, get_or, length, map, Option, Some, Ok}
 use Rattle.std.specs.FinMap as finmap
 use Rattle.frag_map.specs.Shape.{IsShape, groups}
 use Rattle.host_io.specs.Call.{Call}
@@ -10,7 +10,7 @@ use Rattle.sig_core.specs.declared.member.Member.{Member}
 use Rattle.sig_core.specs.declared.request.ApiReq.{ApiReq}
 use Rattle.sig_core.specs.declared.view.Shape.{Shape}
 use Rattle.sig_core.specs.Rows.{row_of}
-use Rattle.life_start.specs.Begun.{AreSlotsOf, rows_of}
+use Rattle.life_start.specs.Begun.{AreSlotsOf, end_of_epochs, rows_of}
 use Rattle.life_start.specs.Records.{AllTellMore}
 use Rattle.life_start.specs.Shapes.{AreOfShape, HaveShape}
 use Rattle.node_disk.specs.Found.{slots_in}
@@ -39,13 +39,13 @@ use Rattle.restart_laws.specs.Told.{TellsWhatIsKept}
 -- A life may begin behind what was restored: there is an epoch behind it, and each group has its rows.
 pub record MayBegin (shape : Shape) (r : Restored) : Type 0 where
   pub is_shape : IsShape shape
-  pub last : r.epoch < 2 ^ 64 - 2 ^ 32
+  pub last : r.epoch < end_of_epochs
   pub groups_are : length r.groups ≡ groups shape
   pub grouped : AreGrouped shape r
 
--- the disks told records from which such a life may begin, behind what is restored of them
-abbrev pub IsHonest : Shape → Restored → List (List Call) → Type 0
-IsHonest shape r records = AreToPrepare shape r records × MayBegin shape r
+-- disks that told these records are fit for such a life, behind what is restored of them
+abbrev pub AreFitFor : Shape → Restored → List (List Call) → Type 0
+AreFitFor shape r records = AreToPrepare shape r records × MayBegin shape r
 
 -- The disk of a node is ready for that life, and these are its slots in use.
 pub record IsReadyFor (shape : Shape) (r : Restored) (disks : Disks) (node : ℕ) : Type 0 where

@@ -4,9 +4,8 @@ use Rattle.host_io.specs.Call.{Call}
 use Rattle.host_io.specs.Image.{IsLeft}
 use Rattle.life_start.specs.Begun as life
 use Rattle.life_start.specs.Refusals.{IsRefusedFor}
-use Rattle.restart_laws.specs.Lived.{IsHonest}
+use Rattle.restart_laws.specs.Lived.{AreFitFor}
 use Rattle.restart_laws.specs.Restart.{IsOfLife}
-use Rattle.run_theory.specs.Lists.{Each}
 use Rattle.script_lang.specs.declared.command.Command.{Command}
 use Rattle.script_lang.specs.declared.command.Command.TheVariants as command
 use Rattle.script_lang.specs.ReplyText.{newline, reply_text}
@@ -16,7 +15,7 @@ use Rattle.shell_top.specs.declared.ended.Ending.TheVariants.{NoMemory}
 use Rattle.shell_top.specs.Fit.{HandsOn}
 use Rattle.shell_top.specs.Lived.{IsLife}
 use Rattle.shell_top.specs.Printed.{is_cut_short}
-use Rattle.shell_top.specs.Seen.{HasGrown, HaveLostIf, Seen}
+use Rattle.shell_top.specs.Seen.{HasGrown, HaveLost, Seen}
 use Rattle.shell_top.specs.Told.{text_of}
 use Rattle.sig_core.specs.declared.fault.RestartFault.{RestartFault}
 use Rattle.sig_core.specs.declared.fault.RestartFault.TheVariants as fault
@@ -99,31 +98,36 @@ IsRestored shape opened l =
     (records : List (List Call)) → opened.told ≡ map Some records
     → (generation : ℕ) × life.HasBegun shape (disks_of records) generation l.start_epoch l.start_rows
 
--- Whatever a crash leaves of the disks of a life, which were honest as it was to begin, a restart comes to its history.
-abbrev pub RestartsAsHistory : Shape → (opened left : Seen) → Life → Type 0
-RestartsAsHistory shape opened left life =
-    (records : List (List Call)) → opened.told ≡ map Some records → (r : Restored) → IsHonest shape r records
-    → (images : Disks)
+-- Whatever a crash leaves of these disks of a life that began behind what was restored, a restart comes to its history.
+abbrev pub RestartsAs : Shape → Restored → Seen → Life → Type 0
+RestartsAs shape r left life =
+    (images : Disks)
     → ((node : ℕ) (calls : List Call) → told_by left.told node ≡ Some calls → IsLeft calls (images node))
     → (found : Restored)
     × ((restored_of shape images ≡ Ok found) × IsOfLife (start_of shape life) r (logs_of life) found)
 
+-- so it is of a life whose disks were fit for it
+abbrev pub RestartsAsHistory : Shape → (opened left : Seen) → Life → Type 0
+RestartsAsHistory shape opened left life =
+    (records : List (List Call)) → opened.told ≡ map Some records → (r : Restored) → AreFitFor shape r records
+    → RestartsAs shape r left life
+
 -- What a chapter says: its life began with what its disks had, served these commands, and each was answered at quiet;
 -- it ended by a crash, or the cluster was down; whatever a crash leaves of its disks, a restart comes to its history,
--- and they are fit for the next life.
+-- and behind a cut of their power they are fit for the next life.
 pub record IsChapter (shape : Shape) (c : Chapter) : Type 0 where
   pub restored : IsRestored shape c.opened c.life
   pub life : IsLife shape ending.Finished c.served c.life
   pub ends : EndsBy shape c c.crashed
   pub restarts : RestartsAsHistory shape c.opened c.left c.life
-  pub hands_on : HandsOn shape c.opened c.left c.life
+  pub hands_on : HandsOn shape c.opened c.left
 
 -- The disks of a cluster behind chapters, from those that it was given on: each life begins on the disks that the one
--- before left, whose power is cut at a crash, and in it their records only grow.
+-- before left, whose power was cut at its end, and in it their records only grow.
 abbrev pub AreHandedOn : Seen → List Chapter → Seen → Type 0
 AreHandedOn given [] now = now ≡ given
 AreHandedOn given (c ∷ earlier) now =
-    AreHandedOn given earlier c.opened × (HasGrown c.opened c.left × HaveLostIf c.crashed c.left now)
+    AreHandedOn given earlier c.opened × (HasGrown c.opened c.left × HaveLost c.left now)
 
 -- How a session ends: in a life; behind a crash; or a life was to begin, and didn't. The first and the last with what
 -- was seen of the disks then.
@@ -191,21 +195,7 @@ pub record IsUnborn (shape : Shape) (ending : Ending) (opened now : Seen) : Type
 abbrev pub IsLast : Shape → Ending → List Command → Seen → Last → Type 0
 IsLast shape ending commands now (Living life opened) =
     IsRestored shape opened life × IsLife shape ending commands life × (is_refusal ending ≡ false)
-    × ((ending ≡ NoMemory → ⊥) → RestartsAsHistory shape opened now life)
+    × ((ending ≡ NoMemory → ⊥) → RestartsAsHistory shape opened now life × HandsOn shape opened now)
 IsLast shape ending commands now (Crash c) =
     IsChapter shape c × (c.crashed ≡ true) × (is_refusal ending ≡ false) × AreFirst ending (asked_in c) commands
 IsLast shape ending commands now (Unopened opened) = IsUnborn shape ending opened now
-
--- The lives of a session of a cluster of this shape, which was asked for these commands and has this text: chapters,
--- the last one first, and how it ended. It was given disks of which the first was seen, and leaves the second.
-pub record AreLives (shape : Shape) (ending : Ending) (commands : List Command) (given now : Seen) (lives : List Life)
-    (text : List ℕ) : Type 0 where
-  pub chapters : List Chapter
-  pub last : Last
-  pub own : List Command
-  pub are : Each (IsChapter shape) chapters
-  pub is_last : IsLast shape ending own now last
-  pub disks : AreHandedBack given chapters last now
-  pub asked : commands ≡ asked_in_all chapters ++ own
-  pub all : lives ≡ lives_of chapters ++ last_lives last
-  pub told : text ≡ chapters_text shape chapters ++ last_text shape chapters last

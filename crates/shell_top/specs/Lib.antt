@@ -7,6 +7,7 @@ pub mod Lived
 pub mod Parsed
 pub mod Lives
 pub mod OnDisks
+pub mod OneHistory
 pub mod Printed
 pub mod Reader
 pub mod Safe
@@ -14,6 +15,7 @@ pub mod Script
 pub mod Seen
 pub mod Served
 pub mod Session
+pub mod SessionLives
 pub mod Setting
 pub mod Stopped
 pub mod Subject

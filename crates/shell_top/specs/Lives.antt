@@ -10,20 +10,21 @@ use Rattle.disk_world.specs.Starting.{start_from}
 use Rattle.frag_map.specs.Shape.{IsShape}
 use Rattle.host_io.specs.Call.{Call}
 use Rattle.node_disk.specs.Slots.{SlotsInUse}
-use Rattle.restart_laws.specs.Lived.{IsHonest, IsLived}
+use Rattle.restart_laws.specs.Lived.{AreFitFor, IsLived}
 use Rattle.run_theory.specs.Lists.{Each}
 use Rattle.script_lang.specs.declared.command.Command.{Command}
 use Rattle.sig_core.specs.declared.log.Life.{Life}
 use Rattle.sig_core.specs.declared.view.Shape.{Shape}
-use Rattle.shell_top.specs.Chapters.{AreHandedOn, AreLives, Chapter, IsChapter, IsRestored, IsUnborn}
+use Rattle.shell_top.specs.Chapters.{AreHandedOn, Chapter, IsChapter, IsRestored, IsUnborn}
 use Rattle.shell_top.specs.Chapters.{asked_in, asked_in_all, chapter_text, chapters_text, is_refusal, life_text}
 use Rattle.shell_top.specs.Chapters.{lives_of}
 use Rattle.shell_top.specs.declared.ended.Ending.{Ending}
 use Rattle.shell_top.specs.declared.ended.Ending.TheVariants as ending
 use Rattle.shell_top.specs.declared.lives.Lives.{Lives}
 use Rattle.shell_top.specs.Printed.{AppendsPart, Prints}
-use Rattle.shell_top.specs.Seen.{HasGrown, Seen}
+use Rattle.shell_top.specs.Seen.{HasGrown, HaveLost, Seen}
 use Rattle.shell_top.specs.Served.{IsServed}
+use Rattle.shell_top.specs.SessionLives.{AreLives}
 use Rattle.sys_restart.specs.declared.restored.Restored.{Restored}
 use Rattle.world_core.specs.Start.{Start}
 use Rattle.world_views.specs.Driven.{IsSound}
@@ -89,10 +90,10 @@ pub record AreKept {D : Type 0} (lives : Lives D) : Type 0 where
   pub disks : length (disks_of lives) ≡ lives.shape.nodes
   pub room : HasRoom (now_of lives) (length lives.ended.items) (vec_capacity lives.ended)
 
--- a life that began on disks of which the first was seen, and were honest, has come to what is seen of them now
+-- a life that began on disks of which the first was seen, and were fit for it, has come to what is seen of them now
 abbrev pub IsLivedSince : Shape → (opened seen : Seen) → Going → Type 0
 IsLivedSince shape opened seen g =
-    (records : List (List Call)) → opened.told ≡ map Some records → (r : Restored) → IsHonest shape r records
+    (records : List (List Call)) → opened.told ≡ map Some records → (r : Restored) → AreFitFor shape r records
     → IsLived r g.whole (disks_with seen.told g.slots) g.start
 
 -- a life began with what its disks had, in a world in which nothing has happened
@@ -113,6 +114,11 @@ pub record IsUnopened (shape : Shape) (opened seen : Seen) (now : Option Going) 
 abbrev pub is_up : Option Going → Bool
 is_up None = false
 is_up (Some g) = not (is_down g.whole)
+
+-- where a life went on, the power of its disks was cut; else nothing was done to them
+abbrev pub HaveLostPower : Option Going → (before now : Seen) → Type 0
+HaveLostPower None before now = now ≡ before
+HaveLostPower (Some g) before now = HaveLost before now
 
 -- how the life that goes on began
 abbrev pub start_in : Shape → Option Going → Start

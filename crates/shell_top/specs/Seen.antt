@@ -1,5 +1,5 @@
 -- What is seen of the disks of a cluster.
-use Rattle.std.specs.Prelude.{◌≡◌, ℕ, Bool, true, false, List, get_or, length, map, Option, None, Some}
+use Rattle.std.specs.Prelude.{◌≡◌, ℕ, List, get_or, length, map, Option, None, Some}
 use Rattle.host_io.specs.Call.{Call}
 use Rattle.host_io.specs.Disk.{IsCut, ends_cut}
 use Rattle.life_start.specs.Records.{AllTellMore}
@@ -32,8 +32,3 @@ pub record HaveLost (before now : Seen) : Type 0 where
   pub many : length now.told ≡ length before.told
   pub each : (at : ℕ) → HasLost (get_or before.told at None) (get_or now.told at None)
   pub steady : AreSteady before.faults now.faults
-
--- behind a crash it was, and else nothing was done
-abbrev pub HaveLostIf : Bool → Seen → Seen → Type 0
-HaveLostIf true before now = HaveLost before now
-HaveLostIf false before now = now ≡ before

@@ -9,11 +9,12 @@ use Rattle.shell_top.specs.declared.ended.Ending.{Ending}
 use Rattle.shell_top.specs.declared.ended.Ending.TheVariants.{Finished, Words, Refused, ReadFault, WriteFault, NoMemory}
 use Rattle.shell_top.specs.declared.ended.Ending.TheVariants.{Damaged, DiskFault, OtherShape, TooLong, UsedUp}
 use Rattle.shell_top.specs.declared.session.Session.{Session}
-use Rattle.shell_top.specs.Chapters.{AreLives, may_be_unborn}
+use Rattle.shell_top.specs.Chapters.{may_be_unborn}
 use Rattle.shell_top.specs.Lives.{AreServed, Going, all_lives, now_of}
 use Rattle.shell_top.specs.Printed.{Prints, is_cut_short}
 use Rattle.shell_top.specs.Script.{Script, script_from}
 use Rattle.shell_top.specs.Seen.{Seen}
+use Rattle.shell_top.specs.SessionLives.{AreLives}
 use Rattle.shell_top.specs.Text.{fault_line, status_after}
 
 -- the script ends the session as finished: at `quit`, or at its end

@@ -1,8 +1,9 @@
 -- A life may begin on what a crash leaves of the disks of a life.
-use Rattle.std.specs.Prelude.{◌≡◌, ◌≤◌, ◌<◌, ℕ, ◌+◌, ◌-◌, ◌^◌, List, Some, Ok}
+use Rattle.std.specs.Prelude.{◌≡◌, ◌≤◌, ◌<◌, ℕ, ◌+◌, List, Some, Ok}
 use Rattle.std.proofs.Common.{sym, subst}
 use Rattle.frag_map.specs.Replicas.{first_start}
 use Rattle.host_io.specs.Call.{Call}
+use Rattle.life_start.specs.Begun.{end_of_epochs}
 use Rattle.redo_log.specs.Stored.{files_of}
 use Rattle.run_theory.specs.Lists.{IsIn}
 use Rattle.sig_core.specs.declared.member.Member.{Member}
@@ -25,7 +26,7 @@ use Rattle.disk_laws.specs.Found.{HasSavedRows}
 use Rattle.disk_laws.specs.OnDisk.{KeepsUp}
 use Rattle.disk_laws.proofs.KeptLaw.{kept_is_found}
 use Rattle.restart_laws.specs.HandedOn.{AreCut, LivesAreHandedOn}
-use Rattle.restart_laws.specs.Lived.{IsHonest, IsLived}
+use Rattle.restart_laws.specs.Lived.{AreFitFor, IsLived}
 use Rattle.restart_laws.specs.Restart.{IsOfLife}
 use Rattle.restart_laws.proofs.handed.CutBytes.{files_have_bytes}
 use Rattle.restart_laws.proofs.handed.CutControl.{in_use_kept}
@@ -59,10 +60,10 @@ module _ (start : Start) (r : Restored) (w : Whole) (disks : Disks) (records : L
       (λ (generation : ℕ). control_of_file generation (disks_of records node CONTROL_FILE) ≡ Ok (Some has.slot))
       has.generation_is has.restores.0)
 
-  honest : (found : Restored) → restored_of start.shape (disks_of records) ≡ Ok found
-      → IsOfLife start r (logs_at w.logs) found → found.epoch < 2 ^ 64 - 2 ^ 32
-      → IsHonest start.shape found records
-  honest found restored of_life last = (
+  fit : (found : Restored) → restored_of start.shape (disks_of records) ≡ Ok found
+      → IsOfLife start r (logs_at w.logs) found → found.epoch < end_of_epochs
+      → AreFitFor start.shape found records
+  fit found restored of_life last = (
     record {
       restored = restored;
       each = λ node some few.
@@ -89,4 +90,4 @@ module _ (start : Start) (r : Restored) (w : Whole) (disks : Disks) (records : L
 pub lives_are_handed_on : LivesAreHandedOn
 lives_are_handed_on start r w disks records lived cut =
     let (found, (restored, of_life)) = lives_restart start r w disks (disks_of records) lived cut.left in
-    (found, (restored, of_life, honest start r w disks records lived cut found restored of_life))
+    (found, (restored, of_life, fit start r w disks records lived cut found restored of_life))

@@ -17,7 +17,7 @@ use Rattle.sys_restart.specs.Prepared.{IsSettled}
 use Rattle.sys_restart.proofs.AlikeLemmas.{not_none, same_some}
 use Rattle.sys_restart.proofs.DisksLemmas.{mapped}
 use Rattle.restart_laws.specs.HandedOn.{AreCut}
-use Rattle.restart_laws.specs.Lived.{IsHonest}
+use Rattle.restart_laws.specs.Lived.{AreFitFor}
 
 -- the record of one disk behind the cut of its power
 record IsCutTo (calls now : List Call) : Type 0 where
@@ -94,11 +94,11 @@ module _ (shape : Shape) (told : List (Option (List Call))) (records : List (Lis
 -- so are the disks of a life, from which it was to begin and which then told more
 pub left_disks_are_cut : (shape : Shape) (r : Restored) (first records : List (List Call))
     (opened told now : List (Option (List Call))) → opened ≡ map Some first → length first ≡ shape.nodes
-    → IsHonest shape r first → AllTellMore opened told → now ≡ map Some records → length now ≡ length told
+    → AreFitFor shape r first → AllTellMore opened told → now ≡ map Some records → length now ≡ length told
     → ((at : ℕ) (calls : List Call) → get_or told at None ≡ Some calls
     → IsCut calls (get_or now at None) (ends_cut calls))
     → AreCut shape told records
-left_disks_are_cut shape r first records opened told now were nodes honest grown is many lost =
+left_disks_are_cut shape r first records opened told now were nodes fit grown is many lost =
     cut_disks_are_cut shape told records
     (sym (mapped Some records) ∙ ap length (sym is) ∙ many)
     tell
@@ -115,7 +115,7 @@ left_disks_are_cut shape r first records opened told now were nodes honest grown
     kept at below =
         let same : at + 1 - 1 ≡ at = omega arith in
         subst (λ (k : ℕ). IsRecord (get_or first k [])) same
-        (honest.0.each (at + 1) (omega arith) (omega (arith, as_many, nodes, below))).kept
+        (fit.0.each (at + 1) (omega arith) (omega (arith, as_many, nodes, below))).kept
 
     tell : (at : ℕ) → at < length told → TellsRecord (get_or told at None)
     tell at below =

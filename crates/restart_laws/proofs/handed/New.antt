@@ -32,7 +32,7 @@ use Rattle.sys_restart.specs.Places.{control_places}
 use Rattle.sys_restart.specs.Prepared.{AreStorable, HasKept, MayPrepare}
 use Rattle.sys_restart.specs.ReadyDisks.{AreToPrepare}
 use Rattle.sys_restart.specs.Restored.{nothing}
-use Rattle.restart_laws.specs.HandedOn.{NewDisksAreHonest}
+use Rattle.restart_laws.specs.HandedOn.{NewDisksAreFit}
 use Rattle.restart_laws.specs.Lived.{MayBegin}
 
 -- an empty file has no slot at any place
@@ -114,5 +114,5 @@ may_begin shape is_shape = record {
       ∙ map.get-empty (slice_cmp nat_cmp) key;
 }
 
-pub new_disks_are_honest : NewDisksAreHonest
-new_disks_are_honest shape records is_shape new = (are_to_prepare shape records new, may_begin shape is_shape)
+pub new_disks_are_fit : NewDisksAreFit
+new_disks_are_fit shape records is_shape new = (are_to_prepare shape records new, may_begin shape is_shape)

@@ -6,9 +6,15 @@ use Rattle.sys_restart.specs.Files.{disks_of}
 use Rattle.sys_restart.specs.ReadyDisks.{AreReady, AreToPrepare}
 use Rattle.sys_restart.specs.Restored.{restored_of}
 use Rattle.life_start.specs.Refusals.{IsUsedUpBy}
-use Rattle.life_start.proofs.BeginLemmas.{same_answer}
+use Rattle.life_start.proofs.BeginLemmas.{has_begun, same_answer}
 use Rattle.life_start.proofs.RefusalLemmas.{none_begins}
 use Rattle.life_start.proofs.begin.begin_life.Goals as goal
+
+-- it begins with what was restored, and there is an epoch behind that
+pub returns-in-Ok-clause-begun : goal.returns-in-Ok-clause-begun
+returns-in-Ok-clause-begun g c = λ records told.
+    has_begun c.args.shape (disks_of records) c.in-Ok.restored c.begin_from.result (λ b. b.generation) (λ b. b.epoch)
+    (λ b. b.rows.items) (c.in-Ok.ensures.read records told) c.begin_from.ensures.begun c.begin_from.ensures.more
 
 -- what may be prepared is what was restored
 pub returns-in-Ok-clause-ready : goal.returns-in-Ok-clause-ready

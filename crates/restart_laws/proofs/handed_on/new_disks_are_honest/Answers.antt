@@ -1,5 +1,0 @@
-use Rattle.restart_laws.proofs.handed.New.{new_disks_are_honest}
-use Rattle.restart_laws.proofs.handed_on.new_disks_are_honest.Goals as goal
-
-pub returns : goal.returns
-returns c = new_disks_are_honest
