@@ -11,21 +11,23 @@ use Rattle.script_lang.specs.ReplyText.{newline, reply_text}
 use Rattle.sig_core.specs.declared.log.Life.{Life}
 use Rattle.sig_core.specs.declared.reply.ApiReply.TheVariants.{Crashed, Restarted}
 use Rattle.sig_core.specs.declared.view.Shape.{Shape}
-use Rattle.shell_top.specs.Chapters.{AreHandedOn, AreLives, Chapter, EndsBy, IsChapter, Unopened, asked_in}
+use Rattle.shell_top.specs.Chapters.{AreHandedOn, Chapter, EndsBy, IsChapter, Unopened, asked_in}
 use Rattle.shell_top.specs.Chapters.{asked_in_all, chapters_text, crash_commands, crash_text, down_lines, life_text}
 use Rattle.shell_top.specs.Chapters.{lives_of}
 use Rattle.shell_top.specs.declared.ended.Ending.{Ending}
 use Rattle.shell_top.specs.declared.ended.Ending.TheVariants as ending
 use Rattle.shell_top.specs.Lived.{IsLife}
-use Rattle.shell_top.specs.Lives.{AreServed, EndsIn, Going, HasBegun, IsCrashed, IsLineTold, IsUnopened, IsUp}
-use Rattle.shell_top.specs.Lives.{Obeys, all_lives, is_up, life_of}
+use Rattle.shell_top.specs.Lives.{AreServed, EndsIn, Going, HasBegun, HaveLostPower, IsCrashed, IsLineTold, IsUnopened}
+use Rattle.shell_top.specs.Lives.{IsUp, Obeys, all_lives, is_up, life_of}
 use Rattle.shell_top.specs.Seen.{HasGrown, HaveLost, Seen}
+use Rattle.shell_top.specs.SessionLives.{AreLives}
 use Rattle.shell_top.specs.Told.{text_of}
 use Rattle.shell_top.proofs.ChapterLemmas.{going_life}
 use Rattle.shell_top.proofs.FreshLemmas.{fresh_served, fresh_told}
 use Rattle.shell_top.proofs.LivedLemmas.{served_lived, told_front, told_part}
 use Rattle.shell_top.proofs.LivesLemmas.{ends_served, printed_whole, some_last, some_life}
 use Rattle.shell_top.proofs.FitLemmas.{disks_are_handed_on}
+use Rattle.shell_top.proofs.HistoryLemmas.{one_history}
 use Rattle.shell_top.proofs.OnDisksLemmas.{left_as_history}
 use Rattle.shell_top.proofs.UnbornLemmas.{unborn_early}
 use Rattle.world_core.specs.World.{logs_at}
@@ -208,11 +210,12 @@ module _ (shape : Shape) (sound : IsShape shape) where
           };
         }
 
-  -- what went on, or crashed, is over
-  closes : (seen : Seen) (ended : List Life) (now : Option Going) (commands : List Command) (text : List ℕ)
-      (given : Seen) → AreServed shape commands text given seen ended now → is_up now ≡ false
-      → AreClosed shape (commands ++ command.Restart ∷ []) text given seen (all_lives ended now)
-  closes seen ended (Some g) commands text given s down_now =
+  -- what went on, or crashed, is over, and its disks lost their power
+  closes : (seen lost : Seen) (ended : List Life) (now : Option Going) → HaveLostPower now seen lost
+      → (commands : List Command) (text : List ℕ) (given : Seen)
+      → AreServed shape commands text given seen ended now → is_up now ≡ false
+      → AreClosed shape (commands ++ command.Restart ∷ []) text given lost (all_lives ended now)
+  closes seen lost ended (Some g) cut commands text given s down_now =
       record {
         chapter = record {
           life = life_of g;
@@ -223,7 +226,7 @@ module _ (shape : Shape) (sound : IsShape shape) where
           left = seen;
         };
         earlier = s.chapters;
-        disks = (s.is_now.disks.0, (s.is_now.disks.1, refl));
+        disks = (s.is_now.disks.0, (s.is_now.disks.1, cut));
         are = (
           record {
             restored = s.is_now.restored;
@@ -247,13 +250,13 @@ module _ (shape : Shape) (sound : IsShape shape) where
             (s.is_now.told ∙ sym (append-nil (life_text shape s.chapters (life_of g))));
         were = ap (λ ls. ls ++ life_of g ∷ []) s.is_now.were;
       }
-  closes seen ended None commands text given s down_now =
+  closes seen lost ended None same commands text given s down_now =
       let all : s.own ++ command.Restart ∷ [] ≡ asked_in s.is_now.crash ++ command.Restart ∷ [] =
       ap (λ cs. cs ++ command.Restart ∷ []) s.is_now.asked in
       record {
         chapter = s.is_now.crash;
         earlier = s.chapters;
-        disks = s.is_now.disks;
+        disks = subst (AreHandedOn given (s.is_now.crash ∷ s.chapters)) (sym same) s.is_now.disks;
         are = (s.is_now.is, s.are);
         asked = ap (λ cs. cs ++ command.Restart ∷ []) s.asked
             ∙ append_assoc (asked_in_all s.chapters) s.own (command.Restart ∷ [])
@@ -263,25 +266,28 @@ module _ (shape : Shape) (sound : IsShape shape) where
       }
 
   -- the next life doesn't begin
-  pub restart_refused : (seen seen_now : Seen) (ended : List Life) (now next : Option Going)
-      (written : Option (List ℕ)) → is_up now ≡ false → (e : Ending) → IsUnopened shape seen seen_now next e
-      → HasGrown seen seen_now
+  pub restart_refused : (seen lost seen_now : Seen) (ended : List Life) (now next : Option Going)
+      (written : Option (List ℕ)) → is_up now ≡ false → HaveLostPower now seen lost
+      → (e : Ending) → IsUnopened shape lost seen_now next e → HasGrown lost seen_now
       → Obeys shape command.Restart seen seen_now ended (all_lives ended now) now next written written (Some e)
-  restart_refused seen seen_now ended now next written may e unopened grown commands text given s =
+  restart_refused seen lost seen_now ended now next written may cut e unopened grown commands text given s =
       subst
       (λ then. EndsIn shape command.Restart commands text given seen_now (all_lives ended now) then written written e)
       (sym unopened.none)
       (record {
         told = text;
-        early = unborn_early shape e seen seen_now unopened.unborn;
+        early = unborn_early shape e lost seen_now unopened.unborn;
         some = λ none. some_last (lives_of closed.earlier) closed.chapter.life (sym closed.were ∙ none);
         lived = λ rest. record {
           chapters = closed.chapter ∷ closed.earlier;
-          last = Unopened seen;
+          last = Unopened lost;
           own = rest;
           are = closed.are;
           is_last = unopened.unborn;
           disks = (closed.disks, grown);
+          history = λ fit.
+              one_history shape given fit e (closed.chapter ∷ closed.earlier) (Unopened lost) rest seen_now closed.are
+              unopened.unborn (closed.disks, grown);
           asked = sym (append_assoc commands (command.Restart ∷ []) rest) ∙ ap (λ cs. cs ++ rest) closed.asked;
           all = closed.were ∙ sym (append-nil (lives_of (closed.chapter ∷ closed.earlier)));
           told = closed.told ∙ sym (append-nil (chapters_text shape (closed.chapter ∷ closed.earlier)));
@@ -289,16 +295,16 @@ module _ (shape : Shape) (sound : IsShape shape) where
         printed = λ before was. printed_whole e text before written was;
       })
     where
-      closed : AreClosed shape (commands ++ command.Restart ∷ []) text given seen (all_lives ended now)
-      closed = closes seen ended now commands text given s may
+      closed : AreClosed shape (commands ++ command.Restart ∷ []) text given lost (all_lives ended now)
+      closed = closes seen lost ended now cut commands text given s may
 
   -- it begins
-  pub restarts : (seen seen_now : Seen) (ended : List Life) (now next : Option Going) → is_up now ≡ false
-      → (begun : HasBegun shape seen seen_now next) → HasGrown seen seen_now
+  pub restarts : (seen lost seen_now : Seen) (ended : List Life) (now next : Option Going) → is_up now ≡ false
+      → HaveLostPower now seen lost → (begun : HasBegun shape lost seen_now next) → HasGrown lost seen_now
       → (commands : List Command) (text : List ℕ) (given : Seen) → AreServed shape commands text given seen ended now
       → AreServed shape (commands ++ command.Restart ∷ [])
       (text ++ reply_text (Restarted begun.going.start.start_epoch)) given seen_now (all_lives ended now) next
-  restarts seen seen_now ended now next may begun grown commands text given s =
+  restarts seen lost seen_now ended now next may cut begun grown commands text given s =
       subst
       (λ then.
       AreServed shape (commands ++ command.Restart ∷ []) (text ++ line) given seen_now (all_lives ended now) then)
@@ -311,7 +317,7 @@ module _ (shape : Shape) (sound : IsShape shape) where
         asked = closed.asked ∙ sym (append-nil (asked_in_all (closed.chapter ∷ closed.earlier)));
         told = ap (λ xs. xs ++ line) closed.told;
         is_now = record {
-          opened = seen;
+          opened = lost;
           disks = (closed.disks, grown);
           begins = begun.begins;
           restored = begun.restored;
@@ -332,8 +338,8 @@ module _ (shape : Shape) (sound : IsShape shape) where
       line : List ℕ
       line = reply_text (Restarted g.start.start_epoch)
 
-      closed : AreClosed shape (commands ++ command.Restart ∷ []) text given seen (all_lives ended now)
-      closed = closes seen ended now commands text given s may
+      closed : AreClosed shape (commands ++ command.Restart ∷ []) text given lost (all_lives ended now)
+      closed = closes seen lost ended now cut commands text given s may
 
   -- before the first command
   pub first_served : (next : Option Going) (opened seen : Seen) → HasBegun shape opened seen next

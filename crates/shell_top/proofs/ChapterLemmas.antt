@@ -9,15 +9,18 @@ use Rattle.run_theory.specs.Lists.{Each}
 use Rattle.script_lang.specs.declared.command.Command.{Command}
 use Rattle.sig_core.specs.declared.log.Life.{Life}
 use Rattle.sig_core.specs.declared.view.Shape.{Shape}
-use Rattle.shell_top.specs.Chapters.{AreFirst, AreHandedOn, AreLives, Chapter, Crash, IsChapter, IsRestored, Living}
+use Rattle.shell_top.specs.Chapters.{AreFirst, AreHandedOn, Chapter, Crash, IsChapter, IsLast, IsRestored, Living}
 use Rattle.shell_top.specs.Chapters.{RestartsAsHistory, asked_in, asked_in_all, chapter_text, chapters_text}
 use Rattle.shell_top.specs.Chapters.{first_line, is_refusal, life_text, lives_of}
 use Rattle.shell_top.specs.declared.ended.Ending.{Ending}
 use Rattle.shell_top.specs.declared.ended.Ending.TheVariants.{NoMemory}
+use Rattle.shell_top.specs.Fit.{HandsOn}
 use Rattle.shell_top.specs.Lived.{AreLived, IsLife}
 use Rattle.shell_top.specs.Lives.{Going, life_of}
 use Rattle.shell_top.specs.Seen.{HasGrown, Seen}
+use Rattle.shell_top.specs.SessionLives.{AreLives}
 use Rattle.shell_top.specs.Told.{text_of}
+use Rattle.shell_top.proofs.HistoryLemmas.{one_history}
 use Rattle.shell_top.proofs.PeacefulLemmas.{peacefully_served}
 use Rattle.shell_top.proofs.SafeLemmas.{between_cuts, cuts_are_safe}
 use Rattle.talk_laws.proofs.Reports.{reported}
@@ -67,20 +70,23 @@ module _ (shape : Shape) (sound : IsShape shape) where
         → AreHandedOn given chapters opened × HasGrown opened seen → (ended : List Life) → ended ≡ lives_of chapters
         → (g : Going) → g.start ≡ start_of shape (life_of g) → IsRestored shape opened (life_of g)
         → AreLived g.start e own g.whole.logs
-        → ((e ≡ NoMemory → ⊥) → RestartsAsHistory shape opened seen (life_of g))
+        → ((e ≡ NoMemory → ⊥) → RestartsAsHistory shape opened seen (life_of g) × HandsOn shape opened seen)
         → (text : List ℕ) → text ≡ chapters_text shape chapters ++ life_text shape chapters (life_of g)
         → AreLives shape e all given seen (ended ++ life_of g ∷ []) text
     ends_living e none all own asked opened disks ended were g begins restored lived left text is =
+        let is_last : IsLast shape e own seen (Living (life_of g) opened) =
+        (restored, going_life e own g begins lived, none, left) in
         record {
           chapters = chapters;
           last = Living (life_of g) opened;
           own = own;
           are = are;
-          is_last = (restored, going_life e own g begins lived, none, left);
+          is_last = is_last;
           disks = disks;
           asked = asked;
           all = ap (λ ls. ls ++ life_of g ∷ []) were;
           told = is;
+          history = λ fit. one_history shape given fit e chapters (Living (life_of g) opened) own seen are is_last disks;
         }
 
     -- it ends behind a crash
@@ -91,16 +97,18 @@ module _ (shape : Shape) (sound : IsShape shape) where
         → (text : List ℕ) → text ≡ chapters_text shape chapters ++ chapter_text shape chapters c
         → AreLives shape e all given seen ended text
     ends_crashed e none all own asked c disks is crashed first ended were text told =
+        let is_last : IsLast shape e own seen (Crash c) = (is, crashed, none, first) in
         record {
           chapters = chapters;
           last = Crash c;
           own = own;
           are = are;
-          is_last = (is, crashed, none, first);
+          is_last = is_last;
           disks = disks;
           asked = asked;
           all = were;
           told = told;
+          history = λ fit. one_history shape given fit e chapters (Crash c) own seen are is_last disks;
         }
 
 -- the text of a life goes on as its log does

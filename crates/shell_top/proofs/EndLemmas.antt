@@ -20,6 +20,7 @@ use Rattle.shell_top.specs.Seen.{HasGrown, Seen}
 use Rattle.shell_top.specs.Session.{AreLinesDone, IsSession, IsUnderWay}
 use Rattle.shell_top.specs.Text.{fault_line}
 use Rattle.shell_top.proofs.BetweenLemmas.{first_served}
+use Rattle.shell_top.proofs.HistoryLemmas.{one_history}
 use Rattle.shell_top.proofs.PrintedLemmas.{prints_both}
 use Rattle.shell_top.proofs.SeenLemmas.{grown_itself}
 use Rattle.shell_top.proofs.SessionLemmas.{early_ends, early_words}
@@ -142,6 +143,9 @@ session_unopened shape left written now ReadFailed WriteFailed given seen meant 
         asked = refl;
         all = none;
         told = refl;
+        history = λ fit.
+            one_history shape given fit meant [] (Unopened given) (script_from shape.nodes false 1 []).commands seen tt
+            unborn (refl, grown);
       };
       none_read = λ is. (unborn_may shape meant given seen unborn, refl);
       words_refused = λ is. absurd (early_words meant (unborn_early shape meant given seen unborn) is);

@@ -5,6 +5,7 @@ pub mod DisksLemmas
 pub mod EndLemmas
 pub mod FitLemmas
 pub mod GivingUp
+pub mod HistoryLemmas
 pub mod LivedLemmas
 pub mod BetweenLemmas
 pub mod ChapterLemmas

@@ -9,7 +9,7 @@ use Rattle.node_disk.specs.Slots.{SlotsInUse}
 use Rattle.script_lang.specs.declared.command.Command.{Command}
 use Rattle.sig_core.specs.declared.log.Life.{Life}
 use Rattle.sig_core.specs.declared.view.Shape.{Shape}
-use Rattle.shell_top.specs.Chapters.{AreHandedOn, AreLives, asked_in_all, chapters_text, is_refusal, life_text}
+use Rattle.shell_top.specs.Chapters.{AreHandedOn, asked_in_all, chapters_text, is_refusal, life_text}
 use Rattle.shell_top.specs.Chapters.{lives_of}
 use Rattle.shell_top.specs.declared.ended.Ending.{Ending}
 use Rattle.shell_top.specs.declared.ended.Ending.TheVariants as ending
@@ -18,10 +18,11 @@ use Rattle.shell_top.specs.OnDisks.{ComesTo, UnlessWanting}
 use Rattle.shell_top.specs.Printed.{Prints, is_cut_short, prints_if}
 use Rattle.shell_top.specs.Seen.{HasGrown, Seen}
 use Rattle.shell_top.specs.Served.{AreLeft, CommandEnds, PrintsCommand, WrittenInPart, WrittenWhole}
+use Rattle.shell_top.specs.SessionLives.{AreLives}
 use Rattle.shell_top.specs.Told.{text_of}
 use Rattle.shell_top.proofs.ChapterLemmas.{ends_crashed, ends_living, life_longer}
+use Rattle.shell_top.proofs.FitLemmas.{kept_as_history}
 use Rattle.shell_top.proofs.LivedLemmas.{left_lived, served_lived, told_front, told_part}
-use Rattle.shell_top.proofs.OnDisksLemmas.{left_as_history}
 use Rattle.shell_top.proofs.SeenLemmas.{grown_then}
 use Rattle.world_core.specs.World.{logs_at}
 use Rattle.world_views.specs.World.{Whole}
@@ -51,7 +52,8 @@ module _ (shape : Shape) (sound : IsShape shape) (ended : List Life) where
       (ap (λ cs. cs ++ rest) s.asked ∙ append_assoc (asked_in_all s.chapters) s.own rest) s.is_now.opened
       s.is_now.disks ended s.is_now.were g s.is_now.begins s.is_now.restored
       (served_lived g.start e s.own rest g.whole (s.own ++ rest) s.is_now.served refl last)
-      (λ kept. left_as_history shape s.is_now.opened seen g s.is_now.begins s.is_now.lived) text
+      (λ kept. kept_as_history shape s.is_now.opened seen g s.is_now.disks.1 s.is_now.restored s.is_now.begins
+      s.is_now.lived) text
       (s.told ∙ ap (λ xs. chapters_text shape s.chapters ++ xs) s.is_now.told)
   ends_served None commands text given seen s e none rest last =
       ends_crashed shape sound s.chapters s.are given seen e none (commands ++ rest) (s.own ++ rest)
@@ -86,7 +88,7 @@ module _ (shape : Shape) (sound : IsShape shape) (ended : List Life) where
       handed_on = (up.disks.0, grown_then up.opened seen seen_now up.disks.1 grown)
 
       lived_on : Comes → IsLivedSince shape up.opened seen_now next
-      lived_on comes records told r honest = comes r (up.lived records told r honest)
+      lived_on comes records told r fit = comes r (up.lived records told r fit)
 
       asked_on : (rest : List Command) → commands ++ c ∷ rest ≡ asked_in_all s.chapters ++ (s.own ++ c ∷ rest)
       asked_on rest =
@@ -145,7 +147,8 @@ module _ (shape : Shape) (sound : IsShape shape) (ended : List Life) where
                 (s.own ++ c ∷ rest) (asked_on rest) up.opened handed_on ended up.were next up.begins up.restored
                 (served_lived g.start ending.WriteFault (s.own ++ c ∷ []) rest t (s.own ++ c ∷ rest) part.served
                 (sym (append_assoc s.own (c ∷ []) rest)) (λ whole. cc))
-                (λ kept. left_as_history shape up.opened seen_now next up.begins (lived_on comes))
+                (λ kept. kept_as_history shape up.opened seen_now next handed_on.1 up.restored up.begins
+                (lived_on comes))
                 (text ++ part.text) (text_longer part.text part.told);
             printed = λ before was. told_part text part.text (text ++ part.text) before written now refl was part.part;
           }

@@ -12,10 +12,10 @@ use Rattle.sig_core.specs.declared.reply.ApiReply.TheVariants.{Crashed, Restarte
 use Rattle.sig_core.specs.declared.view.Shape.{Shape}
 use Rattle.shell_top.specs.declared.ended.Ending.{Ending}
 use Rattle.shell_top.specs.declared.lives.Lives.{Lives}
-use Rattle.shell_top.specs.Lives.{Going, HasBegun, IsLineTold, Obeys, all_lives, disks_of, going_in, is_up, now_of}
-use Rattle.shell_top.specs.Lives.{start_in}
+use Rattle.shell_top.specs.Lives.{Going, HasBegun, HaveLostPower, IsLineTold, Obeys, all_lives, disks_of, going_in}
+use Rattle.shell_top.specs.Lives.{is_up, now_of, start_in}
 use Rattle.shell_top.specs.OnDisks.{LivesOn, UnlessWanting}
-use Rattle.shell_top.specs.Seen.{HasGrown, HaveLost, Seen, seen_on}
+use Rattle.shell_top.specs.Seen.{HasGrown, Seen, seen_on}
 use Rattle.shell_top.specs.Served.{PrintsCommand}
 use Rattle.shell_top.specs.Setting.{setting_of}
 use Rattle.shell_top.proofs.BetweenLemmas.{crashes, line_obeys, refuses, restarts}
@@ -36,7 +36,7 @@ module _ (shape : Shape) (sound : IsShape shape) (ended : List Life) (written wr
   obeys_refused c seen (Some g) none told = cc
 
   -- the life that goes on ends by a crash
-  pub obeys_crash : (seen lost : Seen) (now : Option Going) → is_some now ≡ true → HaveLost seen lost
+  pub obeys_crash : (seen lost : Seen) (now : Option Going) → is_some now ≡ true → HaveLostPower now seen lost
       → IsLineTold result (reply_text Crashed) written written_now
       → Obeys shape command.Crash seen lost ended (all_lives ended now) now None written written_now result
   obeys_crash seen lost None some cut told = cc
@@ -45,14 +45,14 @@ module _ (shape : Shape) (sound : IsShape shape) (ended : List Life) (written wr
       written written_now (crashes shape sound seen lost cut ended g) result told
 
   -- the next life begins
-  pub obeys_restart : (seen seen_now : Seen) (now next : Option Going) → is_up now ≡ false
-      → HasBegun shape seen seen_now next → HasGrown seen seen_now
+  pub obeys_restart : (seen lost seen_now : Seen) (now next : Option Going) → is_up now ≡ false
+      → HaveLostPower now seen lost → HasBegun shape lost seen_now next → HasGrown lost seen_now
       → IsLineTold result (reply_text (Restarted (start_in shape next).start_epoch)) written written_now
       → Obeys shape command.Restart seen seen_now ended (all_lives ended now) now next written written_now result
-  obeys_restart seen seen_now now next down begun grown told =
+  obeys_restart seen lost seen_now now next down cut begun grown told =
       line_obeys shape sound command.Restart (reply_text (Restarted begun.going.start.start_epoch)) seen seen_now ended
       (all_lives ended now) now next written written_now
-      (restarts shape sound seen seen_now ended now next down begun grown) result
+      (restarts shape sound seen lost seen_now ended now next down cut begun grown) result
       (subst (λ (start : Start). IsLineTold result (reply_text (Restarted start.start_epoch)) written written_now)
       (ap (start_in shape) begun.is) told)
 

@@ -57,7 +57,7 @@ module _ (shape : Shape) (r : Restored) (generation epoch : ℕ) (rows : List (L
       ap (λ e. start_from shape e rows) (begun.begins.1 ∙ ap (λ (x : Restored). x.epoch) same_restored)
       ∙ ap (start_from shape r.epoch) (begun.begins.2 ∙ ap (λ (x : Restored). rows_of x.groups) same_restored)
 
--- a life begins on honest disks
+-- a life begins on disks that are fit for it
 module _ {D : Type 0} (shape : Shape) (told : D → Option (List Call)) (before : List (Option (List Call)))
     (w : DiskWorld D) (fresh : whole_of w.world ≡ new_world (start_from shape w.start w.rows.items))
     (restored : (records : List (List Call)) → before ≡ map Some records
@@ -73,13 +73,13 @@ module _ {D : Type 0} (shape : Shape) (told : D → Option (List Call)) (before 
   where
     pub begun_lived : (counts : List ℕ) (faults : D → ℕ)
         → IsLivedSince shape (seen before counts) (seen_on told faults w.disks.items) (going_in shape w)
-    begun_lived counts faults records all r honest =
+    begun_lived counts faults records all r fit =
         let begun = restored records all in
-        let read = honest.0.restored in
+        let read = fit.0.restored in
         let tells : List (Option (List Call)) = map told w.disks.items in
         let are : AreReadyFor shape r (disks_told told w) =
-        opened_are_ready shape r records tells w.slots.items honest.0 (ready records r all honest.0)
-        (subst (λ b. AllTellMore b tells) all recorded) (shapes records r all honest.0)
+        opened_are_ready shape r records tells w.slots.items fit.0 (ready records r all fit.0)
+        (subst (λ b. AllTellMore b tells) all recorded) (shapes records r all fit.0)
         (λ now is. subst (λ n. AreSlotsOf n (disks_of now) w.slots.items)
         (next_generation shape r w.generation w.start w.rows.items records begun read) (slots now is))
         (mapped told w.disks.items ∙ count.0) count.1 in
@@ -87,7 +87,7 @@ module _ {D : Type 0} (shape : Shape) (told : D → Option (List Call)) (before 
         starts_behind shape r w.generation w.start w.rows.items records begun read in
         subst (λ x. IsLived r x (disks_told told w) (start_from shape w.start w.rows.items)) (sym fresh)
         (subst (λ s. IsLived r (new_world s) (disks_told told w) s) (sym behind)
-        (lives_begin shape r (disks_told told w) honest.1 are (fresh_sound (start_behind shape r))))
+        (lives_begin shape r (disks_told told w) fit.1 are (fresh_sound (start_behind shape r))))
 
 -- a world keeps its disks as they are
 pub same_disks : {D : Type 0} → (told : D → Option (List Call)) (w t : DiskWorld D)
@@ -136,11 +136,11 @@ module _ {D : Type 0} (start : Start) (told : D → Option (List Call)) where
 -- at its end a restart comes to its history
 pub left_as_history : (shape : Shape) (opened now : Seen) (g : Going) → g.start ≡ start_of shape (life_of g)
     → IsLivedSince shape opened now g → RestartsAsHistory shape opened now (life_of g)
-left_as_history shape opened now g begins lived records told r honest images left =
+left_as_history shape opened now g begins lived records told r fit images left =
     subst
     (λ (s : Start).
     (found : Restored)
     × ((restored_of s.shape images ≡ Ok found)
     × IsOfLife s r (logs_at g.whole.logs) found))
     begins
-    (lives_restart g.start r g.whole (disks_with now.told g.slots) images (lived records told r honest) left)
+    (lives_restart g.start r g.whole (disks_with now.told g.slots) images (lived records told r fit) left)

@@ -16,7 +16,7 @@ use Rattle.sig_core.specs.declared.view.Shape.{Shape}
 use Rattle.sig_core.specs.declared.log.Life.{Life}
 use Rattle.frag_map.specs.Shape.{IsShape}
 use Rattle.script_lang.specs.declared.command.Command.{Command}
-use Rattle.shell_top.specs.Chapters.{AreLives, is_refusal}
+use Rattle.shell_top.specs.Chapters.{is_refusal}
 use Rattle.shell_top.specs.Lives.{EndsIn, Going, HasObeyed, Obeys, all_lives, stops_early}
 use Rattle.shell_top.specs.Printed.{Prints, is_cut_short}
 use Rattle.shell_top.proofs.LivesLemmas.{ends_served, printed_whole, some_life}
@@ -24,6 +24,7 @@ use Rattle.shell_top.specs.Parsed.{parsed as parsed_line}
 use Rattle.shell_top.specs.Reader.{Reads, IsPartial, is_newline}
 use Rattle.shell_top.specs.Script.{Script, nothing_more, ends_with, follow, is_too_long, last_part, script_from}
 use Rattle.shell_top.specs.Seen.{Seen}
+use Rattle.shell_top.specs.SessionLives.{AreLives}
 use Rattle.shell_top.specs.Session.{Ends, IsUnderWay, AreLinesDone, after, is_finished}
 use Rattle.shell_top.proofs.ScriptLemmas.{script-part, script-line, script-held, found_within, whole_line-long}
 use Rattle.shell_top.proofs.ScriptLemmas.{whole_line-short, too_long_line, too_long_bytes, short_line, last_part-long}

@@ -7,7 +7,7 @@ ghost use Rattle.sig_core.specs.declared.reply.ApiReply.TheVariants.{Restarted};
 ghost use Rattle.shell_top.specs.Asked.{IsOfWords, is_asked_for, is_served};
 ghost use Rattle.shell_top.specs.declared.ended.Ending.TheVariants as ending;
 ghost use Rattle.shell_top.specs.Seen.{HasGrown, HaveLost, seen_on};
-ghost use Rattle.shell_top.specs.Lives.{AreKept, HasBegun, IsGoing, IsLineTold, IsUnopened, Obeys};
+ghost use Rattle.shell_top.specs.Lives.{AreKept, HasBegun, HaveLostPower, IsGoing, IsLineTold, IsUnopened, Obeys};
 ghost use Rattle.shell_top.specs.Lives.{all_lives, disks_of, is_up, now_of, start_in};
 ghost use Rattle.world_core.specs.Start.{Start};
 
@@ -168,8 +168,7 @@ impl<D: Disk> Lives<D> {
         if self.world.is_none() {
             return tell(sink, b"down\n");
         }
-        self.end(alloc);
-        self.cut_power();
+        self.power_off(alloc);
         tell(sink, b"crashed\n")
     }
 
@@ -191,7 +190,8 @@ impl<D: Disk> Lives<D> {
         self.begin_next(alloc, sink)
     }
 
-    /// Ends the life that goes on, if one does, and begins the next.
+    /// Ends the life that goes on, if one does, and begins the next. What a node wrote and didn't sync before
+    /// it stopped is lost, as at a crash, so that the next life rests on nothing that it might not find.
     fn begin_next<K: Sink>(&mut self, alloc: Global, sink: &mut K) -> Option<Ending>
         requires kept { AreKept self.old }
         requires going { IsGoing (now_of self.old) }
@@ -204,7 +204,7 @@ impl<D: Disk> Lives<D> {
         ensures cause { result ≡ Some ending.WriteFault → Rose (K.faults sink.old) (K.faults sink.new) }
         ensures steady { K.faults sink.old ≤ K.faults sink.new }
     {
-        self.end(alloc);
+        self.power_off(alloc);
         match self.open(alloc) {
             None => self.tell_restarted(alloc, sink),
             refused => refused,
@@ -231,6 +231,22 @@ impl<D: Disk> Lives<D> {
             Some(world) => world.start_epoch(),
             None => 0,
         }
+    }
+
+    /// Ends the life that goes on, if one does, by a loss of power. Takes no memory.
+    fn power_off(&mut self, alloc: Global)
+        requires kept { AreKept self.old }
+        ensures shape { self.new.shape ≡ self.old.shape }
+        ensures ended { self.new.ended.items ≡ all_lives self.old.ended.items (now_of self.old) }
+        ensures none { self.new.world ≡ None }
+        ensures lost { HaveLostPower (now_of self.old) (seen_on D.told D.faults (disks_of self.old)) (seen_on D.told D.faults (disks_of self.new)) }
+        ensures kept { AreKept self.new }
+    {
+        if self.world.is_none() {
+            return;
+        }
+        self.end(alloc);
+        self.cut_power();
     }
 
     /// Ends the life that goes on, if one does. Takes no memory.

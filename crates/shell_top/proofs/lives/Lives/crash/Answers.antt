@@ -1,7 +1,5 @@
-use Rattle.std.proofs.Common.{rules, ◌≡◌, ◌∙◌, false, true, ap}
+use Rattle.std.proofs.Common.{rules, ◌≡◌, ◌∙◌, false, true}
 use Rattle.std.specs.Prelude.{is_some}
-use Rattle.std.specs.Global.{Vec}
-use Rattle.sig_core.specs.declared.log.Life.{Life}
 use Rattle.script_lang.specs.declared.command.Command.TheVariants as command
 use Rattle.shell_top.specs.Lives.{disks_of, now_of}
 use Rattle.shell_top.specs.Seen.{seen_on}
@@ -25,8 +23,6 @@ returns-clause-obeyed g c =
     let old = c.args.self.now in
     let some : is_some old.world ≡ true = search rules in
     crash_obeys g.D.Disk.told g.D.Disk.faults old c.requires.kept.shape (g.K.Sink.written c.args.sink.now)
-    (g.K.Sink.written c.tell-2.new.sink) c.tell-2.result c.cut_power.new.self c.end.new.self.disks.items
-    c.end.ensures.disks
-    (goes_where old.shape old.world ∙ some)
-    (ap (λ (ended : Vec Life). ended.items) c.cut_power.ensures.ended ∙ c.end.ensures.ended) c.cut_power.ensures.none
-    c.cut_power.ensures.lost c.tell-2.ensures.told
+    (g.K.Sink.written c.tell-2.new.sink) c.tell-2.result c.power_off.new.self
+    (goes_where old.shape old.world ∙ some) c.power_off.ensures.ended c.power_off.ensures.none
+    c.power_off.ensures.lost c.tell-2.ensures.told
