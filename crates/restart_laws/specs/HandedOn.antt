@@ -44,8 +44,8 @@ LivesAreHandedOn =
     × ((restored_of start.shape (disks_of records) ≡ Ok found) × IsOfLife start r (logs_at w.logs) found
     × (found.epoch < end_of_epochs → AreFitFor start.shape found records))
 
--- The next life, behind what is restored, begins with the rows of the history of the one before, up to the epoch that is
--- restored.
+-- The next life, behind what is restored, begins with the rows of the history of the one before, up to the epoch that
+-- is restored.
 abbrev pub LivesGoOnFromHistory : Type 0
 LivesGoOnFromHistory =
     (start : Start) (r found : Restored) (logs : ℕ → List HostStep) → IsOfLife start r logs found

@@ -24,7 +24,8 @@ use Rattle.outcome_laws.specs.Decided.{IsMarked}
 use Rattle.journal_laws.specs.Journal.{first_rows}
 use Rattle.saved_laws.specs.History.{row_up_to}
 use Rattle.disk_laws.specs.Found.{HasLatest, HasSavedRows}
-use Rattle.restart_laws.specs.Told.{TellsKeptDurable, TellsKeptRows}
+use Rattle.disk_laws.specs.Noted.{kept_part}
+use Rattle.restart_laws.specs.Told.{TellsNotedDurable, TellsNotedRows}
 
 -- Each group has rows of its keys alone.
 abbrev pub AreGrouped : Shape → Restored → Type 0
@@ -50,11 +51,11 @@ pub record IsLeftOf (start : Start) (r : Restored) (logs : ℕ → List HostStep
   -- nobody was told what wasn't kept
   pub told_saved :
       (j : ℕ) → j < hosts start
-      → Each (λ (y : Addressed). TellsKeptRows start member (logs (ldm_of start member)) y.signal.body)
+      → Each (λ (y : Addressed). TellsNotedRows start member (kept_part (logs (ldm_of start member))) y.signal.body)
       (taken (machine start) (ldm_of start member) (logs j))
   pub told_durable :
       (j : ℕ) → j < hosts start
-      → Each (λ (y : Addressed). TellsKeptDurable start member (logs (tc_of start member)) y.signal.body)
+      → Each (λ (y : Addressed). TellsNotedDurable start member (kept_part (logs (tc_of start member))) y.signal.body)
       (taken (machine start) (tc_of start member) (logs j))
 
 pub record AreLeft (start : Start) (r : Restored) (logs : ℕ → List HostStep) (images : Disks) : Type 0 where
@@ -65,8 +66,8 @@ pub record AreLeft (start : Start) (r : Restored) (logs : ℕ → List HostStep)
   pub grouped : AreGrouped start.shape r
   pub each : (member : Member) → IsIn member (made start) → IsLeftOf start r logs images member
 
--- What is restored is of this life: its history up to an epoch that isn't below the one from which it started, nor below
--- any that was reported durable.
+-- What is restored is of this life: its history up to an epoch that isn't below the one from which it started, nor
+-- below any that was reported durable.
 pub record IsOfLife (start : Start) (r : Restored) (logs : ℕ → List HostStep) (found : Restored) : Type 0 where
   pub generation_is : found.generation ≡ r.generation + 1
   pub least : r.epoch ≤ found.epoch

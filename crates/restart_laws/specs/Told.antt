@@ -23,21 +23,24 @@ use Rattle.saved_laws.specs.Copied.{TellsDurable, TellsSaved}
 use Rattle.disk_laws.specs.Noted.{WasNoted, kept_part}
 use Rattle.disk_laws.specs.OnDisk.{KeepsUp}
 
+-- a signal tells of no later epoch than this as saved
+abbrev pub TellsUpTo : ℕ → Body → Type 0
+TellsUpTo most body = (epoch : ℕ) → TellsSaved epoch body → epoch ≤ most
+
 module _ (start : Start) (member : Member) where
-  -- a signal tells of no later epoch as saved than the disk kept
-  abbrev pub TellsKeptRows : List HostStep → Body → Type 0
-  TellsKeptRows log body = (epoch : ℕ) → TellsSaved epoch body → epoch ≤ (rows_after start member (kept_part log)).saved
+  -- nor of any later one than the rows have noted in a log
+  abbrev pub TellsNotedRows : List HostStep → Body → Type 0
+  TellsNotedRows log = TellsUpTo (rows_after start member log).saved
 
-  -- the disk kept that an epoch is durable, or a later one, unless the life started from it
-  abbrev pub IsKeptDurable : List HostStep → ℕ → Type 0
-  IsKeptDurable log epoch =
+  -- a log noted that an epoch is durable, or a later one, unless the life started from it
+  abbrev pub IsNotedDurable : List HostStep → ℕ → Type 0
+  IsNotedDurable log epoch =
       (epoch ≤ start.start_epoch)
-      ⊎ ((latest : ℕ) × ((mask : ℕ) × (WasNoted start (tc_of start member) (kept_part log) latest mask
-      × (epoch ≤ latest))))
+      ⊎ ((latest : ℕ) × ((mask : ℕ) × (WasNoted start (tc_of start member) log latest mask × (epoch ≤ latest))))
 
-  -- a signal tells of none as durable that the disk didn't keep
-  abbrev pub TellsKeptDurable : List HostStep → Body → Type 0
-  TellsKeptDurable log body = (epoch : ℕ) → TellsDurable epoch body → IsKeptDurable log epoch
+  -- a signal tells of none as durable that a log didn't note
+  abbrev pub TellsNotedDurable : List HostStep → Body → Type 0
+  TellsNotedDurable log body = (epoch : ℕ) → TellsDurable epoch body → IsNotedDurable log epoch
 
 -- What everybody has taken of a host is so, and what stands on the links from it to whoever still takes from it.
 pub record IsTold (start : Start) (h : ℕ) (P : Body → Type 0) (w : Whole) : Type 0 where
@@ -48,12 +51,14 @@ pub record IsTold (start : Start) (h : ℕ) (P : Body → Type 0) (w : Whole) : 
       (j : ℕ) → j < hosts start → IsOpen start h j (logs_at w.logs j)
       → Each (λ (x : Signal). P x.body) (link w.links h j).signals
 
--- nobody was told by a member's hosts what the disk of its node hasn't kept
+-- Nobody was told by a member's hosts what the disk of its node hasn't kept.
 pub record TellsWhatIsKept (start : Start) (member : Member) (w : Whole) : Type 0 where
   pub saved :
-      IsTold start (ldm_of start member) (TellsKeptRows start member (logs_at w.logs (ldm_of start member))) w
+      IsTold start (ldm_of start member)
+      (TellsNotedRows start member (kept_part (logs_at w.logs (ldm_of start member)))) w
   pub durable :
-      IsTold start (tc_of start member) (TellsKeptDurable start member (logs_at w.logs (tc_of start member))) w
+      IsTold start (tc_of start member)
+      (TellsNotedDurable start member (kept_part (logs_at w.logs (tc_of start member)))) w
 
 -- a host goes on, and its node's disk keeps what it is to keep of it, before anybody is told
 abbrev pub StepsTellWhatIsKept : Type 0

@@ -20,7 +20,7 @@ use Rattle.shell_top.specs.Lived.{IsLife}
 use Rattle.shell_top.specs.Lives.{AreServed, EndsIn, Going, HasBegun, HaveLostPower, IsCrashed, IsLineTold, IsUnopened}
 use Rattle.shell_top.specs.Lives.{IsUp, Obeys, all_lives, is_up, life_of}
 use Rattle.shell_top.specs.Seen.{HasGrown, HaveLost, Seen}
-use Rattle.shell_top.specs.SessionLives.{AreLives}
+use Rattle.shell_top.specs.AllLives.{AreLives}
 use Rattle.shell_top.specs.Told.{text_of}
 use Rattle.shell_top.proofs.ChapterLemmas.{going_life}
 use Rattle.shell_top.proofs.FreshLemmas.{fresh_served, fresh_told}

@@ -18,7 +18,7 @@ use Rattle.shell_top.specs.Fit.{HandsOn}
 use Rattle.shell_top.specs.Lived.{AreLived, IsLife}
 use Rattle.shell_top.specs.Lives.{Going, life_of}
 use Rattle.shell_top.specs.Seen.{HasGrown, Seen}
-use Rattle.shell_top.specs.SessionLives.{AreLives}
+use Rattle.shell_top.specs.AllLives.{AreLives}
 use Rattle.shell_top.specs.Told.{text_of}
 use Rattle.shell_top.proofs.HistoryLemmas.{one_history}
 use Rattle.shell_top.proofs.PeacefulLemmas.{peacefully_served}

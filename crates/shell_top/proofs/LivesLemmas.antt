@@ -18,7 +18,7 @@ use Rattle.shell_top.specs.OnDisks.{ComesTo, UnlessWanting}
 use Rattle.shell_top.specs.Printed.{Prints, is_cut_short, prints_if}
 use Rattle.shell_top.specs.Seen.{HasGrown, Seen}
 use Rattle.shell_top.specs.Served.{AreLeft, CommandEnds, PrintsCommand, WrittenInPart, WrittenWhole}
-use Rattle.shell_top.specs.SessionLives.{AreLives}
+use Rattle.shell_top.specs.AllLives.{AreLives}
 use Rattle.shell_top.specs.Told.{text_of}
 use Rattle.shell_top.proofs.ChapterLemmas.{ends_crashed, ends_living, life_longer}
 use Rattle.shell_top.proofs.FitLemmas.{kept_as_history}

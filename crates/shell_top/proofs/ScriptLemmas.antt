@@ -6,11 +6,8 @@ use Rattle.std.specs.List.{position_or_len, slice_split, onto_first}
 use Rattle.std.proofs.lemmas.Bool.Decides.{nat_tests}
 use Rattle.std.proofs.lemmas.List.{take-append-drop}
 use Rattle.std.proofs.lemmas.List.Splits.{slice_split-cons_yes, slice_split-cons_no, length-slice_split}
-use Rattle.journal_laws.specs.Asked as asked
 use Rattle.script_lang.proofs.ReadIsSpelled.{lines_are_spelled}
-use Rattle.script_lang.specs.Spelling.{IsCommand, IsOperation}
-use Rattle.sig_core.specs.declared.op.Op.{Op}
-use Rattle.sig_core.specs.declared.op.Op.TheVariants as op
+use Rattle.script_lang.specs.Spelling.{IsCommand}
 use Rattle.script_lang.specs.declared.command.Command.{Command}
 use Rattle.shell_top.specs.declared.ended.Ending.TheVariants.{TooLong}
 use Rattle.script_lang.specs.declared.command.Command.TheVariants as command
@@ -237,17 +234,9 @@ pub command_words : (nodes : ℕ) (line : List ℕ) (c : Command) → nodes ≤ 
 command_words nodes line c few e =
     of_words c (lines_are_spelled false nodes line c (omega (arith, few)) (line_asks nodes line c e).0).1
   where
-    of_operation : (op : Op) → IsOperation op → asked.IsOfWords op
-    of_operation (op.Get key) is = (is, tt)
-    of_operation (op.GetX key) is = (is, tt)
-    of_operation (op.Put key value) is = is
-    of_operation (op.Ins key value) is = is
-    of_operation (op.Upd key value) is = is
-    of_operation (op.Del key) is = (is, tt)
-
     of_words : (c : Command) → IsCommand false nodes c → IsOfWords c
-    of_words (command.Operate None op) is = of_operation op is.1
-    of_words (command.Operate (Some name) op) is = of_operation op is.1
+    of_words (command.Operate None op) is = is.1
+    of_words (command.Operate (Some name) op) is = is.1
     of_words _ is = tt
 
 -- what the session took a line for is what it asks for

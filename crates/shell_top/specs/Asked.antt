@@ -2,10 +2,10 @@
 use Rattle.std.specs.Prelude.{◌≡◌, ◌⊎◌, ℕ, zero, suc, ◌+◌, ◌-◌, Bool, true, false, List, [], ◌∷◌, ◌++◌, reverse, take}
 use Rattle.std.specs.Prelude.{slice_get, is_some, Option, None, Some}
 use Rattle.std.specs.List.{list_all}
-use Rattle.journal_laws.specs.Asked as asked
 use Rattle.run_theory.specs.Lists.{IsPast}
 use Rattle.script_lang.specs.declared.command.Command.{Command}
 use Rattle.script_lang.specs.declared.command.Command.TheVariants as command
+use Rattle.script_lang.specs.Spelling.{IsOperation}
 use Rattle.world_core.specs.Steps.{HostStep}
 use Rattle.sig_core.specs.declared.request.ApiReq.{ApiReq}
 use Rattle.sig_core.specs.declared.request.ApiReq.TheVariants as request
@@ -90,9 +90,9 @@ abbrev pub MayAsk : Command → Bool → Type 0
 MayAsk command.Restart down = down ≡ false
 MayAsk command down = Unit {0}
 
--- a command for an operation is for one of words
+-- a command for an operation is for one whose key and value are words
 abbrev pub IsOfWords : Command → Type 0
-IsOfWords (command.Operate name op) = asked.IsOfWords op
+IsOfWords (command.Operate name op) = IsOperation op
 IsOfWords command = Unit {0}
 
 -- A command was asked for behind `before`, in host 0's log.

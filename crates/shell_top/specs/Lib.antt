@@ -1,3 +1,4 @@
+pub mod AllLives
 pub mod Arranged
 pub mod Asked
 pub mod Peace
@@ -15,7 +16,6 @@ pub mod Script
 pub mod Seen
 pub mod Served
 pub mod Session
-pub mod SessionLives
 pub mod Setting
 pub mod Stopped
 pub mod Subject

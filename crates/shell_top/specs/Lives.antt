@@ -24,7 +24,7 @@ use Rattle.shell_top.specs.declared.lives.Lives.{Lives}
 use Rattle.shell_top.specs.Printed.{AppendsPart, Prints}
 use Rattle.shell_top.specs.Seen.{HasGrown, HaveLost, Seen}
 use Rattle.shell_top.specs.Served.{IsServed}
-use Rattle.shell_top.specs.SessionLives.{AreLives}
+use Rattle.shell_top.specs.AllLives.{AreLives}
 use Rattle.sys_restart.specs.declared.restored.Restored.{Restored}
 use Rattle.world_core.specs.Start.{Start}
 use Rattle.world_views.specs.Driven.{IsSound}

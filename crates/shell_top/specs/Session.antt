@@ -14,7 +14,7 @@ use Rattle.shell_top.specs.Lives.{AreServed, Going, all_lives, now_of}
 use Rattle.shell_top.specs.Printed.{Prints, is_cut_short}
 use Rattle.shell_top.specs.Script.{Script, script_from}
 use Rattle.shell_top.specs.Seen.{Seen}
-use Rattle.shell_top.specs.SessionLives.{AreLives}
+use Rattle.shell_top.specs.AllLives.{AreLives}
 use Rattle.shell_top.specs.Text.{fault_line, status_after}
 
 -- the script ends the session as finished: at `quit`, or at its end

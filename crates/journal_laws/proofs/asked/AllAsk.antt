@@ -27,7 +27,7 @@ use Rattle.view_laws.specs.Runs.{AreOfCluster}
 use Rattle.journal_laws.specs.Asked.{AreOfWords, IsOfRequest}
 use Rattle.journal_laws.proofs.Telling.{TellWell, all_take}
 use Rattle.journal_laws.proofs.asked.Parts.{PartsWell, host_begins, step_well}
-use Rattle.journal_laws.proofs.asked.WellAsked.{IsWellAsked}
+use Rattle.journal_laws.proofs.asked.WellAsked.{IsWellAsked, operation_work}
 
 -- replies that are told change nothing
 gives : (parts : Parts) → PartsWell parts → PartsWell (giving parts [])
@@ -39,7 +39,7 @@ gives (Ldm p) well = well
 -- what a host asks itself is a request of the shell, or asks for nothing
 own_well : (start : Start) (h : ℕ) (body : Body) → IsOwnWork start h body
     → (h ≡ 0 → IfSome (request_in body) IsOfRequest) → IsWellAsked body
-own_well start h (Host (Continue (Request (Operate name op)) at)) own words = words own.0
+own_well start h (Host (Continue (Request (Operate name op)) at)) own words = operation_work op (words own.0)
 own_well start h (Host (Continue (Request r) at)) own words = tt
 own_well start h (Client (TcKeyReq tx op)) own words = absurd own
 own_well start h (Chain (LqhKeyReq tx work members at)) own words = absurd own

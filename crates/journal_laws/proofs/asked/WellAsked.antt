@@ -1,7 +1,10 @@
 -- Signals that ask well for operations: on keys and of values that can be written, and of transactions whose numbers
 -- can.
 use Rattle.std.proofs.Common.{◌<◌, ◌^◌}
+use Rattle.script_lang.specs.Spelling.{IsOperation}
 use Rattle.sig_core.specs.declared.member.TxId.{TxId}
+use Rattle.sig_core.specs.declared.op.Op.{Op}
+use Rattle.sig_core.specs.declared.op.Op.TheVariants as operation
 use Rattle.sig_core.specs.declared.outs.Outgoing.{Outgoing}
 use Rattle.sig_core.specs.declared.request.ApiReq.{ApiReq}
 use Rattle.sig_core.specs.declared.request.ApiReq.TheVariants as request
@@ -16,6 +19,15 @@ use Rattle.journal_laws.proofs.events.Writable.{IsWork}
 
 abbrev pub FitsTx : TxId → Type 0
 FitsTx tx = (tx.start < 2 ^ 32) × (tx.seq < 2 ^ 64)
+
+-- an operation of words is such work
+pub operation_work : (op : Op) → IsOperation op → IsWork (Operate op)
+operation_work (operation.Get key) is = (is, tt)
+operation_work (operation.GetX key) is = (is, tt)
+operation_work (operation.Put key value) is = is
+operation_work (operation.Ins key value) is = is
+operation_work (operation.Upd key value) is = is
+operation_work (operation.Del key) is = (is, tt)
 
 abbrev pub IsWellRequested : ApiReq → Type 0
 IsWellRequested (request.Operate name op) = IsWork (Operate op)

@@ -47,7 +47,8 @@ use Rattle.restart_laws.proofs.groups.Sources.{AreGroups, AreOfOne, HasOwnRows, 
 use Rattle.restart_laws.proofs.groups.System.{latest, listed_saved, manned, system_generation, system_least, system_up}
 
 module _ (copied : CopiedWereSaved) (durable : DurableWereNoted) (saved : SavedRowsAreHistory)
-    (replays : ReplaysGiveOwnRows) (stay : OtherKeysStay) (start : Start) (r : Restored) (logs : ℕ → List HostStep) (images : Disks)
+    (replays : ReplaysGiveOwnRows) (stay : OtherKeysStay) (start : Start) (r : Restored) (logs : ℕ → List HostStep)
+        (images : Disks)
     (left : AreLeft start r logs images) where
   abbrev system : SystemSlot
   system = (latest start r logs images left).slot
@@ -92,7 +93,8 @@ module _ (copied : CopiedWereSaved) (durable : DurableWereNoted) (saved : SavedR
           (replays (first_rows start member) before has.events system.epoch (none_pending start member there))
           ∙ saved start logs (begins start r logs images left) left.cluster member there has.older has.past has.events
           has.events_of before (left.each member there).begun system.epoch
-          (subst (λ k. system.epoch ≤ k) has.saved (listed_saved start r logs images left copied member there listed)) key
+          (subst (λ k. system.epoch ≤ k) has.saved (listed_saved start r logs images left copied member there listed))
+              key
           holding
 
       others : (key : List ℕ) → holds start.shape node key ≡ false
@@ -100,7 +102,8 @@ module _ (copied : CopiedWereSaved) (durable : DurableWereNoted) (saved : SavedR
       others key apart =
           ap (λ (rows : Rows). map.get rows key)
           (replays (first_rows start member) before has.events system.epoch (none_pending start member there))
-          ∙ stay start logs left.cluster member there has.older has.past has.events has.events_of before system.epoch key
+          ∙ stay start logs left.cluster member there has.older has.past has.events has.events_of before system.epoch
+              key
           apart
           ∙ left.grouped node key some low apart
 

@@ -17,7 +17,7 @@ use Rattle.moment_laws.specs.Places.{ldm_of, tc_of}
 use Rattle.disk_laws.specs.Noted.{kept_part}
 use Rattle.saved_laws.specs.Copied.{TellsDurable, TellsSaved, WasTold}
 use Rattle.restart_laws.specs.Restart.{AreLeft, IsLeftOf}
-use Rattle.restart_laws.specs.Told.{IsKeptDurable, TellsKeptDurable, TellsKeptRows}
+use Rattle.restart_laws.specs.Told.{IsNotedDurable, TellsNotedDurable, TellsNotedRows}
 use Rattle.restart_laws.proofs.groups.Rows.{saved_above}
 
 -- what was taken of well-formed signals was taken
@@ -56,7 +56,8 @@ module _ (start : Start) (r : Restored) (logs : ℕ → List HostStep) (images :
         → epoch ≤ (left.each member there).saved.slot.saved
     told_saved epoch told =
         let kept =
-        each_in (λ (y : Addressed). TellsKeptRows start member (logs (ldm_of start member)) y.signal.body) told.signal
+        each_in (λ (y : Addressed). TellsNotedRows start member (kept_part (logs (ldm_of start member))) y.signal.body)
+            told.signal
         (taken (machine start) (ldm_of start member) (logs told.host)) (of.told_saved told.host told.below)
         (sound_taken start (ldm_of start member) told.signal (logs told.host) told.there) epoch told.tells in
         let low = of.saved.latest in
@@ -74,11 +75,12 @@ module _ (start : Start) (r : Restored) (logs : ℕ → List HostStep) (images :
         → epoch ≤ (left.each member there).noted.slot.epoch
     told_durable epoch told =
         by
-        (each_in (λ (y : Addressed). TellsKeptDurable start member (logs (tc_of start member)) y.signal.body)
+        (each_in (λ (y : Addressed). TellsNotedDurable start member (kept_part (logs (tc_of start member)))
+            y.signal.body)
         told.signal (taken (machine start) (tc_of start member) (logs told.host)) (of.told_durable told.host told.below)
         (sound_taken start (tc_of start member) told.signal (logs told.host) told.there) epoch told.tells)
       where
-        by : IsKeptDurable start member (logs (tc_of start member)) epoch
+        by : IsNotedDurable start member (kept_part (logs (tc_of start member))) epoch
             → epoch ≤ (left.each member there).noted.slot.epoch
         by (inl low) =
             let least : r.epoch ≤ of.noted.slot.epoch = of.noted.least in

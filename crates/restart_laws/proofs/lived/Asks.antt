@@ -19,7 +19,8 @@ use Rattle.moment_laws.specs.Places.{ldm_of, tc_of}
 use Rattle.journal_laws.specs.Asked.{AreOfWords, IsOfRequest}
 use Rattle.disk_laws.proofs.RequestLaw.{keeps_same, requests_kept}
 use Rattle.restart_laws.specs.Lived.{LivesAsk, LivesHear}
-use Rattle.restart_laws.specs.Told.{IsTold, TellsKeptDurable, TellsKeptRows}
+use Rattle.disk_laws.specs.Noted.{kept_part}
+use Rattle.restart_laws.specs.Told.{IsTold, TellsNotedDurable, TellsNotedRows}
 use Rattle.restart_laws.proofs.lived.Goes.{asked_is}
 use Rattle.restart_laws.proofs.telling.Lives.{requests_tell_what_is_kept}
 
@@ -56,7 +57,8 @@ same_told : (start : Start) (h : ℕ) (Q : Body → Type 0) (w t : Whole) → t.
 same_told start h Q w t logs links told =
     record {
       taken = λ j low.
-          subst (λ (ls : List HostLog). Each (λ (y : Addressed). Q y.signal.body) (taken (machine start) h (logs_at ls j)))
+          subst (λ (ls : List HostLog). Each (λ (y : Addressed). Q y.signal.body)
+              (taken (machine start) h (logs_at ls j)))
           (sym logs) (told.taken j low);
       in_transit = λ j low still.
           subst (λ (ls : Links). Each (λ (x : Signal). Q x.body) (link ls h j).signals) (sym links)
@@ -84,15 +86,16 @@ lives_hear start r w t disks sound logs links lived =
                   saved =
                       subst
                       (λ (ls : List HostLog). IsTold start (ldm_of start member)
-                      (TellsKeptRows start member (logs_at ls (ldm_of start member))) t) (sym logs)
+                      (TellsNotedRows start member (kept_part (logs_at ls (ldm_of start member)))) t) (sym logs)
                       (same_told start (ldm_of start member)
-                      (TellsKeptRows start member (logs_at w.logs (ldm_of start member))) w t logs links was.tells.saved);
+                      (TellsNotedRows start member (kept_part (logs_at w.logs (ldm_of start member)))) w t logs links
+                          was.tells.saved);
                   durable =
                       subst
                       (λ (ls : List HostLog). IsTold start (tc_of start member)
-                      (TellsKeptDurable start member (logs_at ls (tc_of start member))) t) (sym logs)
+                      (TellsNotedDurable start member (kept_part (logs_at ls (tc_of start member)))) t) (sym logs)
                       (same_told start (tc_of start member)
-                      (TellsKeptDurable start member (logs_at w.logs (tc_of start member))) w t logs links
+                      (TellsNotedDurable start member (kept_part (logs_at w.logs (tc_of start member)))) w t logs links
                       was.tells.durable);
                 };
             shape = was.shape;

@@ -20,7 +20,7 @@ use Rattle.saved_laws.proofs.masters.All.{copied_were_saved}
 use Rattle.disk_laws.specs.Laws.{AreNotable}
 use Rattle.disk_laws.specs.Noted.{kept_part}
 use Rattle.disk_laws.proofs.KeptParts.{kept_is_past}
-use Rattle.restart_laws.specs.Told.{TellsKeptRows, TellsWhatIsKept}
+use Rattle.restart_laws.specs.Told.{TellsNotedRows, TellsWhatIsKept}
 use Rattle.restart_laws.proofs.groups.Copied.{noted_saved}
 use Rattle.restart_laws.proofs.groups.Left.{sound_taken}
 use Rattle.restart_laws.proofs.groups.Nodes.{first_below, has_full}
@@ -34,7 +34,8 @@ module _ (start : Start) (r : Restored) (t : Whole) (are : AreOfCluster start (l
     told_low : epoch < 2 ^ 64 - 1
     told_low =
         let one =
-        has_full start.shape are.shape saved.view (viable have_orderly start (logs_at t.logs) are saved.view saved.installed)
+        has_full start.shape are.shape saved.view
+            (viable have_orderly start (logs_at t.logs) are saved.view saved.installed)
         0 (first_below start.shape are.shape) in
         let there = full_made start (logs_at t.logs) are saved.view saved.installed one.member one.full in
         let told =
@@ -42,10 +43,12 @@ module _ (start : Start) (r : Restored) (t : Whole) (are : AreOfCluster start (l
         saved.view.full saved.told one.full in
         let kept =
         each_in
-        (λ (y : Addressed). TellsKeptRows start one.member (logs_at t.logs (ldm_of start one.member)) y.signal.body)
+        (λ (y : Addressed). TellsNotedRows start one.member (kept_part (logs_at t.logs (ldm_of start one.member)))
+            y.signal.body)
         told.signal (taken (machine start) (ldm_of start one.member) (logs_at t.logs told.host))
         ((tells one.member there).saved.taken told.host told.below)
-        (sound_taken start (ldm_of start one.member) told.signal (logs_at t.logs told.host) told.there) epoch told.tells in
+        (sound_taken start (ldm_of start one.member) told.signal (logs_at t.logs told.host) told.there) epoch told.tells
+            in
         let low =
         saved_low start (logs_at t.logs) are begins last one.member there
         (kept_part (logs_at t.logs (ldm_of start one.member)))

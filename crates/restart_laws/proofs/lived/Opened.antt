@@ -31,7 +31,8 @@ all_some (o ∷ told) each =
     let rest = all_some told (λ k low. each (suc k) (omega (arith, low))) in
     (first.0 ∷ rest.0, ap (λ x. x ∷ told) first.1 ∙ ap (λ xs. Some first.0 ∷ xs) rest.1)
 
-mapped_at : {A : Type 0} (xs : List A) (k : ℕ) (d : A) → k < length xs → get_or (map Some xs) k None ≡ Some (get_or xs k d)
+mapped_at : {A : Type 0} (xs : List A) (k : ℕ) (d : A) → k < length xs
+    → get_or (map Some xs) k None ≡ Some (get_or xs k d)
 mapped_at [] k d low = absurd (omega (arith, low))
 mapped_at (x ∷ xs) zero d low = refl
 mapped_at (x ∷ xs) (suc k) d low = mapped_at xs k d (omega (arith, low))

@@ -20,10 +20,10 @@ use Rattle.moment_laws.proofs.MomentHosts.{ldm_member, tc_member}
 use Rattle.disk_world.specs.Disks.{Disks, HasGoneOn, HasKept, kept_in, node_of}
 use Rattle.disk_world.specs.Keeping.{calls_of, kept_of}
 use Rattle.disk_laws.specs.OnDisk.{KeepsUp}
-use Rattle.restart_laws.specs.Told.{StepsTellWhatIsKept, TellsWhatIsKept}
+use Rattle.restart_laws.specs.Told.{StepsTellWhatIsKept, TellsNotedDurable, TellsNotedRows, TellsWhatIsKept}
 use Rattle.restart_laws.proofs.telling.Again.{last_kept, no_order_again, no_rows_again, none_fails}
-use Rattle.restart_laws.proofs.telling.Noted.{TellsNoted, epochs_tell_by_log}
-use Rattle.restart_laws.proofs.telling.Rows.{TellsUpTo, rows_tell_by_log, saved_behind}
+use Rattle.restart_laws.proofs.telling.Noted.{epochs_tell_by_log}
+use Rattle.restart_laws.proofs.telling.Rows.{rows_tell_by_log}
 use Rattle.restart_laws.proofs.telling.Steps.{body_is, host_told, node_is, sound_then}
 
 module _ (start : Start) (member : Member) (there : IsIn member (made start)) (before : Rows) (first : SystemSlot)
@@ -73,7 +73,7 @@ module _ (start : Start) (member : Member) (there : IsIn member (made start)) (b
     all_kept told = record {
       saved =
           host_told start w t old new counts sound tells_all uses_all gone (ldm_of start member)
-          (λ log. TellsUpTo (saved_behind start member there log)) (rows_tell_by_log start member there) told.saved
+          (TellsNotedRows start member) (rows_tell_by_log start member there) told.saved
           (λ some runs at kept same.
           never_fails (ldm_of start member) (ldm_member start member there) some runs at same
           (no_rows_again start member there before first (files_of up.calls) up.slots up.calls
@@ -81,7 +81,7 @@ module _ (start : Start) (member : Member) (there : IsIn member (made start)) (b
           (ran (ldm_of start member) (ldm_member start member there) some runs at same) up.is.rows) kept);
       durable =
           host_told start w t old new counts sound tells_all uses_all gone (tc_of start member)
-          (TellsNoted start member there) (epochs_tell_by_log start member there) told.durable
+          (TellsNotedDurable start member) (epochs_tell_by_log start member there) told.durable
           (λ some runs at kept same.
           never_fails (tc_of start member) (tc_member start member there) some runs at same
           (no_order_again start member there before first (files_of up.calls) up.slots up.calls

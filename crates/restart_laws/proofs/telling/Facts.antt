@@ -99,8 +99,8 @@ module _ (Q : Body → Type 0) where
         addressed_but_last by (sent_count start h log) (routed_after start h log e)
         (routed_but_last (made start) h standing sends all)
 
--- What a host tells by a log: all that a step sends by which it goes on is so by the log with it, and all but the last by the log before.
--- Whatever is so stays so, and a closing tells nothing. Its blocks don't stop it.
+-- What a host tells by a log: all that a step sends by which it goes on is so by the log with it, and all but the last
+-- by the log before. Whatever is so stays so, and a closing tells nothing. Its blocks don't stop it.
 pub record TellsByLog (start : Start) (h : ℕ) (Tells : List HostStep → Body → Type 0) : Type 0 where
   pub some : 1 ≤ h
   pub low : h < hosts start

@@ -11,11 +11,11 @@ use Rattle.world_views.specs.Driven.{HasAsked, IsSound}
 use Rattle.world_views.specs.World.{Whole}
 use Rattle.moment_laws.specs.Places.{ldm_of, tc_of}
 use Rattle.disk_laws.specs.Noted.{kept_part}
-use Rattle.restart_laws.specs.Told.{IsTold, TellsWhatIsKept}
+use Rattle.restart_laws.specs.Told.{IsTold, TellsNotedDurable, TellsNotedRows, TellsWhatIsKept}
 use Rattle.restart_laws.proofs.telling.Alone.{stays_told}
 use Rattle.restart_laws.proofs.telling.Facts.{TellsByLog}
-use Rattle.restart_laws.proofs.telling.Noted.{TellsNoted, epochs_tell_by_log}
-use Rattle.restart_laws.proofs.telling.Rows.{TellsUpTo, rows_tell_by_log, saved_behind}
+use Rattle.restart_laws.proofs.telling.Noted.{epochs_tell_by_log}
+use Rattle.restart_laws.proofs.telling.Rows.{rows_tell_by_log}
 use Rattle.restart_laws.proofs.telling.Whole.{all_told}
 
 -- a host that did nothing yet has told nothing
@@ -29,9 +29,9 @@ module _ (start : Start) (w : Whole) (sound : IsSound start w) (none : (h : ℕ)
   pub fresh_worlds_tell_what_is_kept : (member : Member) → IsIn member (made start) → TellsWhatIsKept start member w
   fresh_worlds_tell_what_is_kept member there = record {
     saved =
-        fresh_told (ldm_of start member) (λ log. TellsUpTo (saved_behind start member there log))
+        fresh_told (ldm_of start member) (TellsNotedRows start member)
         (rows_tell_by_log start member there);
-    durable = fresh_told (tc_of start member) (TellsNoted start member there) (epochs_tell_by_log start member there);
+    durable = fresh_told (tc_of start member) (TellsNotedDurable start member) (epochs_tell_by_log start member there);
   }
 
 -- and what the shell asks for changes none of it
@@ -54,9 +54,9 @@ module _ (start : Start) (request : ApiReq) (w t : Whole) (sound : IsSound start
         → TellsWhatIsKept start member t
     requests_tell_what_is_kept member there told = record {
       saved =
-          stays (ldm_of start member) (λ log. TellsUpTo (saved_behind start member there log))
+          stays (ldm_of start member) (TellsNotedRows start member)
           (rows_tell_by_log start member there) told.saved;
       durable =
-          stays (tc_of start member) (TellsNoted start member there) (epochs_tell_by_log start member there)
+          stays (tc_of start member) (TellsNotedDurable start member) (epochs_tell_by_log start member there)
           told.durable;
     }

@@ -38,7 +38,8 @@ use Rattle.request_laws.proofs.routes.Layouts.{runs_tc}
 use Rattle.request_laws.proofs.routes.PartSteps.{own_tc}
 use Rattle.disk_world.specs.Keeping.{DurableAt, durable_by, durable_if, kept_beside, kept_of}
 use Rattle.saved_laws.specs.Copied.{TellsDurable}
-use Rattle.disk_laws.specs.Noted.{NotesNow, WasNoted}
+use Rattle.disk_laws.specs.Noted.{NotesNow}
+use Rattle.restart_laws.specs.Told.{IsNotedDurable, TellsNotedDurable}
 use Rattle.restart_laws.proofs.telling.ButLast.{EachButLast, but_last_behind, but_last_map}
 use Rattle.restart_laws.proofs.telling.Epochs.{Orders, TellOrders, TellsNone, TellsOrdered, none_ordered, none_told}
 use Rattle.restart_laws.proofs.telling.Epochs.{tc_entered_none, tc_orders, tc_tells}
@@ -145,16 +146,7 @@ module _ (start : Start) (member : Member) (there : IsIn member (made start)) wh
   abbrev h : ℕ
   h = tc_of start member
 
-  -- a log noted that an epoch is durable, or a later one, unless the life started from it
-  abbrev pub IsNoted : List HostStep → ℕ → Type 0
-  IsNoted log epoch =
-      (epoch ≤ start.start_epoch)
-      ⊎ ((latest : ℕ) × ((mask : ℕ) × (WasNoted start h log latest mask × (epoch ≤ latest))))
-
-  abbrev pub TellsNoted : List HostStep → Body → Type 0
-  TellsNoted log body = (epoch : ℕ) → TellsDurable epoch body → IsNoted log epoch
-
-  none_noted : (log : List HostStep) (body : Body) → TellsNone body → TellsNoted log body
+  none_noted : (log : List HostStep) (body : Body) → TellsNone body → TellsNotedDurable start member log body
   none_noted log body none epoch tells = absurd (none epoch tells)
 
   module _ (log : List HostStep) (e : HostStep) where
@@ -172,7 +164,8 @@ module _ (start : Start) (member : Member) (there : IsIn member (made start)) wh
 
     -- what is told of an order is noted with it, by a step that doesn't stop its host
     noted_now : stops_by e.step.marks ≡ false → (epoch : ℕ) → Orders e.step.taken epoch
-        → PassesStill start.shape (after start h (e ∷ log)).parts e.step.taken → IsNoted (e ∷ log) epoch
+        → PassesStill start.shape (after start h (e ∷ log)).parts e.step.taken
+        → IsNotedDurable start member (e ∷ log) epoch
     noted_now runs epoch orders passes =
         let s = after start h (e ∷ log) in
         let still : PassesStill s.standing.shape s.parts e.step.taken =
@@ -183,11 +176,13 @@ module _ (start : Start) (member : Member) (there : IsIn member (made start)) wh
         in
         inr (orders.ordered, (orders.mask, (inl now, orders.least)))
 
-    says_noted : stops_by e.step.marks ≡ false → Each (SaysSo (TellsNoted (e ∷ log))) sends
+    says_noted : stops_by e.step.marks ≡ false → Each (SaysSo (TellsNotedDurable start member (e ∷ log))) sends
     says_noted runs =
-        each_from (SaysSo (TellsNoted (e ∷ log))) sends (λ sent among epoch told. one sent among epoch told)
+        each_from (SaysSo (TellsNotedDurable start member (e ∷ log))) sends
+            (λ sent among epoch told. one sent among epoch told)
       where
-        one : (sent : Outgoing) → IsIn sent sends → (epoch : ℕ) → TellsDurable epoch sent.body → IsNoted (e ∷ log) epoch
+        one : (sent : Outgoing) → IsIn sent sends → (epoch : ℕ) → TellsDurable epoch sent.body
+            → IsNotedDurable start member (e ∷ log) epoch
         one sent among epoch told =
             let orders = each_in (SaysSo (TellsOrdered e.step.taken)) sent sends tells.all among epoch told in
             by orders
@@ -196,18 +191,19 @@ module _ (start : Start) (member : Member) (there : IsIn member (made start)) wh
           where
             by : Orders e.step.taken epoch
                 → Each (SaysSo TellsNone) sends ⊎ PassesStill start.shape (after start h (e ∷ log)).parts e.step.taken
-                → IsNoted (e ∷ log) epoch
+                → IsNotedDurable start member (e ∷ log) epoch
             by orders (inl none) = absurd (each_in (SaysSo TellsNone) sent sends none among epoch told)
             by orders (inr passes) = noted_now runs epoch orders passes
 
     -- nor is anything told before that
-    says_before : EachButLast (SaysSo (TellsNoted log)) sends
+    says_before : EachButLast (SaysSo (TellsNotedDurable start member log)) sends
     says_before =
-        but_last_map (SaysSo TellsNone) (SaysSo (TellsNoted log)) sends (λ sent is. none_noted log sent.body is)
+        but_last_map (SaysSo TellsNone) (SaysSo (TellsNotedDurable start member log)) sends
+            (λ sent is. none_noted log sent.body is)
         tells.but_last
 
   -- so the host tells by its log
-  pub epochs_tell_by_log : TellsByLog start h TellsNoted
+  pub epochs_tell_by_log : TellsByLog start h (TellsNotedDurable start member)
   epochs_tell_by_log = record {
     some = part_some start Tc member;
     low = tc_low start member there;
@@ -219,6 +215,7 @@ module _ (start : Start) (member : Member) (there : IsIn member (made start)) wh
         ap (λ parts. parts_marks parts (Stopped cause)) (runs_tc start member there log).runs;
   }
     where
-      grown : (log : List HostStep) (e : HostStep) (epoch : ℕ) → IsNoted log epoch → IsNoted (e ∷ log) epoch
+      grown : (log : List HostStep) (e : HostStep) (epoch : ℕ) → IsNotedDurable start member log epoch
+          → IsNotedDurable start member (e ∷ log) epoch
       grown log e epoch (inl first) = inl first
       grown log e epoch (inr (latest, (mask, (was, least)))) = inr (latest, (mask, (inr was, least)))

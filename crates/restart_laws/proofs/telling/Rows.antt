@@ -43,14 +43,11 @@ use Rattle.request_laws.specs.Blocks.{rows_after}
 use Rattle.request_laws.proofs.routes.Layouts.{runs_ldm}
 use Rattle.request_laws.proofs.routes.PartSteps.{own_ldm, rows_are}
 use Rattle.saved_laws.specs.Copied.{TellsSaved}
+use Rattle.restart_laws.specs.Told.{TellsNotedRows, TellsUpTo}
 use Rattle.restart_laws.proofs.telling.ButLast.{EachButLast, but_last_of_each}
 use Rattle.restart_laws.proofs.telling.Facts.{SaysSo, TellsByLog}
 
--- no later epoch than this is told as saved
-abbrev pub TellsUpTo : ℕ → Body → Type 0
-TellsUpTo most body = (epoch : ℕ) → TellsSaved epoch body → epoch ≤ most
-
--- or none at all
+-- no epoch at all is told as saved
 abbrev TellsNone : Body → Type 0
 TellsNone body = (epoch : ℕ) → TellsSaved epoch body → ⊥
 
@@ -178,7 +175,7 @@ module _ (start : Start) (member : Member) (there : IsIn member (made start)) wh
   abbrev h : ℕ
   h = ldm_of start member
 
-  abbrev pub saved_behind : List HostStep → ℕ
+  abbrev saved_behind : List HostStep → ℕ
   saved_behind log = (rows_after start member log).saved
 
   rows_tell : (log : List HostStep) (e : HostStep)
@@ -194,7 +191,7 @@ module _ (start : Start) (member : Member) (there : IsIn member (made start)) wh
       (view_after start h (e ∷ log)) (step_after start h log e).effects.sends step.does))
 
   -- so the host tells by its log
-  pub rows_tell_by_log : TellsByLog start h (λ log. TellsUpTo (saved_behind log))
+  pub rows_tell_by_log : TellsByLog start h (TellsNotedRows start member)
   rows_tell_by_log = record {
     some = part_some start Ldm member;
     low =
