@@ -256,7 +256,8 @@ module _ (shape : Shape) (sound : IsShape shape) where
       record {
         chapter = s.is_now.crash;
         earlier = s.chapters;
-        disks = subst (AreHandedOn given (s.is_now.crash ∷ s.chapters)) (sym same) s.is_now.disks;
+        disks =
+            subst (λ (at : Seen). AreHandedOn given (s.is_now.crash ∷ s.chapters) at) (sym same) s.is_now.disks;
         are = (s.is_now.is, s.are);
         asked = ap (λ cs. cs ++ command.Restart ∷ []) s.asked
             ∙ append_assoc (asked_in_all s.chapters) s.own (command.Restart ∷ [])

@@ -148,7 +148,7 @@ module _ (shape : Shape) (given : Seen) (fit : AreFit shape given) where
         subst (λ (n : ℕ). HasBegun shape (disks_of fit.records) n life.start_epoch life.start_rows)
         (let read : first ≡ begun.restored.generation + 1 = ap generation_behind begun.read in
         let is = begun.begins.0 in
-        let same : generation ≡ first + length {A = Chapter} [] = omega (arith, read, is) in
+        let same : generation ≡ first + 0 = omega (arith, read, is) in
         same)
         begun;
     goes_on = tt;

@@ -26,9 +26,9 @@ use std::thread::Threads;
 
 /// Runs a session of a cluster of the shape that the words ask for: reads a script from the source,
 /// has the cluster serve each command, and writes the replies to the sink. Its nodes have the first
-/// of the eight disks: a life begins from what these say, the first one here, and each later one at a
-/// `restart` of a cluster that is down. Where the words are refused, or the first life doesn't begin,
-/// nothing is read. The disks are handed back in their order.
+/// of the eight disks: a life begins from what these say, the first one here, and each later one, once
+/// their power was cut, at a `restart` of a cluster that is down. Where the words are refused, or the
+/// first life doesn't begin, nothing is read. The disks are handed back in their order.
 pub fn run_shell<R: Threads + Wait + Sync, S: Source, K: Sink, G: Gate + Sync>(
     rt: &R,
     alloc: Global,
