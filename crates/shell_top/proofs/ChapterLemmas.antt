@@ -86,7 +86,8 @@ module _ (shape : Shape) (sound : IsShape shape) where
           asked = asked;
           all = ap (λ ls. ls ++ life_of g ∷ []) were;
           told = is;
-          history = λ fit. one_history shape given fit e chapters (Living (life_of g) opened) own seen are is_last disks;
+          history =
+              λ fit. one_history shape given fit e chapters (Living (life_of g) opened) own seen are is_last disks;
         }
 
     -- it ends behind a crash

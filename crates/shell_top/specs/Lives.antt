@@ -148,7 +148,8 @@ pub record IsCrashed (shape : Shape) (chapters : List Chapter) (own : List Comma
   pub were : ended ≡ lives_of chapters ++ crash.life ∷ []
   pub told : text ≡ chapter_text shape chapters crash
 
-abbrev pub IsNow : Shape → List Chapter → List Command → List ℕ → (given seen : Seen) → List Life → Option Going → Type 0
+abbrev pub IsNow : Shape → List Chapter → List Command → List ℕ → (given seen : Seen) → List Life → Option Going
+    → Type 0
 IsNow shape chapters own text given seen ended None = IsCrashed shape chapters own text given seen ended
 IsNow shape chapters own text given seen ended (Some g) = IsUp shape chapters own text given seen ended g
 

@@ -1,5 +1,5 @@
--- The lives of a session have one history, where the disks that it was given are fit for a life: that of each life up to
--- the epoch from which the next one starts.
+-- The lives of a session have one history, where the disks that it was given are fit for a life: that of each life up
+-- to the epoch from which the next one starts.
 use Rattle.std.specs.Prelude.{◌≡◌, ◌≤◌, ◌<◌, ℕ, ◌+◌, List, [], ◌∷◌, length}
 use Rattle.std.specs.FinMap as map
 use Rattle.life_start.specs.Begun.{HasBegun}
@@ -36,8 +36,8 @@ abbrev pub GoesOnFromLast : Shape → List Chapter → Life → Type 0
 GoesOnFromLast shape [] life = Unit {0}
 GoesOnFromLast shape (c ∷ earlier) life = GoesOnFrom shape c.life life
 
--- A life behind chapters, of which the first is of this generation: its disks were fit as it was to begin, it began with
--- what a restart finds on them, as the next generation, and goes on from the last chapter.
+-- A life behind chapters, of which the first is of this generation: its disks were fit as it was to begin, it began
+-- with what a restart finds on them, as the next generation, and goes on from the last chapter.
 pub record IsNext (shape : Shape) (first : ℕ) (earlier : List Chapter) (opened : Seen) (life : Life) : Type 0 where
   pub fit : AreFit shape opened
   pub begun :

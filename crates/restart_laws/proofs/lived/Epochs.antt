@@ -16,4 +16,7 @@ module _ (start : Start) (r : Restored) (is : start ≡ start_behind start.shape
   below_first = let split = div-add-mod' r.epoch (2 ^ 32) in grind (arith, first, starts_behind, split)
 
   pub first_low : start.epoch < 2 ^ 64 - 1
-  first_low = let split = div-add-mod' r.epoch (2 ^ 32) in grind (arith, first, may.last, split)
+  first_low =
+      let last : r.epoch < 2 ^ 64 - 2 ^ 32 = may.last in
+      let split = div-add-mod' r.epoch (2 ^ 32) in
+      grind (arith, first, last, split)
