@@ -1,7 +1,7 @@
 -- While no host has stopped the shell's host doesn't find the cluster down. Nobody closes a link then, so the client's
 -- side counts no stop, and the view that it has seen has a full member.
-use Rattle.std.proofs.Common.{◌≡◌, ◌⊎◌, ◌==◌, ◌≤◌, ◌<◌, ◌&&◌, ◌*◌, ◌+◌, ◌%◌, ◌/◌, ℕ, zero, suc, Bool, true, false, not}
-use Rattle.std.proofs.Common.{Option, None, Some, if◌then◌else◌, List, [], ◌∷◌, arith, inl, inr, refl, ap, sym, subst}
+use Rattle.std.proofs.Common.{◌≡◌, ◌⊎◌, ◌==◌, ◌≤◌, ◌<◌, ◌&&◌, ◌*◌, ◌+◌, ◌%◌, ℕ, zero, suc, Bool, true, false, not}
+use Rattle.std.proofs.Common.{None, Some, if◌then◌else◌, List, [], ◌∷◌, arith, inl, inr, refl, ap, sym, subst}
 use Rattle.std.proofs.Common.{◌∙◌}
 use Rattle.std.proofs.lemmas.Bool.{cases_lt, eq-eqb, true≢false}
 use Rattle.std.proofs.lemmas.Nat.{div-add-mod'}

@@ -1,5 +1,5 @@
 -- A world that has served some commands serves one more.
-use Rattle.std.proofs.Common.{◌≡◌, ◌⊎◌, inl, inr, ℕ, zero, suc, ◌+◌, ◌-◌, ◌≤◌, ◌<◌, arith, List, [], ◌∷◌, ◌++◌, length}
+use Rattle.std.proofs.Common.{◌≡◌, ◌⊎◌, inl, inr, ℕ, zero, suc, ◌+◌, List, [], ◌∷◌, ◌++◌, length}
 use Rattle.std.proofs.Common.{take, drop, Bool, true, false, refl, ap, ap₂, sym, subst, ◌∙◌, append_assoc}
 use Rattle.std.specs.Prelude.{Option, None, Some, OnErr, OnOk, Result, Ok, Err, is_some, option_to_list}
 use Rattle.std.specs.Io.KnownBytes.{Appends}
@@ -535,9 +535,10 @@ on_err (Err e) p = p
 -- a command: its own requests, the questions about it, and the replies
 module _ (start : Start) (c : Command) (w : Whole) where
   -- most commands ask for one thing
-  pub once : (request : ApiReq) (result : Result (Unit {0}) NoMemory) (t : Whole) → requests_of c ≡ request ∷ []
-      → OnOk result (HasServed start (request ∷ []) w t) → OnOk result (HasServedOwn start c w t)
-  once request (Ok done) t are served =
+  pub once : (request : ApiReq) (result : Result (Unit {0}) NoMemory) (t : Whole)
+      → OnOk result (HasServed start (request ∷ []) w t) → requests_of c ≡ request ∷ []
+      → OnOk result (HasServedOwn start c w t)
+  once request (Ok done) t served are =
       record {
         own = record {
           first = request;
@@ -550,7 +551,7 @@ module _ (start : Start) (c : Command) (w : Whole) where
         };
         served = served;
       }
-  once request (Err fault) t are served = tt
+  once request (Err fault) t served are = tt
 
   pub own_sound : (u : Whole) → IsSound start w → HasServedOwn start c w u → IsSound start u
   own_sound u sound own = served_sound start (own.own.first ∷ own.own.on.asked) w u own.served sound
