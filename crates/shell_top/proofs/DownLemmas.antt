@@ -107,7 +107,7 @@ noted_stops s view = refl
 
 -- the client's side counts a stop only where a link is closed
 client_counts : (s : ClientState) (x : Signal) → closes x.body ≡ None → (client_row s x).state.stops ≡ s.stops
-client_counts s x open =
+client_counts s x unclosed =
     client_outcomes s x (λ step. step.state.stops ≡ t.stops) (record {
       takes = λ r is. at_request t.api _ (λ step. refl) r;
       begins = λ name node at is fits. at_request t.api _ (λ step. refl) (request.Begin name (Some node));
@@ -128,7 +128,7 @@ client_counts s x open =
       goes_down = λ at f tx is low. refl;
       fails = λ at f tx view is over out. refl;
       rests_on = refl;
-      stops = λ cause told down is. let differ : Some cause ≡ None = sym (ap closes is) ∙ open in absurd cc;
+      stops = λ cause told down is. let differ : Some cause ≡ None = sym (ap closes is) ∙ unclosed in absurd cc;
       completes = λ is known. refl;
       commits_late = λ tx epoch at f is known. refl;
       acknowledges_late = λ tx epoch is known none. refl;
@@ -249,6 +249,7 @@ module _ (start : Start) where
   up_by : (log : List HostStep) → Each IsOpen log → IsShape start.shape
       → is_viable start.shape (view_after start 0 log) ≡ true
       → finds_down start log ≡ false
+  unfolding client.is_down
   up_by log all shape manned = by (has_stopped log)
     where
       own : IsUnstopped start log
@@ -267,7 +268,6 @@ module _ (start : Start) where
           (viable_manned start.shape (view_after start 0 log) manned 0 (some_groups start.shape shape))
 
       up : client.is_down own.own.client ≡ false
-      unfolding client.is_down
       up =
           ap (λ (stops : List HostStop). not (list_any (still_runs stops) own.own.client.api.view.full)) own.none
           ∙ ap (λ (view : View). not (list_any (still_runs []) view.full)) view_is ∙ ap not runs
@@ -322,13 +322,11 @@ module _ (start : Start) where
   own_open (Host (Closed cause)) work = absurd (omega (arith, work.0))
   own_open body work = refl
 
-  asked_open : (log : List HostStep) (x : Signal) (asked : Bool) → is_asked 0 x ≡ asked → asked ≡ true
-      → comes_rightly (is_asked 0 x) start 0 log x
-      → closes x.body ≡ None
-  asked_open log x true is yes comes =
-      let own : IsOwn start 0 log x = subst (λ asked. comes_rightly asked start 0 log x) is comes in
-      own_open x.body own.work
-  asked_open log x false is yes comes = absurd (true≢false (sym yes))
+  asked_open : (log : List HostStep) (signal : Signal) → is_asked 0 signal ≡ true
+      → comes_rightly (is_asked 0 signal) start 0 log signal → closes signal.body ≡ None
+  asked_open log signal is comes =
+      let own : IsOwn start 0 log signal = subst (λ asked. comes_rightly asked start 0 log signal) is comes in
+      own_open signal.body own.work
 
   -- what was taken stands behind what was taken before
   taken_open : (from : Bool) (y : Addressed) (xs : List Addressed)
@@ -360,12 +358,12 @@ module _ (start : Start) where
 
       from_link : is_asked e.host e.step.taken ≡ false
           → is_from (machine start) e.step.taken.from.0 e ≡ true
-      from_link no =
-          ap (λ asked. not asked && (e.step.taken.from.0 == e.step.taken.from.0)) no
+      from_link linked =
+          ap (λ asked. not asked && (e.step.taken.from.0 == e.step.taken.from.0)) linked
           ∙ eq-eqb e.step.taken.from.0 e.step.taken.from.0 refl
 
       by : (b : Bool) → is_asked e.host e.step.taken ≡ b → IsOpen e
-      by true is = asked_open log e.step.taken true (asks true is) refl step.fits.comes
+      by true is = asked_open log e.step.taken (asks true is) step.fits.comes
       by false is =
           first_open (is_from (machine start) e.step.taken.from.0 e) ((machine start).signal e)
           (taken (machine start) e.step.taken.from.0 log) (from_link is) (links e.step.taken.from.0)
