@@ -38,7 +38,7 @@ loop-behind-preserved g c =
           c.loop-behind.invariant.served c.in_ok-ask.ensures.ok;
       up = round_up g.start c.args.rounds c.loop-behind.behind (whole_of c.args.world.now.world)
           (whole_of c.loop-behind.world.world) (whole_of c.ask.new.world.world) c.loop-behind.invariant.up
-          c.loop-behind.invariant.sound (sym c.is_down.ensures ∙ c.is_down-test.false) c.in_ok-ask.ensures.ok;
+          c.loop-behind.invariant.sound (sym c.is_down.ensures ∙ c.if-is_down.false) c.in_ok-ask.ensures.ok;
       sound = served_sound g.start (Tick (c.loop-behind.behind + 2) c.args.rounds ∷ [])
           (whole_of c.loop-behind.world.world)
           (whole_of c.ask.new.world.world) c.in_ok-ask.ensures.ok
@@ -57,6 +57,14 @@ pub returns-in_err-ask-clause-grown : goal.returns-in_err-ask-clause-grown
 returns-in_err-ask-clause-grown g c =
     world_grown g.D.Disk.told g.D.Disk.faults c.args.world.now c.loop-behind.world c.ask.new.world
     c.loop-behind.invariant.grown c.ask.ensures.grown
+
+pub returns-then-is_down-clause-ok : goal.returns-then-is_down-clause-ok
+returns-then-is_down-clause-ok g c =
+    rounds_until g.start c.args.rounds c.loop-behind.behind (c.args.rounds - 1) (whole_of c.args.world.now.world)
+    (whole_of c.loop-behind.world.world)
+    (grind (arith, nat_tests, c.loop-behind-test.true, c.saturating_sub-behind-end.ensures))
+    c.loop-behind.invariant.sound (sym c.is_down.ensures ∙ c.if-is_down.true) c.loop-behind.invariant.served
+    c.loop-behind.invariant.up
 
 pub returns-clause-ok : goal.returns-clause-ok
 returns-clause-ok g c =
