@@ -2,6 +2,7 @@ pub mod SeenLemmas
 pub mod PeaceLemmas
 pub mod PeacefulLemmas
 pub mod DisksLemmas
+pub mod DownLemmas
 pub mod EndLemmas
 pub mod FitLemmas
 pub mod GivingUp
@@ -18,6 +19,7 @@ pub mod OnDisksLemmas
 pub mod ObeyLemmas
 pub mod SettingLemmas
 pub mod PrintedLemmas
+pub mod RoundLemmas
 pub mod SafeLemmas
 pub mod ScriptLemmas
 pub mod ServedLemmas

@@ -119,7 +119,8 @@ module _ (start : Start) where
             left.left.peace (record { given = was.given; right = was.right }) was.quiet
             (was.peace (commands_front done (c ∷ rest) all)
             (none_before (logs_at w.logs) (logs_at logs) left.left.more none))
-            (asked_peaceful c (head_peaceful c rest (commands_back done (c ∷ rest) all))) none;
+            (asked_peaceful c left.own left.left_out left.are
+            (head_peaceful c rest (commands_back done (c ∷ rest) all))) none;
       }
 
 -- as much as this text is printed, and the logs tell that and more

@@ -98,9 +98,16 @@ command_peaceful (command.Rows at) e = refl
 command_peaceful (command.Digest at) e = refl
 command_peaceful _ e = refl
 
-pub asked_peaceful : (c : Command) → is_peaceful_command c ≡ true
-    → are_peaceful_requests (requests_of c ++ questions) ≡ true
-asked_peaceful c e = all_both is_peaceful_request (requests_of c) questions (command_peaceful c e) refl
+-- and for the first of them, where others are left out
+pub own_peaceful : (c : Command) (own left_out : List ApiReq) → requests_of c ≡ own ++ left_out
+    → is_peaceful_command c ≡ true → are_peaceful_requests own ≡ true
+own_peaceful c own left_out are e =
+    requests_front own left_out (subst (λ rs. are_peaceful_requests rs ≡ true) are (command_peaceful c e))
+
+pub asked_peaceful : (c : Command) (own left_out : List ApiReq) → requests_of c ≡ own ++ left_out
+    → is_peaceful_command c ≡ true → are_peaceful_requests (own ++ questions) ≡ true
+asked_peaceful c own left_out are e =
+    all_both is_peaceful_request own questions (own_peaceful c own left_out are e) refl
 
 -- who has stopped by no later moment hasn't by an earlier one
 older_each : {A : Type 0} (P : A → Type 0) (newer older : List A) → Each P (newer ++ older) → Each P older

@@ -27,6 +27,7 @@ use Rattle.commit_laws.proofs.led.CutLaws.{aborts_effectless, commits_effective,
 use Rattle.commit_laws.proofs.led.CutLaws.{resting_rows}
 use Rattle.commit_laws.proofs.views.Greatest.{greatest_viable}
 use Rattle.shell_top.specs.Safe.{AreSafe, IsSafe}
+use Rattle.shell_top.proofs.DownLemmas.{never_down}
 
 module _ (start : Start) (logs : ℕ → List HostStep) (begins : start.start_epoch < start.epoch)
     (shape : IsShape start.shape)
@@ -61,6 +62,7 @@ module _ (start : Start) (logs : ℕ → List HostStep) (begins : start.start_ep
           aborted = aborts_effectless start inside of;
           down = none_down_decided start inside of;
           durable = durable_were_closed start inside begins of;
+          up = never_down start inside of;
         }
       where
         of : AreOfCluster start inside

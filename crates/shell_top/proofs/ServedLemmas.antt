@@ -1,5 +1,5 @@
 -- A world that has served some commands serves one more.
-use Rattle.std.proofs.Common.{◌≡◌, ◌⊎◌, inl, inr, ℕ, zero, suc, ◌+◌, ◌-◌, ◌≤◌, ◌<◌, arith, List, [], ◌∷◌, ◌++◌, length}
+use Rattle.std.proofs.Common.{◌≡◌, ◌⊎◌, inl, inr, ℕ, zero, suc, ◌+◌, List, [], ◌∷◌, ◌++◌, length}
 use Rattle.std.proofs.Common.{take, drop, Bool, true, false, refl, ap, ap₂, sym, subst, ◌∙◌, append_assoc}
 use Rattle.std.specs.Prelude.{Option, None, Some, OnErr, OnOk, Result, Ok, Err, is_some, option_to_list}
 use Rattle.std.specs.Io.KnownBytes.{Appends}
@@ -13,22 +13,20 @@ use Rattle.world_core.specs.Steps.{HostStep}
 use Rattle.sig_core.specs.declared.no_memory.NoMemory.{NoMemory}
 use Rattle.sig_core.specs.declared.reply.ApiReply.{ApiReply}
 use Rattle.sig_core.specs.declared.request.ApiReq.{ApiReq}
-use Rattle.sig_core.specs.declared.request.ApiReq.TheVariants.{Tick}
 use Rattle.shell_top.specs.Arranged.{arranged}
-use Rattle.shell_top.specs.Asked.{AreAsked, AsksInPart, AsksOn, IsAskedNext, are_peaceful, is_peaceful_command}
-use Rattle.shell_top.specs.Asked.{MayAsk, is_served, questions, requests_of}
+use Rattle.shell_top.specs.Asked.{AreAsked, AsksInPart, AsksOn, AsksOwn, IsAskedNext, MayAsk, are_peaceful}
+use Rattle.shell_top.specs.Asked.{is_served, questions, requests_of}
 use Rattle.shell_top.specs.Subject.{subject_in}
-use Rattle.shell_top.specs.Asked.{rounds_behind}
 use Rattle.shell_top.specs.declared.ended.Ending.TheVariants as ending
 use Rattle.shell_top.specs.Printed.{AppendsPart}
-use Rattle.shell_top.specs.Served.{AreInPeace, AreLeft, AreLeftOff, AsksFirst, HasGoneOn, HasServed, IsServed}
-use Rattle.shell_top.specs.Served.{NoneStops, PrintsCommand, ServesCommand}
+use Rattle.shell_top.specs.Served.{AreInPeace, AreLeft, AreLeftOff, AsksFirst, HasGoneOn, HasServed, HasServedOwn}
+use Rattle.shell_top.specs.Served.{IsServed, NoneStops, PrintsCommand, ServesCommand, are_peaceful_requests}
 use Rattle.shell_top.specs.Text.{down_line, reply_lines}
 use Rattle.shell_top.specs.Told.{text_of}
-use Rattle.shell_top.proofs.PeaceLemmas.{command_peaceful, commands_back, commands_front, first_peaceful, head_peaceful}
-use Rattle.shell_top.proofs.PeaceLemmas.{none_before, one_peaceful, requests_back, requests_front}
-use Rattle.shell_top.proofs.ToldLemmas.{HasFirst, asks_for, has_first, none_heads, none_both, none_take, one_more}
-use Rattle.shell_top.proofs.ToldLemmas.{requests_newer}
+use Rattle.shell_top.proofs.PeaceLemmas.{commands_back, commands_front, first_peaceful, head_peaceful, none_before}
+use Rattle.shell_top.proofs.PeaceLemmas.{one_peaceful, own_peaceful, requests_back, requests_front}
+use Rattle.shell_top.proofs.ToldLemmas.{Begins, HasFirst, asks_for, begins, has_first, none_heads, none_both, none_take}
+use Rattle.shell_top.proofs.ToldLemmas.{one_more, requests_newer}
 use Rattle.world_views.specs.Driven.{HasAsked, HaveGrown, IsDriven, IsSound, IsWorld}
 use Rattle.world_core.specs.Labels.{AreLabelled}
 use Rattle.world_views.specs.Requests.{request_of, requests}
@@ -288,64 +286,95 @@ module _ (start : Start) where
       ++ down_line (finds_down start before) (finds_down start log)))
       has.subject
 
-  -- memory was wanting in a command: its text goes on
-  pub left_text : (c : Command) (w : Whole) (logs : List HostLog) → is_served c ≡ true
-      → AreLeftOff start (requests_of c ++ questions) w logs
+  -- memory was wanting in a command, some of whose requests were to be asked for: its text goes on
+  pub left_text : (c : Command) (w : Whole) (logs : List HostLog) → is_served c ≡ true → (first : ApiReq)
+      (further left_out : List ApiReq) → requests_of c ≡ first ∷ (further ++ left_out)
+      → AreLeftOff start (first ∷ (further ++ questions)) w logs
       → AsksInPart start (Some c) (logs_at w.logs 0) (logs_at logs 0) → AreLeft start c w logs
-  left_text c w logs served left begun = go left.begun
+  left_text c w logs served first further left_out are left begun = go left.begun
     where
       has : HasFirst c
       has = has_first c served
 
-      are : requests_of c ++ questions ≡ has.first ∷ (has.rest ++ questions)
-      are = ap (λ rs. rs ++ questions) has.are
+      begins_it : Begins c has first further
+      begins_it = begins c has first further left_out are
 
       asked : (part : ℕ)
-          → requests (logs_at logs 0) ≡ requests (logs_at w.logs 0) ++ take part (has.first ∷ (has.rest ++ questions))
+          → requests (logs_at logs 0) ≡ requests (logs_at w.logs 0) ++ take part (first ∷ (further ++ questions))
           → IsAskedNext (logs_at w.logs 0) (logs_at logs 0) → AreLeft start c w logs
       asked zero is next = absurd (none_asked (logs_at w.logs 0) (logs_at logs 0) next is)
       asked (suc part) is next =
           record {
+            own = first ∷ further;
+            left_out = left_out;
+            are = are;
             left = left;
             begun = begun;
             more = lines_of c (logs_at w.logs 0) (logs_at logs 0);
-            text = text_behind has.first (take part (has.rest ++ questions)) (logs_at w.logs 0) (logs_at logs 0) next is
-                c has refl
-                (none_take part (has.rest ++ questions) (none_both has.rest questions has.none refl));
+            text = text_behind first (take part (further ++ questions)) (logs_at w.logs 0) (logs_at logs 0) next is
+                c has begins_it.is
+                (none_take part (further ++ questions) (none_both further questions begins_it.none refl));
           }
 
       go : (logs_at logs 0 ≡ logs_at w.logs 0) ⊎ IsAskedNext (logs_at w.logs 0) (logs_at logs 0)
           → AreLeft start c w logs
       go (inl same) =
           let text = ap (text_of start) same ∙ sym (append-nil (text_of start (logs_at w.logs 0))) in
-          record { left = left; begun = begun; more = []; text = text }
-      go (inr next) =
-          asked left.part (left.requests ∙ ap (λ rs. requests (logs_at w.logs 0) ++ take left.part rs) are) next
+          record {
+            own = first ∷ further;
+            left_out = left_out;
+            are = are;
+            left = left;
+            begun = begun;
+            more = [];
+            text = text;
+          }
+      go (inr next) = asked left.part left.requests next
 
   -- all that was asked for behind a world: the command's first request, and others that begin none
   record Behind (c : Command) (has : HasFirst c) (w v : Whole) : Type 0 where
+    first : ApiReq
+    is : first ≡ has.first
     rest : List ApiReq
     none : none_heads rest ≡ true
-    served : HasServed start (has.first ∷ rest) w v
+    served : HasServed start (first ∷ rest) w v
+
+  -- all of a command's requests are those that were asked for, and those that were left out
+  pub own_are : (c : Command) (before log : List HostStep) (own : AsksOwn start c before log)
+      → requests_of c ≡ own.first ∷ (own.on.asked ++ own.on.left_out)
+  own_are c before log own = own.are ∙ ap (λ rs. own.first ∷ rs) own.on.are
 
   -- all that was asked for
-  all_served : (c : Command) (has : HasFirst c) (w u v : Whole) → HasServed start (requests_of c) w u
+  all_served : (c : Command) (has : HasFirst c) (w u v : Whole) → HasServedOwn start c w u
       → (open_now : Bool) → HasGoneOn start u v open_now
       → Behind c has w v
-  all_served c has w u v own false same =
-      record {
-        rest = has.rest;
-        none = has.none;
-        served = subst (HasServed start (has.first ∷ has.rest) w) (sym same)
-            (subst (λ rs. HasServed start rs w u) has.are own);
-      }
-  all_served c has w u v own true asked =
-      record {
-        rest = has.rest ++ questions;
-        none = none_both has.rest questions has.none refl;
-        served = subst (λ rs. HasServed start (rs ++ questions) w v) has.are
-            (both_served (requests_of c) questions w u v own asked);
-      }
+  all_served c has w u v served open_now on = go open_now on
+    where
+      own : AsksOwn start c (logs_at w.logs 0) (logs_at u.logs 0)
+      own = served.own
+
+      begins_it : Begins c has own.first own.on.asked
+      begins_it =
+          begins c has own.first own.on.asked own.on.left_out
+          (own_are c (logs_at w.logs 0) (logs_at u.logs 0) own)
+
+      go : (b : Bool) → HasGoneOn start u v b → Behind c has w v
+      go false same =
+          record {
+            first = own.first;
+            is = begins_it.is;
+            rest = own.on.asked;
+            none = begins_it.none;
+            served = subst (HasServed start (own.first ∷ own.on.asked) w) (sym same) served.served;
+          }
+      go true asked =
+          record {
+            first = own.first;
+            is = begins_it.is;
+            rest = own.on.asked ++ questions;
+            none = none_both own.on.asked questions begins_it.none refl;
+            served = both_served (own.first ∷ own.on.asked) questions w u v served.served asked;
+          }
 
   on_log : (u v : Whole) (given : List ApiReply) → IsRight start given u → (b : Bool) → is_left_open u ≡ b
       → HasGoneOn start u v b
@@ -357,13 +386,9 @@ module _ (start : Start) where
       go false same = ap (λ (x : Whole). logs_at x.logs 0) same
       go true asked = (asked.next, asked.requests)
 
-  own_next : (c : Command) (has : HasFirst c) (w u : Whole) → HasServed start (requests_of c) w u
-      → IsAskedNext (logs_at w.logs 0) (logs_at u.logs 0)
-  own_next c has w u own = subst (λ rs. AsksFirst rs (logs_at w.logs 0) (logs_at u.logs 0)) has.are own.next
-
   pub serves : (c : Command) (w u v t : Whole) (text : List ℕ) → is_served c ≡ true → MayAsk c (is_down w)
       → IsSound start w
-      → HasServed start (requests_of c) w u → HasGoneOn start u v (is_left_open u)
+      → HasServedOwn start c w u → HasGoneOn start u v (is_left_open u)
       → t ≡ record v { replies = [] }
       → text ≡ reply_lines (arranged (subject_in c) v.replies) ++ down_line (is_down w) (is_down t)
       → ServesCommand start c w t text
@@ -396,16 +421,20 @@ module _ (start : Start) where
               was.peace (commands_front commands (c ∷ []) peaceful)
               (none_before (logs_at w.logs) (logs_at v.logs) behind.served.more none)
 
-          one : is_peaceful_command c ≡ true
-          one = head_peaceful c [] (commands_back commands (c ∷ []) peaceful)
+          one : are_peaceful_requests (own.own.first ∷ own.own.on.asked) ≡ true
+          one =
+              own_peaceful c (own.own.first ∷ own.own.on.asked) own.own.on.left_out
+              (own_are c (logs_at w.logs 0) (logs_at u.logs 0) own.own)
+              (head_peaceful c [] (commands_back commands (c ∷ []) peaceful))
 
           go : (b : Bool) → HasGoneOn start u v b → AreInPeace start (logs_at v.logs)
           go false same =
               subst (λ (x : Whole). NoneStops (logs_at x.logs) → AreInPeace start (logs_at x.logs)) (sym same)
-              (own.peace sound was.quiet before (command_peaceful c one)) none
+              (own.served.peace sound was.quiet before one) none
           go true asked =
-              asked.peace (served_sound (requests_of c) w u own sound) (own.quiet was.quiet)
-              (own.peace sound was.quiet before (command_peaceful c one)
+              asked.peace (served_sound (own.own.first ∷ own.own.on.asked) w u own.served sound)
+              (own.served.quiet was.quiet)
+              (own.served.peace sound was.quiet before one
               (none_before (logs_at u.logs) (logs_at v.logs) asked.more none)) refl none
 
       after_it : (commands : List Command) → IsServed start commands w
@@ -422,9 +451,8 @@ module _ (start : Start) where
                   asks = record {
                     served = logs_at u.logs 0;
                     may = subst (MayAsk c) (down_is start was.given w was.right) may;
-                    next = own_next c has w u own;
-                    own = own.requests;
-                    on = on_log u v was.given (own.right was.given was.right) (is_left_open u) refl on;
+                    own = own.own;
+                    on = on_log u v was.given (own.served.right was.given was.right) (is_left_open u) refl on;
                   };
                 });
             at_quiet = behind.served.at_quiet was.quiet was.at_quiet;
@@ -448,8 +476,8 @@ module _ (start : Start) where
           let lines_by : List ApiReply → Bool → Bool → List ℕ =
           λ rs before now. text_of start (logs_at w.logs 0)
           ++ (reply_lines (arranged (subject_in c) rs) ++ down_line before now) in
-          text_behind has.first behind.rest (logs_at w.logs 0) (logs_at v.logs 0) behind.served.next
-          behind.served.requests c has refl behind.none
+          text_behind behind.first behind.rest (logs_at w.logs 0) (logs_at v.logs 0) behind.served.next
+          behind.served.requests c has behind.is behind.none
           ∙ ap (λ rs. lines_by rs (finds_down start (logs_at w.logs 0)) (finds_down start (logs_at v.logs 0))) rest
           ∙ ap (λ b. lines_by v.replies b (finds_down start (logs_at v.logs 0)))
           (sym (down_is start was.given w was.right))
@@ -499,48 +527,6 @@ module _ (start : Start) (asked more : List ApiReq) where
   second_err (Ok done) w u t one left = tt
   second_err (Err fault) w u t one left = left_later start asked more w u t.logs one left
 
--- a list of requests, and those behind it
-record IsFrontOf (front all : List ApiReq) : Type 0 where
-  rest : List ApiReq
-  is : all ≡ front ++ rest
-
-rounds_more : (rounds n m : ℕ) → IsFrontOf (rounds_behind rounds n) (rounds_behind rounds (m + n))
-rounds_more rounds n zero = let same : 0 + n ≡ n = omega arith in record {
-  rest = [];
-  is = ap (rounds_behind rounds) same ∙ sym (append-nil (rounds_behind rounds n));
-}
-rounds_more rounds n (suc m) =
-    let before = rounds_more rounds n m in
-    let same : suc m + n ≡ suc (m + n) = omega arith in
-    record {
-      rest = before.rest ++ Tick (m + n + 2) rounds ∷ [];
-      is = ap (rounds_behind rounds) same ∙ ap (λ rs. rs ++ Tick (m + n + 2) rounds ∷ []) before.is
-          ∙ append_assoc (rounds_behind rounds n) before.rest (Tick (m + n + 2) rounds ∷ []);
-    }
-
-rounds_front : (rounds n all : ℕ) → n ≤ all → IsFrontOf (rounds_behind rounds n) (rounds_behind rounds all)
-rounds_front rounds n all low =
-    let same : (all - n) + n ≡ all = omega (arith, low) in
-    subst (λ k. IsFrontOf (rounds_behind rounds n) (rounds_behind rounds k)) same (rounds_more rounds n (all - n))
-
--- rounds, one after the other
-module _ (start : Start) (rounds n : ℕ) where
-  pub round_served : (w u t : Whole) → HasServed start (rounds_behind rounds n) w u
-      → HasServed start (Tick (n + 2) rounds ∷ []) u t → HasServed start (rounds_behind rounds (n + 1)) w t
-  round_served w u t before next =
-      let same : suc n ≡ n + 1 = omega arith in
-      subst (λ k. HasServed start (rounds_behind rounds k) w t) same
-      (both_served start (rounds_behind rounds n) (Tick (n + 2) rounds ∷ []) w u t before next)
-
-  pub round_left : (all : ℕ) (w u : Whole) (logs : List HostLog) → n < all
-      → HasServed start (rounds_behind rounds n) w u → AreLeftOff start (Tick (n + 2) rounds ∷ []) u logs
-      → AreLeftOff start (rounds_behind rounds all) w logs
-  round_left all w u logs low before left =
-      let front = rounds_front rounds (suc n) all (omega (arith, low)) in
-      subst (λ rs. AreLeftOff start rs w logs) (sym front.is)
-      (left_of_more start (rounds_behind rounds (suc n)) front.rest w logs
-      (left_later start (rounds_behind rounds n) (Tick (n + 2) rounds ∷ []) w u logs before left))
-
 -- the same, by what the calls answered
 pub on_err : {A E P : Type 0} (result : Result A E) → P → OnErr result P
 on_err (Ok x) p = tt
@@ -548,10 +534,29 @@ on_err (Err e) p = p
 
 -- a command: its own requests, the questions about it, and the replies
 module _ (start : Start) (c : Command) (w : Whole) where
-  pub own_sound : (u : Whole) → IsSound start w → HasServed start (requests_of c) w u → IsSound start u
-  own_sound u sound own = served_sound start (requests_of c) w u own sound
+  -- most commands ask for one thing
+  pub once : (request : ApiReq) (result : Result (Unit {0}) NoMemory) (t : Whole)
+      → OnOk result (HasServed start (request ∷ []) w t) → requests_of c ≡ request ∷ []
+      → OnOk result (HasServedOwn start c w t)
+  once request (Ok done) t served are =
+      record {
+        own = record {
+          first = request;
+          further = [];
+          are = are;
+          begun = logs_at t.logs 0;
+          next = served.next;
+          own = served.requests;
+          on = record { asked = []; left_out = []; are = refl; up = refl; cause = inl refl };
+        };
+        served = served;
+      }
+  once request (Err fault) t served are = tt
 
-  pub gone_sound : (u v : Whole) → IsSound start w → HasServed start (requests_of c) w u
+  pub own_sound : (u : Whole) → IsSound start w → HasServedOwn start c w u → IsSound start u
+  own_sound u sound own = served_sound start (own.own.first ∷ own.own.on.asked) w u own.served sound
+
+  pub gone_sound : (u v : Whole) → IsSound start w → HasServedOwn start c w u
       → HasGoneOn start u v (is_left_open u) → IsSound start v
   gone_sound u v sound own on = go (is_left_open u) on
     where
@@ -562,35 +567,46 @@ module _ (start : Start) (c : Command) (w : Whole) where
   pub left_own : (logs : List HostLog) → is_served c ≡ true → AreLeftOff start (requests_of c) w logs
       → AreLeft start c w logs
   left_own logs is left =
-      left_text start c w logs is (left_of_more start (requests_of c) questions w logs left)
+      let has = has_first c is in
+      let all : requests_of c ≡ has.first ∷ (has.rest ++ []) =
+      has.are ∙ ap (λ rs. has.first ∷ rs) (sym (append-nil has.rest)) in
+      left_text start c w logs is has.first has.rest [] all
+      (subst (λ rs. AreLeftOff start (rs ++ questions) w logs) has.are
+      (left_of_more start (requests_of c) questions w logs left))
       (inl (record { part = left.part; begun = left.requests }))
 
   pub left_about : (u : Whole) (logs : List HostLog) → is_served c ≡ true → IsSound start w
-      → HasServed start (requests_of c) w u → is_left_open u ≡ true → AreLeftOff start questions u logs
+      → HasServedOwn start c w u → is_left_open u ≡ true → AreLeftOff start questions u logs
       → AreLeft start c w logs
   left_about u logs is sound own opened left =
-      left_text start c w logs is (left_later start (requests_of c) questions w u logs own left)
+      left_text start c w logs is own.own.first own.own.on.asked own.own.on.left_out
+      (own_are start c (logs_at w.logs 0) (logs_at u.logs 0) own.own)
+      (left_later start (own.own.first ∷ own.own.on.asked) questions w u logs own.served left)
       (inr (record {
         served = logs_at u.logs 0;
         past = left.more 0;
-        own = own.requests;
+        own = own.own;
         left_open = sym (open_is start (own_sound u sound own).given u (own_sound u sound own).right) ∙ opened;
         on = record { part = left.part; begun = left.requests };
       }))
 
   pub left_gone : (u v : Whole) (logs : List HostLog) → is_served c ≡ true → IsSound start w
-      → HasServed start (requests_of c) w u → HasGoneOn start u v (is_left_open u) → logs ≡ v.logs
+      → HasServedOwn start c w u → HasGoneOn start u v (is_left_open u) → logs ≡ v.logs
       → AreLeft start c w logs
   left_gone u v logs is sound own on same = go (is_left_open u) refl on
     where
       go : (b : Bool) → is_left_open u ≡ b → HasGoneOn start u v b → AreLeft start c w logs
       go false e gone =
           left_own logs is
-          (left_served start (requests_of c) w u logs own sound (same ∙ ap (λ (x : Whole). x.logs) gone))
+          (subst (λ rs. AreLeftOff start rs w logs)
+          (sym (own_are start c (logs_at w.logs 0) (logs_at u.logs 0) own.own))
+          (left_of_more start (own.own.first ∷ own.own.on.asked) own.own.on.left_out w logs
+          (left_served start (own.own.first ∷ own.own.on.asked) w u logs own.served sound
+          (same ∙ ap (λ (x : Whole). x.logs) gone))))
       go true e asked =
           left_about u logs is sound own e (left_served start questions u v logs asked (own_sound u sound own) same)
 
-  pub told_world : (u v t : Whole) → IsSound start w → HasServed start (requests_of c) w u
+  pub told_world : (u v t : Whole) → IsSound start w → HasServedOwn start c w u
       → HasGoneOn start u v (is_left_open u) → t ≡ record v { replies = [] } → IsWorld t
   told_world u v t sound own on taken =
       let gone = gone_sound u v sound own on in
@@ -641,3 +657,5 @@ pub prints_nothing : (start : Start) (c : Command) (w t : Whole) (written : Opti
 prints_nothing start c w t written left = record { printed = λ commands was. (refl, left) }
 
 pub ruleset prints = (prints_all, prints_part, prints_nothing)
+
+pub ruleset asking_once = (once)

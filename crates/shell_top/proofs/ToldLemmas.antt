@@ -100,6 +100,12 @@ module _ (start : Start) where
       ap (telling start) is ∙ telling_newer newer (asking ∷ before) none ∙ ap goes begun in
       ap (λ (t : Telling). told t (replies_in start 0 log) (finds_down start log)) at
 
+first_same : (a b : ApiReq) (xs ys : List ApiReq) → a ∷ xs ≡ b ∷ ys → a ≡ b
+first_same a b xs ys same = cc
+
+others_same : (a b : ApiReq) (xs ys : List ApiReq) → a ∷ xs ≡ b ∷ ys → xs ≡ ys
+others_same a b xs ys same = cc
+
 -- what the steps behind `before` asked for, where the next one asks
 pub record AsksFor (first : ApiReq) (rest : List ApiReq) (before log : List HostStep) : Type 0 where
   pub asking : HostStep
@@ -127,15 +133,9 @@ asks_for first rest before log next are = go (request_of next.asking) refl next.
           asking = next.asking;
           newer = next.newer;
           is = next.is;
-          asks = e ∙ ap Some (heads asked first (requests next.newer) rest same);
-          others = tails asked first (requests next.newer) rest same;
+          asks = e ∙ ap Some (first_same asked first (requests next.newer) rest same);
+          others = others_same asked first (requests next.newer) rest same;
         }
-      where
-        heads : (a b : ApiReq) (xs ys : List ApiReq) → a ∷ xs ≡ b ∷ ys → a ≡ b
-        heads a b xs ys same = cc
-
-        tails : (a b : ApiReq) (xs ys : List ApiReq) → a ∷ xs ≡ b ∷ ys → xs ≡ ys
-        tails a b xs ys same = cc
 
 -- the first request of a command begins it, and no other of it does
 pub record HasFirst (c : Command) : Type 0 where
@@ -230,3 +230,19 @@ has_first (command.Digest at) e = record {
 has_first command.Restart e =
     record { first = request.Restart; rest = []; are = refl; begins_it = refl; subject = refl; none = refl }
 has_first _ e = absurd (true≢false (sym e))
+
+-- the first ones of a command's requests begin as the command does
+pub record Begins (c : Command) (has : HasFirst c) (first : ApiReq) (further : List ApiReq) : Type 0 where
+  pub is : first ≡ has.first
+  pub none : none_heads further ≡ true
+
+pub begins : (c : Command) (has : HasFirst c) (first : ApiReq) (further left_out : List ApiReq)
+    → requests_of c ≡ first ∷ (further ++ left_out) → Begins c has first further
+begins c has first further left_out are =
+    let both : first ∷ (further ++ left_out) ≡ has.first ∷ has.rest = sym are ∙ has.are in
+    record {
+      is = first_same first has.first (further ++ left_out) has.rest both;
+      none = none_front further left_out
+          (subst (λ rs. none_heads rs ≡ true) (sym (others_same first has.first (further ++ left_out) has.rest both))
+          has.none);
+    }

@@ -18,7 +18,7 @@ abbrev pub rounds_behind : ℕ → ℕ → List ApiReq
 rounds_behind rounds zero = []
 rounds_behind rounds (suc n) = rounds_behind rounds n ++ request.Tick (n + 2) rounds ∷ []
 
--- the requests of a command: one, or of a tick one for each round
+-- the requests of a command: one, or of a tick one for each round, as long as the cluster isn't down
 abbrev pub requests_of : Command → List ApiReq
 requests_of (command.Begin name at) = request.Begin name at ∷ []
 requests_of (command.Operate name op) = request.Operate name op ∷ []
@@ -95,12 +95,45 @@ abbrev pub IsOfWords : Command → Type 0
 IsOfWords (command.Operate name op) = IsOperation op
 IsOfWords command = Unit {0}
 
+-- The cluster isn't down behind `before`, and there this was asked for; behind that it goes on as told.
+pub record IsAskedUp (start : Start) (request : ApiReq) (before : List HostStep) (GoesOn : List HostStep → Type 0)
+    : Type 0
+  where
+    pub served : List HostStep
+    pub up : finds_down start before ≡ false
+    pub next : IsAskedNext before served
+    pub own : requests served ≡ requests before ++ request ∷ []
+    pub on : GoesOn served
+
+-- These requests were asked for behind `before`, one after the other, each of a cluster that isn't down.
+abbrev pub AreAskedUp : Start → List ApiReq → (log before : List HostStep) → Type 0
+AreAskedUp start [] log before = log ≡ before
+AreAskedUp start (request ∷ further) log before = IsAskedUp start request before (AreAskedUp start further log)
+
+-- Of these requests the first ones were so asked for; others are left out only where the cluster is down behind those.
+pub record AreAskedWhileUp (start : Start) (further : List ApiReq) (before log : List HostStep) : Type 0 where
+  pub asked : List ApiReq
+  pub left_out : List ApiReq
+  pub are : further ≡ asked ++ left_out
+  pub up : AreAskedUp start asked log before
+  pub cause : (left_out ≡ []) ⊎ (finds_down start log ≡ true)
+
+-- A command's own requests were asked for behind `before`: its first one, and the further ones while the cluster isn't
+-- down.
+pub record AsksOwn (start : Start) (command : Command) (before log : List HostStep) : Type 0 where
+  pub first : ApiReq
+  pub further : List ApiReq
+  pub are : requests_of command ≡ first ∷ further
+  pub begun : List HostStep
+  pub next : IsAskedNext before begun
+  pub own : requests begun ≡ requests before ++ first ∷ []
+  pub on : AreAskedWhileUp start further begun log
+
 -- A command was asked for behind `before`, in host 0's log.
 pub record AsksCommand (start : Start) (command : Command) (before log : List HostStep) : Type 0 where
   pub served : List HostStep
   pub may : MayAsk command (finds_down start before)
-  pub next : IsAskedNext before served
-  pub own : requests served ≡ requests before ++ requests_of command
+  pub own : AsksOwn start command before served
   pub on : AsksOn served log (leaves_open start served)
 
 -- the commands before were asked for, and then this one
@@ -125,7 +158,7 @@ pub record AsksFirstOf (asked : List ApiReq) (before log : List HostStep) : Type
 pub record AsksOnInPart (start : Start) (command : Command) (before log : List HostStep) : Type 0 where
   pub served : List HostStep
   pub past : IsPast served log
-  pub own : requests served ≡ requests before ++ requests_of command
+  pub own : AsksOwn start command before served
   pub left_open : leaves_open start served ≡ true
   pub on : AsksFirstOf questions served log
 

@@ -1,7 +1,7 @@
 -- What holds of closed cuts of a life, whatever stopped and was cut off in it.
 use Rattle.std.specs.Prelude.{◌≡◌, ◌≤◌, ◌<◌, ◌⊎◌, ℕ, true, false, List, Some}
 use Rattle.frag_map.specs.Groups.{is_viable}
-use Rattle.run_theory.specs.Lists.{Each, IsIn}
+use Rattle.run_theory.specs.Lists.{Each, IsIn, IsPast}
 use Rattle.report_laws.specs.Answered.{answers_of}
 use Rattle.report_laws.specs.Asked.{operations_of}
 use Rattle.sig_core.specs.declared.entry.Entry.{Entry}
@@ -19,7 +19,9 @@ use Rattle.world_core.specs.History.{history, writes}
 use Rattle.world_core.specs.Hosts.{hosts}
 use Rattle.world_core.specs.Start.{Start, made}
 use Rattle.world_core.specs.Steps.{HostStep}
+use Rattle.world_views.specs.Machine.{has_stopped}
 use Rattle.world_views.specs.SerialLaw.{IsSerial}
+use Rattle.world_views.specs.Shell.{finds_down}
 use Rattle.view_laws.specs.Runs.{WasInstalled}
 use Rattle.outcome_laws.specs.Decided.{IsMarked}
 use Rattle.outcome_laws.specs.Outcomes.{AreOnce, HasEntry, reports_in}
@@ -33,7 +35,8 @@ use Rattle.commit_laws.specs.Traces.{record_at}
 -- epochs never fall along it, and a live replica of a key at rest has the row that it leaves. A transaction is decided
 -- once at most, as its client asked for it and was answered, and reported once at most: where it is reported committed
 -- it is in the history, with that epoch, and where it is reported aborted it isn't; since the cluster is down only
--- where it wasn't decided. An epoch that is durable was closed.
+-- where it wasn't decided. An epoch that is durable was closed. While no host has stopped, the shell's host has never
+-- found the cluster down.
 pub record IsSafe (start : Start) (inside : ℕ → List HostStep) : Type 0 where
   pub one_view : (one other : View) → WasInstalled start inside one → WasInstalled start inside other
       → one.number ≡ other.number → one ≡ other
@@ -51,6 +54,8 @@ pub record IsSafe (start : Start) (inside : ℕ → List HostStep) : Type 0 wher
   pub down : (tx : TxId) → IsMarked (Reported tx (Aborted Down)) (inside 0)
       → Each (λ (entry : Entry). same_tx entry.tx tx ≡ false) (entries (hosts start) inside)
   pub durable : (h epoch : ℕ) → h < hosts start → IsMarked (Durable epoch) (inside h) → WasClosed start inside epoch
+  pub up : ((h : ℕ) → h < hosts start → has_stopped (inside h) ≡ false) → (log : List HostStep)
+      → IsPast log (inside 0) → finds_down start log ≡ false
 
 -- Of a closed cut and a larger one. Once an epoch is closed, or durable, whoever writes, and has that epoch or one
 -- before it in the larger one's history, is in that of the smaller one. Of a transaction that is in the larger one's

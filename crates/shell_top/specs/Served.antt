@@ -13,7 +13,8 @@ use Rattle.sig_core.specs.declared.log.HostLog.{HostLog}
 use Rattle.world_core.specs.Steps.{HostStep}
 use Rattle.sig_core.specs.declared.reply.ApiReply.{ApiReply}
 use Rattle.sig_core.specs.declared.request.ApiReq.{ApiReq}
-use Rattle.shell_top.specs.Asked.{AreAsked, are_peaceful, AsksInPart, IsAskedNext, questions, requests_of}
+use Rattle.shell_top.specs.Asked.{AreAsked, AreAskedWhileUp, are_peaceful, AsksInPart, AsksOwn, IsAskedNext}
+use Rattle.shell_top.specs.Asked.{questions, requests_of}
 use Rattle.shell_top.specs.declared.ended.Ending.{Ending}
 use Rattle.shell_top.specs.declared.ended.Ending.TheVariants.{WriteFault, NoMemory}
 use Rattle.shell_top.specs.Printed.{AppendsPart}
@@ -61,6 +62,16 @@ pub record HasServed (start : Start) (asked : List ApiReq) (w t : Whole) : Type 
       → NoneStops (logs_at t.logs)
       → AreInPeace start (logs_at t.logs)
 
+-- It was asked so for the first of these requests, each where the cluster wasn't down: for all, unless it is down now.
+pub record HasServedWhileUp (start : Start) (further : List ApiReq) (w t : Whole) : Type 0 where
+  pub on : AreAskedWhileUp start further (logs_at w.logs 0) (logs_at t.logs 0)
+  pub served : HasServed start on.asked w t
+
+-- It was asked so for a command's own requests.
+pub record HasServedOwn (start : Start) (command : Command) (w t : Whole) : Type 0 where
+  pub own : AsksOwn start command (logs_at w.logs 0) (logs_at t.logs 0)
+  pub served : HasServed start (own.first ∷ own.on.asked) w t
+
 -- Memory was wanting while the world was asked for these requests: of the logs, a first part of them was asked for,
 -- each at quiet; where none was, the shell's host made no step. Peace goes on.
 pub record AreLeftOff (start : Start) (asked : List ApiReq) (w : Whole) (logs : List HostLog) : Type 0 where
@@ -98,7 +109,10 @@ pub record IsServed (start : Start) (commands : List Command) (w : Whole) : Type
 -- Memory was wanting while a command was served, after these commands: what the logs are then. The questions were asked
 -- only where it left something of its own unanswered. The text of the logs goes on from the text before.
 pub record AreLeft (start : Start) (command : Command) (w : Whole) (logs : List HostLog) : Type 0 where
-  pub left : AreLeftOff start (requests_of command ++ questions) w logs
+  pub own : List ApiReq
+  pub left_out : List ApiReq
+  pub are : requests_of command ≡ own ++ left_out
+  pub left : AreLeftOff start (own ++ questions) w logs
   pub begun : AsksInPart start (Some command) (logs_at w.logs 0) (logs_at logs 0)
   pub more : List ℕ
   pub text : text_of start (logs_at logs 0) ≡ text_of start (logs_at w.logs 0) ++ more

@@ -4,7 +4,7 @@ ghost use Rattle.journal_laws.specs.Asked.{IsOfRequest};
 ghost use Rattle.script_lang.specs.declared.command.Command.{Command};
 ghost use Rattle.shell_top.specs.Asked.{IsOfWords, is_served, questions, requests_of, rounds_behind};
 ghost use Rattle.shell_top.specs.OnDisks.{LivesOn};
-ghost use Rattle.shell_top.specs.Served.{AreLeftOff, HasGoneOn, HasServed};
+ghost use Rattle.shell_top.specs.Served.{AreLeftOff, HasGoneOn, HasServed, HasServedOwn, HasServedWhileUp};
 ghost use Rattle.world_views.specs.Driven.{IsSound};
 ghost use Rattle.shell_top.specs.Seen.{HasGrown, seen_on};
 ghost use Rattle.shell_top.specs.Setting.{setting_of};
@@ -42,7 +42,7 @@ fn ask<R: Wait, D: Disk>(
     world.drive(rt, alloc)
 }
 
-/// Lets rounds pass, with quiet after each.
+/// Lets rounds pass, with quiet after each, up to one behind which the cluster is down.
 fn tick<R: Wait, D: Disk>(
     rt: &R,
     alloc: Global,
@@ -51,7 +51,7 @@ fn tick<R: Wait, D: Disk>(
 ) -> Result<(), NoMemory>
     ghost start: { Start }
     requires { IsSound start (whole_of world.old.world) }
-    ensures ok { OnOk result (HasServed start (requests_of (Command.Tick rounds)) (whole_of world.old.world) (whole_of world.new.world)) }
+    ensures ok { OnOk result (HasServedOwn start (Command.Tick rounds) (whole_of world.old.world) (whole_of world.new.world)) }
     ensures err { OnErr result (AreLeftOff start (requests_of (Command.Tick rounds)) (whole_of world.old.world) (whole_of world.new.world).logs) }
     ensures setting { setting_of world.new ≡ setting_of world.old }
     ensures grown { HasGrown (seen_on D.told D.faults world.old.disks.items) (seen_on D.told D.faults world.new.disks.items) }
@@ -65,7 +65,7 @@ fn tick<R: Wait, D: Disk>(
     further_rounds(rt, alloc, world, rounds)
 }
 
-/// Lets all rounds but the first pass.
+/// Lets the rounds behind the first one pass, each only where the cluster isn't down.
 fn further_rounds<R: Wait, D: Disk>(
     rt: &R,
     alloc: Global,
@@ -74,13 +74,16 @@ fn further_rounds<R: Wait, D: Disk>(
 ) -> Result<(), NoMemory>
     ghost start: { Start }
     requires { IsSound start (whole_of world.old.world) }
-    ensures ok { OnOk result (HasServed start (rounds_behind rounds (rounds - 1)) (whole_of world.old.world) (whole_of world.new.world)) }
+    ensures ok { OnOk result (HasServedWhileUp start (rounds_behind rounds (rounds - 1)) (whole_of world.old.world) (whole_of world.new.world)) }
     ensures err { OnErr result (AreLeftOff start (rounds_behind rounds (rounds - 1)) (whole_of world.old.world) (whole_of world.new.world).logs) }
     ensures setting { setting_of world.new ≡ setting_of world.old }
     ensures grown { HasGrown (seen_on D.told D.faults world.old.disks.items) (seen_on D.told D.faults world.new.disks.items) }
     ensures lived { OnOk result (LivesOn start D.told world.old world.new) }
 {
     for behind in 0..rounds.saturating_sub(1) {
+        if world.is_down() {
+            return Ok(());
+        }
         let next = ApiReq::Tick {
             round: behind + 2,
             of: rounds,
@@ -94,6 +97,7 @@ fn further_rounds<R: Wait, D: Disk>(
 ///
 /// # Errors
 /// `NoMemory`, and then the world is of use for its logs alone.
+#[tactic(auto, using(crate::proofs::ServedLemmas::asking_once))]
 pub fn ask_own<R: Wait, D: Disk>(
     rt: &R,
     alloc: Global,
@@ -104,7 +108,7 @@ pub fn ask_own<R: Wait, D: Disk>(
     requires opened { IsSound start (whole_of world.old.world) }
     requires served { is_served command.now ≡ true }
     requires words { IsOfWords command.now }
-    ensures ok { OnOk result (HasServed start (requests_of command.now) (whole_of world.old.world) (whole_of world.new.world)) }
+    ensures ok { OnOk result (HasServedOwn start command.now (whole_of world.old.world) (whole_of world.new.world)) }
     ensures err { OnErr result (AreLeftOff start (requests_of command.now) (whole_of world.old.world) (whole_of world.new.world).logs) }
     ensures setting { setting_of world.new ≡ setting_of world.old }
     ensures grown { HasGrown (seen_on D.told D.faults world.old.disks.items) (seen_on D.told D.faults world.new.disks.items) }

@@ -1,10 +1,9 @@
-use Rattle.std.proofs.Common.{◌≡◌, [], ◌∷◌, ◌-◌, ◌+◌, arith, refl, subst, ◌∙◌}
+use Rattle.std.proofs.Common.{◌≡◌, [], ◌∷◌, ◌-◌, ◌+◌, arith, refl, sym, ◌∙◌}
 use Rattle.std.proofs.lemmas.Bool.Decides.{nat_tests}
 use Rattle.sig_core.specs.declared.request.ApiReq.TheVariants.{Tick}
-use Rattle.shell_top.specs.Asked.{rounds_behind}
-use Rattle.shell_top.specs.Served.{HasServed}
 use Rattle.world_views.specs.WorldOf.{whole_of}
-use Rattle.shell_top.proofs.ServedLemmas.{none_served, on_err, round_left, round_served, served_sound}
+use Rattle.shell_top.proofs.RoundLemmas.{round_left, round_served, round_up, rounds_all, rounds_until}
+use Rattle.shell_top.proofs.ServedLemmas.{none_served, on_err, served_sound}
 use Rattle.shell_top.proofs.OnDisksLemmas.{lives_then}
 use Rattle.shell_top.proofs.SeenLemmas.{grown_itself, seen_in, world_grown}
 use Rattle.shell_top.proofs.asked.further_rounds.Goals as goal
@@ -13,11 +12,15 @@ pub loop-behind-init : goal.loop-behind-init
 loop-behind-init g c =
     record {
       served = none_served g.start (whole_of c.args.world.now.world);
+      up = refl;
       sound = c.requires.1.1;
       setting = refl;
       grown = grown_itself (seen_in g.D.Disk.told g.D.Disk.faults c.args.world.now);
       lived = λ r was. was;
     }
+
+pub is_down-requires : goal.is_down-requires
+is_down-requires g c = record { start = g.start; sound = c.loop-behind.invariant.sound }
 
 pub returns-in_err-ask-clause-err : goal.returns-in_err-ask-clause-err
 returns-in_err-ask-clause-err g c =
@@ -33,6 +36,9 @@ loop-behind-preserved g c =
       served = round_served g.start c.args.rounds c.loop-behind.behind (whole_of c.args.world.now.world)
           (whole_of c.loop-behind.world.world) (whole_of c.ask.new.world.world)
           c.loop-behind.invariant.served c.in_ok-ask.ensures.ok;
+      up = round_up g.start c.args.rounds c.loop-behind.behind (whole_of c.args.world.now.world)
+          (whole_of c.loop-behind.world.world) (whole_of c.ask.new.world.world) c.loop-behind.invariant.up
+          c.loop-behind.invariant.sound (sym c.is_down.ensures ∙ c.if-is_down.false) c.in_ok-ask.ensures.ok;
       sound = served_sound g.start (Tick (c.loop-behind.behind + 2) c.args.rounds ∷ [])
           (whole_of c.loop-behind.world.world)
           (whole_of c.ask.new.world.world) c.in_ok-ask.ensures.ok
@@ -52,11 +58,17 @@ returns-in_err-ask-clause-grown g c =
     world_grown g.D.Disk.told g.D.Disk.faults c.args.world.now c.loop-behind.world c.ask.new.world
     c.loop-behind.invariant.grown c.ask.ensures.grown
 
+pub returns-then-is_down-clause-ok : goal.returns-then-is_down-clause-ok
+returns-then-is_down-clause-ok g c =
+    rounds_until g.start c.args.rounds c.loop-behind.behind (c.args.rounds - 1) (whole_of c.args.world.now.world)
+    (whole_of c.loop-behind.world.world)
+    (grind (arith, nat_tests, c.loop-behind-test.true, c.saturating_sub-behind-end.ensures))
+    c.loop-behind.invariant.sound (sym c.is_down.ensures ∙ c.if-is_down.true) c.loop-behind.invariant.served
+    c.loop-behind.invariant.up
+
 pub returns-clause-ok : goal.returns-clause-ok
 returns-clause-ok g c =
     let all : c.loop-behind.behind ≡ c.args.rounds - 1 =
     omega (arith, c.loop-behind-test.false, c.loop-behind.auto.behind-end, c.saturating_sub-behind-end.ensures) in
-    subst
-    (λ n. HasServed g.start (rounds_behind c.args.rounds n) (whole_of c.args.world.now.world)
-    (whole_of c.loop-behind.world.world))
-    all c.loop-behind.invariant.served
+    rounds_all g.start c.args.rounds c.loop-behind.behind (c.args.rounds - 1) (whole_of c.args.world.now.world)
+    (whole_of c.loop-behind.world.world) all c.loop-behind.invariant.served c.loop-behind.invariant.up

@@ -2,7 +2,8 @@ use Rattle.std.proofs.Common.{[], ◌∷◌, ◌-◌, ◌∙◌}
 use Rattle.sig_core.specs.declared.request.ApiReq.TheVariants.{Tick}
 use Rattle.shell_top.specs.Asked.{rounds_behind}
 use Rattle.world_views.specs.WorldOf.{whole_of}
-use Rattle.shell_top.proofs.ServedLemmas.{both_ok, first_err, on_err, second_err, served_sound}
+use Rattle.shell_top.proofs.RoundLemmas.{tick_ok}
+use Rattle.shell_top.proofs.ServedLemmas.{first_err, on_err, second_err, served_sound}
 use Rattle.shell_top.proofs.OnDisksLemmas.{lives_both}
 use Rattle.shell_top.proofs.SeenLemmas.{world_grown}
 use Rattle.shell_top.proofs.asked.tick.Goals as goal
@@ -25,8 +26,8 @@ further_rounds-requires g c lives outlive = (
 
 pub returns-clause-ok : goal.returns-clause-ok
 returns-clause-ok g c =
-    both_ok g.start (Tick 1 c.args.rounds ∷ []) (rounds_behind c.args.rounds (c.args.rounds - 1))
-    c.further_rounds.result (whole_of c.args.world.now.world) (whole_of c.ask.new.world.world)
+    tick_ok g.start c.args.rounds c.further_rounds.result (whole_of c.args.world.now.world)
+        (whole_of c.ask.new.world.world)
     (whole_of c.further_rounds.new.world.world) c.in_ok-ask.ensures.ok c.further_rounds.ensures.ok
 
 pub returns-clause-err : goal.returns-clause-err
