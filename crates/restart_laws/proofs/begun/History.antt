@@ -29,7 +29,7 @@ module _ (start : Start) (r found : Restored) (logs : ℕ → List HostStep) (of
       (omega (arith, first_below start.shape may.is_shape))
 
   -- the first node of the key's group
-  node : ℕ
+  abbrev node : ℕ
   node = group * start.shape.replicas + 1
 
   some : 1 ≤ node
