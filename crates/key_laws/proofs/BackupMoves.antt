@@ -89,7 +89,7 @@ unkept : (decided final : TxId → Bool) (tx : TxId) → decided tx ≡ false �
 unkept decided final tx off = and_left (decided tx) (final tx) off
 
 -- an edit leaves records alone where the transaction has none
-edited_none : (f : PendingRecord → Option PendingRecord) (tx : TxId) (xs : List PendingRecord) → found tx xs ≡ None
+pub edited_none : (f : PendingRecord → Option PendingRecord) (tx : TxId) (xs : List PendingRecord) → found tx xs ≡ None
     → edited f tx xs ≡ xs
 edited_none f tx [] none = refl
 edited_none f tx (r ∷ rest) none =
@@ -98,7 +98,7 @@ edited_none f tx (r ∷ rest) none =
     ∙ ap (λ w. r ∷ w) (edited_none f tx rest parts.1)
 
 -- a commit does where the transaction's record is committed
-edited_same : (tx : TxId) (xs : List PendingRecord) (x : PendingRecord) → found tx xs ≡ Some x → x.committed ≡ true
+pub edited_same : (tx : TxId) (xs : List PendingRecord) (x : PendingRecord) → found tx xs ≡ Some x → x.committed ≡ true
     → edited as_committed tx xs ≡ xs
 edited_same tx [] x is done = absurd cc
 edited_same tx (r ∷ rest) x is done = by (same_tx r.tx tx) refl is (λ more. edited_same tx rest x more done)

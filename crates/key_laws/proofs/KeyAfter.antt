@@ -1,14 +1,14 @@
 -- What a signal does to one key of a replica is the event of that key.
 use Rattle.std.proofs.Common.{◌≡◌, ℕ, Bool, true, false, cond, not, List, [], ◌∷◌, ◌++◌, filter, refl, sym, ap, ◌∙◌}
 use Rattle.std.proofs.Common.{subst}
-use Rattle.std.specs.Prelude.{if◌then◌else◌, Option, Some, is_some, position, remove}
+use Rattle.std.specs.Prelude.{if◌then◌else◌, Option, None, Some, is_some, position, remove}
 use Rattle.sig_core.specs.declared.member.TxId.{TxId}
 use Rattle.sig_core.specs.Same.{same_key}
 use Rattle.row_locks.specs.declared.mode.Lock.{Lock}
 use Rattle.row_locks.specs.declared.mode.Lock.TheVariants.{Granted, Queued}
 use Rattle.row_locks.specs.Holders.{first_other}
 use Rattle.row_locks.specs.Queues.{waits}
-use Rattle.row_locks.specs.Rows.{asked}
+use Rattle.row_locks.specs.Rows.{RowLock, asked}
 use Rattle.row_locks.specs.Tables.{ahead_of, lock_at, some_if}
 use Rattle.row_records.proofs.KeyLemmas.{same}
 use Rattle.lqh_block.proofs.LqhForms.{granted_forms, request_forms}
@@ -44,6 +44,16 @@ on_own own key x y at = ap (λ k. if same_key k key then x else y) at ∙ ap (λ
 pub on_other : {A : Type 0} (own key : List ℕ) (x y : A) → same_key own key ≡ false
     → (if same_key own key then x else y) ≡ y
 on_other own key x y off = ap (λ b. if b then x else y) off
+
+-- the lock that a request, and one that is let in, leave
+pub asked_lock : (r : Replica) (now : RowLock) (q : Request) (refused : Bool) (answer : Lock)
+    → (asked_by r now q refused answer).lock ≡ now
+asked_lock r now q refused Granted = refl
+asked_lock r now q refused (Queued ahead) = refl
+
+pub served_lock : (r : Replica) (refused : Bool) (o : Option Request) → (served_by r refused o).lock ≡ r.lock
+served_lock r refused None = refl
+served_lock r refused (Some q) = refl
 
 -- requests
 

@@ -43,7 +43,7 @@ after_end row [] op = refl
 after_end row (x ∷ xs) op = after_end (row_after x.0 row) xs op
 
 -- more holders
-still_owned : (gone : TxId → Bool) (before after : List Holder) → HoldOn gone before after → (r : PendingRecord)
+pub still_owned : (gone : TxId → Bool) (before after : List Holder) → HoldOn gone before after → (r : PendingRecord)
     → gone r.tx ≡ false → IsOwned before r → IsOwned after r
 still_owned gone before after on r here (inl is) = inl is
 still_owned gone before after on r here (inr is) = inr (on.exclusive r.tx here is)
@@ -70,7 +70,7 @@ either true x = refl
 either false x = refl
 
 -- only a write of a transaction that holds the lock exclusive takes effect
-writes_exclusive : (op : Op) (row : Option (List ℕ)) → answer_to op row ≡ Done → op_mode op ≡ Exclusive
+pub writes_exclusive : (op : Op) (row : Option (List ℕ)) → answer_to op row ≡ Done → op_mode op ≡ Exclusive
 unfolding answer_to
 writes_exclusive (Get key) None is = absurd cc
 writes_exclusive (Get key) (Some value) is = absurd cc

@@ -1,9 +1,9 @@
 -- How many transactions of the API are beginning, step by step.
 use Rattle.std.proofs.Common.{◌≡◌, ◌⊎◌, ℕ, ◌+◌, ◌≤◌, List, [], ◌∷◌, ◌++◌, Bool, true, false, refl, ap, sym, ◌∙◌, subst}
 use Rattle.std.proofs.Common.{arith, inl, inr}
-use Rattle.std.specs.Prelude.{◌==◌, ◌&&◌, ◌||◌, nat_lt, Option, None, Some}
+use Rattle.std.specs.Prelude.{◌==◌, ◌&&◌, nat_lt, Option, None, Some}
 use Rattle.std.specs.List.{list_any}
-use Rattle.std.proofs.lemmas.Bool.{eqb-true, true≢false}
+use Rattle.std.proofs.lemmas.Bool.{eqb-true, or_left, or_right, true≢false}
 use Rattle.std.proofs.lemmas.Bool.Decides.{nat_tests}
 use Rattle.run_theory.proofs.Pasts.{each_after, each_append, each_before, each_in}
 use Rattle.run_theory.specs.Lists.{Each, IsIn}
@@ -74,15 +74,6 @@ each_at P front x back all is each =
     let rest : Each P (x ∷ back) = each_after P front (x ∷ back) (subst (Each P) is each) in
     rest.0
 
--- the least node is one of a full member
-or_first : (a b : Bool) → a ≡ true → (a || b) ≡ true
-or_first true b e = refl
-or_first false b e = cc
-
-or_second : (a b : Bool) → b ≡ true → (a || b) ≡ true
-or_second true b e = refl
-or_second false b e = e
-
 eqb-self : (n : ℕ) → (n == n) ≡ true
 eqb-self n = grind (arith, nat_tests)
 
@@ -96,9 +87,9 @@ least_among least (member ∷ members) = go (nat_lt member.node least) (least_am
         ⊎ (list_any (is_at (least_from (lesser least member.node) members)) members ≡ true)
         → (least_from (lesser least member.node) members ≡ least)
         ⊎ (list_any (is_at (least_from (lesser least member.node) members)) (member ∷ members) ≡ true)
-    go true (inl e) = inr (or_first _ _ (ap (λ n. member.node == n) e ∙ eqb-self member.node))
+    go true (inl e) = inr (or_left _ _ (ap (λ n. member.node == n) e ∙ eqb-self member.node))
     go false (inl e) = inl e
-    go b (inr e) = inr (or_second _ _ e)
+    go b (inr e) = inr (or_right _ _ e)
 
 least_in : (node : ℕ) (members : List Member) → least_node members ≡ Some node → list_any (is_at node) members ≡ true
 unfolding least_node
@@ -110,8 +101,8 @@ least_in node (member ∷ members) e =
     at : (least_from member.node members ≡ member.node)
         ⊎ (list_any (is_at (least_from member.node members)) members ≡ true)
         → list_any (is_at (least_from member.node members)) (member ∷ members) ≡ true
-    at (inl f) = or_first _ _ (ap (λ n. member.node == n) f ∙ eqb-self member.node)
-    at (inr f) = or_second _ _ f
+    at (inl f) = or_left _ _ (ap (λ n. member.node == n) f ∙ eqb-self member.node)
+    at (inr f) = or_right _ _ f
 
 least_full : (view : View) (node : ℕ) → least_node view.full ≡ Some node → is_full view node ≡ true
 least_full view node e = least_in node view.full e

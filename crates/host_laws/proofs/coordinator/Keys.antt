@@ -33,6 +33,7 @@ use Rattle.host_laws.proofs.coordinator.Moves.{same_tx-is}
 use Rattle.host_laws.proofs.coordinator.Sends.{turn_sends}
 use Rattle.host_laws.proofs.coordinator.TurnKinds.{TurnOnly}
 use Rattle.host_laws.proofs.api.Wishes.{and_false, is_api, is_tc, sends_of, to_node}
+use Rattle.host_laws.proofs.hosts.Sums.{one_most}
 
 -- an operation of the transaction is asked for at its coordinator
 abbrev pub key_of_tx : TxId → Body → Bool
@@ -82,10 +83,6 @@ no_answers_other tx one sends differs kind =
 -- what is unanswered after a turn, or was answered with it, was unanswered before, or came with it
 record IsFair (tx : TxId) (t : Transaction) (turn : Turn) (came : ℕ) : Type 0 where
   fair : has_asked turn.step.state + answers_in tx turn.step.effects.sends ≤ has_asked t + came
-
-one_most : (b : Bool) → one_if b ≤ 1
-one_most true = omega arith
-one_most false = omega arith
 
 module _ (node : ℕ) (layout : Layout) (tx : TxId) (t : Transaction) (body : Body) where
   abbrev Fairly : Turn → Type 0

@@ -22,6 +22,7 @@ use Rattle.tc_block.proofs.LiveSplit.{AreOthers}
 use Rattle.tc_block.proofs.TurnRows.{TcStep, begins, is_turn, misses, passes, refuses, rests, takes, tc_step, turn_by}
 use Rattle.tc_block.proofs.TurnRows.{turn_row, tx_in, left_if}
 use Rattle.host_laws.proofs.api.Begins.{each_at, each_changed, each_less}
+use Rattle.host_laws.proofs.hosts.Sums.{first_few}
 use Rattle.host_laws.proofs.rows.Operations.{ops}
 use Rattle.run_theory.proofs.Tally.{tally_append, tally_between, tally_none}
 use Rattle.run_theory.specs.Counts.{one_if, tally}
@@ -41,12 +42,7 @@ module _ (n : ℕ) (tx : TxId) (key : List ℕ) where
 
   few_asking : (live : List (TxId × Transaction)) → tally is_asking live ≤ tally (is_keyed tx) live
   few_asking [] = omega arith
-  few_asking (e ∷ live) = omega (arith, few_asking live, few (same_tx e.0 tx) (asks_key key e.1.asked))
-    where
-      few : (a b : Bool) → one_if (a && b) ≤ one_if a
-      few true true = omega arith
-      few true false = omega arith
-      few false b = omega arith
+  few_asking (e ∷ live) = omega (arith, few_asking live, first_few (same_tx e.0 tx) (asks_key key e.1.asked))
 
   pub record StepAsks (s after : TcState) (sends : List Outgoing) (came : ℕ) : Type 0 where
     pub right : AreRight after.live

@@ -3,7 +3,7 @@ use Rattle.std.proofs.Common.{◌≡◌, ◌⊎◌, ◌<◌, ℕ, ◌+◌, Bool,
 use Rattle.std.proofs.Common.{inl, inr, arith}
 use Rattle.std.specs.List.{list_any}
 use Rattle.std.specs.Prelude.{◌||◌, Option}
-use Rattle.std.proofs.lemmas.Bool.{or_cases}
+use Rattle.std.proofs.lemmas.Bool.{or_cases, or_right}
 use Rattle.run_theory.specs.Lists.{Each}
 use Rattle.run_theory.proofs.Pasts.{each_after, each_append, each_before, each_map}
 use Rattle.world_core.specs.Steps.{HostStep}
@@ -66,10 +66,6 @@ record StaysOneWay (node : ℕ) (cs bs : List TxId) (step : Step TcState) : Type
   one : IsOneWay step.state (put_ways forth_by step.effects.sends cs) (put_ways back_by step.effects.sends bs)
   says : Each (λ (o : Outgoing). IsSaid node (put_ways forth_by step.effects.sends cs)
       (put_ways back_by step.effects.sends bs) (way_of o.body)) step.effects.sends
-
-or_right : (a b : Bool) → b ≡ true → (a || b) ≡ true
-or_right true b is = refl
-or_right false b is = is
 
 -- who went a way is among those that went it later
 pub forth_more : (p : TxId → Bool) (sends : List Outgoing) (cs : List TxId) → list_any p cs ≡ true

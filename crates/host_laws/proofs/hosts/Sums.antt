@@ -5,6 +5,16 @@ use Rattle.std.proofs.lemmas.Bool.{cases_eq, eqb-true}
 use Rattle.std.proofs.lemmas.Bool.Decides.{nat_tests}
 use Rattle.run_theory.specs.Counts.{one_if, total}
 
+-- a test counts one at most, and two together no more than the first (no more than the second: `and_few`)
+pub one_most : (b : Bool) → one_if b ≤ 1
+one_most true = omega arith
+one_most false = omega arith
+
+pub first_few : (a b : Bool) → one_if (a && b) ≤ one_if a
+first_few true true = omega arith
+first_few true false = omega arith
+first_few false b = omega arith
+
 pub total_same : (n : ℕ) (f g : ℕ → ℕ) → ((k : ℕ) → k < n → f k ≡ g k) → total n f ≡ total n g
 total_same zero f g same = refl
 total_same (suc n) f g same =

@@ -168,7 +168,7 @@ signals_keep_well s body well =
     }
 
 -- the rows of the start
-put_placed : (s : RowsState) (rows : List (List ℕ × List ℕ)) (epoch : ℕ) → AreApart s.places → s.pending ≡ []
+pub put_placed : (s : RowsState) (rows : List (List ℕ × List ℕ)) (epoch : ℕ) → AreApart s.places → s.pending ≡ []
     → IsPlaced (with_rows s rows epoch)
 put_placed s [] epoch apart none = record {
   apart = apart;

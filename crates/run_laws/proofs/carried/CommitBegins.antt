@@ -85,7 +85,7 @@ module _ (node : ℕ) (layout : Layout) (tx : TxId) where
       part_back own _ (phase_sends layout tx (Aborting why verifying awaited) t.touched)
       (all_back why verifying awaited t.touched) refl
 
-  end_silent : (why : AbortCause) (b : Bool) → AreSilent tx (abort.abort_end node tx why b)
+  pub end_silent : (why : AbortCause) (b : Bool) → AreSilent tx (abort.abort_end node tx why b)
   end_silent why true = (refl, (refl, tt))
   end_silent why false = (refl, tt)
 

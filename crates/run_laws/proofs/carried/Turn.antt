@@ -29,6 +29,7 @@ use Rattle.tc_block.specs.Sends.{phase_sends}
 use Rattle.tc_block.specs.Turn.{Turn, at_phase}
 use Rattle.node_core.specs.Requests.{is_request}
 use Rattle.world_core.specs.Start.{Start}
+use Rattle.host_laws.proofs.hosts.Sums.{one_most}
 use Rattle.host_laws.proofs.rows.Operations.{is_lqh}
 use Rattle.run_theory.specs.Counts.{one_if}
 use Rattle.host_laws.proofs.api.Wishes.{is_tc}
@@ -279,10 +280,6 @@ module _ (start : Start) (logs now : ℕ → List HostStep) (e : HostStep) (befo
             → sends ≡ PartOf at → Leads t.touched
         part_leads one at is part front u back split = inl (by (cases_lt (length front) at))
           where
-            few : (b : Bool) → one_if b ≤ 1
-            few true = omega arith
-            few false = omega arith
-
             by : (length front < at) ⊎ (at ≤ length front)
                 → cover tx u.key (length front) e.step.taken.to e.step.taken.body ≤ in_sends
                 (cover tx u.key (length front)) sends
@@ -294,7 +291,7 @@ module _ (start : Start) (logs now : ℕ → List HostStep) (e : HostStep) (befo
             by (inr low) =
                 omega (
                   arith,
-                  few (covers tx u.key (length front) e.step.taken.to e.step.taken.body),
+                  one_most (covers tx u.key (length front) e.step.taken.to e.step.taken.body),
                   ap (in_sends (cover tx u.key (length front))) part,
                   ap (λ us. in_sends (cover tx u.key (length front))
                       (part_effects node tx (phase_sends layout tx (Committing epoch awaited) us) at).sends) split,

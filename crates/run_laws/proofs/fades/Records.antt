@@ -90,7 +90,7 @@ once_worked c v refused (Operate op) once = by (answer_to op (seen_by c.row (fou
     by E626 = once
     by E630 = once
 
-once_after : (event : Event) (r : Replica) → AreOnce r.cell.pending → AreOnce (key_after event r).cell.pending
+pub once_after : (event : Event) (r : Replica) → AreOnce r.cell.pending → AreOnce (key_after event r).cell.pending
 once_after rests r once = once
 once_after (asks q refused) r once = by (asked r.lock q.tx (work_mode q.work)).answer
   where

@@ -16,6 +16,7 @@ use Rattle.lqh_block.specs.Lqh.{lqh_table}
 use Rattle.lqh_block.specs.State.{LqhState, freed_lock, go_on, go_on_if}
 use Rattle.lqh_block.proofs.EachLqh.{RequestSends, lqh_sends_each}
 use Rattle.lqh_block.proofs.LqhForms.{commit_forms}
+use Rattle.run_theory.proofs.Tally.{and_few}
 use Rattle.run_theory.specs.Lists.{Each}
 use Rattle.run_theory.proofs.Pasts.{each_map}
 use Rattle.sig_core.specs.declared.place.BlockId.TheVariants as block
@@ -204,10 +205,6 @@ module _ (s : LqhState) (tx : TxId) where
       weighs = commit_weigh other own epoch chain at (λ o. cover tx key i o.to o.body)
           (λ o e. part_cover tx key i o.to o.body (plain_part o e))
 
-      few : (a b : Bool) → one_if (a && b) ≤ one_if b
-      few true b = omega arith
-      few false b = omega arith
-
       none : (a b c : Bool) → (b && c) ≡ false → one_if (a && (b && c)) ≡ 0
       none true b c e = ap one_if e
       none false b c e = refl
@@ -224,7 +221,7 @@ module _ (s : LqhState) (tx : TxId) where
             arith,
             weighs,
             ap (λ b. if b then 0 else one_if (same_tx other tx && same_key own key)) e,
-            few
+            and_few
                 (is_lqh to.block) (same_tx other tx && same_key own key),
           ))
       by true e true p true q =

@@ -42,19 +42,19 @@ use Rattle.run_laws.proofs.transit.Transit.{along_transit}
 use Rattle.run_laws.proofs.ways.Passed.{api_each}
 use Rattle.run_laws.proofs.transit.Weighing.{each_between, each_joins, each_taken}
 
+pub api_plain : (body : Body) → is_api_kind body ≡ true → is_chain body ≡ false
+api_plain (Chain c) e = cc
+api_plain _ e = refl
+
+pub dih_plain : (body : Body) → is_dih_kind body ≡ true → is_chain body ≡ false
+dih_plain (Chain c) e = cc
+dih_plain _ e = refl
+
+request_plain : (body : Body) → is_request body ≡ true → is_chain body ≡ false
+request_plain (Chain c) e = cc
+request_plain _ e = refl
+
 module _ (start : Start) where
-  api_plain : (body : Body) → is_api_kind body ≡ true → is_chain body ≡ false
-  api_plain (Chain c) e = cc
-  api_plain _ e = refl
-
-  dih_plain : (body : Body) → is_dih_kind body ≡ true → is_chain body ≡ false
-  dih_plain (Chain c) e = cc
-  dih_plain _ e = refl
-
-  request_plain : (body : Body) → is_request body ≡ true → is_chain body ≡ false
-  request_plain (Chain c) e = cc
-  request_plain _ e = refl
-
   api_sent : (s : ApiState) (body : Body) → AreSent start (api_table s body).effects.sends
   api_sent s body = api_each (λ o. IsSent start o) (λ o is. plain_sent start o.to o.body (api_plain o.body is))
       (λ name node. record { routed = tt; block = tt }) s body

@@ -20,7 +20,7 @@ use Rattle.key_laws.specs.Replica.{asks_for, is_by}
 use Rattle.host_laws.specs.ReplicaLaws.{key_in}
 use Rattle.tc_block.specs.Phases.{is_aborting}
 use Rattle.run_theory.specs.Counts.{one_if, tally}
-use Rattle.host_laws.proofs.hosts.Sums.{total_at}
+use Rattle.host_laws.proofs.hosts.Sums.{one_most, total_at}
 use Rattle.host_laws.proofs.hosts.BlocksAlong.{first_waiting}
 use Rattle.run_laws.specs.GivenUp.{is_given_up}
 use Rattle.run_laws.specs.Live.{live_at}
@@ -103,10 +103,6 @@ module _ (tx : TxId) (key : List ℕ) where
             signals = none_passes (λ (x : Addressed). is_token tx x.signal.body) xs (omega (arith, bound, zero_is));
             waits = none_wait (omega (arith, bound, zero_is));
           }
-
-      one_most : (b : Bool) → one_if b ≤ 1
-      one_most true = omega arith
-      one_most false = omega arith
 
       -- no other one where one was sent
       pub record IsOnly (new old : List Addressed) : Type 0 where
