@@ -342,13 +342,12 @@ module _ (start : Start) where
   all_open : (log : List HostStep) → IsLog (machine start) 0 log
       → ((i : ℕ) → Each IsOpenSignal (taken (machine start) i log)) → Each IsOpen log
   all_open [] right links = tt
-  all_open (e ∷ log) right links =
-      (
-        by (is_asked e.host e.step.taken) refl,
-        all_open log right.1
-            (λ i. taken_open (is_from (machine start) i e) ((machine start).signal e) (taken (machine start) i log)
-            (links i)),
-      )
+  all_open (e ∷ log) right links = (
+    by (is_asked e.host e.step.taken) refl,
+    all_open log right.1
+        (λ i. taken_open (is_from (machine start) i e) ((machine start).signal e) (taken (machine start) i log)
+        (links i)),
+  )
     where
       step : IsStep (machine start) 0 log e
       step = right.0

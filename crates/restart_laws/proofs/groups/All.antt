@@ -48,7 +48,7 @@ use Rattle.restart_laws.proofs.groups.System.{latest, listed_saved, manned, syst
 
 module _ (copied : CopiedWereSaved) (durable : DurableWereNoted) (saved : SavedRowsAreHistory)
     (replays : ReplaysGiveOwnRows) (stay : OtherKeysStay) (start : Start) (r : Restored) (logs : ℕ → List HostStep)
-        (images : Disks)
+    (images : Disks)
     (left : AreLeft start r logs images) where
   abbrev system : SystemSlot
   system = (latest start r logs images left).slot
@@ -94,7 +94,7 @@ module _ (copied : CopiedWereSaved) (durable : DurableWereNoted) (saved : SavedR
           ∙ saved start logs (begins start r logs images left) left.cluster member there has.older has.past has.events
           has.events_of before (left.each member there).begun system.epoch
           (subst (λ k. system.epoch ≤ k) has.saved (listed_saved start r logs images left copied member there listed))
-              key
+          key
           holding
 
       others : (key : List ℕ) → holds start.shape node key ≡ false
@@ -103,7 +103,7 @@ module _ (copied : CopiedWereSaved) (durable : DurableWereNoted) (saved : SavedR
           ap (λ (rows : Rows). map.get rows key)
           (replays (first_rows start member) before has.events system.epoch (none_pending start member there))
           ∙ stay start logs left.cluster member there has.older has.past has.events has.events_of before system.epoch
-              key
+          key
           apart
           ∙ left.grouped node key some low apart
 

@@ -57,7 +57,7 @@ module _ (start : Start) (r : Restored) (logs : ℕ → List HostStep) (images :
     told_saved epoch told =
         let kept =
         each_in (λ (y : Addressed). TellsNotedRows start member (kept_part (logs (ldm_of start member))) y.signal.body)
-            told.signal
+        told.signal
         (taken (machine start) (ldm_of start member) (logs told.host)) (of.told_saved told.host told.below)
         (sound_taken start (ldm_of start member) told.signal (logs told.host) told.there) epoch told.tells in
         let low = of.saved.latest in
@@ -76,7 +76,7 @@ module _ (start : Start) (r : Restored) (logs : ℕ → List HostStep) (images :
     told_durable epoch told =
         by
         (each_in (λ (y : Addressed). TellsNotedDurable start member (kept_part (logs (tc_of start member)))
-            y.signal.body)
+        y.signal.body)
         told.signal (taken (machine start) (tc_of start member) (logs told.host)) (of.told_durable told.host told.below)
         (sound_taken start (tc_of start member) told.signal (logs told.host) told.there) epoch told.tells)
       where

@@ -104,7 +104,7 @@ left_disks_are_cut shape r first records opened told now were nodes fit grown is
     tell
     (λ at calls some.
     subst (λ (all : List (Option (List Call))). IsCut calls (get_or all at None) (ends_cut calls)) is
-        (lost at calls some))
+    (lost at calls some))
   where
     more : HaveMore opened told
     more = grown first were

@@ -58,7 +58,7 @@ same_told start h Q w t logs links told =
     record {
       taken = λ j low.
           subst (λ (ls : List HostLog). Each (λ (y : Addressed). Q y.signal.body)
-              (taken (machine start) h (logs_at ls j)))
+          (taken (machine start) h (logs_at ls j)))
           (sym logs) (told.taken j low);
       in_transit = λ j low still.
           subst (λ (ls : Links). Each (λ (x : Signal). Q x.body) (link ls h j).signals) (sym links)
@@ -89,7 +89,7 @@ lives_hear start r w t disks sound logs links lived =
                       (TellsNotedRows start member (kept_part (logs_at ls (ldm_of start member)))) t) (sym logs)
                       (same_told start (ldm_of start member)
                       (TellsNotedRows start member (kept_part (logs_at w.logs (ldm_of start member)))) w t logs links
-                          was.tells.saved);
+                      was.tells.saved);
                   durable =
                       subst
                       (λ (ls : List HostLog). IsTold start (tc_of start member)

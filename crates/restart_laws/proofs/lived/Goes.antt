@@ -124,7 +124,7 @@ module _ (start : Start) (r : Restored) where
         let grown = (gone.goes start lived.sound).grown in
         let more = grown.more 0 in
         let same : length (requests (logs_at t.logs 0)) ≡ length (requests (logs_at w.logs 0)) =
-            ap length grown.requests in
+        ap length grown.requests in
         subst AreOfWords (sym more.is)
         (still_words more.newer (logs_at w.logs 0)
         (let few = ap (λ log. length (requests log)) more.is in omega (arith, same, few)) lived.words)

@@ -35,7 +35,7 @@ module _ (start : Start) (r : Restored) (t : Whole) (are : AreOfCluster start (l
     told_low =
         let one =
         has_full start.shape are.shape saved.view
-            (viable have_orderly start (logs_at t.logs) are saved.view saved.installed)
+        (viable have_orderly start (logs_at t.logs) are saved.view saved.installed)
         0 (first_below start.shape are.shape) in
         let there = full_made start (logs_at t.logs) are saved.view saved.installed one.member one.full in
         let told =
@@ -44,11 +44,11 @@ module _ (start : Start) (r : Restored) (t : Whole) (are : AreOfCluster start (l
         let kept =
         each_in
         (λ (y : Addressed). TellsNotedRows start one.member (kept_part (logs_at t.logs (ldm_of start one.member)))
-            y.signal.body)
+        y.signal.body)
         told.signal (taken (machine start) (ldm_of start one.member) (logs_at t.logs told.host))
         ((tells one.member there).saved.taken told.host told.below)
         (sound_taken start (ldm_of start one.member) told.signal (logs_at t.logs told.host) told.there) epoch told.tells
-            in
+        in
         let low =
         saved_low start (logs_at t.logs) are begins last one.member there
         (kept_part (logs_at t.logs (ldm_of start one.member)))

@@ -179,7 +179,7 @@ module _ (start : Start) (member : Member) (there : IsIn member (made start)) wh
     says_noted : stops_by e.step.marks ≡ false → Each (SaysSo (TellsNotedDurable start member (e ∷ log))) sends
     says_noted runs =
         each_from (SaysSo (TellsNotedDurable start member (e ∷ log))) sends
-            (λ sent among epoch told. one sent among epoch told)
+        (λ sent among epoch told. one sent among epoch told)
       where
         one : (sent : Outgoing) → IsIn sent sends → (epoch : ℕ) → TellsDurable epoch sent.body
             → IsNotedDurable start member (e ∷ log) epoch
@@ -199,7 +199,7 @@ module _ (start : Start) (member : Member) (there : IsIn member (made start)) wh
     says_before : EachButLast (SaysSo (TellsNotedDurable start member log)) sends
     says_before =
         but_last_map (SaysSo TellsNone) (SaysSo (TellsNotedDurable start member log)) sends
-            (λ sent is. none_noted log sent.body is)
+        (λ sent is. none_noted log sent.body is)
         tells.but_last
 
   -- so the host tells by its log

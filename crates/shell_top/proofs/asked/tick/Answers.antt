@@ -27,7 +27,7 @@ further_rounds-requires g c lives outlive = (
 pub returns-clause-ok : goal.returns-clause-ok
 returns-clause-ok g c =
     tick_ok g.start c.args.rounds c.further_rounds.result (whole_of c.args.world.now.world)
-        (whole_of c.ask.new.world.world)
+    (whole_of c.ask.new.world.world)
     (whole_of c.further_rounds.new.world.world) c.in_ok-ask.ensures.ok c.further_rounds.ensures.ok
 
 pub returns-clause-err : goal.returns-clause-err
