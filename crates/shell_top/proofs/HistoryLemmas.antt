@@ -142,6 +142,7 @@ module _ (shape : Shape) (given : Seen) (fit : AreFit shape given) where
 
   first_begins : (life : Life) (generation : ℕ) → BeginsOn shape given fit generation life
       → IsNext shape first [] given life
+  unfolding generation_behind
   first_begins life generation begun = record {
     fit = fit;
     begun =
