@@ -1,0 +1,258 @@
+//! The block that a conversation is with.
+use crate::fault::Fault;
+use crate::setting::{Setting, layout};
+use crate::stored::{journal, rows};
+use api_block::Api;
+use api_views::Client;
+use arbiter_block::Arbiter;
+use dih_node::Dih;
+use frag_map::Layout;
+use frag_store::Store;
+use gcp_master::GcpMaster;
+use lqh_block::{CountJournal, Lqh};
+use lqh_views::Replica;
+use node_views::HostBody;
+use qmgr_block::Qmgr;
+use sig_core::{Actor, ApiReply, BlockId, Held, HostId, NoMemory, Outs, Part, Signal, View};
+use std::alloc::Global;
+use takeover_block::Takeover;
+use tc_block::Tc;
+use tc_views::Coordinator;
+
+/// The rows of a node.
+pub type NodeRows = Store;
+
+/// The block that a conversation is with, or the host.
+#[derive(Drop)]
+pub enum Block {
+    Api(Api),
+    Client(Client),
+    Arbiter(Arbiter),
+    Qmgr(Qmgr),
+    Tc(Tc),
+    Coordinator(Coordinator),
+    Takeover(Takeover),
+    Dih(Dih),
+    GcpMaster(GcpMaster),
+    Lqh(Lqh<NodeRows, CountJournal>),
+    Replica(Replica<NodeRows, CountJournal>),
+    Host(HostBody),
+}
+
+/// The block of a crate, by the name of the crate.
+pub fn block_of(alloc: Global, name: &str, setting: &Setting) -> Result<Block, Fault> {
+    let member = setting.member;
+    let layout = layout(setting)?;
+    let view = *layout.view();
+    match name {
+        "api_block" => Ok(Block::Api(Api::new(alloc, &view)?)),
+        "api_views" => {
+            let nodes = setting.shape.nodes;
+            Ok(Block::Client(Client::new(alloc, nodes, &view)?))
+        }
+        "arbiter_block" => Ok(Block::Arbiter(Arbiter::new(view.full))),
+        "qmgr_block" => {
+            let qmgr = Qmgr::new(alloc, member.node, member.start, layout)?;
+            Ok(Block::Qmgr(qmgr))
+        }
+        "takeover_block" => Ok(Block::Takeover(Takeover::new(alloc, member.node, layout))),
+        "gcp_master" => {
+            let master = GcpMaster::new(member, &view, setting.epoch);
+            Ok(Block::GcpMaster(master))
+        }
+        "dih_node" => {
+            let (epoch, start) = (setting.epoch, setting.start);
+            let dih = Dih::new(alloc, member.node, view.number, epoch, start)?;
+            Ok(Block::Dih(dih))
+        }
+        _ => block_with_rows(alloc, name, setting, layout),
+    }
+}
+
+// The coordinators, the rows and the hosts.
+fn block_with_rows(
+    alloc: Global,
+    name: &str,
+    setting: &Setting,
+    layout: Layout,
+) -> Result<Block, Fault> {
+    let member = setting.member;
+    match name {
+        "tc_block" => {
+            let tc = Tc::new(alloc, member.node, member.start, layout)?;
+            Ok(Block::Tc(tc))
+        }
+        "tc_views" => {
+            let coordinator = Coordinator::new(alloc, member.node, member.start, layout)?;
+            Ok(Block::Coordinator(coordinator))
+        }
+        "lqh_block" => Ok(Block::Lqh(lqh(alloc, setting, layout)?)),
+        "lqh_views" => Ok(Block::Replica(replica(alloc, setting, layout)?)),
+        "node_views" => Ok(Block::Host(host(alloc, setting, layout)?)),
+        _ => Err(Fault::Line),
+    }
+}
+
+#[tactic(auto, using(lqh_block::proofs::DueLemmas::covered_at_rest))]
+fn lqh(
+    alloc: Global,
+    setting: &Setting,
+    layout: Layout,
+) -> Result<Lqh<NodeRows, CountJournal>, Fault> {
+    let rows = rows(alloc, setting)?;
+    let journal = journal(setting)?;
+    Ok(Lqh::new(alloc, setting.member.node, layout, rows, journal)?)
+}
+
+#[tactic(auto, using(lqh_block::proofs::DueLemmas::covered_at_rest))]
+fn replica(
+    alloc: Global,
+    setting: &Setting,
+    layout: Layout,
+) -> Result<Replica<NodeRows, CountJournal>, Fault> {
+    let rows = rows(alloc, setting)?;
+    let journal = journal(setting)?;
+    let node = setting.member.node;
+    Ok(Replica::new(alloc, node, layout, rows, journal, setting.start)?)
+}
+
+fn host(alloc: Global, setting: &Setting, layout: Layout) -> Result<HostBody, Fault> {
+    let (member, epoch, start) = (setting.member, setting.epoch, setting.start);
+    match setting.part {
+        None => Ok(HostBody::shell(alloc, &layout)?),
+        Some(Part::Main) => Ok(HostBody::main(alloc, member, &layout, epoch)?),
+        Some(Part::Tc) => Ok(HostBody::tc(alloc, member, &layout, epoch, start)?),
+        Some(Part::Ldm) => {
+            let rows = rows(alloc, setting)?;
+            Ok(HostBody::ldm(alloc, member, &layout, rows, start)?)
+        }
+    }
+}
+
+/// Which block of a node it is. A host takes what is for none of its blocks in particular at one of
+/// these.
+pub fn block_id(block: &Block, setting: &Setting) -> BlockId {
+    match block {
+        Block::Api(_) | Block::Client(_) => BlockId::Api,
+        Block::Arbiter(_) => BlockId::Arbiter,
+        Block::Qmgr(_) => BlockId::Qmgr,
+        Block::Tc(_) | Block::Coordinator(_) => BlockId::Tc,
+        Block::Takeover(_) => BlockId::Takeover,
+        Block::Dih(_) => BlockId::Dih,
+        Block::GcpMaster(_) => BlockId::GcpMaster,
+        Block::Lqh(_) | Block::Replica(_) => BlockId::Lqh,
+        Block::Host(_) => match setting.part {
+            None => BlockId::Api,
+            Some(Part::Main) => BlockId::Qmgr,
+            Some(Part::Tc) => BlockId::Tc,
+            Some(Part::Ldm) => BlockId::Lqh,
+        },
+    }
+}
+
+impl Block {
+    /// What the block does at a signal.
+    ///
+    /// # Errors
+    /// `NoMemory`.
+    pub fn hear(&mut self, alloc: Global, signal: &Signal) -> Result<Outs, NoMemory> {
+        match self {
+            Block::Api(api) => heard(alloc, api, signal),
+            Block::Client(client) => heard_by_client(alloc, client, signal),
+            Block::Arbiter(arbiter) => heard(alloc, arbiter, signal),
+            Block::Qmgr(qmgr) => heard(alloc, qmgr, signal),
+            Block::Tc(tc) => heard(alloc, tc, signal),
+            Block::Coordinator(coordinator) => heard(alloc, coordinator, signal),
+            Block::Takeover(takeover) => heard(alloc, takeover, signal),
+            Block::Dih(dih) => heard(alloc, dih, signal),
+            Block::GcpMaster(master) => heard(alloc, master, signal),
+            Block::Lqh(lqh) => heard(alloc, lqh, signal),
+            Block::Replica(replica) => heard(alloc, replica, signal),
+            Block::Host(host) => heard_by_host(alloc, host, signal),
+        }
+    }
+
+    /// What the block does at the installation of a view. A host installs views by itself.
+    ///
+    /// # Errors
+    /// `NoMemory`, or `Line` at a host.
+    pub fn install(&mut self, alloc: Global, view: &View) -> Result<Outs, Fault> {
+        match self {
+            Block::Api(api) => installed(alloc, api, view),
+            Block::Client(client) => {
+                client.install(view);
+                Ok(Outs::new(alloc)?)
+            }
+            Block::Arbiter(arbiter) => installed(alloc, arbiter, view),
+            Block::Qmgr(qmgr) => installed(alloc, qmgr, view),
+            Block::Tc(tc) => installed(alloc, tc, view),
+            Block::Coordinator(coordinator) => installed(alloc, coordinator, view),
+            Block::Takeover(takeover) => installed(alloc, takeover, view),
+            Block::Dih(dih) => installed(alloc, dih, view),
+            Block::GcpMaster(master) => installed(alloc, master, view),
+            Block::Lqh(lqh) => installed(alloc, lqh, view),
+            Block::Replica(replica) => installed(alloc, replica, view),
+            Block::Host(_) => Err(Fault::Line),
+        }
+    }
+
+    /// The next reply to the shell, if the block gives any.
+    pub fn next_reply(&mut self) -> Option<ApiReply> {
+        match self {
+            Block::Api(api) => api.next_reply(),
+            Block::Client(client) => client.next_reply(),
+            Block::Host(host) => host.next_reply(),
+            _ => None,
+        }
+    }
+
+    /// Whether it is a host that has cut off that one.
+    pub fn is_cut(&self, other: HostId) -> bool {
+        match self {
+            Block::Host(host) => host.is_cut(other),
+            _ => false,
+        }
+    }
+
+    /// The view that a host has installed.
+    pub fn view(&self) -> Option<&Held<View>> {
+        match self {
+            Block::Host(host) => Some(&host.standing.view),
+            _ => None,
+        }
+    }
+
+    /// Whether the last request left something of its own unanswered.
+    pub fn is_left_open(&self) -> bool {
+        match self {
+            Block::Api(api) => api.is_left_open(),
+            Block::Client(client) => client.is_left_open(),
+            Block::Host(host) => host.is_left_open(),
+            _ => false,
+        }
+    }
+}
+
+fn heard<A: Actor>(alloc: Global, block: &mut A, signal: &Signal) -> Result<Outs, NoMemory> {
+    let mut outs = Outs::new(alloc)?;
+    block.handle(alloc, signal, &mut outs)?;
+    Ok(outs)
+}
+
+fn heard_by_client(alloc: Global, client: &mut Client, signal: &Signal) -> Result<Outs, NoMemory> {
+    let mut outs = Outs::new(alloc)?;
+    client.handle(alloc, signal, &mut outs)?;
+    Ok(outs)
+}
+
+fn heard_by_host(alloc: Global, host: &mut HostBody, signal: &Signal) -> Result<Outs, NoMemory> {
+    let mut outs = Outs::new(alloc)?;
+    host.step(alloc, signal, &mut outs)?;
+    Ok(outs)
+}
+
+fn installed<A: Actor>(alloc: Global, block: &mut A, view: &View) -> Result<Outs, Fault> {
+    let mut outs = Outs::new(alloc)?;
+    block.install(view, &mut outs);
+    Ok(outs)
+}
