@@ -1,4 +1,7 @@
 //! The block that a conversation is with.
+ghost use Rattle.std.specs.Prelude.{◌≡◌};
+ghost use Rattle.sig_core.specs.Step.{nothing};
+
 use crate::fault::Fault;
 use crate::setting::{Setting, layout};
 use crate::stored::{journal, rows};
@@ -155,43 +158,47 @@ impl Block {
     ///
     /// # Errors
     /// `NoMemory`.
-    pub fn hear(&mut self, alloc: Global, signal: &Signal) -> Result<Outs, NoMemory> {
+    pub fn hear(&mut self, alloc: Global, signal: &Signal, outs: &mut Outs) -> Result<(), NoMemory>
+        requires { outs.old ≡ nothing }
+    {
         match self {
-            Block::Api(api) => heard(alloc, api, signal),
-            Block::Client(client) => heard_by_client(alloc, client, signal),
-            Block::Arbiter(arbiter) => heard(alloc, arbiter, signal),
-            Block::Qmgr(qmgr) => heard(alloc, qmgr, signal),
-            Block::Tc(tc) => heard(alloc, tc, signal),
-            Block::Coordinator(coordinator) => heard(alloc, coordinator, signal),
-            Block::Takeover(takeover) => heard(alloc, takeover, signal),
-            Block::Dih(dih) => heard(alloc, dih, signal),
-            Block::GcpMaster(master) => heard(alloc, master, signal),
-            Block::Lqh(lqh) => heard(alloc, lqh, signal),
-            Block::Replica(replica) => heard(alloc, replica, signal),
-            Block::Host(host) => heard_by_host(alloc, host, signal),
+            Block::Api(api) => heard(alloc, api, signal, outs),
+            Block::Client(client) => heard_by_client(alloc, client, signal, outs),
+            Block::Arbiter(arbiter) => heard(alloc, arbiter, signal, outs),
+            Block::Qmgr(qmgr) => heard(alloc, qmgr, signal, outs),
+            Block::Tc(tc) => heard(alloc, tc, signal, outs),
+            Block::Coordinator(coordinator) => heard(alloc, coordinator, signal, outs),
+            Block::Takeover(takeover) => heard(alloc, takeover, signal, outs),
+            Block::Dih(dih) => heard(alloc, dih, signal, outs),
+            Block::GcpMaster(master) => heard(alloc, master, signal, outs),
+            Block::Lqh(lqh) => heard(alloc, lqh, signal, outs),
+            Block::Replica(replica) => heard(alloc, replica, signal, outs),
+            Block::Host(host) => heard_by_host(alloc, host, signal, outs),
         }
     }
 
     /// What the block does at the installation of a view. A host installs views by itself.
     ///
     /// # Errors
-    /// `NoMemory`, or `Line` at a host.
-    pub fn install(&mut self, alloc: Global, view: &View) -> Result<Outs, Fault> {
+    /// `Line` at a host.
+    pub fn install(&mut self, view: &View, outs: &mut Outs) -> Result<(), Fault>
+        requires { outs.old ≡ nothing }
+    {
         match self {
-            Block::Api(api) => installed(alloc, api, view),
+            Block::Api(api) => installed(api, view, outs),
             Block::Client(client) => {
                 client.install(view);
-                Ok(Outs::new(alloc)?)
+                Ok(())
             }
-            Block::Arbiter(arbiter) => installed(alloc, arbiter, view),
-            Block::Qmgr(qmgr) => installed(alloc, qmgr, view),
-            Block::Tc(tc) => installed(alloc, tc, view),
-            Block::Coordinator(coordinator) => installed(alloc, coordinator, view),
-            Block::Takeover(takeover) => installed(alloc, takeover, view),
-            Block::Dih(dih) => installed(alloc, dih, view),
-            Block::GcpMaster(master) => installed(alloc, master, view),
-            Block::Lqh(lqh) => installed(alloc, lqh, view),
-            Block::Replica(replica) => installed(alloc, replica, view),
+            Block::Arbiter(arbiter) => installed(arbiter, view, outs),
+            Block::Qmgr(qmgr) => installed(qmgr, view, outs),
+            Block::Tc(tc) => installed(tc, view, outs),
+            Block::Coordinator(coordinator) => installed(coordinator, view, outs),
+            Block::Takeover(takeover) => installed(takeover, view, outs),
+            Block::Dih(dih) => installed(dih, view, outs),
+            Block::GcpMaster(master) => installed(master, view, outs),
+            Block::Lqh(lqh) => installed(lqh, view, outs),
+            Block::Replica(replica) => installed(replica, view, outs),
             Block::Host(_) => Err(Fault::Line),
         }
     }
@@ -233,26 +240,42 @@ impl Block {
     }
 }
 
-fn heard<A: Actor>(alloc: Global, block: &mut A, signal: &Signal) -> Result<Outs, NoMemory> {
-    let mut outs = Outs::new(alloc)?;
-    block.handle(alloc, signal, &mut outs)?;
-    Ok(outs)
+fn heard<A: Actor>(
+    alloc: Global,
+    block: &mut A,
+    signal: &Signal,
+    outs: &mut Outs,
+) -> Result<(), NoMemory>
+    requires { outs.old ≡ nothing }
+{
+    block.handle(alloc, signal, outs)
 }
 
-fn heard_by_client(alloc: Global, client: &mut Client, signal: &Signal) -> Result<Outs, NoMemory> {
-    let mut outs = Outs::new(alloc)?;
-    client.handle(alloc, signal, &mut outs)?;
-    Ok(outs)
+fn heard_by_client(
+    alloc: Global,
+    client: &mut Client,
+    signal: &Signal,
+    outs: &mut Outs,
+) -> Result<(), NoMemory>
+    requires { outs.old ≡ nothing }
+{
+    client.handle(alloc, signal, outs)
 }
 
-fn heard_by_host(alloc: Global, host: &mut HostBody, signal: &Signal) -> Result<Outs, NoMemory> {
-    let mut outs = Outs::new(alloc)?;
-    host.step(alloc, signal, &mut outs)?;
-    Ok(outs)
+fn heard_by_host(
+    alloc: Global,
+    host: &mut HostBody,
+    signal: &Signal,
+    outs: &mut Outs,
+) -> Result<(), NoMemory>
+    requires { outs.old ≡ nothing }
+{
+    host.step(alloc, signal, outs)
 }
 
-fn installed<A: Actor>(alloc: Global, block: &mut A, view: &View) -> Result<Outs, Fault> {
-    let mut outs = Outs::new(alloc)?;
-    block.install(view, &mut outs);
-    Ok(outs)
+fn installed<A: Actor>(block: &mut A, view: &View, outs: &mut Outs) -> Result<(), Fault>
+    requires { outs.old ≡ nothing }
+{
+    block.install(view, outs);
+    Ok(())
 }

@@ -39,8 +39,11 @@ impl Partner {
 
     /// The block installs a view, which is told.
     pub fn install(&mut self, alloc: Global, view: &View, text: &mut String) -> Result<(), Fault> {
-        let mut outs = self.block.install(alloc, view)?;
-        self.tell_all(alloc, &mut outs, text)
+        let mut outs = Outs::new(alloc)?;
+        match self.block.install(view, &mut outs) {
+            Ok(()) => self.tell_all(alloc, &mut outs, text),
+            Err(fault) => Err(fault),
+        }
     }
 
     fn tell_all(&mut self, alloc: Global, outs: &mut Outs, text: &mut String) -> Result<(), Fault> {

@@ -1,5 +1,8 @@
 //! What the blocks of a conversation send each other: it is under way until it is passed on, and links
 //! of hosts that stop are closed.
+ghost use Rattle.std.specs.Prelude.{◌≡◌};
+ghost use Rattle.sig_core.specs.Step.{nothing};
+
 use crate::fault::Fault;
 use crate::partner::{running, stopped, tell_send};
 use crate::talk::Talk;
@@ -49,14 +52,25 @@ impl Talk {
         all: bool,
         text: &mut String,
     ) -> Result<(), Fault> {
-        let mut outs = self.heard(alloc, at, signal)?;
-        self.follow(alloc, at, &mut outs, all, text)
+        let mut outs = Outs::new(alloc)?;
+        match self.hear_at(alloc, at, signal, &mut outs) {
+            Ok(()) => self.follow(alloc, at, &mut outs, all, text),
+            Err(fault) => Err(fault),
+        }
     }
 
     // What the partner at this place does at a signal.
-    fn heard(&mut self, alloc: Global, at: usize, signal: &Signal) -> Result<Outs, Fault> {
+    fn hear_at(
+        &mut self,
+        alloc: Global,
+        at: usize,
+        signal: &Signal,
+        outs: &mut Outs,
+    ) -> Result<(), Fault>
+        requires { outs.old ≡ nothing }
+    {
         match self.partners.get_mut(at) {
-            Some(partner) => Ok(partner.block.hear(alloc, signal)?),
+            Some(partner) => Ok(partner.block.hear(alloc, signal, outs)?),
             None => Err(Fault::Line),
         }
     }
