@@ -10,14 +10,26 @@ use std::io::{ErrorKind, Read, Seek, SeekFrom, Write};
 use std::rt::Files;
 use std::{fs, io};
 
-/// A disk whose file k is `fKK` in its folder, KK being the two digits of k. The folder and a file
-/// are made at the first write. It counts its calls that fail.
+/// A file of the folder.
+#[derive(Drop)]
+struct NamedFile {
+    path: String,
+    /// Whether its name is known to outlast a loss of power.
+    named: bool,
+}
+
+/// A disk whose file k is `fKK` in its folder, KK being the two digits of k. The folder and a file are made at the
+/// first write; the folder that it lies in has to be there. It counts its calls that fail.
 #[derive(Drop)]
 pub struct FolderDisk<R> {
     rt: R,
     folder: String,
-    /// The paths of the files, by their numbers.
-    paths: Vec<String>,
+    /// The folder that it lies in.
+    around: String,
+    /// The files, by their numbers.
+    files: Vec<NamedFile>,
+    /// Whether the folder's own name is known to outlast a loss of power.
+    named: bool,
     faults: u64,
 }
 
@@ -27,15 +39,19 @@ impl<R: Files + Drop> FolderDisk<R> {
     /// # Errors
     /// Want of memory.
     pub fn new(alloc: Global, rt: R, folder: &str) -> Result<FolderDisk<R>, AllocError> {
-        let mut paths = Vec::with_capacity(alloc, FILES as usize)?;
+        let mut files = Vec::with_capacity(alloc, FILES as usize)?;
         for file in 0..FILES {
-            paths.push(format!(in alloc; "{folder}/f{file:02}")?)?;
+            files.push(NamedFile {
+                path: format!(in alloc; "{folder}/f{file:02}")?,
+                named: false,
+            })?;
         }
-        let folder = folder.to_owned(alloc)?;
         Ok(FolderDisk {
             rt,
-            folder,
-            paths,
+            folder: folder.to_owned(alloc)?,
+            around: format!(in alloc; "{folder}/..")?,
+            files,
+            named: false,
             faults: 0,
         })
     }
@@ -58,50 +74,106 @@ impl<R: Files + Drop> FolderDisk<R> {
         Failed
     }
 
-    // A file that is there. None where it was never written.
-    fn open(&self, file: u8) -> io::Result<Option<R::File>> {
-        let Some(path) = self.paths.get(file as usize) else {
+    // Opens a file, if it is there. What has its name and is no file is a fault.
+    fn open(&self, how: &OpenOptions, file: u8) -> io::Result<Option<R::File>> {
+        let Some(named) = self.files.get(file as usize) else {
             return Err(io::Error::from(ErrorKind::InvalidInput));
         };
-        match OpenOptions::new().read(true).open(&self.rt, path.as_str()) {
+        match how.open(&self.rt, named.path.as_str()) {
+            Ok(opened) if opened.metadata()?.is_dir() => Err(io::Error::from(
+                ErrorKind::IsADirectory,
+            )),
             Ok(opened) => Ok(Some(opened)),
             Err(fault) if fault.kind() == ErrorKind::NotFound => Ok(None),
             Err(fault) => Err(fault),
         }
     }
 
+    // A file to be read. None where it was never written.
+    fn open_to_read(&self, file: u8) -> io::Result<Option<R::File>> {
+        let mut how = OpenOptions::new();
+        self.open(how.read(true), file)
+    }
+
+    // A file to be written, which is made where it isn't there, as the folder is.
+    fn open_to_write(&mut self, file: u8) -> io::Result<R::File>
+        ensures { self.new.faults ≡ self.old.faults }
+    {
+        let mut how = OpenOptions::new();
+        if let Some(opened) = self.open(how.write(true), file)? {
+            return Ok(opened);
+        }
+        self.forget_name(file);
+        let made = self.open(how.create(true), file)?;
+        if let Some(opened) = made {
+            return Ok(opened);
+        }
+        fs::create_dir(&self.rt, self.folder.as_str())?;
+        self.named = false;
+        match self.open(&how, file)? {
+            Some(opened) => Ok(opened),
+            None => Err(io::Error::from(ErrorKind::NotFound)),
+        }
+    }
+
+    // The name of a file is to be made outlast a loss of power at its next sync.
+    fn forget_name(&mut self, file: u8)
+        ensures { self.new.faults ≡ self.old.faults }
+    {
+        if let Some(named) = self.files.get_mut(file as usize) {
+            named.named = false;
+        }
+    }
+
     fn read_at(&self, file: u8, at: u64, buf: &mut [u8]) -> io::Result<usize>
         ensures { IfOk result (λ n. n ≤ length buf.old) }
     {
-        let Some(mut opened) = self.open(file)? else {
+        let Some(mut opened) = self.open_to_read(file)? else {
             return Ok(0);
         };
         opened.seek(SeekFrom::Start(at))?;
         read_most(&mut opened, buf)
     }
 
-    fn write_at(&self, file: u8, at: u64, bytes: &[u8]) -> io::Result<()> {
-        let Some(path) = self.paths.get(file as usize) else {
-            return Err(io::Error::from(ErrorKind::InvalidInput));
-        };
-        fs::create_dir_all(&self.rt, self.folder.as_str())?;
-        let mut how = OpenOptions::new();
-        let mut opened = how.write(true).create(true).open(&self.rt, path.as_str())?;
+    fn write_at(&mut self, file: u8, at: u64, bytes: &[u8]) -> io::Result<()>
+        ensures { self.new.faults ≡ self.old.faults }
+    {
+        let mut opened = self.open_to_write(file)?;
         opened.seek(SeekFrom::Start(at))?;
         opened.write_all(bytes)
     }
 
-    // Syncs a file, and the folder, which has the file's name.
-    fn sync_file(&self, file: u8) -> io::Result<()> {
-        let Some(opened) = self.open(file)? else {
+    // Syncs a file, and then its name, unless that is known to be synced.
+    fn sync_file(&mut self, file: u8) -> io::Result<()>
+        ensures { self.new.faults ≡ self.old.faults }
+    {
+        let Some(opened) = self.open_to_read(file)? else {
             return Ok(());
         };
         opened.sync_all()?;
-        fs::open(&self.rt, self.folder.as_str())?.sync_all()
+        self.sync_names(file)
+    }
+
+    // Syncs the folder, which has the file's name, and the one around it, which has the folder's.
+    fn sync_names(&mut self, file: u8) -> io::Result<()>
+        ensures { self.new.faults ≡ self.old.faults }
+    {
+        let Some(named) = self.files.get_mut(file as usize) else {
+            return Err(io::Error::from(ErrorKind::InvalidInput));
+        };
+        if !named.named {
+            fs::open(&self.rt, self.folder.as_str())?.sync_all()?;
+            named.named = true;
+        }
+        if !self.named {
+            fs::open(&self.rt, self.around.as_str())?.sync_all()?;
+            self.named = true;
+        }
+        Ok(())
     }
 
     fn size_of(&self, file: u8) -> io::Result<u64> {
-        match self.open(file)? {
+        match self.open_to_read(file)? {
             Some(opened) => Ok(opened.metadata()?.len()),
             None => Ok(0),
         }
