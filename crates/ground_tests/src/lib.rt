@@ -13,6 +13,8 @@ mod host_io_streams;
 #[cfg(test)]
 mod host_real_outside;
 #[cfg(test)]
+mod host_real_watched;
+#[cfg(test)]
 mod row_locks_calls;
 #[cfg(test)]
 mod row_locks_definition;
