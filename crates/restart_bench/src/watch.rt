@@ -1,0 +1,25 @@
+//! How long something takes.
+use std::test::Fail;
+use std::time::Instant;
+
+/// A time that is running.
+#[derive(Drop)]
+pub struct Watch(Instant);
+
+impl Watch {
+    /// From now on.
+    pub fn start(rt: &HostRuntime) -> Result<Watch, Fail> {
+        Ok(Watch(Instant::now(rt)?))
+    }
+
+    /// The nanoseconds since then, at least one.
+    pub fn nanoseconds(&self, rt: &HostRuntime) -> Result<u64, Fail> {
+        let taken = self.0.elapsed(rt)?.as_nanos();
+        Ok(u64::try_from(taken).unwrap_or(u64::MAX).max(1))
+    }
+}
+
+/// How many a second there are, if there were so many in these nanoseconds.
+pub fn a_second(count: u64, nanoseconds: u64) -> u64 {
+    count.saturating_mul(1_000_000_000) / nanoseconds.max(1)
+}
