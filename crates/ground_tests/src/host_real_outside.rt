@@ -7,7 +7,7 @@ use std::rt::Files;
 use std::test::Fail;
 
 // Takes away the folder that an earlier run may have left.
-fn clear(rt: &HostRuntime, folder: &str) -> Result<(), Fail> {
+pub(crate) fn clear(rt: &HostRuntime, folder: &str) -> Result<(), Fail> {
     if fs::exists(rt, folder)? {
         fs::remove_dir_all(rt, folder)?;
     }

@@ -1,4 +1,6 @@
 //! A folder as a disk, over files that are watched: each write takes one byte alone, and syncs are counted.
+use crate::host_io_disk::{Call, first_wrong};
+use crate::host_real_outside::clear;
 use host_io::Disk;
 use host_real::FolderDisk;
 use std::alloc::Allocator;
@@ -8,8 +10,6 @@ use std::io::{Read, Seek, SeekFrom, Write};
 use std::rt::Files;
 use std::test::Fail;
 use std::{fs, io};
-
-const FOLDER: &str = "watched_disk_test";
 
 /// The files of a runtime, watched.
 #[derive(Drop)]
@@ -117,6 +117,15 @@ impl<'a, R: Files> Files for Watched<'a, R> {
     }
 }
 
+// What is done on a disk, or beside it.
+#[derive(Clone, Copy)]
+enum Step {
+    // A file is written and synced, which takes so many syncs.
+    Sync(u8, u64),
+    RemoveFile(&'static str),
+    RemoveFolder(&'static str),
+}
+
 // Writes to a file of the disk and syncs it, and says how many syncs that were, if it went well.
 fn syncs_of<D: Disk>(disk: &mut D, file: u8, syncs: &Cell<u64>) -> Option<u64> {
     syncs.set(0);
@@ -126,51 +135,74 @@ fn syncs_of<D: Disk>(disk: &mut D, file: u8, syncs: &Cell<u64>) -> Option<u64> {
     }
 }
 
-fn clear(rt: &HostRuntime) -> Result<(), Fail> {
-    if fs::exists(rt, FOLDER)? {
-        fs::remove_dir_all(rt, FOLDER)?;
+fn goes_well<D: Disk>(rt: &HostRuntime, disk: &mut D, syncs: &Cell<u64>, step: Step) -> bool {
+    match step {
+        Step::Sync(file, count) => syncs_of(disk, file, syncs) == Some(count),
+        Step::RemoveFile(path) => fs::remove_file(rt, path).is_ok(),
+        Step::RemoveFolder(path) => fs::remove_dir_all(rt, path).is_ok(),
     }
-    Ok(())
+}
+
+// The first step that doesn't go well.
+fn first_bad<D: Disk>(
+    rt: &HostRuntime,
+    disk: &mut D,
+    syncs: &Cell<u64>,
+    steps: &[Step],
+) -> Option<usize> {
+    for (at, step) in steps.iter().enumerate() {
+        if !goes_well(rt, disk, syncs, *step) {
+            return Some(at);
+        }
+    }
+    None
+}
+
+// The same, on a disk in this folder.
+fn first_bad_in(rt: &HostRuntime, folder: &str, steps: &[Step]) -> Result<Option<usize>, Fail> {
+    let syncs = Cell::new(0);
+    let watched = Watched { rt, syncs: &syncs };
+    let mut disk = FolderDisk::new(rt.alloc(), watched, folder)?;
+    Ok(first_bad(rt, &mut disk, &syncs, steps))
 }
 
 // The file and the folder are new, then neither, then a file alone; another disk knows of none.
 #[test]
 fn a_sync_is_one_of_names_too_where_they_are_new(rt: HostRuntime) -> Result<(), Fail> {
-    clear(&rt)?;
+    let folder = "named_disk_test";
+    clear(&rt, folder)?;
+    let steps = [
+        Step::Sync(1, 3),
+        Step::Sync(1, 1),
+        Step::Sync(2, 2),
+        Step::RemoveFile("named_disk_test/f01"),
+        Step::Sync(1, 2),
+        Step::RemoveFolder("named_disk_test"),
+        Step::Sync(1, 3),
+    ];
+    assert_eq!(rt; first_bad_in(&rt, folder, &steps)?, None);
+    assert_eq!(rt; first_bad_in(&rt, folder, &[Step::Sync(1, 3)])?, None);
+    clear(&rt, folder)
+}
+
+// The first call of these that a disk whose writes are short doesn't answer so.
+fn first_wrong_in(rt: &HostRuntime, folder: &str, calls: &[Call]) -> Result<Option<usize>, Fail> {
     let syncs = Cell::new(0);
-    let watched = Watched {
-        rt: &rt,
-        syncs: &syncs,
-    };
-    let mut disk = FolderDisk::new(rt.alloc(), watched, FOLDER)?;
-    assert_eq!(rt; syncs_of(&mut disk, 1, &syncs), Some(3));
-    assert_eq!(rt; syncs_of(&mut disk, 1, &syncs), Some(1));
-    assert_eq!(rt; syncs_of(&mut disk, 2, &syncs), Some(2));
-    fs::remove_file(&rt, "watched_disk_test/f01")?;
-    assert_eq!(rt; syncs_of(&mut disk, 1, &syncs), Some(2));
-    fs::remove_dir_all(&rt, FOLDER)?;
-    assert_eq!(rt; syncs_of(&mut disk, 1, &syncs), Some(3));
-    let watched = Watched {
-        rt: &rt,
-        syncs: &syncs,
-    };
-    let mut again = FolderDisk::new(rt.alloc(), watched, FOLDER)?;
-    assert_eq!(rt; syncs_of(&mut again, 1, &syncs), Some(3));
-    clear(&rt)
+    let watched = Watched { rt, syncs: &syncs };
+    let mut disk = FolderDisk::new(rt.alloc(), watched, folder)?;
+    Ok(first_wrong(&mut disk, calls))
 }
 
 #[test]
 fn a_short_write_goes_on(rt: HostRuntime) -> Result<(), Fail> {
-    clear(&rt)?;
-    let syncs = Cell::new(0);
-    let watched = Watched {
-        rt: &rt,
-        syncs: &syncs,
-    };
-    let mut disk = FolderDisk::new(rt.alloc(), watched, FOLDER)?;
-    assert_eq!(rt; disk.write(3, 1, b"abcd"), Ok(()));
-    let mut buf = [7; 6];
-    assert_eq!(rt; disk.read(3, 0, &mut buf), Ok(5));
-    assert_eq!(rt; buf, *b"\0abcd\x07");
-    clear(&rt)
+    let folder = "short_disk_test";
+    clear(&rt, folder)?;
+    let calls = [
+        Call::Write(3, 1, b"abcd", true),
+        Call::Read(3, 0, Some(b"\0abc")),
+        Call::Read(3, 4, Some(b"d")),
+        Call::Size(3, Some(5)),
+    ];
+    assert_eq!(rt; first_wrong_in(&rt, folder, &calls)?, None);
+    clear(&rt, folder)
 }
