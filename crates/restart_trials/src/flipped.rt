@@ -40,28 +40,28 @@ pub fn key_at(layout: &Layout, piece: usize, at: usize) -> Option<Key> {
     let piece = layout.pieces.get(piece)?;
     match piece.file {
         2 => key_of_row(&piece.bytes, at),
-        4 => {
-            let (redo, _) = record_at(&piece.bytes, at)?;
-            Some(key_of(&redo))
-        }
+        4 => key_of_record(&piece.bytes, at),
         _ => None,
     }
 }
 
-fn key_of(redo: &Redo) -> Key {
+fn key_of_record(bytes: &[u8], at: usize) -> Option<Key> {
+    let Some((redo, _)) = record_at(bytes, at) else {
+        return None;
+    };
     match redo {
         Redo::Prepare {
             tx: _,
             fragment: _,
             key,
             image: _,
-        } => *key,
+        } => Some(key),
         Redo::Commit {
             tx: _,
             epoch: _,
             key,
-        } => *key,
-        Redo::Abort { tx: _, key } => *key,
+        } => Some(key),
+        Redo::Abort { tx: _, key } => Some(key),
     }
 }
 
