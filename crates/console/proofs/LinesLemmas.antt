@@ -4,8 +4,8 @@ use Rattle.std.proofs.Common.{cond, refl, ap, sym, subst, ◌∙◌, append_asso
 use Rattle.std.specs.Prelude.{Option, None, Some, position, filter}
 use Rattle.std.specs.List.{slice_split}
 use Rattle.std.proofs.Math.Seq.{take-nil}
-use Rattle.std.proofs.lemmas.List.{take_at, take-append-drop, length-take-le}
 use Rattle.std.specs.Io.KnownBytes.{Consumes, IsAtEnd, Keeps}
+use Rattle.host_io.proofs.SourceLemmas.{copied_front}
 use Rattle.console.specs.Given.{IsLine, is_newline, Reads, taken_text, text_of}
 use Rattle.console.specs.Lines.{given_by}
 use Rattle.console.specs.Taken.{is_taken}
@@ -72,11 +72,6 @@ module _ (nodes : ℕ) where
   -- a text of nothing
   pub no_text : (count : ℕ) → taken_text nodes count [] ≡ []
   no_text count = ap (λ lines. text_of (take count lines)) (first_passed [] [] refl) ∙ ap text_of (take-nil count)
-
--- the front of a list, put over the front of another, is the front of what that is then
-pub copied_front : (xs buf : List ℕ) (n : ℕ) → n ≤ length xs → xs ≡ take n (take n xs ++ drop n buf) ++ drop n xs
-copied_front xs buf n le =
-    rw (take_at (take n xs) (drop n buf) n (length-take-le n xs le)) (sym (take-append-drop n xs))
 
 pub ruleset copying = (copied_front)
 

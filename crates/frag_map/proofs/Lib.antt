@@ -1,6 +1,6 @@
 mod AroundLemmas
 pub mod FirstReplicas
 mod GroupLemmas
-mod ListLemmas
+pub mod ListLemmas
 mod ShapeLemmas
 mod TurnLemmas

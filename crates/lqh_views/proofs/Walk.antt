@@ -38,7 +38,7 @@ use Rattle.lqh_views.specs.declared.report.Report.{Report}
 use Rattle.lqh_views.specs.Address.{addressed}
 use Rattle.lqh_views.specs.Epochs.{close_row, epoch_table, fence_row, save_row, state_row}
 use Rattle.lqh_views.specs.Laws.{is_of_rows, is_of_rows_by}
-use Rattle.lqh_views.specs.Replica.{installed, is_stale, passed, replica_by, replica_row, serve_if}
+use Rattle.lqh_views.specs.Replica.{is_stale, passed, replica_by, replica_row, serve_if}
 use Rattle.lqh_views.specs.Report.{ending, go_on_by, is_orphaned_marker, is_orphaned_record, last_before, marker_by}
 use Rattle.lqh_views.specs.Report.{record_by, reporting, telling, told, told_marker, told_record, told_record_if}
 use Rattle.lqh_views.specs.State.{ReplicaState}
@@ -260,11 +260,6 @@ replica_says_each s x Q sends own = (own_each s x (λ (send : Outgoing). Q send.
           (lqh_sends_each (λ (send : Outgoing). Q send.body) s.lqh x.body (sends is)),
       each_from AnyMark (passed s x).effects.marks (λ mark there. tt),
     )
-
--- where a view is installed they send nothing, and mark nothing
-pub replica_installed_each : (P : Outgoing → Type 0) (M : Mark → Type 0) (s : ReplicaState) (view : View)
-    → Does P M (stay (installed s view))
-replica_installed_each P M s view = (tt, tt)
 
 -- what is said where a request is performed
 request_words : (r : Request) → RequestSends (IsWord is_row_word) r

@@ -21,11 +21,11 @@ pub record Reads {A : Type 0} (Fits : A → Type 0) (spelled : A → List ℕ) (
       → Fits x.0 × (bytes ≡ spelled x.0 ++ x.1)
   pub again : (x : A) (rest : List ℕ) → Fits x → read (spelled x ++ rest) ≡ Ok (x, rest)
 
-rest_bytes : (front rest : List ℕ) → IsBytes (front ++ rest) → IsBytes rest
+pub rest_bytes : (front rest : List ℕ) → IsBytes (front ++ rest) → IsBytes rest
 rest_bytes [] rest h = h
 rest_bytes (b ∷ front) rest h = rest_bytes front rest (λ i. h (suc i))
 
-bind_ok : {A B : Type 0} (r : Result A ℕ) (f : A → Result B ℕ) (y : B) → (r >>= f) ≡ Ok y
+pub bind_ok : {A B : Type 0} (r : Result A ℕ) (f : A → Result B ℕ) (y : B) → (r >>= f) ≡ Ok y
     → (x : A) × (r ≡ Ok x) × (f x ≡ Ok y)
 bind_ok (Ok x) f y e = (x, refl, e)
 bind_ok (Err left) f y e = absurd cc

@@ -4,10 +4,10 @@ use Rattle.std.proofs.Common.{append_assoc, append-nil, arith}
 use Rattle.std.specs.Prelude.{Result, Ok, flat_map}
 use Rattle.std.specs.Int.{w64, to_be_bytes}
 use Rattle.redo_format.specs.Reading.{and_then, told, byte_at}
-use Rattle.redo_format.proofs.Readers.{IsBytes, reads_byte, reads_number, eight_bytes}
+use Rattle.redo_format.proofs.Readers.{IsBytes, bind_ok, reads_byte, reads_number, eight_bytes, rest_bytes}
 use Rattle.trace_bytes.specs.Numbers.{u64_bytes, u64_at}
 use Rattle.trace_bytes.specs.Lists.{All, AreItems, list_bytes, more_at, list_at, zeros_at, few_at, short_list_at}
-use Rattle.trace_bytes.proofs.Taken.{Takes, behind, bind_ok, ok_is, rest_bytes}
+use Rattle.trace_bytes.proofs.Taken.{Takes, behind, ok_is}
 use Rattle.trace_bytes.proofs.ListsAgain.{small_bytes}
 
 -- the items behind those that were read

@@ -6,7 +6,7 @@ use Rattle.std.proofs.lemmas.Bool.{eqb-true, ltb-true}
 use Rattle.sig_core.specs.declared.log.Life.{Life}
 use Rattle.sig_core.specs.declared.view.Shape.{Shape}
 use Rattle.redo_format.specs.Reading.{byte_at}
-use Rattle.redo_format.proofs.Readers.{IsBytes, reads_byte}
+use Rattle.redo_format.proofs.Readers.{IsBytes, bind_ok, reads_byte}
 use Rattle.trace_bytes.specs.Numbers.{u64_bytes, u64_at}
 use Rattle.trace_bytes.specs.Laws.{ReadIsWritten}
 use Rattle.trace_bytes.specs.Lives.{place_bytes, IsPlace, place_of, place_at, header_bytes, IsHeader, header_of}
@@ -22,7 +22,7 @@ use Rattle.trace_bytes.proofs.BodiesTaken.{takes_body}
 use Rattle.trace_bytes.proofs.ListsTaken.{takes_list}
 use Rattle.trace_bytes.proofs.MarksTaken.{takes_mark}
 use Rattle.trace_bytes.proofs.PlacesTaken.{takes_block}
-use Rattle.trace_bytes.proofs.Taken.{Takes, bind_ok, good, ok_is, takes_as, takes_both, takes_then}
+use Rattle.trace_bytes.proofs.Taken.{Takes, good, ok_is, takes_as, takes_both, takes_then}
 use Rattle.trace_bytes.proofs.WordsTaken.{takes_byte, takes_host, takes_member, takes_option, takes_row, takes_u64}
 use Rattle.trace_bytes.proofs.WordsTaken.{takes_u8, takes_view}
 

@@ -1,11 +1,11 @@
 -- Readers that read only what is written, of bytes.
-use Rattle.std.proofs.Common.{◌≡◌, ℕ, zero, suc, ◌-◌, ◌≤◌, ◌<◌, Bool, true, false, List, [], ◌∷◌, ◌++◌, length, get_or}
+use Rattle.std.proofs.Common.{◌≡◌, ℕ, zero, suc, ◌-◌, ◌≤◌, Bool, true, false, List, [], ◌∷◌, ◌++◌, length, get_or}
 use Rattle.std.proofs.Common.{refl, sym, ap, subst, ◌∙◌, append_assoc, arith}
-use Rattle.std.specs.Prelude.{Result, Ok, Err, ◌==◌, nat_lt, if◌then◌else◌}
+use Rattle.std.specs.Prelude.{Result, Ok, ◌==◌, nat_lt, if◌then◌else◌}
 use Rattle.std.proofs.lemmas.Bool.{eqb-true, eqb-false}
 use Rattle.std.proofs.lemmas.Bool.Decides.{nat_tests}
 use Rattle.redo_format.specs.Reading.{◌>>=◌, and_then, told, byte_at}
-use Rattle.redo_format.proofs.Readers.{IsBytes, Reads, reads_byte}
+use Rattle.redo_format.proofs.Readers.{IsBytes, Reads, bind_ok, reads_byte, rest_bytes}
 use Rattle.trace_bytes.specs.Words.{always}
 
 abbrev pub Read : Type 0 → Type 0
@@ -18,15 +18,6 @@ IsRead Fits spelled bytes x = Fits x.0 × (bytes ≡ spelled x.0 ++ x.1)
 pub record Takes {A : Type 0} (Fits : A → Type 0) (spelled : A → List ℕ) (read : List ℕ → Result (A × List ℕ) ℕ) : Type
     0 where
   pub takes : (bytes : List ℕ) (x : A × List ℕ) → IsBytes bytes → read bytes ≡ Ok x → IsRead Fits spelled bytes x
-
-pub rest_bytes : (front rest : List ℕ) → IsBytes (front ++ rest) → IsBytes rest
-rest_bytes [] rest h = h
-rest_bytes (b ∷ front) rest h = rest_bytes front rest (λ i. h (suc i))
-
-pub bind_ok : {A B : Type 0} (r : Result A ℕ) (f : A → Result B ℕ) (y : B) → (r >>= f) ≡ Ok y
-    → (x : A) × (r ≡ Ok x) × (f x ≡ Ok y)
-bind_ok (Ok x) f y e = (x, refl, e)
-bind_ok (Err left) f y e = absurd cc
 
 abbrev pub good : {A : Type 0} → A → Result A ℕ
 good x = Ok x

@@ -10,7 +10,8 @@ use Rattle.sig_core.specs.IndexKey.{is_index, word_in}
 use Rattle.sig_core.specs.Redo.{word}
 use Rattle.sig_core.specs.Word.{is_unprintable}
 use Rattle.redo_format.specs.Reading.{told, byte_at, run_at}
-use Rattle.redo_format.proofs.Readers.{IsBytes, IsPlain, reads_byte, reads_number, reads_run, reads_word, four_bytes}
+use Rattle.redo_format.proofs.Readers.{IsBytes, IsPlain, bind_ok, reads_byte, reads_number, reads_run, reads_word}
+use Rattle.redo_format.proofs.Readers.{four_bytes}
 use Rattle.redo_format.proofs.Readers.{eight_bytes}
 use Rattle.trace_bytes.specs.Numbers.{u8_bytes, IsU8, u8_at, u16_bytes, IsU16, u16_at, u32_bytes, IsU32, u32_at}
 use Rattle.trace_bytes.specs.Numbers.{u64_bytes, IsU64, u64_at}
@@ -24,7 +25,7 @@ use Rattle.trace_bytes.specs.Words.{IsMember, member_of, member_at, opt_member_b
 use Rattle.trace_bytes.specs.Words.{members_bytes, IsMembers, members_at, chain_bytes, IsChain, chain_at, view_bytes}
 use Rattle.trace_bytes.specs.Words.{IsView, view_of, view_at}
 use Rattle.trace_bytes.proofs.ListsTaken.{takes_short_list}
-use Rattle.trace_bytes.proofs.Taken.{IsRead, Takes, TakesKind, bind_ok, last_kind, ok_is, or_plain, takes_as}
+use Rattle.trace_bytes.proofs.Taken.{IsRead, Takes, TakesKind, last_kind, ok_is, or_plain, takes_as}
 use Rattle.trace_bytes.proofs.Taken.{takes_both, takes_known, takes_reads}
 use Rattle.trace_bytes.proofs.WordsAgain.{two_bytes}
 

@@ -3,56 +3,38 @@ ghost use Rattle.std.specs.Prelude.{◌≡◌, ◌∷◌, ◌++◌, OnOk};
 ghost use Rattle.trace_bytes.specs.EpochSignals.{epoch_signal_bytes};
 
 use crate::output::Output;
-use sig_core::{EpochSignal, NoMemory};
-use trace_bytes::kinds::signals;
+use sig_core::{EpochSignal as Signal, NoMemory};
+use trace_bytes::kinds::signals::{
+    COPY_GCI_CONF, COPY_GCI_REQ, DI_VERIFY_CONF, DI_VERIFY_END, DI_VERIFY_REQ, GCP_CLOSED,
+    GCP_CLOSED_CONF, GCP_COMMIT, GCP_DONE, GCP_NODE_FINISH, GCP_ORD, GCP_PREPARE, GCP_PREPARE_CONF,
+    GCP_REP, GCP_REQ, GCP_SAVE_CONF, GCP_SAVE_REQ, GCP_STATE_CONF, GCP_STATE_REQ, MICRO_REP,
+    MICRO_REQ,
+};
 
 impl Output {
     /// Adds a signal of this family.
     #[tactic(auto, unfolding(trace_bytes::specs::EpochSignals::epoch_signal_bytes))]
-    pub fn epoch_signal(&mut self, signal: &EpochSignal) -> Result<(), NoMemory>
+    pub fn epoch_signal(&mut self, signal: &Signal) -> Result<(), NoMemory>
         ensures { OnOk result (self.new ≡ self.old ++ epoch_signal_bytes signal.now) }
     {
         match signal {
-            EpochSignal::DiVerifyReq { tx, ops } => self.put_tx_ops(
-                signals::DI_VERIFY_REQ,
-                *tx,
-                ops.as_slice(),
-            ),
-            EpochSignal::DiVerifyConf { tx, epoch } => self.put_tx_u64(
-                signals::DI_VERIFY_CONF,
-                *tx,
-                *epoch,
-            ),
-            EpochSignal::DiVerifyEnd { tx } => self.put_tx(signals::DI_VERIFY_END, *tx),
-            EpochSignal::GcpReq { by } => self.put_block(signals::GCP_REQ, *by),
-            EpochSignal::GcpPrepare { epoch, next } => self.put_two(
-                signals::GCP_PREPARE,
-                *epoch,
-                *next,
-            ),
-            EpochSignal::GcpPrepareConf { epoch } => self.put_u64(
-                signals::GCP_PREPARE_CONF,
-                *epoch,
-            ),
-            EpochSignal::GcpCommit { epoch, next } => self.put_two(
-                signals::GCP_COMMIT,
-                *epoch,
-                *next,
-            ),
-            EpochSignal::GcpNodeFinish { epoch } => self.put_u64(signals::GCP_NODE_FINISH, *epoch),
-            EpochSignal::GcpSaveReq { epoch } => self.put_u64(signals::GCP_SAVE_REQ, *epoch),
-            EpochSignal::GcpSaveConf { epoch } => self.put_u64(signals::GCP_SAVE_CONF, *epoch),
-            EpochSignal::CopyGciReq { epoch, mask } => self.put_u64_u8(
-                signals::COPY_GCI_REQ,
-                *epoch,
-                *mask,
-            ),
-            EpochSignal::CopyGciConf { epoch } => self.put_u64(signals::COPY_GCI_CONF, *epoch),
-            EpochSignal::GcpDone { epoch } => self.put_u64(signals::GCP_DONE, *epoch),
-            EpochSignal::GcpRep { epoch } => self.put_u64(signals::GCP_REP, *epoch),
-            EpochSignal::GcpOrd => self.u8(signals::GCP_ORD),
-            EpochSignal::GcpStateReq => self.u8(signals::GCP_STATE_REQ),
-            EpochSignal::GcpStateConf {
+            Signal::DiVerifyReq { tx, ops } => self.put_tx_ops(DI_VERIFY_REQ, *tx, ops.as_slice()),
+            Signal::DiVerifyConf { tx, epoch } => self.put_tx_u64(DI_VERIFY_CONF, *tx, *epoch),
+            Signal::DiVerifyEnd { tx } => self.put_tx(DI_VERIFY_END, *tx),
+            Signal::GcpReq { by } => self.put_block(GCP_REQ, *by),
+            Signal::GcpPrepare { epoch, next } => self.put_two(GCP_PREPARE, *epoch, *next),
+            Signal::GcpPrepareConf { epoch } => self.put_u64(GCP_PREPARE_CONF, *epoch),
+            Signal::GcpCommit { epoch, next } => self.put_two(GCP_COMMIT, *epoch, *next),
+            Signal::GcpNodeFinish { epoch } => self.put_u64(GCP_NODE_FINISH, *epoch),
+            Signal::GcpSaveReq { epoch } => self.put_u64(GCP_SAVE_REQ, *epoch),
+            Signal::GcpSaveConf { epoch } => self.put_u64(GCP_SAVE_CONF, *epoch),
+            Signal::CopyGciReq { epoch, mask } => self.put_u64_u8(COPY_GCI_REQ, *epoch, *mask),
+            Signal::CopyGciConf { epoch } => self.put_u64(COPY_GCI_CONF, *epoch),
+            Signal::GcpDone { epoch } => self.put_u64(GCP_DONE, *epoch),
+            Signal::GcpRep { epoch } => self.put_u64(GCP_REP, *epoch),
+            Signal::GcpOrd => self.u8(GCP_ORD),
+            Signal::GcpStateReq => self.u8(GCP_STATE_REQ),
+            Signal::GcpStateConf {
                 current,
                 prepared,
                 next,
@@ -60,7 +42,7 @@ impl Output {
                 saved,
                 durable,
             } => self.put_six(
-                signals::GCP_STATE_CONF,
+                GCP_STATE_CONF,
                 *current,
                 *prepared,
                 *next,
@@ -68,10 +50,10 @@ impl Output {
                 *saved,
                 *durable,
             ),
-            EpochSignal::MicroReq => self.u8(signals::MICRO_REQ),
-            EpochSignal::GcpClosed { epoch } => self.put_u64(signals::GCP_CLOSED, *epoch),
-            EpochSignal::MicroRep { epoch } => self.put_u64(signals::MICRO_REP, *epoch),
-            EpochSignal::GcpClosedConf { epoch } => self.put_u64(signals::GCP_CLOSED_CONF, *epoch),
+            Signal::MicroReq => self.u8(MICRO_REQ),
+            Signal::GcpClosed { epoch } => self.put_u64(GCP_CLOSED, *epoch),
+            Signal::MicroRep { epoch } => self.put_u64(MICRO_REP, *epoch),
+            Signal::GcpClosedConf { epoch } => self.put_u64(GCP_CLOSED_CONF, *epoch),
         }
     }
 }
