@@ -95,5 +95,5 @@ abbrev pub LocalCheckpointsStand : Type 0
 LocalCheckpointsStand =
     (s : RowsState) (before : Rows) (noted : ℕ) (p : Portions) (file from epoch : ℕ) → AreAtRest noted s before
     → MayBeCut s p noted → HasPassed (end_of_walk s p file from epoch)
-    → (rows : Rows) × (AreReadAs noted file (end_of_walk s p file from epoch) rows
-    × ComeToTheSame noted rows (kept_records s p) before (all_records s p))
+    → (rows : Rows) × AreReadAs noted file (end_of_walk s p file from epoch) rows
+    × ComeToTheSame noted rows (kept_records s p) before (all_records s p)
