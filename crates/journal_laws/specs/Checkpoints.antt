@@ -1,5 +1,5 @@
--- A local checkpoint that is written while transactions go on, and takes the place of all that was before it: of the rows
--- at first, and of the records of the journal before a position.
+-- A local checkpoint that is written while transactions go on, and takes the place of all that was before it: of the
+-- rows at first, and of the records of the journal before a position.
 use Rattle.std.specs.Prelude.{◌≡◌, ◌≤◌, ◌<◌, ◌^◌, ℕ, List, [], ◌∷◌, ◌++◌, None, Ok}
 use Rattle.std.specs.FinMap as map
 use Rattle.sig_core.specs.declared.redo.Redo.{Redo}
@@ -28,8 +28,9 @@ abbrev pub moment_behind : Moment → List Event → Moment
 moment_behind m [] = m
 moment_behind m (event ∷ older) = next event (moment_behind m older)
 
--- What went on at the rows, the newest first, in four portions: what followed the walk; what went on while it was on its
--- way, with its own steps; what the journal had from the walk's position on as it began; and what the journal gave up.
+-- What went on at the rows, the newest first, in four portions: what followed the walk; what went on while it was on
+-- its way, with its own steps; what the journal had from the walk's position on as it began; and what the journal gave
+-- up.
 pub record Portions : Type 0 where
   pub later : List Event
   pub meanwhile : List Event
@@ -69,8 +70,8 @@ module _ (s : RowsState) (p : Portions) where
   abbrev pub end_of_walk : ℕ → ℕ → ℕ → Moment
   end_of_walk file from epoch = moment_behind (at_first rows_at_walk records_at_walk file from epoch) p.meanwhile
 
-  -- Until the walk ended who prepared had the lock, and no commit was later than is noted; as it began, the records from
-  -- its position on had what was prepared.
+  -- Until the walk ended who prepared had the lock, and no commit was later than is noted; as it began, the records
+  -- from its position on had what was prepared.
   pub record MayBeCut (noted : ℕ) : Type 0 where
     pub locks : HaveKeptLocks noted s (until_end p)
     pub prepares : HasPrepares rows_at_walk records_at_walk
@@ -89,8 +90,8 @@ abbrev pub ComeToTheSame : ℕ → Rows → List Redo → Rows → List Redo →
 ComeToTheSame noted rows records before others =
     (epoch : ℕ) → noted ≤ epoch → replayed epoch rows records ≡ replayed epoch before others
 
--- What a walk has given out once it has passed all rows is a checkpoint, and its rows, with the records that the journal
--- still has, come to what the rows at first come to with the records of all that went on.
+-- What a walk has given out once it has passed all rows is a checkpoint, and its rows, with the records that the
+-- journal still has, come to what the rows at first come to with the records of all that went on.
 abbrev pub LocalCheckpointsStand : Type 0
 LocalCheckpointsStand =
     (s : RowsState) (before : Rows) (noted : ℕ) (p : Portions) (file from epoch : ℕ) → AreAtRest noted s before

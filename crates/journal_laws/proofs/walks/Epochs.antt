@@ -1,5 +1,5 @@
--- What a walk gives out doesn't depend on the epoch that it notes; and that is no later than the commits that it was told
--- of.
+-- What a walk gives out doesn't depend on the epoch that it notes; and that is no later than the commits that it was
+-- told of.
 use Rattle.std.proofs.Common.{◌≡◌, ◌≤◌, ℕ, List, [], ◌∷◌, max, refl, ap, ◌∙◌, arith}
 use Rattle.std.specs.Prelude.{Option, None, Some}
 use Rattle.sig_core.specs.declared.member.TxId.{TxId}
@@ -25,7 +25,8 @@ module _ (m : Moment) (epoch : ℕ) where
       → IsButEpoch
       (moment (commit_record m.rows tx key at) (log_if (redo.Commit tx at key) o m.log)
       (noting_if (had_noted m epoch).walk at o) m.pieces)
-      (moment (commit_record m.rows tx key at) (log_if (redo.Commit tx at key) o m.log) (noting_if m.walk at o) m.pieces)
+      (moment (commit_record m.rows tx key at) (log_if (redo.Commit tx at key) o m.log) (noting_if m.walk at o)
+          m.pieces)
   commit_but tx key at None = (epoch, refl)
   commit_but tx key at (Some image) = (max epoch at, refl)
 

@@ -13,7 +13,7 @@ use Rattle.local_ckpt.specs.Events.{Abort, Commit, Complete, Event, Prepare, Ste
 use Rattle.local_ckpt.specs.Laws.{IsEvent, IsImage, IsReadable}
 use Rattle.local_ckpt.specs.Locking.{AreKept, IsAlone, KeepLocks, KeepsLock}
 use Rattle.local_ckpt.specs.Orderly.{IsOrderly, image_in, prepared_in}
-use Rattle.local_ckpt.proofs.EventLemmas.{LeavesRows, Prepared, Rewrites, aborts, commits, commits_row, completes}
+use Rattle.local_ckpt.proofs.EventLemmas.{Prepared, Rewrites, aborts, commits, commits_row, completes}
 use Rattle.local_ckpt.proofs.EventLemmas.{stores, stores_rows}
 use Rattle.local_ckpt.proofs.RecordLemmas.{by_record, commits_nothing, is_same}
 use Rattle.journal_laws.specs.Checkpoints.{HaveKeptLocks}
