@@ -26,7 +26,7 @@ module _ (m : Moment) (epoch : ℕ) where
       (moment (commit_record m.rows tx key at) (log_if (redo.Commit tx at key) o m.log)
       (noting_if (had_noted m epoch).walk at o) m.pieces)
       (moment (commit_record m.rows tx key at) (log_if (redo.Commit tx at key) o m.log) (noting_if m.walk at o)
-          m.pieces)
+      m.pieces)
   commit_but tx key at None = (epoch, refl)
   commit_but tx key at (Some image) = (max epoch at, refl)
 

@@ -20,7 +20,8 @@ use Rattle.local_ckpt.proofs.LockLemmas.{may_begin}
 use Rattle.local_ckpt.proofs.WayLemmas.{IsUnderWay, checkpoint_bytes}
 use Rattle.row_records.proofs.PlaceLemmas.{row_of-at}
 use Rattle.journal_laws.specs.Checkpoints.{AreAtRest, HasPassed, HaveKeptLocks, LocalCheckpointsStand, MayBeCut}
-use Rattle.journal_laws.specs.Checkpoints.{Portions, before_walk, end_of_walk, moment_behind, records_at_walk, rows_at_walk, whole}
+use Rattle.journal_laws.specs.Checkpoints.{Portions, before_walk, end_of_walk, moment_behind}
+use Rattle.journal_laws.specs.Checkpoints.{records_at_walk, rows_at_walk, whole}
 use Rattle.journal_laws.specs.Events.{own_behind, records_behind, rows_behind}
 use Rattle.journal_laws.proofs.replays.OwnRows.{own_rows}
 use Rattle.journal_laws.proofs.replays.Replays.{replays}

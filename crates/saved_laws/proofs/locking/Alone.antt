@@ -76,10 +76,9 @@ module _ (start : Start) (all : ℕ → List HostStep) (es : List HostStep) (mom
     -- which nobody else does
     alone_now : AreLocked now.rows
     alone_now tx key image here other another also =
+        let well = rows_well start member there (logs_of start es (ldm_of start member)) in
         let same : other ≡ tx =
-        only_holder (holders_at key) ((rows_well start member there
-            (logs_of start es (ldm_of start member))).orderly.each
-        key).agreed tx other (holds_lock tx key image here)
+        only_holder (holders_at key) (well.orderly.each key).agreed tx other (holds_lock tx key image here)
         (holds_so other Exclusive (holders_at key) (holds_lock other key another also)) in
         ap (same_tx tx) same ∙ same_tx-self tx
 
