@@ -1,5 +1,5 @@
--- The closing of epochs, and local checkpoints: at most one of them is asked for at a time, at the president's master of
--- checkpoints.
+-- The closing of epochs, and local checkpoints: at most one of them is asked for at a time, at the president's master
+-- of checkpoints.
 use Rattle.std.specs.Prelude.{ℕ, Bool, true, false, is_some, List, [], ◌∷◌, Option, None, Some}
 use Rattle.sig_core.specs.declared.outs.Outgoing.{Outgoing}
 use Rattle.sig_core.specs.declared.place.BlockId.TheVariants.{Api}

@@ -1,7 +1,8 @@
 -- The phases of a closing, by the confirmations of the members.
-use Rattle.std.specs.Prelude.{ℕ, ◌==◌, ◌&&◌, Bool, true, false, not, Some}
+use Rattle.std.specs.Prelude.{ℕ, ◌==◌, ◌&&◌, Bool, true, false, not, [], Some}
 use Rattle.sig_core.specs.declared.mark.Mark.TheVariants.{Closed, Durable}
 use Rattle.sig_core.specs.Step.{Step, stay}
+use Rattle.gcp_master.specs.declared.local.Local.{Local}
 use Rattle.gcp_master.specs.declared.local.LocalStage.TheVariants.{Switching}
 use Rattle.gcp_master.specs.declared.orders.Ended.{Ended}
 use Rattle.gcp_master.specs.declared.orders.Ended.TheVariants.{Micro, Global}
@@ -12,7 +13,7 @@ use Rattle.gcp_master.specs.declared.voices.Voice.{Voice}
 use Rattle.gcp_master.specs.Begin.{begins}
 use Rattle.gcp_master.specs.Numbers.{is_first}
 use Rattle.gcp_master.specs.Sends.{entering, marking}
-use Rattle.gcp_master.specs.State.{MasterState, all_in, at_phase, at_stage, counted, counts}
+use Rattle.gcp_master.specs.State.{MasterState, all_in, at_phase, counted, counts}
 
 -- the members prepare: when all have, they are to commit
 abbrev pub prepared_if : MasterState → Run → Bool → Step MasterState
@@ -98,16 +99,19 @@ save_by s voice epoch _ = stay s
 unfoldable pub save_row : MasterState → Voice → ℕ → Step MasterState
 save_row s voice epoch = save_by s voice epoch s.phase
 
--- a local checkpoint that asked for a closing that has ended goes on: the rows are to switch
-abbrev pub switching_if : MasterState → ℕ → Bool → MasterState
-switching_if s epoch true = at_stage s (Switching epoch)
-switching_if s epoch false = s
+-- behind a global checkpoint that a local one asked for the rows are to switch
+abbrev pub switching_if : Local → ℕ → Bool → Local
+switching_if local epoch true = record { stage = Switching epoch; voices = [] }
+switching_if local epoch false = local
+
+abbrev pub switching : MasterState → Run → MasterState
+switching s run = record s { local = switching_if s.local run.epoch run.local }
 
 -- the members write the system file: when all have, the epoch is durable
 abbrev pub copied_if : MasterState → Run → Bool → Step MasterState
 copied_if s run true =
     marking (Durable run.epoch)
-    (ended (switching_if s run.epoch run.local) run (Global run.epoch run.copy run.local))
+    (ended (switching s run) run (Global run.epoch run.copy run.local))
 copied_if s run false = stay s
 
 abbrev pub copy_if : MasterState → Voice → Run → Bool → Step MasterState

@@ -1,5 +1,5 @@
--- Local checkpoints: the rows of all full members write what they have, a global checkpoint follows, and then they switch
--- to what they wrote.
+-- Local checkpoints: the rows of all full members write what they have, a global checkpoint follows, and then they
+-- switch to what they wrote.
 use Rattle.std.specs.Prelude.{ℕ, ◌&&◌, ◌++◌, Bool, true, false, not, nat_lt, List, [], ◌∷◌, length}
 use Rattle.sig_core.specs.declared.outs.Outgoing.{Outgoing}
 use Rattle.sig_core.specs.declared.place.BlockId.TheVariants.{Lqh}
