@@ -150,10 +150,17 @@ listing_state s at Q same told = by (nat_lt (at + PORTION) (length (master_sends
     by true = same
     by false = told
 
+-- what is sent where a local checkpoint begins
+pub walking_does : (s : MasterState) (P : Outgoing → Type 0) (M : Mark → Type 0)
+    → ((member : Member) → IsIn member s.view.full
+    → P (to_place (record { node = member.node; block = Lqh }) (Checkpoint LcpFragOrd)))
+    → Does P M (walking s)
+unfolding order_body
+walking_does s P M own = (mapped_order s P Lqh Walk s.view.full own, tt)
+
 -- all that it sends and marks
 pub master_each : (s : MasterState) (x : Signal) (P : Outgoing → Type 0) (M : Mark → Type 0) → MasterForms s x P M
     → Does P M (master_row s x)
-unfolding order_body
 master_each s x P M forms =
     master_steps s x (λ step. Does P M step) (record {
       stays = λ t. (tt, tt);
@@ -163,8 +170,7 @@ master_each s x P M forms =
           let does = listing_does t 0 P M (forms.lists t member view) in
           (does.0, (forms.closed run at is, does.1));
       makes_durable = λ run step is at on all does. (does.0, (forms.durable run is at on all, does.1));
-      walks = λ is at first.
-          (mapped_order s P Lqh Walk s.view.full (λ member there. forms.walks member is at first there), tt);
+      walks = λ is at first. walking_does s P M (λ member there. forms.walks member is at first there);
       tells_local = λ epoch is at. ((forms.tells_local epoch is at, tt), tt);
     })
 
