@@ -1,4 +1,4 @@
-//! The master of a cluster's epochs: it closes them, and makes them durable.
+//! The master of a cluster's epochs: it closes them, makes them durable, and drives local checkpoints.
 #![tactic(auto)]
 
 mod begin;
