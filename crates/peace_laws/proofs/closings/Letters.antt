@@ -102,6 +102,8 @@ module _ (start : Start) (shape : IsShape start.shape) (c : Course) where
   order_sound (order.Copy epoch m) fits mask =
       ap (is_mask start.shape) mask ∙ mask_fits start.shape.nodes shape.nodes_some shape.nodes_few
   order_sound (order.Done epoch) fits mask = refl
+  order_sound order.Walk fits mask = absurd fits
+  order_sound order.Switch fits mask = absurd fits
 
   order_open : (o : Order) (cause : StopCause) → order_body o ≡ Host (Closed cause) → ⊥
   unfolding order_body
@@ -112,6 +114,8 @@ module _ (start : Start) (shape : IsShape start.shape) (c : Course) where
   order_open (order.Save epoch) cause is = absurd (cc (is))
   order_open (order.Copy epoch m) cause is = absurd (cc (is))
   order_open (order.Done epoch) cause is = absurd (cc (is))
+  order_open order.Walk cause is = absurd (cc (is))
+  order_open order.Switch cause is = absurd (cc (is))
 
   order_closes : (rows : Bool) (body : Body) → IsSend main (block_of rows) body
       → is_for_closing (block_of rows) body ≡ true
