@@ -18,17 +18,16 @@ use Rattle.sig_core.specs.declared.signal.checkpoint.CheckpointSignal.TheVariant
 use Rattle.sig_core.specs.declared.signal.epoch.EpochSignal.TheVariants.{GcpNodeFinish, CopyGciConf}
 use Rattle.sig_core.specs.declared.signal.takeover.TakeoverSignal.TheVariants.{TakeoverEnd}
 use Rattle.sig_core.specs.Place.{client}
-use Rattle.sig_core.specs.Step.{Step, sends_only, stay, to_place}
+use Rattle.sig_core.specs.Step.{Step, stay, to_place}
 use Rattle.step_forms.specs.Does.{Does, IsAmong, IsWord}
 use Rattle.gcp_master.specs.declared.local.LocalStage.TheVariants.{Idle, Switching}
 use Rattle.gcp_master.specs.declared.orders.Order.TheVariants.{Walk}
 use Rattle.gcp_master.specs.declared.phase.Phase.TheVariants.{Committing, Copying}
 use Rattle.gcp_master.specs.declared.phase.Run.{Run}
-use Rattle.gcp_master.specs.Local.{local_told}
 use Rattle.gcp_master.specs.Master.{master_row}
 use Rattle.gcp_master.specs.Orders.{order_body}
 use Rattle.gcp_master.specs.Resume.{is_president}
-use Rattle.gcp_master.specs.Sends.{list_effects, listing, marking, master_sends, orders_at, told_if}
+use Rattle.gcp_master.specs.Sends.{list_effects, listing, marking, master_sends, told_if}
 use Rattle.gcp_master.specs.State.{MasterState, all_in, counts}
 use Rattle.gcp_master.specs.Voices.{has_all, voices_of}
 use Rattle.gcp_master.specs.Words.{MasterKeepsToItsWords, is_master_mark, is_master_word}

@@ -290,8 +290,7 @@ module _ (closers : ClosersHaveHeardAll) (durable : DurableWereClosed) (uncounte
         moment_before start large found.newer (found.event ∷ found.older)
         (subst (IsMoment start large) found.is (cut_moment start small large less more cut)) in
         let closing = closers start large found.event found.older begins moment epoch found.there in
-        stays_there start large more z there wrote uncounted forgotten leaves small begins less cut epoch low
-            found.newer
+        stays_there start large more z there wrote uncounted forgotten leaves small begins less cut epoch low found.newer
         found.event found.older found.is closing.member closing.is
         (president_made start large (found.event ∷ found.older) moment closing.member closing.is.president)
 
@@ -304,6 +303,5 @@ module _ (closers : ClosersHaveHeardAll) (durable : DurableWereClosed) (uncounte
             closed_stay start small large begins less more cut epoch
             (record { host = h; below = below; marked = closed }) z there wrote low
         by (inr saved) =
-            closed_stay start small large begins less more cut epoch
-                (durable start small begins less h epoch below saved) z
+            closed_stay start small large begins less more cut epoch (durable start small begins less h epoch below saved) z
             there wrote low

@@ -388,8 +388,7 @@ overs_first start = record {
     rests : (member : Member) → IsIn member (made start)
         → is_at_work (takeover_at start (logs_of start []) member).stage ≡ false
     rests member there =
-        ap (λ (s : node.HostBody). is_at_work (takeover_in (resting member.node (first_layout start.shape))
-            s.parts).stage)
+        ap (λ (s : node.HostBody). is_at_work (takeover_in (resting member.node (first_layout start.shape)) s.parts).stage)
         (tc_started start member there)
 
 overs_stand : (start : Start) (all : ℕ → List HostStep) (es : List HostStep) → IsMoment start all es

@@ -171,8 +171,7 @@ module _ (start : Start) (member : Member) (there : IsIn member (made start)) (t
     -- the coordinator behind the event is that of the part that the step leaves
     now_is : (p : TcPart) → (step_after start h log e).state.parts ≡ part.Tc p → c (e ∷ log) ≡ p.coordinator
     now_is p is =
-        ap (λ (s : hosts.HostBody). coordinator_in (fresh_coordinator member.node member.start
-            (first_layout start.shape))
+        ap (λ (s : hosts.HostBody). coordinator_in (fresh_coordinator member.node member.start (first_layout start.shape))
         s.parts)
         (told_some h (part_some start Tc member) (step_after start h log e))
         ∙ ap (coordinator_in (fresh_coordinator member.node member.start (first_layout start.shape))) is

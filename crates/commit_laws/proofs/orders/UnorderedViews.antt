@@ -85,8 +85,7 @@ module _ (start : Start) (number : ℕ) where
         ap (λ (s : hosts.HostBody). (takeover_in (resting member.node (first_layout start.shape)) s.parts).stage)
         (tc_started start member there);
     reports = λ member there stands.
-        ap (λ (s : hosts.HostBody). (rows_in (no_replica start member) s.parts).report)
-            (ldm_started start member there);
+        ap (λ (s : hosts.HostBody). (rows_in (no_replica start member) s.parts).report) (ldm_started start member there);
   }
 
 module _ (start : Start) (all : ℕ → List HostStep) (e : HostStep) (es : List HostStep)

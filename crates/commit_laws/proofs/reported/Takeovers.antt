@@ -422,8 +422,7 @@ module _ (list : GatheringsList) (start : Start) (all : ℕ → List HostStep) (
               where
                 next_view : step.state.standing.view ≡ view
                 next_view =
-                    ap (λ (s : hosts.HostBody). s.standing.view)
-                        (sym (told_some h (part_some start kinds.Tc member) step))
+                    ap (λ (s : hosts.HostBody). s.standing.view) (sym (told_some h (part_some start kinds.Tc member) step))
 
                 by : HostGoes start.shape (part.Tc own.own) stood x step → Behind
                 by (halts is) = absurd (true≢false (sym (ap stops_by marks ∙ is) ∙ runs))

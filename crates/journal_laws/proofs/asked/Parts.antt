@@ -126,8 +126,7 @@ module _ (x : Signal) (asked : IsWellAsked x.body) where
       by : (b : BlockId) → PartsWell (Shell (shell_row p b x).state) × AllAsk (shell_row p b x).effects
       by block.Api = client_asks p.client x well asked
       by block.Arbiter =
-          (well, spoken is_arbiter_word is_arbiter_mark (arbiter_row p.arbiter x) of_arbiter
-              (arbiter_words p.arbiter x))
+          (well, spoken is_arbiter_word is_arbiter_mark (arbiter_row p.arbiter x) of_arbiter (arbiter_words p.arbiter x))
       by _ = (well, tt)
 
   main_well : (p : MainPart) → StayWell (parts_row (Main p) x)
@@ -135,8 +134,7 @@ module _ (x : Signal) (asked : IsWellAsked x.body) where
   main_well p = by x.to.block
     where
       by : (b : BlockId) → PartsWell (Main (main_row p b x).state) × AllAsk (main_row p b x).effects
-      by block.Qmgr =
-          (tt, spoken is_qmgr_word is_qmgr_mark (qmgr_row p.qmgr x) of_qmgr (qmgr_words.at_signals p.qmgr x))
+      by block.Qmgr = (tt, spoken is_qmgr_word is_qmgr_mark (qmgr_row p.qmgr x) of_qmgr (qmgr_words.at_signals p.qmgr x))
       by block.GcpMaster =
           (tt, spoken is_master_word is_master_mark (master_row p.master x) of_master (master_words p.master x))
       by _ = (tt, tt)
@@ -174,8 +172,7 @@ entered_well : (parts : Parts) (view : View) → PartsWell parts → StayWell (p
 unfolding noted
 entered_well (Shell p) view well = (well, tt)
 entered_well (Main p) view well =
-    (tt, spoken is_qmgr_word is_qmgr_mark (qmgr_installed p.qmgr view) of_qmgr
-        (qmgr_words.at_installations p.qmgr view))
+    (tt, spoken is_qmgr_word is_qmgr_mark (qmgr_installed p.qmgr view) of_qmgr (qmgr_words.at_installations p.qmgr view))
 entered_well (Tc p) view well =
     let then = coordinator_installs p.coordinator view well in (
       then.0,

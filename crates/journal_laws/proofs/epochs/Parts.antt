@@ -86,8 +86,7 @@ module _ {S : Type 0} (is_word : Body → Bool) (is_mark : Mark → Bool) (step 
   marks_low : ((mark : Mark) → is_mark mark ≡ true → MarksLow mark) → Each MarksLow step.effects.marks
   marks_low low = each_map (IsAmong is_mark) MarksLow step.effects.marks low speaks.1
 
-  spoken : ((body : Body) → is_word body ≡ true → IsLowTold body)
-      → ((mark : Mark) → is_mark mark ≡ true → MarksLow mark)
+  spoken : ((body : Body) → is_word body ≡ true → IsLowTold body) → ((mark : Mark) → is_mark mark ≡ true → MarksLow mark)
       → AllLow step.effects
   spoken low marks = (
     each_map (IsWord is_word) TellsLow step.effects.sends (λ sent is. low sent.body is) speaks.0,

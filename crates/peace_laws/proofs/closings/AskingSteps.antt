@@ -47,7 +47,7 @@ use Rattle.world_views.specs.Machine.{replies_at, step_by, stops_by, told}
 use Rattle.calm_laws.specs.Alike.{IsAtEase, first}
 use Rattle.calm_laws.proofs.plain_steps.Client.{some_runs}
 use Rattle.peace_laws.specs.Alike.{AreNear, ArePartsNear, RestsOfClosings}
-use Rattle.peace_laws.specs.Closing.{closes_epoch}
+use Rattle.peace_laws.specs.Closing.{Course, closes_epoch}
 use Rattle.peace_laws.specs.Parts.{plain_replies}
 use Rattle.peace_laws.specs.Peace.{asks_by, is_closing_request}
 use Rattle.peace_laws.specs.Steps.{ClosingsAreAskedNear, IsForMaster, IsOfClosing}
@@ -77,6 +77,10 @@ pub closing_closes : (r : ApiReq) → closes_epoch (closing_of r) ≡ true
 closing_closes request.Micro = refl
 closing_closes _ = refl
 
+abbrev pub course_of : ApiReq → ℕ → ℕ → List ApiReply → Course
+course_of request epoch next before =
+    record { epoch = epoch; next = next; kind = closing_of request; closes = closing_closes request; before = before }
+
 -- the client's side asks for it
 abbrev pub asks_for : ClientState → Closing → Step ClientState
 asks_for s closing =
@@ -86,8 +90,7 @@ asks_for s closing =
     }
 
 -- a step of a host and one of its plain one, where the one is asked for a closing
-record AskedNear (start : Start) (given : List ApiReply) (t : Step host.HostBody) (other : Step plain.Host) : Type 0
-    where
+record AskedNear (start : Start) (given : List ApiReply) (t : Step host.HostBody) (other : Step plain.Host) : Type 0 where
   near : AreNear start given (told 0 t) other.state
   plain : other.effects.sends ≡ []
   plain_marks : other.effects.marks ≡ []

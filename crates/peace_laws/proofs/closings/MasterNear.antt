@@ -91,7 +91,7 @@ front_told node view (Some (Global epoch copy local)) is =
     (both_told (order.Done epoch) view (λ member. (refl, refl)) (λ member. (refl, refl))) (
       (refl, refl),
       each_append Told (to_copying node epoch copy) (to_switch view local) (copying_told node epoch copy is.0)
-      (switching_told view local is.1),
+          (switching_told view local is.1),
     )
 
 phase_told : (view : View) (p : Phase) → IsPhaseNear p → Each Told (phase_sends view p)

@@ -51,7 +51,11 @@ module _ (start : Start) (epoch : ℕ) (s : MasterState) (rests : PresidentRests
       ∙ is
 
   global_spent : next_of Gcp epoch ≡ None
-      → list_any is_spent (asked_row s (record { global = true; copy = false; local = false; micro = false
+      → list_any is_spent (asked_row s (record {
+        global = true;
+        copy = false;
+        local = false;
+        micro = false;
       })).effects.marks ≡ true
   unfolding begins begun
   global_spent none =
@@ -60,13 +64,17 @@ module _ (start : Start) (epoch : ℕ) (s : MasterState) (rests : PresidentRests
       list_any is_spent
       (begins_if
       (begin_global (record s { asked = record { global = true; copy = false; local = false; micro = false } }) epoch
-          next).state
+      next).state
       (begin_global (record s { asked = record { global = true; copy = false; local = false; micro = false } }) epoch
-          next).spent
+      next).spent
       (is_some s.front)).effects.marks) none)
 
   micro_spent : next_of Micro epoch ≡ None
-      → list_any is_spent (asked_row s (record { global = false; copy = false; local = false; micro = true
+      → list_any is_spent (asked_row s (record {
+        global = false;
+        copy = false;
+        local = false;
+        micro = true;
       })).effects.marks ≡ true
   unfolding begins begun
   micro_spent none =
@@ -75,9 +83,9 @@ module _ (start : Start) (epoch : ℕ) (s : MasterState) (rests : PresidentRests
       list_any is_spent
       (begins_if
       (begin_micro (record s { asked = record { global = false; copy = false; local = false; micro = true } }) epoch
-          next).state
+      next).state
       (begin_micro (record s { asked = record { global = false; copy = false; local = false; micro = true } }) epoch
-          next).spent
+      next).spent
       (is_some s.front)).effects.marks) none)
 
   spent_by : (kind : Closing) → closes_epoch kind ≡ true → next_of kind epoch ≡ None → (x : Signal)
@@ -148,7 +156,7 @@ module _ (hosts_level : HostsAreLevel) (start : Start) (shape : IsShape start.sh
       (subst (λ k. MainRests start c.epoch (after start k (log_of (machine start) es k)).parts) (sym is_the.1.0)
       asked.rest.master)
       c.kind c.closes none x (ap (λ (o : Outgoing). o.body) is_the.1.1) (ap (λ (o : Outgoing). o.to.block) is_the.1.1)
-          node
+      node
 
   pub none_takes : ⊥
   none_takes = true≢false (sym spends_it ∙ unspent)
