@@ -1,0 +1,5 @@
+pub mod Redo
+pub mod Saver
+pub mod State
+pub mod Switching
+pub mod Walking

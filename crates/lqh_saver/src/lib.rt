@@ -1,0 +1,11 @@
+//! What the rows of a node do for local checkpoints and for the redo before them: a layer round the rows.
+#![tactic(auto)]
+
+mod redo;
+mod saver;
+mod stage;
+mod switching;
+mod walking;
+
+pub use saver::Saver;
+pub use stage::{Stage, Todo};
