@@ -12,7 +12,7 @@ use Rattle.lqh_saver.specs.State.{greater}
 -- the record that was read, in front of those behind its bytes; none where there is none
 abbrev pub records_by : Result (Redo × ℕ) FormatFault → (ℕ → List (Redo × ℕ)) → List (Redo × ℕ)
 records_by (Err fault) behind = []
-records_by (Ok (redo, len)) behind = (redo, len) ∷ behind len
+records_by (Ok found) behind = found ∷ behind found.1
 
 -- the records that bytes begin with, at most so many, each with how many bytes it takes
 unfoldable pub records_of : ℕ → List ℕ → List (Redo × ℕ)
@@ -36,8 +36,8 @@ is_unfinished rows _ = false
 -- the position of the first such record, where the first of these stands at this one; the end where there is none
 abbrev pub oldest_from : RowsState → ℕ → List (Redo × ℕ) → ℕ
 oldest_from rows at [] = at
-oldest_from rows at ((redo, len) ∷ records) =
-    if is_unfinished rows redo then at else oldest_from rows (at + len) records
+oldest_from rows at (found ∷ records) =
+    if is_unfinished rows found.0 then at else oldest_from rows (at + found.1) records
 
 abbrev pub oldest : RowsState → OutletState → ℕ
 oldest rows o = oldest_from rows o.flushed (kept_records o)
@@ -50,7 +50,7 @@ noting epoch _ = epoch
 -- the greatest epoch of these records and of one before them
 abbrev pub noted_from : ℕ → List (Redo × ℕ) → ℕ
 noted_from epoch [] = epoch
-noted_from epoch ((redo, len) ∷ records) = noted_from (noting epoch redo) records
+noted_from epoch (found ∷ records) = noted_from (noting epoch found.0) records
 
 abbrev pub noted : ℕ → OutletState → ℕ
 noted floor o = noted_from floor (kept_records o)

@@ -23,8 +23,9 @@ pub(crate) fn oldest<R: Rows>(rows: &R, log: &Log) -> u64
                 if is_unfinished(rows, &redo) {
                     return at;
                 }
+                let (_, behind) = rest.split_at(len);
                 at += len as u64;
-                rest = &rest[len..];
+                rest = behind;
             }
             Err(_) => return at,
         }
@@ -56,8 +57,9 @@ pub(crate) fn noted(floor: u64, log: &Log) -> u64
     'records: while !rest.is_empty() {
         match decode(rest) {
             Ok((redo, len)) => {
+                let (_, behind) = rest.split_at(len);
                 epoch = noting(epoch, &redo);
-                rest = &rest[len..];
+                rest = behind;
             }
             Err(_) => return epoch,
         }

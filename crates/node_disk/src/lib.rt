@@ -2,6 +2,7 @@
 //! Each save is made whole, between two steps of the node.
 #![tactic(auto)]
 
+mod ckpt;
 mod found;
 mod laws;
 mod redo;
