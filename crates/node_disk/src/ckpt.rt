@@ -18,6 +18,7 @@ impl NodeSlots {
     ///
     /// # Errors
     /// `Failed`: the call of the disk failed.
+    #[tactic(auto, using(crate::proofs::CallLemmas::write_runs))]
     pub fn write_piece<D: Disk>(&self, disk: &mut D, piece: &Piece) -> Result<(), Failed>
         ensures runs { (calls : List Call) → D.told disk.old ≡ Some calls → Runs (walk_calls self.now piece.now) calls (D.told disk.new) (is_ok result) }
         ensures cause { OnErr result (Rose (D.faults disk.old) (D.faults disk.new)) }
@@ -30,6 +31,7 @@ impl NodeSlots {
     ///
     /// # Errors
     /// `Failed`: the call of the disk failed.
+    #[tactic(auto, using(sys_restart::proofs::PieceLemmas::sync_runs))]
     pub fn sync_pieces<D: Disk>(&self, disk: &mut D) -> Result<(), Failed>
         ensures runs { (calls : List Call) → D.told disk.old ≡ Some calls → Runs (settle_calls self.now) calls (D.told disk.new) (is_ok result) }
         ensures cause { OnErr result (Rose (D.faults disk.old) (D.faults disk.new)) }

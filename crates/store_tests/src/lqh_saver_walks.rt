@@ -329,7 +329,9 @@ fn redo_of_what_is_prepared_is_kept(rt: HostRuntime) -> Result<(), Fail> {
     let key = key_of(2)?;
     let tx = prepare(&mut node, Op::Put(key, Value::new(b"held")?))?;
     put(&mut node, 3, b"third", 1)?;
-    pass(&mut node, 1)?;
+    order(&mut node, CheckpointSignal::LcpFragOrd)?;
+    assert!(rt; walk(&mut node)? && walk(&mut node)? && !walk(&mut node)?);
+    assert_eq!(rt; node.reported, Some(1));
     close(&mut node, 1)?;
     order(&mut node, CheckpointSignal::LcpSwitch)?;
     assert_eq!(rt; (node.switches, node.slots.control().redo_start), (1, from));
