@@ -11,34 +11,59 @@ use Rattle.redo_log.specs.Stored.{files_of}
 use Rattle.sig_core.specs.declared.signal.Signal.{Signal}
 use Rattle.sysfile_core.specs.declared.place.TheConstants.{CONTROL_FILE}
 use Rattle.sysfile_core.specs.Runs.{Runs}
-use Rattle.disk_world.specs.Keeping.{Kept, RowsUpTo, calls_of, kept_beside, kept_of, redo_from, slots_after}
+use Rattle.lqh_saver.specs.declared.stage.Todo.{Todo}
+use Rattle.lqh_saver.specs.declared.stage.Todo.TheVariants as todo
+use Rattle.disk_world.specs.Keeping.{Kept, RowsUpTo, calls_of, kept_beside, kept_of, kept_unless, redo_from}
+use Rattle.disk_world.specs.Keeping.{slots_after, todo_in}
 
 redo_is : (log : LogState) (at : ℕ) → bytes_from log at ≡ redo_from (outlet_in log) at
 unfolding bytes_from
 redo_is log at = refl
 
-rows_kept : (s : HostBody) (log : LogState) (last : Option Signal) → outlet_of s.parts ≡ Some (outlet_in log)
-    → RowsUpTo (saved_by s.parts) (outlet_in log) ≡ kept_of s last
-rows_kept s log last is = sym (ap (λ found. kept_beside found s last) is)
+-- what is kept, where this is to be done of a local checkpoint
+pub done_kept : (s : HostBody) (log : LogState) (last : Option Signal) (it : Todo)
+    → outlet_of s.parts ≡ Some (outlet_in log) → todo_in s last ≡ it
+    → kept_unless (saved_by s.parts) (outlet_in log) it ≡ kept_of s last
+done_kept s log last it is done =
+    sym (ap (λ found. kept_beside found s last) is ∙ ap (kept_unless (saved_by s.parts) (outlet_in log)) done)
 
-pub rows_run : (s : HostBody) (log : LogState) (last : Option Signal) (slots : SlotsInUse) (epoch : ℕ)
-    (calls : List Call) (told : Option (List Call)) (ok : Bool) → outlet_of s.parts ≡ Some (outlet_in log)
-    → epoch ≡ saved_by s.parts
-    → Runs (rows_calls (files_of calls CONTROL_FILE) slots epoch (bytes_from log slots.control.redo_end)) calls told ok
+module _ (s : HostBody) (log : LogState) (last : Option Signal) (is : outlet_of s.parts ≡ Some (outlet_in log))
+    (none : todo_in s last ≡ todo.Nothing) where
+  rows_kept : RowsUpTo (saved_by s.parts) (outlet_in log) ≡ kept_of s last
+  rows_kept = done_kept s log last todo.Nothing is none
+
+  pub rows_run : (slots : SlotsInUse) (epoch : ℕ) (calls : List Call) (told : Option (List Call)) (ok : Bool)
+      → epoch ≡ saved_by s.parts
+      → Runs (rows_calls (files_of calls CONTROL_FILE) slots epoch (bytes_from log slots.control.redo_end)) calls told
+      ok
+      → Runs (calls_of (files_of calls) slots (kept_of s last)) calls told ok
+  rows_run slots epoch calls told ok saved runs =
+      subst (λ (kept : Kept). Runs (calls_of (files_of calls) slots kept) calls told ok) rows_kept
+      (subst (λ (at : ℕ). Runs (rows_calls (files_of calls CONTROL_FILE) slots at
+      (redo_from (outlet_in log) slots.control.redo_end)) calls told ok) saved
+      (subst (λ bytes. Runs (rows_calls (files_of calls CONTROL_FILE) slots epoch bytes) calls told ok)
+      (redo_is log slots.control.redo_end) runs))
+
+  pub rows_used : {E : Type 0} (result : Result (Unit {0}) E) (slots new : SlotsInUse) (epoch : ℕ)
+      → epoch ≡ saved_by s.parts
+      → OnOk result (new ≡ rows_saved slots epoch (bytes_from log slots.control.redo_end))
+      → OnOk result (new ≡ slots_after slots (kept_of s last))
+  rows_used (Ok done) slots new epoch saved same =
+      same ∙ ap (λ bytes. rows_saved slots epoch bytes) (redo_is log slots.control.redo_end)
+      ∙ ap (λ (at : ℕ). rows_saved slots at (redo_from (outlet_in log) slots.control.redo_end)) saved
+      ∙ ap (λ (kept : Kept). slots_after slots kept) rows_kept
+  rows_used (Err fault) slots new epoch saved same = tt
+
+-- so of what is done of a local checkpoint
+pub done_runs : (kept : Kept) (s : HostBody) (last : Option Signal) (slots : SlotsInUse) (calls : List Call)
+    (told : Option (List Call)) (ok : Bool) → kept ≡ kept_of s last
+    → Runs (calls_of (files_of calls) slots kept) calls told ok
     → Runs (calls_of (files_of calls) slots (kept_of s last)) calls told ok
-rows_run s log last slots epoch calls told ok is saved runs =
-    subst (λ (kept : Kept). Runs (calls_of (files_of calls) slots kept) calls told ok) (rows_kept s log last is)
-    (subst (λ (at : ℕ). Runs (rows_calls (files_of calls CONTROL_FILE) slots at
-    (redo_from (outlet_in log) slots.control.redo_end)) calls told ok) saved
-    (subst (λ bytes. Runs (rows_calls (files_of calls CONTROL_FILE) slots epoch bytes) calls told ok)
-    (redo_is log slots.control.redo_end) runs))
+done_runs kept s last slots calls told ok is =
+    subst (λ (kept : Kept). Runs (calls_of (files_of calls) slots kept) calls told ok) is
 
-pub rows_used : {E : Type 0} (result : Result (Unit {0}) E) (s : HostBody) (log : LogState) (last : Option Signal)
-    (slots new : SlotsInUse) (epoch : ℕ) → outlet_of s.parts ≡ Some (outlet_in log) → epoch ≡ saved_by s.parts
-    → OnOk result (new ≡ rows_saved slots epoch (bytes_from log slots.control.redo_end))
+pub done_used : {E : Type 0} (result : Result (Unit {0}) E) (kept : Kept) (s : HostBody) (last : Option Signal)
+    (slots new : SlotsInUse) → kept ≡ kept_of s last → OnOk result (new ≡ slots_after slots kept)
     → OnOk result (new ≡ slots_after slots (kept_of s last))
-rows_used (Ok done) s log last slots new epoch is saved same =
-    same ∙ ap (λ bytes. rows_saved slots epoch bytes) (redo_is log slots.control.redo_end)
-    ∙ ap (λ (at : ℕ). rows_saved slots at (redo_from (outlet_in log) slots.control.redo_end)) saved
-    ∙ ap (λ (kept : Kept). slots_after slots kept) (rows_kept s log last is)
-rows_used (Err fault) s log last slots new epoch is saved same = tt
+done_used result kept s last slots new is =
+    subst (λ (kept : Kept). OnOk result (new ≡ slots_after slots kept)) is

@@ -31,7 +31,7 @@ use Rattle.lqh_saver.specs.declared.stage.Todo.TheVariants as todo
 use Rattle.lqh_saver.specs.Laws.{GivesUp, LeavesRows, RowsCase, StepsAreOfRows, TakesRows, gives_up, leaves, takes}
 use Rattle.lqh_saver.specs.Redo.{noted}
 use Rattle.lqh_saver.specs.Saver.{idling, in_rows, noticing, passed, saver_by, saver_installed, saver_row, with_durable}
-use Rattle.lqh_saver.specs.State.{SaverState, SavingState}
+use Rattle.lqh_saver.specs.State.{SaverState, SavingState, with_saved_end}
 use Rattle.lqh_saver.specs.Switching.{has_position, is_usable, switch_by, switch_if}
 use Rattle.lqh_saver.specs.Walking.{ends_walk, going_on, order_row, passes, walk_by, walk_if}
 use Rattle.lqh_saver.specs.Words.{SaverKeepsToItsWords, is_saver_word}
@@ -151,13 +151,15 @@ is_word (Checkpoint LcpSwitchConf) is = refl
 is_word (Host (Continue work.Walk at)) is = refl
 is_word _ is = is
 
+pub rows_words : (s : ReplicaState) (x : Signal) → Speaks is_saver_word is_replica_mark (replica_row s x)
+rows_words s x =
+    does_map (IsWord is_replica_word) (IsWord is_saver_word) (IsAmong is_replica_mark) (IsAmong is_replica_mark)
+    (replica_row s x) (λ sent is. is_word sent.body is) (λ mark is. is) (replica_words.takes s x)
+
 pub saver_words : SaverKeepsToItsWords
 saver_words = record {
   takes = λ s x.
-      saver_each s x (IsWord is_saver_word) (IsAmong is_replica_mark)
-      (does_map (IsWord is_replica_word) (IsWord is_saver_word) (IsAmong is_replica_mark) (IsAmong is_replica_mark)
-      (replica_row s.replica x) (λ sent is. is_word sent.body is) (λ mark is. is)
-      (replica_words.takes s.replica x))
+      saver_each s x (IsWord is_saver_word) (IsAmong is_replica_mark) (rows_words s.replica x)
       (record {
         goes_on = λ is. refl;
         reports = λ walk to is walking. refl;
@@ -171,21 +173,21 @@ module _ (v : SaverState) (saved : ℕ) (t : ReplicaState) where
   notices_stage : (noticing v saved t).stage ≡ v.stage
   notices_stage = by (nat_lt saved t.saved)
     where
-      by : (b : Bool) → (if b then record v { saved_end = end_of t.lqh.outlet } else v).stage ≡ v.stage
+      by : (b : Bool) → (if b then with_saved_end v (end_of t.lqh.outlet) else v).stage ≡ v.stage
       by true = refl
       by false = refl
 
   notices_floor : (noticing v saved t).floor ≡ v.floor
   notices_floor = by (nat_lt saved t.saved)
     where
-      by : (b : Bool) → (if b then record v { saved_end = end_of t.lqh.outlet } else v).floor ≡ v.floor
+      by : (b : Bool) → (if b then with_saved_end v (end_of t.lqh.outlet) else v).floor ≡ v.floor
       by true = refl
       by false = refl
 
   notices_todo : (noticing v saved t).todo ≡ v.todo
   notices_todo = by (nat_lt saved t.saved)
     where
-      by : (b : Bool) → (if b then record v { saved_end = end_of t.lqh.outlet } else v).todo ≡ v.todo
+      by : (b : Bool) → (if b then with_saved_end v (end_of t.lqh.outlet) else v).todo ≡ v.todo
       by true = refl
       by false = refl
 
