@@ -1,7 +1,8 @@
 -- Records gone through one by one.
-use Rattle.std.proofs.Common.{◌≡◌, ◌≤◌, ◌<◌, ◌+◌, ◌-◌, ◌∙◌, ℕ, zero, suc, Bool, true, false, nat_lt, List, [], ◌∷◌, length}
+use Rattle.std.proofs.Common.{◌≡◌, ◌≤◌, ◌<◌, ◌+◌, ◌-◌, ◌∙◌, ℕ, zero, suc, Bool, true, false, List, [], ◌∷◌, length}
 use Rattle.std.proofs.Common.{drop, refl, sym, ap, subst, arith}
 use Rattle.std.specs.Prelude.{if◌then◌else◌, Result, Ok, Err}
+use Rattle.std.proofs.lemmas.Bool.{le-ltb}
 use Rattle.std.proofs.lemmas.List.{length-drop}
 use Rattle.sig_core.specs.declared.redo.Redo.{Redo}
 use Rattle.sig_core.specs.Journal.{OutletState, end_of}
@@ -48,14 +49,11 @@ one_more (suc more) rest found some enough is found_is =
 -- no byte of a log was given out from where it begins
 all_left : (log : LogState) → bytes_from log log.flushed ≡ log.left
 unfolding bytes_from
-all_left log = by (nat_lt log.flushed log.flushed) refl
-  where
-    by : (b : Bool) → nat_lt log.flushed log.flushed ≡ b
-        → (if b then [] else drop (log.flushed - log.flushed) log.left) ≡ log.left
-    by true early = absurd (omega (arith, early))
-    by false late =
-        let none : log.flushed - log.flushed ≡ 0 = omega arith in
-        rw none refl
+all_left log =
+    let none : log.flushed - log.flushed ≡ 0 = omega arith in
+    ap (λ (b : Bool). if b then [] else drop (log.flushed - log.flushed) log.left)
+    (le-ltb log.flushed log.flushed (omega arith))
+    ∙ ap (λ (n : ℕ). drop n log.left) none
 
 -- The records up to a position were finished, and what is left leads to the same as all did.
 pub record IsSeeking (rows : RowsState) (o : OutletState) (at : ℕ) (rest : List ℕ) : Type 0 where
@@ -151,4 +149,7 @@ module _ (floor : ℕ) (o : OutletState) (epoch : ℕ) (rest : List ℕ) (seekin
         leads = sym (ap (noted_from epoch) split.split) ∙ seeking.leads;
       }
 
-pub ruleset fronts = (front_fits, front_some)
+-- what is behind a record is less
+pub fewer_behind : (rest : List ℕ) (found : Redo × ℕ) → 0 < length rest → IsDecoded rest found
+    → length (drop found.1 rest) < length rest
+fewer_behind rest found some is = omega (arith, some, front_some rest found is, length-drop found.1 rest)

@@ -1,5 +1,5 @@
 //! A local checkpoint takes the place of the one before, and redo is given up.
-ghost use Rattle.std.specs.Prelude.{◌≡◌, ◌&&◌, OnErr, OnOk};
+ghost use Rattle.std.specs.Prelude.{◌≡◌, true, OnErr, OnOk};
 ghost use Rattle.redo_log.specs.LogState.{outlet_in};
 ghost use Rattle.sig_core.specs.Step.{HasRoom, IsTaken, IsUntouched};
 ghost use Rattle.lqh_saver.specs.Saver.{idling};

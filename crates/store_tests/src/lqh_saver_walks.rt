@@ -39,11 +39,18 @@ struct Node {
     /// What the master was told last: the epoch of a walk's end, and how many switches were confirmed.
     reported: Option<u64>,
     switches: u64,
+    /// A call of its disk failed, and the node stopped.
+    stopped: bool,
 }
 
-// A node without rows, in the first life of its disk.
+// A node without rows, in the first life of its disk, whose calls don't fail.
 fn node_of(alloc: Global) -> Result<Node, Fail> {
-    let mut disks = [MemDisk::new(alloc, Vec::new(alloc), Vec::new(alloc))?];
+    node_on(alloc, MemDisk::new(alloc, Vec::new(alloc), Vec::new(alloc))?)
+}
+
+// One in the first life of this disk.
+fn node_on(alloc: Global, disk: MemDisk) -> Result<Node, Fail> {
+    let mut disks = [disk];
     let Ok(nothing) = restore(alloc, &mut disks, ALONE) else {
         return Err(Fail::from("the disk is read"));
     };
@@ -69,6 +76,7 @@ fn node_of(alloc: Global) -> Result<Node, Fail> {
         walks: false,
         reported: None,
         switches: 0,
+        stopped: false,
     })
 }
 
@@ -103,6 +111,9 @@ fn note(node: &mut Node, body: &Body) {
 
 // The node takes a signal, and its disk keeps what the step came to.
 fn take(node: &mut Node, body: Body) -> Result<(), Fail> {
+    if node.stopped {
+        return Ok(());
+    }
     let signal = Signal {
         from: HostId(1),
         member: FIRST,
@@ -121,11 +132,8 @@ fn take(node: &mut Node, body: Body) -> Result<(), Fail> {
         };
         note(node, &sent.body);
     }
-    if keep(node) {
-        Ok(())
-    } else {
-        Err(Fail::from("the disk keeps it"))
-    }
+    node.stopped = !keep(node);
+    Ok(())
 }
 
 // A transaction prepares this of a key.
@@ -205,11 +213,10 @@ fn close(node: &mut Node, epoch: u64) -> Result<(), Fail> {
 
 fn save(node: &mut Node, epoch: u64) -> Result<(), Fail> {
     take(node, Body::Epoch(EpochSignal::GcpSaveReq { epoch }))?;
-    if node.slots.save_system(&mut node.disks[0], epoch, 1).is_ok() {
-        Ok(())
-    } else {
-        Err(Fail::from("the epoch is noted"))
+    if !node.stopped {
+        node.stopped = node.slots.save_system(&mut node.disks[0], epoch, 1).is_err();
     }
+    Ok(())
 }
 
 // The walk goes on, if it wants to.
@@ -359,5 +366,66 @@ fn a_view_gives_a_walk_up(rt: HostRuntime) -> Result<(), Fail> {
     order(&mut node, CheckpointSignal::LcpSwitch)?;
     assert_eq!(rt; (node.switches, node.slots.control().ckpt_file), (1, 3));
     assert!(rt; restores(&mut node, 3)?);
+    Ok(())
+}
+
+// Three epochs with a checkpoint in each, in which one row becomes their number. Answers the last one that was
+// noted as durable.
+fn live(node: &mut Node) -> Result<u64, Fail> {
+    let mut noted = 0;
+    for epoch in 1..4u64 {
+        put(node, 1, b"other", epoch)?;
+        order(node, CheckpointSignal::LcpFragOrd)?;
+        for _ in 0..3 {
+            walk(node)?;
+        }
+        put(node, 0, &[b'0' + (epoch % 10) as u8], epoch)?;
+        close(node, epoch)?;
+        if !node.stopped {
+            noted = epoch;
+        }
+        order(node, CheckpointSignal::LcpSwitch)?;
+    }
+    Ok(noted)
+}
+
+// Where calls fail from one on and power is cut then: the epoch that was noted last, that which is restored, and what the
+// row is there.
+fn cut_at(alloc: Global, pass: u64, pick: u8) -> Result<(u64, u64, Option<Value>), Fail> {
+    let mut picks = Vec::new(alloc);
+    for _ in 0..80 {
+        picks.push(pick)?;
+    }
+    let mut node = node_on(alloc, MemDisk::fused(alloc, pass, picks)?)?;
+    let noted = live(&mut node)?;
+    node.disks[0].cut_power();
+    let Ok(found) = restore(alloc, &mut node.disks, ALONE) else {
+        return Err(Fail::from("the disk is restored"));
+    };
+    let row = match found.groups.as_slice().first() {
+        Some(rows) => rows.get(&key_of(0)?),
+        None => None,
+    };
+    Ok((noted, found.epoch, row))
+}
+
+#[test]
+fn a_cut_at_any_call_restores_an_epoch(rt: HostRuntime) -> Result<(), Fail> {
+    let alloc = rt.alloc();
+    let first = node_of(alloc)?.disks[0].calls();
+    let mut whole = node_of(alloc)?;
+    let noted = live(&mut whole)?;
+    assert_eq!(rt; (noted, whole.switches), (3, 3));
+    let calls = whole.disks[0].calls().saturating_sub(first);
+    for more in 0..calls {
+        for pick in [0, 255, 0x4e] {
+            let (noted, epoch, row) = cut_at(alloc, first.saturating_add(more), pick)?;
+            let wanted = match epoch {
+                0 => None,
+                epoch => Some(Value::new(&[b'0' + (epoch % 10) as u8])?),
+            };
+            assert!(rt; noted <= epoch && row == wanted, "{more} {pick}");
+        }
+    }
     Ok(())
 }
