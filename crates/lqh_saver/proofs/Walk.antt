@@ -11,7 +11,6 @@ use Rattle.sig_core.specs.declared.signal.checkpoint.CheckpointSignal.TheVariant
 use Rattle.sig_core.specs.declared.signal.epoch.EpochSignal.TheVariants.{GcpDone}
 use Rattle.sig_core.specs.declared.signal.host.HostSignal.TheVariants.{Continue}
 use Rattle.sig_core.specs.declared.signal.host.Work.TheVariants as work
-use Rattle.sig_core.specs.declared.view.View.{View}
 use Rattle.sig_core.specs.declared.walk.Finished.{Finished}
 use Rattle.sig_core.specs.Journal.{end_of}
 use Rattle.sig_core.specs.Place.{checkpoints, rows_of}
@@ -28,9 +27,9 @@ use Rattle.lqh_views.proofs.Walk.{replica_words}
 use Rattle.lqh_saver.specs.declared.stage.Stage.{Stage}
 use Rattle.lqh_saver.specs.declared.stage.Stage.TheVariants.{Resting, Walking, Walked}
 use Rattle.lqh_saver.specs.declared.stage.Todo.TheVariants as todo
-use Rattle.lqh_saver.specs.Laws.{GivesUp, LeavesRows, RowsCase, StepsAreOfRows, TakesRows, gives_up, leaves, takes}
+use Rattle.lqh_saver.specs.Laws.{RowsCase, StepsAreOfRows, gives_up, leaves, takes}
 use Rattle.lqh_saver.specs.Redo.{noted}
-use Rattle.lqh_saver.specs.Saver.{idling, in_rows, noticing, passed, saver_by, saver_installed, saver_row, with_durable}
+use Rattle.lqh_saver.specs.Saver.{idling, in_rows, noticing, passed, saver_by, saver_row, with_durable}
 use Rattle.lqh_saver.specs.State.{SaverState, SavingState, with_saved_end}
 use Rattle.lqh_saver.specs.Switching.{has_position, is_usable, switch_by, switch_if}
 use Rattle.lqh_saver.specs.Walking.{ends_walk, going_on, order_row, passes, walk_by, walk_if}

@@ -1,5 +1,5 @@
 -- What a step of the rows and their saver comes to for the rows.
-use Rattle.std.specs.Prelude.{◌≡◌, ◌&&◌, ℕ, true}
+use Rattle.std.specs.Prelude.{◌≡◌, ℕ, true}
 use Rattle.sig_core.specs.declared.signal.Body.TheVariants.{Checkpoint}
 use Rattle.sig_core.specs.declared.signal.Signal.{Signal}
 use Rattle.sig_core.specs.declared.signal.checkpoint.CheckpointSignal.TheVariants.{LcpSwitch}
