@@ -123,10 +123,12 @@ fn is_savers(signal: &Signal) -> bool
         (BlockId::Lqh, Body::Checkpoint(CheckpointSignal::LcpSwitch)) => true,
         (
             BlockId::Lqh,
-            Body::Host(HostSignal::Continue {
-                work: Work::Walk,
-                at: _,
-            }),
+            Body::Host(
+                HostSignal::Continue {
+                    work: Work::Walk,
+                    at: _,
+                },
+            ),
         ) => true,
         _ => false,
     }

@@ -88,32 +88,32 @@ module _ (rows : RowsState) (o : OutletState) (at : ℕ) (rest : List ℕ) (seek
       by (byte ∷ left) none leads = absurd (omega (arith, none))
 
   module _ (found : Redo × ℕ) (some : 0 < length rest) (is : decoded rest ≡ Ok found) (found_is : IsDecoded rest found)
-      where
-    split : OneMore seeking.more rest found
-    split = one_more seeking.more rest found some seeking.enough is found_is
+    where
+      split : OneMore seeking.more rest found
+      split = one_more seeking.more rest found some seeking.enough is found_is
 
-    leads_on : (if is_unfinished rows found.0 then at
-        else oldest_from rows (at + found.1) (records_of split.fewer (drop found.1 rest))) ≡ oldest rows o
-    leads_on = sym (ap (oldest_from rows at) split.split) ∙ seeking.leads
+      leads_on : (if is_unfinished rows found.0 then at
+          else oldest_from rows (at + found.1) (records_of split.fewer (drop found.1 rest))) ≡ oldest rows o
+      leads_on = sym (ap (oldest_from rows at) split.split) ∙ seeking.leads
 
-    pub seeking_finds : is_unfinished rows found.0 ≡ true → at ≡ oldest rows o
-    seeking_finds unfinished =
-        sym (ap (λ (b : Bool). if b then at
-        else oldest_from rows (at + found.1) (records_of split.fewer (drop found.1 rest))) unfinished) ∙ leads_on
+      pub seeking_finds : is_unfinished rows found.0 ≡ true → at ≡ oldest rows o
+      seeking_finds unfinished =
+          sym (ap (λ (b : Bool). if b then at
+          else oldest_from rows (at + found.1) (records_of split.fewer (drop found.1 rest))) unfinished) ∙ leads_on
 
-    pub seeking_fits : at + found.1 ≤ end_of o
-    seeking_fits = omega (arith, seeking.here, front_fits rest found found_is)
+      pub seeking_fits : at + found.1 ≤ end_of o
+      seeking_fits = omega (arith, seeking.here, front_fits rest found found_is)
 
-    pub seeking_goes_on : is_unfinished rows found.0 ≡ false → IsSeeking rows o (at + found.1) (drop found.1 rest)
-    seeking_goes_on finished =
-        record {
-          more = split.fewer;
-          enough = split.enough;
-          here = omega (arith, seeking.here, front_fits rest found found_is, length-drop found.1 rest);
-          leads =
-              sym (ap (λ (b : Bool). if b then at
-              else oldest_from rows (at + found.1) (records_of split.fewer (drop found.1 rest))) finished) ∙ leads_on;
-        }
+      pub seeking_goes_on : is_unfinished rows found.0 ≡ false → IsSeeking rows o (at + found.1) (drop found.1 rest)
+      seeking_goes_on finished =
+          record {
+            more = split.fewer;
+            enough = split.enough;
+            here = omega (arith, seeking.here, front_fits rest found found_is, length-drop found.1 rest);
+            leads =
+                sym (ap (λ (b : Bool). if b then at
+                else oldest_from rows (at + found.1) (records_of split.fewer (drop found.1 rest))) finished) ∙ leads_on;
+          }
 
 -- so of the epochs of commits
 pub record IsNoting (floor : ℕ) (o : OutletState) (epoch : ℕ) (rest : List ℕ) : Type 0 where

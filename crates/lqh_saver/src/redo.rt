@@ -72,7 +72,11 @@ fn noting(epoch: u64, redo: &Redo) -> u64
     ensures { result ≡ noting epoch redo.now }
 {
     match redo {
-        Redo::Commit { tx: _, epoch: at, key: _ } if epoch < *at => *at,
+        Redo::Commit {
+            tx: _,
+            epoch: at,
+            key: _,
+        } if epoch < *at => *at,
         _ => epoch,
     }
 }

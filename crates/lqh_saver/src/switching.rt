@@ -10,9 +10,7 @@ use crate::saver::Saver;
 use crate::stage::{Stage, Todo};
 use lqh_views::Replica;
 use redo_log::Log;
-use sig_core::{
-    Body, CheckpointSignal, Finished, Journal, NoMemory, Outs, Rows, checkpoints,
-};
+use sig_core::{Body, CheckpointSignal, Finished, Journal, NoMemory, Outs, Rows, checkpoints};
 
 impl Saver {
     /// The checkpoint that was written is to be named, and redo before it is given up, where it is

@@ -44,7 +44,12 @@ impl Saver {
     {
         let from = oldest(replica.rows(), replica.journal());
         let walk = Ckpt::start(alloc, 0, from, self.floor)?;
-        self.go_on_with(Stage::Walking { walk, to }, Todo::Nothing, replica.node(), out);
+        self.go_on_with(
+            Stage::Walking { walk, to },
+            Todo::Nothing,
+            replica.node(),
+            out,
+        );
         Ok(())
     }
 

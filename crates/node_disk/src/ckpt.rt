@@ -54,7 +54,12 @@ impl NodeSlots {
         ensures steady { D.faults disk.old ≤ D.faults disk.new }
     {
         let next = naming_control(&self.control, self.free_file(), finished);
-        match write_slot(disk, CONTROL_FILE, 1 - self.control_at, &control_bytes(&next)) {
+        match write_slot(
+            disk,
+            CONTROL_FILE,
+            1 - self.control_at,
+            &control_bytes(&next),
+        ) {
             Ok(()) => {
                 self.control = next;
                 self.control_at = 1 - self.control_at;

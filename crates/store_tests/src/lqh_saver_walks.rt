@@ -45,7 +45,10 @@ struct Node {
 
 // A node without rows, in the first life of its disk, whose calls don't fail.
 fn node_of(alloc: Global) -> Result<Node, Fail> {
-    node_on(alloc, MemDisk::new(alloc, Vec::new(alloc), Vec::new(alloc))?)
+    node_on(
+        alloc,
+        MemDisk::new(alloc, Vec::new(alloc), Vec::new(alloc))?,
+    )
 }
 
 // One in the first life of this disk.
@@ -97,10 +100,12 @@ fn keep(node: &mut Node) -> bool {
 // Takes note of what a step sent.
 fn note(node: &mut Node, body: &Body) {
     match body {
-        Body::Host(HostSignal::Continue {
-            work: Work::Walk,
-            at: _,
-        }) => node.walks = true,
+        Body::Host(
+            HostSignal::Continue {
+                work: Work::Walk,
+                at: _,
+            },
+        ) => node.walks = true,
         Body::Checkpoint(CheckpointSignal::LcpFragRep { epoch }) => node.reported = Some(*epoch),
         Body::Checkpoint(CheckpointSignal::LcpSwitchConf) => {
             node.switches = node.switches.saturating_add(1);
@@ -214,7 +219,10 @@ fn close(node: &mut Node, epoch: u64) -> Result<(), Fail> {
 fn save(node: &mut Node, epoch: u64) -> Result<(), Fail> {
     take(node, Body::Epoch(EpochSignal::GcpSaveReq { epoch }))?;
     if !node.stopped {
-        node.stopped = node.slots.save_system(&mut node.disks[0], epoch, 1).is_err();
+        node.stopped = node
+            .slots
+            .save_system(&mut node.disks[0], epoch, 1)
+            .is_err();
     }
     Ok(())
 }
