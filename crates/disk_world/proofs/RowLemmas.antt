@@ -2,18 +2,20 @@
 use Rattle.std.proofs.Common.{◌≡◌, ◌∙◌, ℕ, Bool, List, refl, ap, sym, subst}
 use Rattle.std.specs.Prelude.{Option, Some, OnOk, Result, Ok, Err}
 use Rattle.host_io.specs.Call.{Call}
-use Rattle.node_disk.specs.Saving.{rows_calls, rows_saved}
+use Rattle.node_disk.specs.Saving.{name_calls, rows_calls, rows_saved, settle_calls, walk_calls, walk_named}
 use Rattle.node_disk.specs.Slots.{SlotsInUse}
 use Rattle.node_views.specs.declared.host_body.HostBody.{HostBody}
 use Rattle.node_views.specs.Saving.{outlet_of, saved_by}
 use Rattle.redo_log.specs.LogState.{LogState, bytes_from, outlet_in}
 use Rattle.redo_log.specs.Stored.{files_of}
+use Rattle.sig_core.specs.declared.piece.Piece.{Piece}
 use Rattle.sig_core.specs.declared.signal.Signal.{Signal}
+use Rattle.sig_core.specs.declared.walk.Finished.{Finished}
 use Rattle.sysfile_core.specs.declared.place.TheConstants.{CONTROL_FILE}
 use Rattle.sysfile_core.specs.Runs.{Runs}
 use Rattle.lqh_saver.specs.declared.stage.Todo.{Todo}
 use Rattle.lqh_saver.specs.declared.stage.Todo.TheVariants as todo
-use Rattle.disk_world.specs.Keeping.{Kept, RowsUpTo, calls_of, kept_beside, kept_of, kept_unless, redo_from}
+use Rattle.disk_world.specs.Keeping.{Kept, OfCheckpoint, RowsUpTo, calls_of, kept_beside, kept_of, kept_unless, redo_from}
 use Rattle.disk_world.specs.Keeping.{slots_after, todo_in}
 
 redo_is : (log : LogState) (at : ℕ) → bytes_from log at ≡ redo_from (outlet_in log) at
@@ -54,16 +56,47 @@ module _ (s : HostBody) (log : LogState) (last : Option Signal) (is : outlet_of 
       ∙ ap (λ (kept : Kept). slots_after slots kept) rows_kept
   rows_used (Err fault) slots new epoch saved same = tt
 
--- so of what is done of a local checkpoint
-pub done_runs : (kept : Kept) (s : HostBody) (last : Option Signal) (slots : SlotsInUse) (calls : List Call)
-    (told : Option (List Call)) (ok : Bool) → kept ≡ kept_of s last
-    → Runs (calls_of (files_of calls) slots kept) calls told ok
-    → Runs (calls_of (files_of calls) slots (kept_of s last)) calls told ok
-done_runs kept s last slots calls told ok is =
-    subst (λ (kept : Kept). Runs (calls_of (files_of calls) slots kept) calls told ok) is
+-- So of what is done of a local checkpoint: a piece is written, the file is synced, or the checkpoint is named.
+module _ (s : HostBody) (log : LogState) (last : Option Signal) (slots : SlotsInUse)
+    (is : outlet_of s.parts ≡ Some (outlet_in log)) where
+  done_runs : (it : Todo) (kept : Kept) → kept_unless (saved_by s.parts) (outlet_in log) it ≡ kept
+      → todo_in s last ≡ it → (calls : List Call) (told : Option (List Call)) (ok : Bool)
+      → Runs (calls_of (files_of calls) slots kept) calls told ok
+      → Runs (calls_of (files_of calls) slots (kept_of s last)) calls told ok
+  done_runs it kept same done calls told ok =
+      subst (λ (kept : Kept). Runs (calls_of (files_of calls) slots kept) calls told ok)
+      (sym same ∙ done_kept s log last it is done)
 
-pub done_used : {E : Type 0} (result : Result (Unit {0}) E) (kept : Kept) (s : HostBody) (last : Option Signal)
-    (slots new : SlotsInUse) → kept ≡ kept_of s last → OnOk result (new ≡ slots_after slots kept)
-    → OnOk result (new ≡ slots_after slots (kept_of s last))
-done_used result kept s last slots new is =
-    subst (λ (kept : Kept). OnOk result (new ≡ slots_after slots kept)) is
+  done_used : (it : Todo) → todo_in s last ≡ it
+      → slots_after slots (kept_unless (saved_by s.parts) (outlet_in log) it) ≡ slots_after slots (kept_of s last)
+  done_used it done = ap (slots_after slots) (done_kept s log last it is done)
+
+  pub piece_runs : (piece : Piece) → todo_in s last ≡ todo.Write piece → (calls : List Call)
+      (told : Option (List Call)) (ok : Bool) → Runs (walk_calls slots piece) calls told ok
+      → Runs (calls_of (files_of calls) slots (kept_of s last)) calls told ok
+  piece_runs piece = done_runs (todo.Write piece) (OfCheckpoint (todo.Write piece)) refl
+
+  pub sync_runs : todo_in s last ≡ todo.Sync → (calls : List Call) (told : Option (List Call)) (ok : Bool)
+      → Runs (settle_calls slots) calls told ok
+      → Runs (calls_of (files_of calls) slots (kept_of s last)) calls told ok
+  sync_runs = done_runs todo.Sync (OfCheckpoint todo.Sync) refl
+
+  pub name_runs : (finished : Finished) → todo_in s last ≡ todo.Name finished → (calls : List Call)
+      (told : Option (List Call)) (ok : Bool)
+      → Runs (name_calls (files_of calls CONTROL_FILE) slots finished) calls told ok
+      → Runs (calls_of (files_of calls) slots (kept_of s last)) calls told ok
+  name_runs finished = done_runs (todo.Name finished) (OfCheckpoint (todo.Name finished)) refl
+
+  pub piece_used : (piece : Piece) → todo_in s last ≡ todo.Write piece → slots ≡ slots_after slots (kept_of s last)
+  piece_used piece = done_used (todo.Write piece)
+
+  pub sync_used : todo_in s last ≡ todo.Sync → slots ≡ slots_after slots (kept_of s last)
+  sync_used = done_used todo.Sync
+
+  pub name_used : {E : Type 0} (result : Result (Unit {0}) E) (finished : Finished) (new : SlotsInUse)
+      → todo_in s last ≡ todo.Name finished → OnOk result (new ≡ walk_named slots finished)
+      → OnOk result (new ≡ slots_after slots (kept_of s last))
+  name_used (Ok done) finished new is_named same = same ∙ done_used (todo.Name finished) is_named
+  name_used (Err fault) finished new is_named same = tt
+
+pub ruleset keeps = (rows_run, rows_used, piece_runs, sync_runs, name_runs, piece_used, sync_used, name_used)

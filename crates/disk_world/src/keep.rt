@@ -79,6 +79,7 @@ fn keep<D: Disk>(
 
 // Keeps what there is to do of a local checkpoint, and where that is nothing the rows up to the epoch that is
 // noted as saved.
+#[tactic(auto, using(crate::proofs::RowLemmas::keeps))]
 fn keep_rows<D: Disk>(
     disk: &mut D,
     slots: &mut NodeSlots,

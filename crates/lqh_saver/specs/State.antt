@@ -28,7 +28,8 @@ abbrev pub greater : ℕ → ℕ → ℕ
 greater one other = if nat_lt one other then other else one
 
 abbrev pub with_todo : SaverState → Todo → SaverState
-with_todo v todo = record { durable = v.durable; floor = v.floor; saved_end = v.saved_end; stage = v.stage; todo = todo }
+with_todo v todo =
+    record { durable = v.durable; floor = v.floor; saved_end = v.saved_end; stage = v.stage; todo = todo }
 
 -- a disk is to do nothing
 abbrev pub idle : SaverState → SaverState
