@@ -50,7 +50,6 @@ pub fn checkpoints_leave_files()
 
 /// Whatever a crash leaves at any moment where a checkpoint is brought into use, the control slot in use is
 /// the old or the new one; behind it the new one is.
-#[tactic(auto, using(crate::proofs::ControlLaw::naming_stays))]
 pub fn a_naming_slot_stays()
     ensures { ANamingSlotStays }
 {}
