@@ -1,0 +1,2 @@
+pub mod RedoLemmas
+pub mod Walk
