@@ -183,7 +183,7 @@ module _ (v : SaverState) (saved : ℕ) (t : ReplicaState) where
       by true = refl
       by false = refl
 
-  notices_todo : (noticing v saved t).todo ≡ v.todo
+  pub notices_todo : (noticing v saved t).todo ≡ v.todo
   notices_todo = by (nat_lt saved t.saved)
     where
       by : (b : Bool) → (if b then with_saved_end v (end_of t.lqh.outlet) else v).todo ≡ v.todo
