@@ -116,7 +116,8 @@ module _ (x : Signal) where
               (sym to) same in
               let goes : goes_to standing now ≡ true =
               ap (λ (f : ℕ). is_well_formed standing.shape x && not (is_fenced x && nat_lt x.view.number f)) fence
-              ∙ ap (λ (b : Bool). is_well_formed standing.shape x && not b) clear ∙ ap (λ (b : Bool). b && true) sound in
+              ∙ ap (λ (b : Bool). is_well_formed standing.shape x && not b) clear
+              ∙ ap (λ (b : Bool). b && true) sound in
               ap (λ (b : Bool). todo_if b x it) goes
               ∙ subst (λ (at : BlockId). todo_to at x.body it ≡ it) (sym to) (own_todo own x)
 
