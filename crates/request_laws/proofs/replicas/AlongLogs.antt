@@ -1,6 +1,6 @@
--- What is so of the rows of a member as they begin, and stays so at each signal and each installation, is so after
--- every log of their host.
-use Rattle.std.proofs.Common.{◌≡◌, ◌∙◌, ℕ, List, [], ◌∷◌, refl, sym, ap, subst}
+-- What is so of the rows of a member as they begin, and stays so at each signal and each installation, and where their
+-- journal gives up redo, is so after every log of their host.
+use Rattle.std.proofs.Common.{◌≡◌, ◌∙◌, ℕ, true, List, [], ◌∷◌, refl, sym, ap, subst}
 use Rattle.std.specs.Prelude.{None, Some}
 use Rattle.run_theory.specs.Lists.{IsIn}
 use Rattle.sig_core.specs.declared.member.Member.{Member}
@@ -15,6 +15,9 @@ use Rattle.row_locks.proofs.TableLawLemmas.{empty_orderly}
 use Rattle.lqh_block.specs.Fresh.{no_outlet, unused}
 use Rattle.lqh_views.specs.Replica.{fresh_replica, installed, replica_row}
 use Rattle.lqh_views.specs.State.{ReplicaState}
+use Rattle.lqh_saver.specs.State.{saving}
+use Rattle.lqh_saver.specs.Switching.{given_up, has_position}
+use Rattle.lqh_saver.proofs.StepLemmas.{saver_rows}
 use Rattle.node_core.specs.Fresh.{own_rows, with_rows}
 use Rattle.node_views.specs.Blocks.{parts_entered, parts_row, settled_at}
 use Rattle.node_views.specs.declared.host_body.HostBody as hosts
@@ -43,7 +46,8 @@ first_rows start member =
     unused no_outlet start.start_epoch
 
 module _ (So : ReplicaState → Type 0) (row : (s : ReplicaState) (x : Signal) → So s → So (replica_row s x).state)
-    (install : (s : ReplicaState) (view : View) → So s → So (installed s view)) where
+    (install : (s : ReplicaState) (view : View) → So s → So (installed s view))
+    (give : (s : ReplicaState) (at : ℕ) → has_position s.lqh.outlet at ≡ true → So s → So (given_up s at)) where
   -- a host runs rows of which it is so
   pub record AreRows (parts : Parts) : Type 0 where
     pub part : LdmPart
@@ -59,7 +63,13 @@ module _ (So : ReplicaState → Type 0) (row : (s : ReplicaState) (x : Signal) �
     taken_so p so = by x.to.block
       where
         by : (b : BlockId) → AreRows (Ldm (ldm_row p b x).state)
-        by block.Lqh = record { part = _; is = refl; so = row p.replica x so }
+        by block.Lqh = record {
+          part = _;
+          is = refl;
+          so =
+              saver_rows (saving p.replica p.saver) x So so (row p.replica x so)
+              (λ at has. give p.replica at has so);
+        }
         by _ = record { part = p; is = refl; so = so }
 
     entered_so : (view : View) (parts : Parts) → AreRows parts → AreRows (parts_entered parts view).state
@@ -111,4 +121,6 @@ first_well start member = record {
 
 pub rows_well : RowsAreWell
 rows_well start member there =
-    always (λ s. IsWell s.lqh) signals_keep_well installations_keep_well start member there (first_well start member)
+    always (λ s. IsWell s.lqh) signals_keep_well installations_keep_well
+    (λ s at has well. record { placed = well.placed; orderly = well.orderly }) start member there
+    (first_well start member)
