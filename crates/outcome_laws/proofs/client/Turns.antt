@@ -117,7 +117,7 @@ pub record ClientForms (opened : List OpenTransaction) (body : Body)
       → R (remove opened at) sends (Reported tx outcome.Unknown ∷ [])
 
 -- what the API tells all rows
-all_told : (told : News) (view : View) → ArePlain (telling_all told (everyone view))
+pub all_told : (told : News) (view : View) → ArePlain (telling_all told (everyone view))
 all_told told view = each_mapped IsPlain (telling told) (everyone view) (λ member. by told)
   where
     by : (news : News) → is_plain (news_body news) ≡ true

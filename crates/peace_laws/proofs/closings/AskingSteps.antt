@@ -81,14 +81,15 @@ asks_for s closing =
     }
 
 -- a step of a host and one of its plain one, where the one is asked for a closing
-record AskedNear (start : Start) (given : List ApiReply) (t : Step host.HostBody) (other : Step plain.Host) : Type 0 where
-  near : AreNear start given (told 0 t) other.state
-  plain : other.effects.sends ≡ []
-  plain_marks : other.effects.marks ≡ []
-  none : plain_replies (replies_at 0 t) ≡ []
-  marks : t.effects.marks ≡ []
-  sends : Each (IsOfClosing 0) t.effects.sends
-  masters : Each IsForMaster t.effects.sends
+record AskedNear (start : Start) (given : List ApiReply) (t : Step host.HostBody) (other : Step plain.Host) : Type 0
+  where
+    near : AreNear start given (told 0 t) other.state
+    plain : other.effects.sends ≡ []
+    plain_marks : other.effects.marks ≡ []
+    none : plain_replies (replies_at 0 t) ≡ []
+    marks : t.effects.marks ≡ []
+    sends : Each (IsOfClosing 0) t.effects.sends
+    masters : Each IsForMaster t.effects.sends
 
 -- a client's side that is near, of a cluster of some nodes, and for which none is under way
 module _ (start : Start) (given : List ApiReply) (shape : IsShape start.shape) (standing : Standing)

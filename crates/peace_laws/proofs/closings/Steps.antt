@@ -70,7 +70,8 @@ use Rattle.peace_laws.proofs.closings.Ease.{closings_for_blocks, has_its_block, 
 use Rattle.peace_laws.proofs.closings.MasterNear.{IsClosingMark, master_steps}
 
 -- a step of a host that is near its plain one behind it, at a signal from a member of this node
-pub record HostNear (start : Start) (h : ℕ) (given : List ApiReply) (from : ℕ) (t : Step host.HostBody) (other : plain.Host)
+pub record HostNear (start : Start) (h : ℕ) (given : List ApiReply) (from : ℕ) (t : Step host.HostBody)
+    (other : plain.Host)
     : Type 0
   where
     inner : plain.Host
