@@ -11,8 +11,6 @@ mod linear_hash_calls;
 #[cfg(test)]
 mod linear_hash_worked;
 #[cfg(test)]
-mod lqh_saver_walks;
-#[cfg(test)]
 mod node_disk_calls;
 #[cfg(test)]
 mod redo_format_bytes;
