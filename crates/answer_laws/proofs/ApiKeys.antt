@@ -29,6 +29,7 @@ use Rattle.run_theory.specs.Counts.{one_if, tally}
 use Rattle.host_laws.proofs.coordinator.Keys.{answer_of, is_key}
 use Rattle.host_laws.proofs.coordinator.Moves.{end_of, same_tx-is}
 use Rattle.host_laws.proofs.api.Wishes.{sends_of}
+use Rattle.host_laws.proofs.hosts.Sums.{first_few}
 use Rattle.answer_laws.specs.Answered.{is_operating}
 
 -- the transaction's operation was sent and isn't answered
@@ -48,11 +49,6 @@ telling_keys : (tx : TxId) (told : News) (members : List Member) → keys_in tx 
 telling_keys tx told [] = refl
 telling_keys tx news.Round (member ∷ members) = omega (arith, telling_keys tx news.Round members)
 telling_keys tx (news.Committed one) (member ∷ members) = omega (arith, telling_keys tx (news.Committed one) members)
-
-few : (a b : Bool) → one_if (a && b) ≤ one_if a
-few true true = omega arith
-few true false = omega arith
-few false b = omega arith
 
 none : (a : Bool) → one_if (a && false) ≡ 0
 none true = refl
@@ -98,7 +94,7 @@ module _ (tx : TxId) (s : ApiState) where
           omega (
             arith,
             ap (λ o. one_if (is_tx tx o && is_operating t.doing)) p,
-            few (same_tx two tx) (is_operating t.doing),
+            first_few (same_tx two tx) (is_operating t.doing),
             ap (λ x. one_if (same_tx x tx)) same,
           )
 

@@ -14,6 +14,7 @@ use Rattle.node_core.specs.declared.host.Host.TheVariants.{Shell, Main, Tc, Ldm}
 use Rattle.node_core.specs.Dih.{DihState, dih_table}
 use Rattle.node_core.specs.Fresh.{fresh_part}
 use Rattle.node_core.specs.Requests.{is_request as is_asked}
+use Rattle.run_theory.proofs.Tally.{and_few}
 use Rattle.run_theory.specs.Links.{is_from, sent, taken}
 use Rattle.run_theory.specs.Runs.{AreLogs, IsWithin}
 use Rattle.sig_core.specs.declared.member.TxId.{TxId}
@@ -338,10 +339,6 @@ module _ (start : Start) (node : ℕ) (some : 1 ≤ node) (few_nodes : node ≤ 
           x : Signal
           x = e.step.taken
 
-          less : (a b : Bool) → one_if (a && b) ≤ one_if b
-          less true b = omega arith
-          less false b = omega arith
-
           sent_now : (tx : TxId)
               → signals (is_conf tx) (own_sent start node (e ∷ log)) ≡ sends_of
               (at_place (here start node) (is_conf tx)) (step_after start h log e).effects.sends + signals (is_conf tx)
@@ -458,7 +455,7 @@ module _ (start : Start) (node : ℕ) (some : 1 ≤ node) (few_nodes : node ≤ 
               k.gives (few_before f) tx,
               sent_now tx,
               taken_signals start (is_req tx) h e log,
-              less (is_from (machine start) h e) (is_req tx x.to x.body),
+              and_few (is_from (machine start) h e) (is_req tx x.to x.body),
               ap (λ g. sends_of (at_place (here start node) (is_conf tx)) g.sends) step.effects,
               dih_gives (here start node) tx d x.body (eq-eqb _ _ (ap (tc_host start) k.number))
                   (few_here f (ap is_dih step.at) tx),
@@ -476,7 +473,7 @@ module _ (start : Start) (node : ℕ) (some : 1 ≤ node) (few_nodes : node ≤ 
               k.gives (few_before f) tx,
               sent_now tx,
               taken_signals start (is_req tx) h e log,
-              less (is_from (machine start) h e) (is_req tx x.to x.body),
+              and_few (is_from (machine start) h e) (is_req tx x.to x.body),
               req_at tx x.to x.body,
               ap (λ c. one_if (c && req_body tx x.body)) step.off,
             );

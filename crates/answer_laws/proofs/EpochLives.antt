@@ -43,6 +43,7 @@ use Rattle.host_laws.proofs.coordinator.Turns.{answers, asked_to, asks, at_last,
 use Rattle.host_laws.proofs.coordinator.Turns.{completes, decides, ends, gives_up, goes_on, is_wait_kind, keeps, late}
 use Rattle.host_laws.proofs.coordinator.Turns.{refused}
 use Rattle.host_laws.proofs.coordinator.Turns.{turn_moves}
+use Rattle.host_laws.proofs.hosts.Sums.{one_most}
 use Rattle.tc_block.specs.Phases.{is_committing}
 use Rattle.tc_block.proofs.TurnRows.{begins, misses, rests, takes, tc_step, TcStep, turn_row, tx_in, passes, refuses}
 
@@ -176,11 +177,7 @@ length_between (y ∷ xs) x ys = omega (arith, length_between xs x ys)
 
 tally_under : {A : Type 0} (p : A → Bool) (xs : List A) → tally p xs ≤ length xs
 tally_under p [] = omega arith
-tally_under p (x ∷ xs) = omega (arith, tally_under p xs, few (p x))
-  where
-    few : (b : Bool) → one_if b ≤ 1
-    few true = omega arith
-    few false = omega arith
+tally_under p (x ∷ xs) = omega (arith, tally_under p xs, one_most (p x))
 
 -- what a step makes of the count of those signals that are for such places
 pub record StepCounts (at : Place → Bool) (after : TcState) (sends : List Outgoing) (c : List TxId) : Type 0 where

@@ -81,6 +81,17 @@ more_own start node (o ∷ xs) = omega (arith, more_own start node xs, one o.to 
       ap one_if e,
     )
 
+-- the rows of a node know it
+module _ (start : Start) (node : ℕ) (some_node : 1 ≤ node) (few_nodes : node ≤ start.shape.nodes) where
+  first_node : (lqh_of (started start (rows_host start node))).node ≡ node
+  unfolding fresh_part
+  first_node = ap (λ h. (lqh_of h).node) (rows_started start node some_node few_nodes)
+
+  pub rows_know : (log : List HostStep) → (lqh_of (after start (rows_host start node) log)).node ≡ node
+  rows_know [] = first_node
+  rows_know (e ∷ log) = keeps_rows (λ s. s.node ≡ node) (λ s x was. lqh_node s x.body ∙ was)
+      (after start (rows_host start node) log) e.step.taken (rows_know log)
+
 module _ (start : Start) (tx : TxId) (key : List ℕ) (node : ℕ) (some_node : 1 ≤ node)
     (few_nodes : node ≤ start.shape.nodes) where
   -- the host of the node's rows, and the signals by which they go on
@@ -95,16 +106,6 @@ module _ (start : Start) (tx : TxId) (key : List ℕ) (node : ℕ) (some_node : 
 
   low : at < hosts start
   low = host_below start (rows_of node) some_node few_nodes
-
-  -- they know their node
-  first_node : (lqh_of (started start at)).node ≡ node
-  unfolding fresh_part
-  first_node = ap (λ h. (lqh_of h).node) (rows_started start node some_node few_nodes)
-
-  rows_node : (log : List HostStep) → (lqh_of (after start at log)).node ≡ node
-  rows_node [] = first_node
-  rows_node (e ∷ log) = keeps_rows (λ s. s.node ≡ node) (λ s x was. lqh_node s x.body ∙ was) (after start at log)
-      e.step.taken (rows_node log)
 
   -- where none of its rows was committed or completed: a request that waits and isn't in the queue is gone on with
   record GoesOnWithWaiting (logs : ℕ → List HostStep) : Type 0 where
@@ -206,7 +207,8 @@ module _ (start : Start) (tx : TxId) (key : List ℕ) (node : ℕ) (some_node : 
                 sent_now,
                 taken_few,
                 more,
-                ap (λ n. goes_on tx key n (lqh_table s e.step.taken.body).effects.sends) (rows_node (logs at)),
+                ap (λ n. goes_on tx key n (lqh_table s e.step.taken.body).effects.sends)
+                    (rows_know start node some_node few_nodes (logs at)),
                 ap (λ f. goes_on tx key node f.sends) step.effects,
               )
 

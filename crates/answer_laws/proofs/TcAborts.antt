@@ -1,6 +1,7 @@
 -- Turn by turn, what a transaction that aborts waits for.
-use Rattle.std.proofs.Common.{◌≡◌, ℕ, ◌+◌, ◌-◌, ◌≤◌, ◌<◌, List, [], ◌∷◌, ◌++◌, length, Bool, true, false, refl, ap, sym}
+use Rattle.std.proofs.Common.{◌≡◌, ℕ, ◌+◌, ◌-◌, ◌≤◌, ◌<◌, List, [], ◌∷◌, length, Bool, true, false, refl, ap, sym}
 use Rattle.std.proofs.Common.{◌∙◌, subst, arith}
+use Rattle.std.proofs.lemmas.List.{length-append}
 use Rattle.std.specs.Prelude.{◌==◌, ◌&&◌}
 use Rattle.std.specs.List.{flat_map}
 use Rattle.std.proofs.lemmas.Bool.{eqb-true, false≢true}
@@ -32,6 +33,7 @@ use Rattle.tc_block.specs.State.{TcState}
 use Rattle.tc_block.specs.Turn.{Turn}
 use Rattle.row_records.proofs.KeyLemmas.{same as same_key-is}
 use Rattle.sig_core.proofs.Keys.{same_tx-self}
+use Rattle.host_laws.proofs.hosts.Sums.{one_most}
 use Rattle.host_laws.proofs.rows.Operations.{is_good, is_lqh, is_node, left_of, right_of, true_and}
 use Rattle.run_theory.specs.Counts.{one_if}
 use Rattle.host_laws.proofs.hosts.PartCounts.{IsPart, all_counted, is_cont, part_is}
@@ -70,10 +72,6 @@ module _ (n : ℕ) (tx : TxId) (layout : Layout) (good : (key : List ℕ) → is
         omega (arith, rest.1),
       )
 
-  length_append : {A : Type 0} (xs ys : List A) → length (xs ++ ys) ≡ length xs + length ys
-  length_append [] ys = omega arith
-  length_append (x ∷ xs) ys = omega (arith, length_append xs ys)
-
   all_aborts : (why : AbortCause) (v : Bool) (k : ℕ) (touched : List Touched)
       → (Each (λ (x : Outgoing). is_abort n tx x.to x.body ≡ true)
       (flat_map (key_sends layout tx (Aborting why v k)) touched))
@@ -89,7 +87,7 @@ module _ (n : ℕ) (tx : TxId) (layout : Layout) (good : (key : List ℕ) → is
           arith,
           here.1,
           rest.1,
-          length_append (aborts_of tx t.key (chain_of layout t.key))
+          length-append (aborts_of tx t.key (chain_of layout t.key))
               (flat_map (key_sends layout tx (Aborting why v k)) touched),
         ),
       )
@@ -235,14 +233,10 @@ module _ (n : ℕ) (tx : TxId) (layout : Layout) (good : (key : List ℕ) → is
             subst (λ (x : Turn). AbortMove t body x.step.state x.step.effects.sends k) (sym is)
             (waits because w before p (λ some. omega (arith, low, one_less))
             (λ at to lower. ap (is_cont tx at to) about) refl
-            (omega (arith, one_less, low, few (aborted_body tx body))))
+            (omega (arith, one_less, low, one_most (aborted_body tx body))))
           where
             one_less : before - 1 ≡ k
             one_less = the_k because why w v (before - 1) k (phase_of _ is)
-
-            few : (b : Bool) → one_if b ≤ 1
-            few true = omega arith
-            few false = omega arith
         go (abort_ends key because w before about p low is) = over_not turn _ is refl over
         go (commits epoch about p is) =
             other_phase _ (Committing epoch (length t.touched)) why v k is (entered_phase s.node s.layout tx t _) refl

@@ -30,10 +30,12 @@ use Rattle.tc_block.specs.Turn.{Turn}
 use Rattle.tc_block.specs.Phases.{is_decided}
 use Rattle.sig_core.proofs.Keys.{same_tx-self}
 use Rattle.answer_laws.proofs.LqhForth.{is_back}
+use Rattle.host_laws.proofs.hosts.Sums.{one_most}
 use Rattle.host_laws.proofs.rows.Waits.{hops, is_hop}
 use Rattle.host_laws.proofs.hosts.PartKinds.{IsPartKind, entering_of, parts_of}
 use Rattle.host_laws.proofs.coordinator.PhaseSends.{part_of}
 use Rattle.host_laws.proofs.hosts.SendKinds.{are_of, none_of, of_append, of_flat, of_kind, of_map}
+use Rattle.run_theory.proofs.Tally.{and_few}
 use Rattle.run_theory.specs.Counts.{one_if}
 use Rattle.host_laws.proofs.coordinator.Operations.{asks_key}
 use Rattle.host_laws.proofs.coordinator.Turns.{abort_ends, aborted, aborts, all_completed, answers, asked_to, asks}
@@ -190,30 +192,22 @@ module _ (s : TcState) (tx : TxId) (key : List ℕ) (t : Transaction) (body : Bo
       (parts_of is_hopless tx (hopless_part tx) s.node s.layout t.phase t.touched at) (inr (inr (refl, refl)))
   hop_turn (asks op about p q fit is) = record {
     opened = λ over e. (p, omega (arith, none, sent, now));
-    few = inr (p, (ap (asks_key key) q, omega (arith, sent, most (same_key (key_of op) key))));
+    few = inr (p, (ap (asks_key key) q, omega (arith, sent, one_most (same_key (key_of op) key))));
   }
     where
       sent : hops tx key turn.step.effects.sends ≤ one_if (same_key (key_of op) key)
       sent = omega (
         arith,
         ap (λ (x : Turn). hops tx key x.step.effects.sends) is,
-        few_one (same_tx tx tx)
+        and_few (same_tx tx tx)
             (same_key (key_of op) key),
       )
-        where
-          few_one : (a b : Bool) → one_if (a && b) ≤ one_if b
-          few_one true b = omega arith
-          few_one false b = omega arith
 
       now : one_if (asks_key key turn.step.state.asked) ≡ one_if (same_key (key_of op) key)
       now = ap (λ (x : Turn). one_if (asks_key key x.step.state.asked)) is
 
       none : one_if (asks_key key t.asked) ≡ 0
       none = ap (λ a. one_if (asks_key key a)) q
-
-      most : (b : Bool) → one_if b ≤ 1
-      most true = omega arith
-      most false = omega arith
   hop_turn (answers at a asked about p q is) =
       record {
         opened = λ over e. (

@@ -37,6 +37,7 @@ use Rattle.run_theory.specs.Counts.{one_if, tally}
 use Rattle.host_laws.proofs.coordinator.Keys.{answer_of}
 use Rattle.host_laws.proofs.coordinator.Lives.{is_start, start_of}
 use Rattle.answer_laws.specs.Answered.{is_operating}
+use Rattle.host_laws.proofs.hosts.Sums.{one_most}
 use Rattle.host_laws.specs.OpenedAfter.{opened_in}
 
 -- what is so of each entry
@@ -163,7 +164,7 @@ entry_next tx body before after sends k c a b (stays same asks idle) q less firs
     (subst (λ m. IsAsking after k m (a + one_if (answer_of tx body)) (one_if (start_of tx body) + b))
     (omega (arith, asks.commits)) (record {
       held = λ t at. still_held t.operations t.operations k c a (one_if (answer_of tx body)) t.doing t.doing refl refl
-          (most (answer_of tx body)) (λ one. idle (on (answer_of tx body) one) t (sym same ∙ at))
+          (one_most (answer_of tx body)) (λ one. idle (on (answer_of tx body) one) t (sym same ∙ at))
           (q.held t (sym same ∙ at));
       few = q.few;
       ahead = omega (arith, q.ahead);
@@ -171,10 +172,6 @@ entry_next tx body before after sends k c a b (stays same asks idle) q less firs
       new = λ none. q.new (omega (arith, none));
     }))
   where
-    most : (b : Bool) → one_if b ≤ 1
-    most true = omega arith
-    most false = omega arith
-
     on : (b : Bool) → one_if b ≡ 1 → b ≡ true
     on true e = refl
     on false e = absurd (omega (arith, e))

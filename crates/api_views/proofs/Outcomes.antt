@@ -16,8 +16,9 @@ use Rattle.sig_core.specs.declared.reply.Waiting.{Waiting}
 use Rattle.sig_core.specs.declared.request.ApiReq.{ApiReq}
 use Rattle.sig_core.specs.declared.request.ApiReq.TheVariants as request
 use Rattle.sig_core.specs.declared.signal.Body.{Body}
-use Rattle.sig_core.specs.declared.signal.Body.TheVariants.{Host, Client, Epoch}
+use Rattle.sig_core.specs.declared.signal.Body.TheVariants.{Host, Client, Epoch, Checkpoint}
 use Rattle.sig_core.specs.declared.signal.Signal.{Signal}
+use Rattle.sig_core.specs.declared.signal.checkpoint.CheckpointSignal.TheVariants.{LcpRep}
 use Rattle.sig_core.specs.declared.signal.client.ClientSignal.TheVariants.{NfCompleteRep, TcBeginConf, TcCommitConf}
 use Rattle.sig_core.specs.declared.signal.client.ClientSignal.TheVariants.{TcKeyFailConf, TcKeyFailRef, TcRollbackRep}
 use Rattle.sig_core.specs.declared.signal.client.ClientSignal.TheVariants.{ViewRep}
@@ -37,7 +38,7 @@ use Rattle.api_block.specs.Views.{dump_node}
 use Rattle.api_block.proofs.ApiTurns.{ApiRequestForms, ApiSignalForms, request_turns, signal_turns}
 use Rattle.api_block.proofs.WhereFound.{where_found, where_own}
 use Rattle.api_views.specs.declared.closings.Closing.{Closing}
-use Rattle.api_views.specs.declared.closings.Closing.TheVariants.{Gcp, Micro}
+use Rattle.api_views.specs.declared.closings.Closing.TheVariants.{Gcp, Micro, Lcp}
 use Rattle.api_views.specs.declared.reports.Verdict.TheVariants.{NeverBegins}
 use Rattle.api_views.specs.Client.{asked_row, client_row, client_table, command_if, command_row, gone_row, is_known}
 use Rattle.api_views.specs.Client.{up_row, vouched_table, work_table}
@@ -210,6 +211,7 @@ module _ (s : ClientState) (x : Signal) (R : Step ClientState → Type 0) (forms
   up_goes (request.Cut one other) is = cut_goes one other is
   up_goes request.Gcp is = closing_goes Gcp request.Gcp is
   up_goes request.Micro is = closing_goes Micro request.Micro is
+  up_goes request.Lcp is = closing_goes Lcp request.Lcp is
   up_goes request.View is = forms.shows is
   up_goes request.Restart is = forms.turns_down _ _ _ is
   up_goes r is = takes_goes r is
@@ -253,7 +255,6 @@ module _ (s : ClientState) (x : Signal) (R : Step ClientState → Type 0) (forms
   asked_goes request.Waits is = looks_goes request.Waits is
   asked_goes request.Pending is = pending_goes is
   asked_goes (request.Batch lines) is = takes_goes (request.Batch lines) is
-  asked_goes request.Lcp is = takes_goes request.Lcp is
   asked_goes (request.Start node own) is = takes_goes (request.Start node own) is
   asked_goes request.Crash is = takes_goes request.Crash is
   asked_goes r is = command_goes r is
@@ -368,6 +369,7 @@ module _ (s : ClientState) (x : Signal) (R : Step ClientState → Type 0) (forms
   table_goes (Client ViewRep) is = forms.asks_anew is
   table_goes (Epoch (GcpRep epoch)) is = closed_goes Gcp epoch
   table_goes (Epoch (MicroRep epoch)) is = closed_goes Micro epoch
+  table_goes (Checkpoint (LcpRep epoch)) is = closed_goes Lcp epoch
   table_goes (Client (TcBeginConf name tx)) is = vouches (Client (TcBeginConf name tx)) is refl
   table_goes (Client (TcCommitConf tx epoch)) is = vouches (Client (TcCommitConf tx epoch)) is refl
   table_goes (Client (TcRollbackRep tx cause)) is = vouches (Client (TcRollbackRep tx cause)) is refl

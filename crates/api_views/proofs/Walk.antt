@@ -34,7 +34,7 @@ use Rattle.api_block.specs.declared.opened.OpenTransaction.{OpenTransaction}
 use Rattle.api_block.specs.Members.{everyone, telling, telling_all}
 use Rattle.api_block.proofs.Walk.{ApiForms, asked_does, own_is, told_does}
 use Rattle.api_views.specs.declared.closings.Closing.{Closing}
-use Rattle.api_views.specs.declared.closings.Closing.TheVariants.{Gcp, Micro}
+use Rattle.api_views.specs.declared.closings.Closing.TheVariants.{Gcp, Micro, Lcp}
 use Rattle.api_views.specs.Client.{client_row, is_known}
 use Rattle.api_views.specs.Closings.{anew, ask_at, ask_of}
 use Rattle.api_views.specs.Commands.{cut_body}
@@ -229,3 +229,4 @@ client_words s x =
     asks : (closing : Closing) → is_client_word (ask_of closing) ≡ true
     asks Gcp = refl
     asks Micro = refl
+    asks Lcp = refl

@@ -7,8 +7,9 @@ use Rattle.sig_core.specs.declared.reply.Refusal.TheVariants as refusal
 use Rattle.sig_core.specs.declared.request.ApiReq.{ApiReq}
 use Rattle.sig_core.specs.declared.request.ApiReq.TheVariants as request
 use Rattle.sig_core.specs.declared.signal.Body.{Body}
-use Rattle.sig_core.specs.declared.signal.Body.TheVariants.{Host, Client, Epoch}
+use Rattle.sig_core.specs.declared.signal.Body.TheVariants.{Host, Client, Epoch, Checkpoint}
 use Rattle.sig_core.specs.declared.signal.Signal.{Signal}
+use Rattle.sig_core.specs.declared.signal.checkpoint.CheckpointSignal.TheVariants.{LcpRep}
 use Rattle.sig_core.specs.declared.signal.client.ClientSignal.TheVariants.{TcBeginConf, TcCommitConf, TcRollbackRep}
 use Rattle.sig_core.specs.declared.signal.client.ClientSignal.TheVariants.{TcKeyFailConf, TcKeyFailRef, NfCompleteRep}
 use Rattle.sig_core.specs.declared.signal.client.ClientSignal.TheVariants.{ViewRep}
@@ -20,7 +21,7 @@ use Rattle.sig_core.specs.Step.{Step, stay}
 use Rattle.api_block.specs.Api.{api_row, request_row}
 use Rattle.api_block.specs.Opened.{begins_at, where_at}
 use Rattle.api_block.specs.Outcome.{abort_report_row, commit_report_row, over}
-use Rattle.api_views.specs.declared.closings.Closing.TheVariants.{Gcp, Micro}
+use Rattle.api_views.specs.declared.closings.Closing.TheVariants.{Gcp, Micro, Lcp}
 use Rattle.api_views.specs.Closings.{closed_row, closing_row, view_row}
 use Rattle.api_views.specs.Commands.{begin_row, cut_row, kill_row, lone_row, on_api, rows_row, show_row}
 use Rattle.api_views.specs.Members.{is_member, noted}
@@ -41,6 +42,7 @@ up_row s (request.Kill node) = kill_row s node
 up_row s (request.Cut one other) = cut_row s one other
 up_row s request.Gcp = closing_row s Gcp
 up_row s request.Micro = closing_row s Micro
+up_row s request.Lcp = closing_row s Lcp
 up_row s request.View = show_row s
 up_row s request.Restart = turned_down s None refusal.Running
 up_row s r = on_api s r
@@ -53,12 +55,11 @@ command_if s r false = up_row s r
 unfoldable pub command_row : ClientState → ApiReq → Step ClientState
 command_row s r = command_if s r (is_down s)
 
--- what the client's side does at each request. Starts, crashes, batches and local checkpoints are left to the API
+-- what the client's side does at each request. Starts, crashes and batches are left to the API
 unfoldable pub asked_row : ClientState → ApiReq → Step ClientState
 asked_row s request.Waits = within s (request_row s.api request.Waits)
 asked_row s request.Pending = client_pending_row s
 asked_row s (request.Batch lines) = on_api s (request.Batch lines)
-asked_row s request.Lcp = on_api s request.Lcp
 asked_row s (request.Start node own) = on_api s (request.Start node own)
 asked_row s request.Crash = on_api s request.Crash
 asked_row s r = command_row s r
@@ -99,6 +100,7 @@ client_table s x (Host (Closed cause)) = stop_row s x.member x.from cause
 client_table s x (Client ViewRep) = view_row s x.view
 client_table s x (Epoch (GcpRep epoch)) = closed_row s Gcp epoch
 client_table s x (Epoch (MicroRep epoch)) = closed_row s Micro epoch
+client_table s x (Checkpoint (LcpRep epoch)) = closed_row s Lcp epoch
 client_table s x (Client (TcBeginConf name tx)) = vouched s x (is_known s x)
 client_table s x (Client (TcCommitConf tx epoch)) = vouched s x (is_known s x)
 client_table s x (Client (TcRollbackRep tx cause)) = vouched s x (is_known s x)

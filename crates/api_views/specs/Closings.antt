@@ -1,4 +1,5 @@
--- The closing of epochs: at most one is asked for at a time, at the president's master of checkpoints.
+-- The closing of epochs, and local checkpoints: at most one of them is asked for at a time, at the president's master
+-- of checkpoints.
 use Rattle.std.specs.Prelude.{ℕ, Bool, true, false, is_some, List, [], ◌∷◌, Option, None, Some}
 use Rattle.sig_core.specs.declared.outs.Outgoing.{Outgoing}
 use Rattle.sig_core.specs.declared.place.BlockId.TheVariants.{Api}
@@ -6,19 +7,21 @@ use Rattle.sig_core.specs.declared.reply.ApiReply.{ApiReply}
 use Rattle.sig_core.specs.declared.reply.ApiReply.TheVariants as reply
 use Rattle.sig_core.specs.declared.reply.Refusal.TheVariants.{Busy}
 use Rattle.sig_core.specs.declared.signal.Body.{Body}
-use Rattle.sig_core.specs.declared.signal.Body.TheVariants.{Epoch}
+use Rattle.sig_core.specs.declared.signal.Body.TheVariants.{Epoch, Checkpoint}
+use Rattle.sig_core.specs.declared.signal.checkpoint.CheckpointSignal.TheVariants.{LcpReq}
 use Rattle.sig_core.specs.declared.signal.epoch.EpochSignal.TheVariants.{GcpReq, MicroReq}
 use Rattle.sig_core.specs.declared.view.View.{View}
 use Rattle.sig_core.specs.Place.{checkpoints}
 use Rattle.sig_core.specs.Step.{Step, sends_only, stay, to_place}
 use Rattle.api_views.specs.declared.closings.Closing.{Closing}
-use Rattle.api_views.specs.declared.closings.Closing.TheVariants.{Gcp, Micro}
+use Rattle.api_views.specs.declared.closings.Closing.TheVariants.{Gcp, Micro, Lcp}
 use Rattle.api_views.specs.Members.{president}
 use Rattle.api_views.specs.State.{ClientState, left, telling, turned_down}
 
 abbrev pub ask_of : Closing → Body
 ask_of Gcp = Epoch (GcpReq Api)
 ask_of Micro = Epoch MicroReq
+ask_of Lcp = Checkpoint LcpReq
 
 abbrev pub ask_at : Closing → Option ℕ → List Outgoing
 ask_at closing None = []
@@ -43,12 +46,14 @@ closing_row s closing = asked_if s closing (is_some s.closing)
 abbrev pub is_asked : Closing → Option Closing → Bool
 is_asked Gcp (Some Gcp) = true
 is_asked Micro (Some Micro) = true
+is_asked Lcp (Some Lcp) = true
 is_asked _ _ = false
 
--- what the client is told of an epoch that is closed
+-- what the client is told of an epoch that is closed, or up to which rows are in checkpoints
 abbrev pub closed_reply : Closing → ℕ → ApiReply
 closed_reply Gcp epoch = reply.Durable epoch
 closed_reply Micro epoch = reply.Closed epoch
+closed_reply Lcp epoch = reply.Checkpoint epoch
 
 abbrev pub closed_if : ClientState → Closing → ℕ → Bool → ClientState
 closed_if s closing epoch true = record (telling s (closed_reply closing epoch)) { closing = None; own = false }

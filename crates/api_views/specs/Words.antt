@@ -3,8 +3,9 @@ use Rattle.std.specs.Prelude.{Bool, true, false}
 use Rattle.sig_core.specs.declared.mark.Mark.{Mark}
 use Rattle.sig_core.specs.declared.mark.Mark.TheVariants.{Reported}
 use Rattle.sig_core.specs.declared.signal.Body.{Body}
-use Rattle.sig_core.specs.declared.signal.Body.TheVariants.{Host, Client, Epoch}
+use Rattle.sig_core.specs.declared.signal.Body.TheVariants.{Host, Client, Epoch, Checkpoint}
 use Rattle.sig_core.specs.declared.signal.Signal.{Signal}
+use Rattle.sig_core.specs.declared.signal.checkpoint.CheckpointSignal.TheVariants.{LcpReq}
 use Rattle.sig_core.specs.declared.signal.client.ClientSignal.TheVariants.{DumpReq, TcBeginReq, TcCommitAck}
 use Rattle.sig_core.specs.declared.signal.client.ClientSignal.TheVariants.{TcCommitReq, TcKeyReq, TcRollbackReq}
 use Rattle.sig_core.specs.declared.signal.client.ClientSignal.TheVariants.{TcWaitReq}
@@ -31,6 +32,7 @@ is_client_word (Client (TcCommitAck tx)) = true
 is_client_word (Client (DumpReq at)) = true
 is_client_word (Epoch (GcpReq by)) = true
 is_client_word (Epoch MicroReq) = true
+is_client_word (Checkpoint LcpReq) = true
 is_client_word _ = false
 
 -- it reports how transactions end

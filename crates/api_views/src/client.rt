@@ -16,8 +16,8 @@ use crate::members::is_member;
 use crate::stops::HostStop;
 use api_block::{Api, place_beginning_at};
 use sig_core::{
-    AbortCause, Actor, ApiReply, ApiReq, Body, ClientSignal, EpochSignal, HostSignal, NoMemory,
-    Outs, Refusal, Signal, TxId, View, Work,
+    AbortCause, Actor, ApiReply, ApiReq, Body, CheckpointSignal, ClientSignal, EpochSignal,
+    HostSignal, NoMemory, Outs, Refusal, Signal, TxId, View, Work,
 };
 use std::alloc::Global;
 use std::marker::Model;
@@ -146,7 +146,7 @@ impl Client {
         match request {
             ApiReq::Waits => self.api.ask(alloc, request, out),
             ApiReq::Pending => self.tell_wait(alloc, out),
-            ApiReq::Batch { .. } | ApiReq::Lcp | ApiReq::Start { .. } | ApiReq::Crash => {
+            ApiReq::Batch { .. } | ApiReq::Start { .. } | ApiReq::Crash => {
                 self.pass_on(alloc, request, out)
             }
             _ => self.command(alloc, request, out),
@@ -188,6 +188,7 @@ impl Client {
             ApiReq::Cut { one, other } => self.cut(*one, *other, out),
             ApiReq::Gcp => self.close(Closing::Gcp, out),
             ApiReq::Micro => self.close(Closing::Micro, out),
+            ApiReq::Lcp => self.close(Closing::Lcp, out),
             ApiReq::View => self.show(),
             ApiReq::Restart => self.turn_down(None, Refusal::Running),
             _ => self.pass_on(alloc, request, out),
@@ -296,6 +297,9 @@ impl Client {
             Body::Epoch(EpochSignal::GcpRep { epoch }) => self.closed(Closing::Gcp, *epoch, out),
             Body::Epoch(EpochSignal::MicroRep { epoch }) => {
                 self.closed(Closing::Micro, *epoch, out)
+            }
+            Body::Checkpoint(CheckpointSignal::LcpRep { epoch }) => {
+                self.closed(Closing::Lcp, *epoch, out)
             }
             Body::Client(
                 ClientSignal::TcBeginConf { .. }

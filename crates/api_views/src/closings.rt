@@ -1,4 +1,4 @@
-//! The closing of epochs.
+//! The closing of epochs, and local checkpoints.
 ghost use Rattle.std.specs.Prelude.{◌≡◌, ◌<◌, ◌≤◌, ◌+◌, length, OnOk, OnErr};
 ghost use Rattle.sig_core.specs.Step.{HasRoom, IsTaken, IsUntouched, joined, sends_only};
 ghost use Rattle.api_views.specs.Closings.{anew, ask_of, asking, closed_reply, closed_row, closing_row, is_asked};
@@ -6,7 +6,10 @@ ghost use Rattle.api_views.specs.Closings.{view_row};
 
 use crate::client::Client;
 use crate::members::president;
-use sig_core::{ApiReply, BlockId, Body, EpochSignal, NoMemory, Outs, Refusal, View, checkpoints};
+use sig_core::{
+    ApiReply, BlockId, Body, CheckpointSignal, EpochSignal, NoMemory, Outs, Refusal, View,
+    checkpoints,
+};
 
 /// A closing of the current epoch.
 #[derive(Clone, Copy)]
@@ -15,6 +18,8 @@ pub enum Closing {
     Gcp,
     /// It is closed in memory alone.
     Micro,
+    /// It is made durable once all rows are written anew, and redo before that is given up.
+    Lcp,
 }
 
 fn ask_of(closing: Closing) -> Body
@@ -23,6 +28,7 @@ fn ask_of(closing: Closing) -> Body
     match closing {
         Closing::Gcp => Body::Epoch(EpochSignal::GcpReq { by: BlockId::Api }),
         Closing::Micro => Body::Epoch(EpochSignal::MicroReq),
+        Closing::Lcp => Body::Checkpoint(CheckpointSignal::LcpReq),
     }
 }
 
@@ -42,6 +48,7 @@ fn is_asked(closing: Closing, asked: Option<Closing>) -> bool
     match (closing, asked) {
         (Closing::Gcp, Some(Closing::Gcp)) => true,
         (Closing::Micro, Some(Closing::Micro)) => true,
+        (Closing::Lcp, Some(Closing::Lcp)) => true,
         _ => false,
     }
 }
@@ -52,6 +59,7 @@ fn closed_reply(closing: Closing, epoch: u64) -> ApiReply
     match closing {
         Closing::Gcp => ApiReply::Durable { epoch },
         Closing::Micro => ApiReply::Closed { epoch },
+        Closing::Lcp => ApiReply::Checkpoint { epoch },
     }
 }
 

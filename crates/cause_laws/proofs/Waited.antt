@@ -41,9 +41,10 @@ use Rattle.node_core.proofs.DihForms.{dih_marks_each}
 use Rattle.world_core.specs.Machine.{after}
 use Rattle.world_core.specs.Start.{Start}
 use Rattle.world_core.specs.Steps.{HostStep}
+use Rattle.key_laws.proofs.KeyAfter.{served_lock}
 use Rattle.key_laws.proofs.LocksAt.{lock-aged}
 use Rattle.key_laws.specs.Replica.{Replica, asked_by, event_at, expired_by, expires_if, is_let_in, is_refused}
-use Rattle.key_laws.specs.Replica.{key_after, served_by, serves_if}
+use Rattle.key_laws.specs.Replica.{key_after, serves_if}
 use Rattle.key_laws.specs.Replica as at
 use Rattle.host_laws.proofs.rows.Replicas.{logs_follow}
 use Rattle.host_laws.proofs.coordinator.Marks.{tc_marks}
@@ -97,10 +98,6 @@ module _ (e : HostStep) (log : List HostStep) (key : List ℕ) where
       → (asked_by r now q refused a).lock ≡ now
   asked_lock r now q refused Granted = refl
   asked_lock r now q refused (Queued ahead) = refl
-
-  served_lock : (r : Replica) (refused : Bool) (o : Option Request) → (served_by r refused o).lock ≡ r.lock
-  served_lock r refused None = refl
-  served_lock r refused (Some q) = refl
 
   -- what an event leaves
   abbrev Left : at.Event → Replica → Type 0

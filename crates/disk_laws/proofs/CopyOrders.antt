@@ -73,14 +73,17 @@ of_master s x =
         saves = λ run one is there epoch mask so. absurd cc;
         copies = λ run one is there epoch mask so. refl;
         tells_micro = λ closed is epoch mask so. absurd cc;
-        tells_global = λ closed copy is epoch mask so. absurd cc;
-        tells_members = λ closed copy to one is either there epoch mask so. absurd cc;
-        tells_copying = λ closed is epoch mask so. absurd cc;
+        tells_global = λ closed copy local is epoch mask so. absurd cc;
+        tells_members = λ closed copy local to one is either there epoch mask so. absurd cc;
+        tells_copying = λ closed local is epoch mask so. absurd cc;
+        switches = λ closed copy one is there epoch mask so. absurd cc;
         goes_on = λ left epoch mask so. absurd cc;
       };
       closed = λ run at is. tt;
       durable = λ run is at on all. tt;
       stopped = tt;
+      walks = λ one is at first there epoch mask so. absurd cc;
+      tells_local = λ closed is at epoch mask so. absurd cc;
     })
 
 row_sends : (parts : Parts) (x : Signal) → Does IsForEpochs AnyMark (parts_row parts x)

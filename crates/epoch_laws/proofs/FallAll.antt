@@ -120,7 +120,7 @@ given_exactly : (s : DihState) (mark : Mark) → IsGivenBy s mark → IsExactly 
 given_exactly s (Decided tx given) is = is.0
 given_exactly s _ is = tt
 
-told_view : (h : ℕ) (t : Step node.HostBody) → (told h t).standing.view ≡ t.state.standing.view
+pub told_view : (h : ℕ) (t : Step node.HostBody) → (told h t).standing.view ≡ t.state.standing.view
 told_view zero t = refl
 told_view (suc h) t = refl
 

@@ -8,7 +8,7 @@ pub mod MasterHears
 pub mod MasterKeeps
 mod MasterKnows
 pub mod MasterMoves
-mod MasterResumption
+pub mod MasterResumption
 pub mod MasterRows
 pub mod MasterSends
 pub mod MasterSpeaks

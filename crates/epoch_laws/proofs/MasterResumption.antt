@@ -41,7 +41,7 @@ across_prepared : (epoch next : ℕ) (s : DihState) → IsAcross epoch next s �
 across_prepared epoch next s (inl ready) = let same = ready.prepared_is in omega (arith, same)
 across_prepared epoch next s (inr gone) = gone.prepared
 
-across_next : (epoch next : ℕ) (s : DihState) → IsAcross epoch next s → s.next ≡ next
+pub across_next : (epoch next : ℕ) (s : DihState) → IsAcross epoch next s → s.next ≡ next
 across_next epoch next s (inl ready) = ready.next_is
 across_next epoch next s (inr gone) = gone.next_is
 

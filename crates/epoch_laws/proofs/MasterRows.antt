@@ -7,7 +7,7 @@ use Rattle.sig_core.specs.declared.signal.Signal.{Signal}
 use Rattle.sig_core.specs.Step.{Step}
 use Rattle.gcp_master.specs.declared.known.Known.{Known}
 use Rattle.gcp_master.specs.declared.numbers.TheConstants.{MICROS}
-use Rattle.gcp_master.specs.declared.orders.Ended.TheVariants.{Micro, Global}
+use Rattle.gcp_master.specs.declared.orders.Ended.TheVariants.{Micro}
 use Rattle.gcp_master.specs.declared.phase.Asked.{Asked}
 use Rattle.gcp_master.specs.declared.phase.Phase.{Phase}
 use Rattle.gcp_master.specs.declared.phase.Phase.TheVariants.{Gathering, Resting, Committing, Closing, Saving, Copying}
@@ -21,8 +21,9 @@ use Rattle.gcp_master.specs.Resume.{knowing}
 use Rattle.gcp_master.specs.Sends.{entering, listing}
 use Rattle.gcp_master.specs.State.{MasterState, at_phase, counts}
 use Rattle.gcp_master.specs.Voices.{is_heard, is_in}
-use Rattle.gcp_master.proofs.Outcomes.{BeginOutcomes, Begins, Resumes, a_global, a_micro, at_end, beginning, heard_one}
-use Rattle.gcp_master.proofs.Outcomes.{master_outcomes, not_owing, nothing_asked, to_commit, to_copy, to_prepare}
+use Rattle.gcp_master.proofs.Outcomes.{BeginOutcomes, Begins, Resumes, a_global, a_micro, at_durable, at_end, beginning}
+use Rattle.gcp_master.proofs.Outcomes.{have_walked, heard_one, master_outcomes, not_owing, nothing_asked, to_commit}
+use Rattle.gcp_master.proofs.Outcomes.{to_copy, to_prepare}
 use Rattle.gcp_master.proofs.Walk.{all_heard, listing_state}
 use Rattle.epoch_laws.proofs.MasterMoves.{BeginsFrom, GoesOn, Goes, IsLate, IsNew, Moved, known_with, voice_of}
 use Rattle.epoch_laws.proofs.MasterMoves.{from_commit, from_copy, from_prepare, with_none}
@@ -155,8 +156,15 @@ module _ (s : MasterState) (x : Signal) where
             enters (heard_one s x) (Copying run) refl refl (goes_late run (is_late run (Saving run) at refl) refl);
         copies = λ run is at on some. late run (Copying run) at refl;
         ends_global = λ run is at on all.
-            ended run (Copying run) at refl (at_end (heard_one s x) run (Global run.epoch run.copy)) refl refl refl
-            refl;
+            ended run (Copying run) at refl (at_durable (heard_one s x) run) refl refl refl refl;
+        walks = λ is at first. record { member = refl; view = refl; moved = stays refl refl };
+        hears_walk = λ epoch is at on some. record { member = refl; view = refl; moved = stays refl refl };
+        asks_walked = λ epoch is at on all. record { member = refl; view = refl; moved = stays refl refl };
+        asks_walked_resting = λ epoch current is at on all rests.
+            begins (have_walked s) current (is_some s.front) refl refl (stays refl refl)
+            (λ phase begun. takes_up current rests begun refl);
+        hears_switch = λ epoch is at on some. record { member = refl; view = refl; moved = stays refl refl };
+        ends_local = λ epoch is at on all. record { member = refl; view = refl; moved = stays refl refl };
       })
     where
       late : (run : Run) (phase : Phase) → s.phase ≡ phase → IsLate run phase

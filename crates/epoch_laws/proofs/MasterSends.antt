@@ -15,7 +15,7 @@ use Rattle.gcp_master.specs.declared.phase.Phase.TheVariants.{Closing}
 use Rattle.gcp_master.specs.Master.{master_row}
 use Rattle.gcp_master.specs.Sends.{listing}
 use Rattle.gcp_master.specs.State.{MasterState}
-use Rattle.gcp_master.proofs.Walk.{listing_does, listing_state, master_steps}
+use Rattle.gcp_master.proofs.Walk.{listing_does, listing_state, master_steps, walking_does}
 use Rattle.epoch_laws.specs.Masters.{Commits, Prepares}
 
 -- the end of this epoch is to be noted
@@ -55,9 +55,10 @@ lists s at = listing_state s at (λ t. Says t.phase (listing s at).effects.sends
           saves = λ run member is there. tt;
           copies = λ run member is there. tt;
           tells_micro = λ epoch is. tt;
-          tells_global = λ epoch copy is. tt;
-          tells_members = λ epoch copy to member is one there. tt;
-          tells_copying = λ epoch is. tt;
+          tells_global = λ epoch copy local is. tt;
+          tells_members = λ epoch copy local to member is one there. tt;
+          tells_copying = λ epoch local is. tt;
+          switches = λ epoch copy member is there. tt;
           goes_on = λ left. tt;
         })).0
 
@@ -70,4 +71,8 @@ master_says s x =
       lists = λ t at member view. lists t at;
       closes = λ run t member view at is. lists t 0;
       makes_durable = λ run step is at on all says. says;
+      walks = λ is at first.
+          (walking_does s (λ (sent : Outgoing). MaySay s.phase sent.body) (λ (mark : Mark). Unit {0})
+          (λ member there. tt)).0;
+      tells_local = λ epoch is at. (tt, tt);
     })

@@ -65,7 +65,8 @@ installs : (s t : MasterState) (view : View) → t.member ≡ s.member → IsIns
 unfolding in_view
 installs s t view same = record { member = same; view = refl; phase = refl; voices = refl }
 
-left_member : (host : hosts.HostBody) (stood : View) (s now : MasterState) → IsLeft host stood s now → now.member ≡ s.member
+left_member : (host : hosts.HostBody) (stood : View) (s now : MasterState) → IsLeft host stood s now
+    → now.member ≡ s.member
 left_member host stood s now (inl (same, view)) = subst (λ (t : MasterState). now.member ≡ t.member) same refl
 left_member host stood s now (inr installed) = installed.member
 

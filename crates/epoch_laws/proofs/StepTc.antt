@@ -47,14 +47,16 @@ pub record IsLeft (s now : DihState) (sends : List Outgoing) : Type 0 where
   pub none : AreNoOrders sends
 
 -- they take the signal
-pub record IsReached (host : hosts.HostBody) (x : Signal) (stood : View) (s now : DihState) (sends : List Outgoing) : Type 0
+pub record IsReached (host : hosts.HostBody) (x : Signal) (stood : View) (s now : DihState) (sends : List Outgoing)
+    : Type 0
   where
     pub passed : IsPassed host x stood
     pub to : x.to.block ≡ block.Dih
     pub moves : Moves s x.body now
     pub tells : Rises x.body → IsSound s → Each (λ sent. TellsOf s x.body now sent.body) sends
 
-pub record IsStepOfTc (host : hosts.HostBody) (x : Signal) (p : TcPart) (stood : View) (now : Parts) (sends : List Outgoing)
+pub record IsStepOfTc (host : hosts.HostBody) (x : Signal) (p : TcPart) (stood : View) (now : Parts)
+    (sends : List Outgoing)
     : Type 0 where
   pub part : TcPart
   pub is : now ≡ Tc part

@@ -1,15 +1,18 @@
 -- Confirmations that don't count.
 use Rattle.std.proofs.Common.{◌≡◌, ℕ, ◌==◌, ◌&&◌, ◌||◌, Bool, true, false, not, nat_lt, List, [], ◌∷◌, ◌++◌, length}
-use Rattle.std.proofs.Common.{refl, ap, ◌∙◌}
+use Rattle.std.proofs.Common.{refl, ap, sym, ◌∙◌}
 use Rattle.std.proofs.lemmas.Bool.{and_from, eq-eqb, false≢true}
 use Rattle.std.specs.List.{list_any}
 use Rattle.sig_core.specs.declared.member.Member.{Member}
 use Rattle.sig_core.specs.declared.signal.Body.{Body}
-use Rattle.sig_core.specs.declared.signal.Body.TheVariants.{Epoch}
+use Rattle.sig_core.specs.declared.signal.Body.TheVariants.{Epoch, Checkpoint}
+use Rattle.sig_core.specs.declared.signal.checkpoint.CheckpointSignal.TheVariants.{LcpFragRep, LcpSwitchConf}
 use Rattle.sig_core.specs.declared.signal.epoch.EpochSignal.TheVariants.{GcpPrepareConf, GcpNodeFinish, GcpClosedConf}
 use Rattle.sig_core.specs.declared.signal.epoch.EpochSignal.TheVariants.{GcpSaveConf, CopyGciConf, GcpStateConf}
 use Rattle.sig_core.specs.Step.{stay}
 use Rattle.gcp_master.specs.declared.known.Told.{Told}
+use Rattle.gcp_master.specs.declared.local.LocalStage.{LocalStage}
+use Rattle.gcp_master.specs.declared.local.LocalStage.TheVariants as stage
 use Rattle.gcp_master.specs.declared.phase.Phase.{Phase}
 use Rattle.gcp_master.specs.declared.phase.Phase.TheVariants.{Gathering, Preparing, Committing, Closing, Saving}
 use Rattle.gcp_master.specs.declared.phase.Phase.TheVariants.{Copying}
@@ -18,6 +21,8 @@ use Rattle.gcp_master.specs.declared.voices.Voice.{Voice}
 use Rattle.gcp_master.specs.Closing.{copy_by, copy_if, copy_row, finish_by, finish_if, finish_row, note_by, note_if}
 use Rattle.gcp_master.specs.Closing.{note_row, prepare_by, prepare_if, prepare_row, save_by, save_if, save_row}
 use Rattle.gcp_master.specs.Laws.{OutsidersConfirmNothing, is_confirmation}
+use Rattle.gcp_master.specs.Local.{counted_local, counts_local, hear_switch_if, hear_walk_if, switched_by}
+use Rattle.gcp_master.specs.Local.{switched_row, walked_by, walked_row}
 use Rattle.gcp_master.specs.Master.{master_table}
 use Rattle.gcp_master.specs.Resume.{learned_if, state_by, state_if, state_row}
 use Rattle.gcp_master.specs.State.{MasterState, counted, counts}
@@ -53,6 +58,40 @@ counted_once s v =
     ap (λ b. is_in s.view v.member && (not b && nat_lt (length (s.voices ++ v ∷ [])) VOICES))
     (heard (same_voice v) s.voices v (same_voice-self v))
     ∙ and_false (is_in s.view v.member)
+
+-- the same of what a local checkpoint orders
+left_part : (a b : Bool) → (a || b) ≡ false → a ≡ false
+left_part false b e = refl
+left_part true b e = absurd (false≢true (sym e))
+
+outsider_local : (s : MasterState) (v : Voice) → is_in s.view v.member ≡ false → counts_local s v ≡ false
+unfolding counts_local
+outsider_local s v e =
+    ap (λ b. b && (not (is_heard s.local.voices v) && nat_lt (length s.local.voices) VOICES))
+    (left_part (is_among s.view.full v.member) (is_among s.view.starting v.member) e)
+
+pub counted_local_once : (s : MasterState) (v : Voice) → counts_local (counted_local s v) v ≡ false
+unfolding counts_local
+counted_local_once s v =
+    ap (λ b. is_among s.view.full v.member && (not b && nat_lt (length (s.local.voices ++ v ∷ [])) VOICES))
+    (heard (same_voice v) s.local.voices v (same_voice-self v))
+    ∙ and_false (is_among s.view.full v.member)
+
+pub walk_ignored : (s : MasterState) (v : Voice) → counts_local s v ≡ false → walked_row s v ≡ stay s
+unfolding walked_row
+walk_ignored s v none = by s.local.stage
+  where
+    by : (at : LocalStage) → walked_by s v at ≡ stay s
+    by stage.Walking = ap (hear_walk_if s v) none
+    by _ = refl
+
+pub switch_ignored : (s : MasterState) (v : Voice) → counts_local s v ≡ false → switched_row s v ≡ stay s
+unfolding switched_row
+switch_ignored s v none = by s.local.stage
+  where
+    by : (at : LocalStage) → switched_by s v at ≡ stay s
+    by (stage.Switching epoch) = ap (hear_switch_if s v epoch) none
+    by _ = refl
 
 -- one that doesn't count changes nothing
 module _ (s : MasterState) (v : Voice) (none : counts s v ≡ false) where
@@ -108,13 +147,13 @@ module _ (s : MasterState) (v : Voice) (none : counts s v ≡ false) where
       by _ = refl
 
 outside : (s : MasterState) (v : Voice) (number : ℕ) (body : Body) → is_confirmation body ≡ true → counts s v ≡ false
-    → master_table s v number body ≡ stay s
-outside s v number (Epoch (GcpPrepareConf epoch)) e none = prepare_ignored s v none epoch
-outside s v number (Epoch (GcpNodeFinish epoch)) e none = finish_ignored s v none epoch
-outside s v number (Epoch (GcpClosedConf epoch)) e none = note_ignored s v none epoch
-outside s v number (Epoch (GcpSaveConf epoch)) e none = save_ignored s v none epoch
-outside s v number (Epoch (CopyGciConf epoch)) e none = copy_ignored s v none epoch
-outside s v number (Epoch (GcpStateConf current prepared next closed saved durable)) e none =
+    → counts_local s v ≡ false → master_table s v number body ≡ stay s
+outside s v number (Epoch (GcpPrepareConf epoch)) e none nor = prepare_ignored s v none epoch
+outside s v number (Epoch (GcpNodeFinish epoch)) e none nor = finish_ignored s v none epoch
+outside s v number (Epoch (GcpClosedConf epoch)) e none nor = note_ignored s v none epoch
+outside s v number (Epoch (GcpSaveConf epoch)) e none nor = save_ignored s v none epoch
+outside s v number (Epoch (CopyGciConf epoch)) e none nor = copy_ignored s v none epoch
+outside s v number (Epoch (GcpStateConf current prepared next closed saved durable)) e none nor =
     let told : Told = record {
       current = current;
       prepared = prepared;
@@ -123,9 +162,11 @@ outside s v number (Epoch (GcpStateConf current prepared next closed saved durab
       saved = saved;
       durable = durable;
     } in state_ignored s v none told
-outside s v number _ e none = absurd (false≢true e)
+outside s v number (Checkpoint (LcpFragRep epoch)) e none nor = walk_ignored s v nor
+outside s v number (Checkpoint LcpSwitchConf) e none nor = switch_ignored s v nor
+outside s v number _ e none nor = absurd (false≢true e)
 
 pub outsiders_confirm_nothing : OutsidersConfirmNothing
 outsiders_confirm_nothing s x e none =
     let v : Voice = record { member = x.member; from = x.from } in
-    outside s v x.view.number x.body e (outsider s v none)
+    outside s v x.view.number x.body e (outsider s v none) (outsider_local s v none)

@@ -7,7 +7,8 @@ use Rattle.sig_core.specs.declared.member.Member.{Member}
 use Rattle.sig_core.specs.declared.outs.Outgoing.{Outgoing}
 use Rattle.sig_core.specs.declared.place.BlockId.{BlockId}
 use Rattle.sig_core.specs.declared.place.BlockId.TheVariants as block
-use Rattle.sig_core.specs.declared.signal.Body.TheVariants.{Epoch}
+use Rattle.sig_core.specs.declared.signal.Body.TheVariants.{Epoch, Checkpoint}
+use Rattle.sig_core.specs.declared.signal.checkpoint.CheckpointSignal.TheVariants.{LcpSwitch}
 use Rattle.sig_core.specs.declared.signal.epoch.EpochSignal.TheVariants.{GcpStateReq, GcpPrepare, GcpCommit, GcpClosed}
 use Rattle.sig_core.specs.declared.signal.epoch.EpochSignal.TheVariants.{GcpSaveReq, CopyGciReq, GcpDone, GcpRep}
 use Rattle.sig_core.specs.declared.signal.epoch.EpochSignal.TheVariants.{MicroRep}
@@ -28,7 +29,7 @@ use Rattle.gcp_master.specs.declared.phase.Phase.TheVariants.{Closing, Saving, C
 use Rattle.gcp_master.specs.declared.phase.Run.{Run}
 use Rattle.gcp_master.specs.Orders.{mask_of, order_body}
 use Rattle.gcp_master.specs.Sends.{front_sends, list_effects, master_sends, order_at, orders_at, phase_sends, to_both}
-use Rattle.gcp_master.specs.Sends.{to_copying, to_each}
+use Rattle.gcp_master.specs.Sends.{to_copying, to_each, to_switch}
 use Rattle.gcp_master.specs.State.{MasterState}
 
 -- a member of the view, full or starting
@@ -57,29 +58,34 @@ pub record ListForms (s : MasterState) (P : Outgoing → Type 0) : Type 0 where
       → P (to_place (record { node = member.node; block = block.Dih })
       (Epoch (CopyGciReq run.epoch (mask_of s.view.full))))
   pub tells_micro : (epoch : ℕ) → s.front ≡ Some (Micro epoch) → P (to_place client (Epoch (MicroRep epoch)))
-  pub tells_global : (epoch : ℕ) (copy : Bool) → s.front ≡ Some (Global epoch copy)
+  pub tells_global : (epoch : ℕ) (copy local : Bool) → s.front ≡ Some (Global epoch copy local)
       → P (to_place client (Epoch (GcpRep epoch)))
-  pub tells_members : (epoch : ℕ) (copy : Bool) (to : BlockId) (member : Member) → s.front ≡ Some (Global epoch copy)
-      → IsOneOfBoth to → IsMemberIn s.view member
+  pub tells_members : (epoch : ℕ) (copy local : Bool) (to : BlockId) (member : Member)
+      → s.front ≡ Some (Global epoch copy local) → IsOneOfBoth to → IsMemberIn s.view member
       → P (to_place (record { node = member.node; block = to }) (Epoch (GcpDone epoch)))
-  pub tells_copying : (epoch : ℕ) → s.front ≡ Some (Global epoch true)
+  pub tells_copying : (epoch : ℕ) (local : Bool) → s.front ≡ Some (Global epoch true local)
       → P (to_place (record { node = s.member.node; block = block.Copy }) (Epoch (GcpRep epoch)))
+  pub switches : (epoch : ℕ) (copy : Bool) (member : Member) → s.front ≡ Some (Global epoch copy true)
+      → IsIn member s.view.full
+      → P (to_place (record { node = member.node; block = block.Lqh }) (Checkpoint LcpSwitch))
   pub goes_on : (left : ℕ) → P (go_on_at (checkpoints s.member.node) Members left)
 
 module _ (s : MasterState) (P : Outgoing → Type 0) where
-  -- an order to a block of each member
+  -- an order to a block of each of these members
+  pub mapped_order : (to : BlockId) (o : Order) (members : List Member)
+      → ((member : Member) → IsIn member members → P (order_at to o member)) → Each P (orders_at to o members)
+  mapped_order to o [] own = tt
+  mapped_order to o (member ∷ members) own =
+      (own member (inl refl), mapped_order to o members (λ other inside. own other (inr inside)))
+
+  -- and of each member
   each_order : (to : BlockId) (o : Order) → ((member : Member) → IsMemberIn s.view member → P (order_at to o member))
       → Each P (to_each to o s.view)
   unfolding to_each
   each_order to o own =
       each_append P (orders_at to o s.view.full) (orders_at to o s.view.starting)
-      (mapped s.view.full (λ member there. inl there)) (mapped s.view.starting (λ member there. inr there))
-    where
-      mapped : (members : List Member) → ((member : Member) → IsIn member members → IsMemberIn s.view member)
-          → Each P (orders_at to o members)
-      mapped [] there = tt
-      mapped (member ∷ members) there =
-          (own member (there member (inl refl)), mapped members (λ other inside. there other (inr inside)))
+      (mapped_order to o s.view.full (λ member there. own member (inl there)))
+      (mapped_order to o s.view.starting (λ member there. own member (inr there)))
 
   both_order : (o : Order)
       → ((to : BlockId) (member : Member) → IsOneOfBoth to → IsMemberIn s.view member → P (order_at to o member))
@@ -91,19 +97,30 @@ module _ (s : MasterState) (P : Outgoing → Type 0) where
       (each_order block.Lqh o (λ member there. own block.Lqh member (inr refl) there))
 
   module _ (forms : ListForms s P) where
-    copying : (epoch : ℕ) (copy : Bool) → s.front ≡ Some (Global epoch copy)
+    copying : (epoch : ℕ) (copy local : Bool) → s.front ≡ Some (Global epoch copy local)
         → Each P (to_copying s.member.node epoch copy)
-    copying epoch true is = (forms.tells_copying epoch is, tt)
-    copying epoch false is = tt
+    copying epoch true local is = (forms.tells_copying epoch local is, tt)
+    copying epoch false local is = tt
+
+    switching : (epoch : ℕ) (copy local : Bool) → s.front ≡ Some (Global epoch copy local)
+        → Each P (to_switch s.view local)
+    unfolding order_body
+    switching epoch copy true is =
+        mapped_order block.Lqh order.Switch s.view.full (λ member there. forms.switches epoch copy member is there)
+    switching epoch copy false is = tt
 
     front : (o : Option Ended) → s.front ≡ o → Each P (front_sends s.member.node s.view o)
     unfolding front_sends order_body
     front None is = tt
     front (Some (Micro epoch)) is = (forms.tells_micro epoch is, tt)
-    front (Some (Global epoch copy)) is =
+    front (Some (Global epoch copy local)) is =
         each_append P (to_both (order.Done epoch) s.view) _
-        (both_order (order.Done epoch) (λ to member one there. forms.tells_members epoch copy to member is one there))
-        (forms.tells_global epoch copy is, copying epoch copy is)
+        (both_order (order.Done epoch)
+        (λ to member one there. forms.tells_members epoch copy local to member is one there)) (
+          forms.tells_global epoch copy local is,
+          each_append P (to_copying s.member.node epoch copy) (to_switch s.view local) (copying epoch copy local is)
+              (switching epoch copy local is),
+        )
 
     phase : (p : Phase) → s.phase ≡ p → Each P (phase_sends s.view p)
     unfolding phase_sends order_body

@@ -1,5 +1,5 @@
 -- What holds of each form of step of a master of checkpoints holds of what it does at each signal.
-use Rattle.std.proofs.Common.{◌≡◌, ◌==◌, ◌&&◌, ◌||◌, ◌⊎◌, ◌≤◌, ◌<◌, ℕ, Bool, true, false, not, nat_lt, [], refl, ap}
+use Rattle.std.proofs.Common.{◌≡◌, ◌==◌, ◌&&◌, ◌⊎◌, ◌≤◌, ◌<◌, ℕ, Bool, true, false, not, nat_lt, [], refl, ap}
 use Rattle.std.proofs.Common.{sym, ◌∙◌, inl, inr, arith, subst}
 use Rattle.std.proofs.lemmas.Bool.{and_parts, eqb-true, not-true}
 use Rattle.std.proofs.lemmas.Bool.Decides.{nat_tests}
@@ -8,8 +8,10 @@ use Rattle.sig_core.specs.declared.place.BlockId.{BlockId}
 use Rattle.sig_core.specs.declared.mark.Mark.TheVariants.{Closed, Durable, Stopped}
 use Rattle.sig_core.specs.declared.outcome.StopCause.TheVariants.{Clock}
 use Rattle.sig_core.specs.declared.signal.Body.{Body}
-use Rattle.sig_core.specs.declared.signal.Body.TheVariants.{Host, Takeover, Epoch}
+use Rattle.sig_core.specs.declared.signal.Body.TheVariants.{Host, Takeover, Epoch, Checkpoint}
 use Rattle.sig_core.specs.declared.signal.Signal.{Signal}
+use Rattle.sig_core.specs.declared.signal.checkpoint.CheckpointSignal.{CheckpointSignal}
+use Rattle.sig_core.specs.declared.signal.checkpoint.CheckpointSignal.TheVariants.{LcpReq, LcpFragRep, LcpSwitchConf}
 use Rattle.sig_core.specs.declared.signal.epoch.EpochSignal.{EpochSignal}
 use Rattle.sig_core.specs.declared.signal.epoch.EpochSignal.TheVariants.{GcpReq, MicroReq, GcpPrepareConf}
 use Rattle.sig_core.specs.declared.signal.epoch.EpochSignal.TheVariants.{GcpNodeFinish, GcpClosedConf, GcpSaveConf}
@@ -17,11 +19,15 @@ use Rattle.sig_core.specs.declared.signal.epoch.EpochSignal.TheVariants.{CopyGci
 use Rattle.sig_core.specs.declared.signal.host.HostSignal.TheVariants.{Continue}
 use Rattle.sig_core.specs.declared.signal.host.Work.TheVariants.{Members}
 use Rattle.sig_core.specs.declared.signal.takeover.TakeoverSignal.TheVariants.{TakeoverEnd}
-use Rattle.sig_core.specs.Step.{Step, and_mark, nothing, stay}
+use Rattle.sig_core.specs.declared.place.BlockId.TheVariants.{Lqh}
+use Rattle.sig_core.specs.Step.{Step, and_mark, nothing, sends_only, stay}
 use Rattle.gcp_master.specs.declared.known.Known.{Known}
 use Rattle.gcp_master.specs.declared.known.Told.{Told}
+use Rattle.gcp_master.specs.declared.local.LocalStage.{LocalStage}
+use Rattle.gcp_master.specs.declared.local.LocalStage.TheVariants as stage
 use Rattle.gcp_master.specs.declared.orders.Ended.{Ended}
 use Rattle.gcp_master.specs.declared.orders.Ended.TheVariants.{Micro, Global}
+use Rattle.gcp_master.specs.declared.orders.Order.TheVariants.{Walk}
 use Rattle.gcp_master.specs.declared.phase.Asked.{Asked}
 use Rattle.gcp_master.specs.declared.phase.Phase.{Phase}
 use Rattle.gcp_master.specs.declared.phase.Phase.TheVariants.{Unordered, Gathering, Resting, Preparing, Committing}
@@ -29,19 +35,22 @@ use Rattle.gcp_master.specs.declared.phase.Phase.TheVariants.{Closing, Saving, C
 use Rattle.gcp_master.specs.declared.phase.Run.{Run}
 use Rattle.gcp_master.specs.declared.sends.TheConstants.{SENDS}
 use Rattle.gcp_master.specs.declared.voices.Voice.{Voice}
-use Rattle.gcp_master.specs.Begin.{begin_global, begin_if, begin_micro, begins, begins_if, begun}
+use Rattle.gcp_master.specs.Begin.{begin_global, begin_if, begin_micro, begins, begins_if, begun, is_global_asked}
 use Rattle.gcp_master.specs.Closing.{close_if_all, closed_if, copied_if, copy_by, copy_if, copy_row, finish_by}
 use Rattle.gcp_master.specs.Closing.{finish_if, finish_row, note_by, note_if, note_row, noted_by, noted_if, prepare_by}
 use Rattle.gcp_master.specs.Closing.{prepare_if, prepare_row, prepared_if, save_by, save_if, save_row, saved_if}
-use Rattle.gcp_master.specs.Closing.{takeover_by, takeover_row}
+use Rattle.gcp_master.specs.Closing.{switching, takeover_by, takeover_row}
 use Rattle.gcp_master.specs.Known.{last_run, nothing_known, resumed}
-use Rattle.gcp_master.specs.Master.{epoch_table, master_row, master_table, told}
+use Rattle.gcp_master.specs.Local.{all_local, counted_local, counts_local, hear_switch_if, hear_walk_if, local_told}
+use Rattle.gcp_master.specs.Local.{switched_by, switched_if, switched_row, walk_by, walk_if, walk_row, walked_by}
+use Rattle.gcp_master.specs.Local.{walked_if, walked_row}
+use Rattle.gcp_master.specs.Master.{epoch_table, local_table, master_row, master_table, told}
 use Rattle.gcp_master.specs.Numbers.{is_first, next_global, next_micro}
-use Rattle.gcp_master.specs.Requests.{asked_by, asked_row, global_asked, micro_asked}
+use Rattle.gcp_master.specs.Requests.{asked_by, asked_row, global_asked, local_asked, micro_asked}
 use Rattle.gcp_master.specs.Resume.{knowing, learned_if, order_by, order_row, resume_at, state_by, state_if, state_row}
-use Rattle.gcp_master.specs.Resume.{told_all_if}
-use Rattle.gcp_master.specs.Sends.{entering, go_on_if, go_on_row, listing, marking}
-use Rattle.gcp_master.specs.State.{MasterState, all_in, at_phase, counted, counts}
+use Rattle.gcp_master.specs.Resume.{is_president, told_all_if}
+use Rattle.gcp_master.specs.Sends.{entering, go_on_if, go_on_row, listing, marking, orders_at}
+use Rattle.gcp_master.specs.State.{MasterState, all_in, at_phase, at_stage, counted, counts}
 use Rattle.gcp_master.specs.Voices.{is_among}
 
 -- who sent a signal
@@ -62,21 +71,20 @@ beginning s phase asked = record s { phase = phase; asked = asked; voices = [] }
 
 -- what a master that rests in this epoch begins, and what is asked for behind that
 pub data Begins (s : MasterState) (current : ℕ) : Phase → Asked → Type 0 where
-  a_global : (next : ℕ) → (s.asked.global || s.asked.copy) ≡ true → next_global current ≡ Some next
-      → Begins s current (Preparing (record { epoch = current; next = next; copy = s.asked.copy }))
-      (record { global = false; copy = false; micro = s.asked.micro })
-  a_micro : (next : ℕ) → (s.asked.global || s.asked.copy) ≡ false → s.asked.micro ≡ true
-      → next_micro current ≡ Some next
-      → Begins s current (Preparing (record { epoch = current; next = next; copy = false }))
-      (record { global = s.asked.global; copy = s.asked.copy; micro = false })
-  nothing_asked : (s.asked.global || s.asked.copy) ≡ false → s.asked.micro ≡ false
+  a_global : (next : ℕ) → is_global_asked s.asked ≡ true → next_global current ≡ Some next
+      → Begins s current
+      (Preparing (record { epoch = current; next = next; copy = s.asked.copy; local = s.asked.local }))
+      (record { global = false; copy = false; local = false; micro = s.asked.micro })
+  a_micro : (next : ℕ) → is_global_asked s.asked ≡ false → s.asked.micro ≡ true → next_micro current ≡ Some next
+      → Begins s current (Preparing (record { epoch = current; next = next; copy = false; local = false }))
+      (record s.asked { micro = false })
+  nothing_asked : is_global_asked s.asked ≡ false → s.asked.micro ≡ false
       → Begins s current (Resting current) s.asked
 
 -- the number that is to follow is used up
 pub data IsSpent (s : MasterState) (current : ℕ) : Type 0 where
-  no_global : (s.asked.global || s.asked.copy) ≡ true → next_global current ≡ None → IsSpent s current
-  no_micro : (s.asked.global || s.asked.copy) ≡ false → s.asked.micro ≡ true → next_micro current ≡ None
-      → IsSpent s current
+  no_global : is_global_asked s.asked ≡ true → next_global current ≡ None → IsSpent s current
+  no_micro : is_global_asked s.asked ≡ false → s.asked.micro ≡ true → next_micro current ≡ None → IsSpent s current
 
 -- the host stops
 abbrev pub stopping : MasterState → Step MasterState
@@ -111,6 +119,26 @@ not_owing s = record s { owed = false }
 
 abbrev pub heard_one : MasterState → Signal → MasterState
 heard_one s x = counted s (voice_of x)
+
+-- the rows of a member have confirmed what a local checkpoint ordered
+abbrev pub heard_local : MasterState → Signal → MasterState
+heard_local s x = counted_local s (voice_of x)
+
+-- the rows of the full members are to write what they have
+abbrev pub walking : MasterState → Step MasterState
+walking s = record { state = at_stage s stage.Walking; effects = sends_only (orders_at Lqh Walk s.view.full) }
+
+-- they have, and a global checkpoint is asked for
+abbrev pub have_walked : MasterState → MasterState
+have_walked s = record (at_stage s stage.Closing) { asked = local_asked s.asked }
+
+-- the client is told that they have switched
+abbrev pub telling_local : MasterState → ℕ → Step MasterState
+telling_local s epoch = record { state = at_stage s stage.Idle; effects = sends_only (local_told epoch) }
+
+-- a checkpoint is durable: where a local one asked for it the rows are to switch
+abbrev pub at_durable : MasterState → Run → MasterState
+at_durable s run = at_end (switching s run) run (Global run.epoch run.copy run.local)
 
 -- R is of each step that the master may take at the signal
 pub record MasterOutcomes (s : MasterState) (x : Signal) (R : Step MasterState → Type 0) : Type 0 where
@@ -173,30 +201,46 @@ pub record MasterOutcomes (s : MasterState) (x : Signal) (R : Step MasterState �
       → counts s (voice_of x) ≡ true → all_in 1 (heard_one s x) ≡ false → R (stay (heard_one s x))
   pub ends_global : (run : Run) → x.body ≡ Epoch (CopyGciConf run.epoch) → s.phase ≡ Copying run
       → counts s (voice_of x) ≡ true → all_in 1 (heard_one s x) ≡ true
-      → BeginOutcomes (at_end (heard_one s x) run (Global run.epoch run.copy)) run.next false
-      (λ step. R (marking (Durable run.epoch) step))
+      → BeginOutcomes (at_durable (heard_one s x) run) run.next false (λ step. R (marking (Durable run.epoch) step))
+  -- a local checkpoint is asked for, of the president, while none is under way
+  pub walks : x.body ≡ Checkpoint LcpReq → s.local.stage ≡ stage.Idle → is_president s.member s.view ≡ true
+      → R (walking s)
+  -- the rows of a member have written what they had, the last ones or not: then a global checkpoint is asked for, while
+  -- another is under way, and while none is
+  pub hears_walk : (epoch : ℕ) → x.body ≡ Checkpoint (LcpFragRep epoch) → s.local.stage ≡ stage.Walking
+      → counts_local s (voice_of x) ≡ true → all_local (heard_local s x) ≡ false → R (stay (heard_local s x))
+  pub asks_walked : (epoch : ℕ) → x.body ≡ Checkpoint (LcpFragRep epoch) → s.local.stage ≡ stage.Walking
+      → counts_local s (voice_of x) ≡ true → all_local (heard_local s x) ≡ true → R (stay (have_walked s))
+  pub asks_walked_resting : (epoch current : ℕ) → x.body ≡ Checkpoint (LcpFragRep epoch)
+      → s.local.stage ≡ stage.Walking → counts_local s (voice_of x) ≡ true → all_local (heard_local s x) ≡ true
+      → s.phase ≡ Resting current → BeginOutcomes (have_walked s) current (is_some s.front) R
+  -- they have switched, the last ones or not
+  pub hears_switch : (epoch : ℕ) → x.body ≡ Checkpoint LcpSwitchConf → s.local.stage ≡ stage.Switching epoch
+      → counts_local s (voice_of x) ≡ true → all_local (heard_local s x) ≡ false → R (stay (heard_local s x))
+  pub ends_local : (epoch : ℕ) → x.body ≡ Checkpoint LcpSwitchConf → s.local.stage ≡ stage.Switching epoch
+      → counts_local s (voice_of x) ≡ true → all_local (heard_local s x) ≡ true → R (telling_local s epoch)
 
 pub begins_outcomes : (s : MasterState) (current : ℕ) (behind : Bool) (R : Step MasterState → Type 0)
     → BeginOutcomes s current behind R → R (begins s current behind)
 unfolding begins begun
-begins_outcomes s current behind R forms = by (s.asked.global || s.asked.copy) refl s.asked.micro refl
+begins_outcomes s current behind R forms = by (is_global_asked s.asked) refl s.asked.micro refl
   where
     begun_by : (phase : Phase) (asked : Asked) → Begins s current phase asked → (b : Bool) → behind ≡ b
         → R (begins_if (beginning s phase asked) false b)
     begun_by phase asked is true behind_it = forms.follows phase asked is behind_it
     begun_by phase asked is false at_once = forms.begins phase asked is at_once
 
-    global : (s.asked.global || s.asked.copy) ≡ true → (o : Option ℕ) → next_global current ≡ o
+    global : is_global_asked s.asked ≡ true → (o : Option ℕ) → next_global current ≡ o
         → R (begins_if (begin_global s current o).state (begin_global s current o).spent behind)
     global wanted None is = forms.stops (no_global wanted is)
     global wanted (Some next) is = begun_by _ _ (a_global next wanted is) behind refl
 
-    micro : (s.asked.global || s.asked.copy) ≡ false → s.asked.micro ≡ true → (o : Option ℕ) → next_micro current ≡ o
+    micro : is_global_asked s.asked ≡ false → s.asked.micro ≡ true → (o : Option ℕ) → next_micro current ≡ o
         → R (begins_if (begin_micro s current o).state (begin_micro s current o).spent behind)
     micro other wanted None is = forms.stops (no_micro other wanted is)
     micro other wanted (Some next) is = begun_by _ _ (a_micro next other wanted is) behind refl
 
-    by : (b : Bool) → (s.asked.global || s.asked.copy) ≡ b → (c : Bool) → s.asked.micro ≡ c
+    by : (b : Bool) → is_global_asked s.asked ≡ b → (c : Bool) → s.asked.micro ≡ c
         → R (begins_if (begin_if s current b c).state (begin_if s current b c).spent behind)
     by true wanted c is = global wanted (next_global current) refl
     by false none true wanted = micro none wanted (next_micro current) refl
@@ -426,7 +470,7 @@ module _ (s : MasterState) (x : Signal) (R : Step MasterState → Type 0) (forms
       all : (run : Run) → x.body ≡ Epoch (CopyGciConf run.epoch) → s.phase ≡ Copying run → counts s voice ≡ true
           → (b : Bool) → all_in 1 (heard_one s x) ≡ b → R (copied_if (heard_one s x) run b)
       all run own at on true each =
-          begins_outcomes (at_end (heard_one s x) run (Global run.epoch run.copy)) run.next false
+          begins_outcomes (at_durable (heard_one s x) run) run.next false
           (λ step. R (marking (Durable run.epoch) step)) (forms.ends_global run own at on each)
       all run own at on false some = forms.copies run own at on some
 
@@ -440,6 +484,66 @@ module _ (s : MasterState) (x : Signal) (R : Step MasterState → Type 0) (forms
       by : (phase : Phase) → s.phase ≡ phase → R (copy_by s voice epoch phase)
       by (Copying run) at = heard run at (run.epoch == epoch && counts s voice) refl
       by _ at = forms.stays
+
+  walks_for : x.body ≡ Checkpoint LcpReq → R (walk_row s)
+  unfolding walk_row
+  walks_for is = by s.local.stage refl
+    where
+      asked : s.local.stage ≡ stage.Idle → (b : Bool) → is_president s.member s.view ≡ b → R (walk_if s b)
+      asked at true first = forms.walks is at first
+      asked at false other = forms.stays
+
+      by : (at : LocalStage) → s.local.stage ≡ at → R (walk_by s at)
+      by stage.Idle at = asked at (is_president s.member s.view) refl
+      by _ at = forms.stays
+
+  walked : (epoch : ℕ) → x.body ≡ Checkpoint (LcpFragRep epoch) → R (walked_row s voice)
+  unfolding walked_row asked_row
+  walked epoch is = by s.local.stage refl
+    where
+      asked : s.local.stage ≡ stage.Walking → counts_local s voice ≡ true → all_local (heard_local s x) ≡ true
+          → (phase : Phase) → s.phase ≡ phase → R (asked_by (have_walked s) phase)
+      asked at on all (Resting current) rests =
+          begins_outcomes (have_walked s) current (is_some s.front) R
+          (forms.asks_walked_resting epoch current is at on all rests)
+      asked at on all _ rests = forms.asks_walked epoch is at on all
+
+      every : s.local.stage ≡ stage.Walking → counts_local s voice ≡ true → (b : Bool)
+          → all_local (heard_local s x) ≡ b → R (walked_if (heard_local s x) b)
+      every at on true all = asked at on all s.phase refl
+      every at on false some = forms.hears_walk epoch is at on some
+
+      heard : s.local.stage ≡ stage.Walking → (b : Bool) → counts_local s voice ≡ b → R (hear_walk_if s voice b)
+      heard at true on = every at on (all_local (heard_local s x)) refl
+      heard at false off = forms.stays
+
+      by : (at : LocalStage) → s.local.stage ≡ at → R (walked_by s voice at)
+      by stage.Walking at = heard at (counts_local s voice) refl
+      by _ at = forms.stays
+
+  switched : x.body ≡ Checkpoint LcpSwitchConf → R (switched_row s voice)
+  unfolding switched_row
+  switched is = by s.local.stage refl
+    where
+      every : (epoch : ℕ) → s.local.stage ≡ stage.Switching epoch → counts_local s voice ≡ true → (b : Bool)
+          → all_local (heard_local s x) ≡ b → R (switched_if (heard_local s x) epoch b)
+      every epoch at on true all = forms.ends_local epoch is at on all
+      every epoch at on false some = forms.hears_switch epoch is at on some
+
+      heard : (epoch : ℕ) → s.local.stage ≡ stage.Switching epoch → (b : Bool) → counts_local s voice ≡ b
+          → R (hear_switch_if s voice epoch b)
+      heard epoch at true on = every epoch at on (all_local (heard_local s x)) refl
+      heard epoch at false off = forms.stays
+
+      by : (at : LocalStage) → s.local.stage ≡ at → R (switched_by s voice at)
+      by (stage.Switching epoch) at = heard epoch at (counts_local s voice) refl
+      by _ at = forms.stays
+
+  takes_locals : (signal : CheckpointSignal) → x.body ≡ Checkpoint signal → R (local_table s voice signal)
+  takes_locals LcpReq is = walks_for is
+  takes_locals (LcpFragRep epoch) is = walked epoch is
+  takes_locals LcpSwitchConf is = switched is
+  takes_locals _ is = forms.stays
 
   takes_epochs : (signal : EpochSignal) → x.body ≡ Epoch signal → R (epoch_table s voice signal)
   takes_epochs (GcpReq by) is = asked_for (global_asked s.asked x.member.node) (for_global by is)
@@ -458,6 +562,7 @@ module _ (s : MasterState) (x : Signal) (R : Step MasterState → Type 0) (forms
   takes (Host (Continue Members at)) is = went_on at is
   takes (Takeover TakeoverEnd) is = over is
   takes (Epoch signal) is = takes_epochs signal is
+  takes (Checkpoint signal) is = takes_locals signal is
   takes _ is = forms.stays
 
 -- whatever it takes

@@ -3,7 +3,9 @@ use Rattle.std.proofs.Common.{◌≡◌, ℕ, ◌==◌, ◌&&◌, ◌||◌, ◌�
 use Rattle.std.proofs.lemmas.Bool.{false≢true}
 use Rattle.std.specs.Prelude.{Option, None, Some, is_some, if◌then◌else◌}
 use Rattle.sig_core.specs.declared.signal.Body.{Body}
-use Rattle.sig_core.specs.declared.signal.Body.TheVariants.{Host, Takeover, Epoch}
+use Rattle.sig_core.specs.declared.signal.Body.TheVariants.{Host, Takeover, Epoch, Checkpoint}
+use Rattle.sig_core.specs.declared.signal.checkpoint.CheckpointSignal.{CheckpointSignal}
+use Rattle.sig_core.specs.declared.signal.checkpoint.CheckpointSignal.TheVariants.{LcpReq, LcpFragRep, LcpSwitchConf}
 use Rattle.sig_core.specs.declared.signal.epoch.EpochSignal.{EpochSignal}
 use Rattle.sig_core.specs.declared.signal.epoch.EpochSignal.TheVariants.{GcpReq, MicroReq, GcpPrepareConf}
 use Rattle.sig_core.specs.declared.signal.epoch.EpochSignal.TheVariants.{GcpNodeFinish, GcpClosedConf, GcpSaveConf}
@@ -13,6 +15,8 @@ use Rattle.sig_core.specs.declared.signal.host.Work.TheVariants.{Members}
 use Rattle.sig_core.specs.declared.signal.takeover.TakeoverSignal.TheVariants.{TakeoverEnd}
 use Rattle.gcp_master.specs.declared.known.Known.{Known}
 use Rattle.gcp_master.specs.declared.known.Told.{Told}
+use Rattle.gcp_master.specs.declared.local.LocalStage.{LocalStage}
+use Rattle.gcp_master.specs.declared.local.LocalStage.TheVariants as stage
 use Rattle.gcp_master.specs.declared.orders.Ended.{Ended}
 use Rattle.gcp_master.specs.declared.orders.Ended.TheVariants.{Micro, Global}
 use Rattle.gcp_master.specs.declared.phase.Asked.{Asked}
@@ -21,20 +25,23 @@ use Rattle.gcp_master.specs.declared.phase.Phase.TheVariants.{Unordered, Gatheri
 use Rattle.gcp_master.specs.declared.phase.Phase.TheVariants.{Closing, Saving, Copying}
 use Rattle.gcp_master.specs.declared.phase.Run.{Run}
 use Rattle.gcp_master.specs.declared.voices.Voice.{Voice}
-use Rattle.gcp_master.specs.Begin.{begin_global, begin_if, begin_micro, begins, begins_if, begun}
+use Rattle.gcp_master.specs.Begin.{begin_global, begin_if, begin_micro, begins, begins_if, begun, is_global_asked}
 use Rattle.gcp_master.specs.Closing.{close_if_all, closed_if, copied_if, copy_by, copy_if, copy_row, ended, finish_by}
 use Rattle.gcp_master.specs.Closing.{finish_if, finish_row, note_by, note_if, note_row, noted_by, noted_if, prepare_by}
 use Rattle.gcp_master.specs.Closing.{prepare_if, prepare_row, prepared_if, save_by, save_if, save_row, saved_if}
-use Rattle.gcp_master.specs.Closing.{takeover_by, takeover_row}
+use Rattle.gcp_master.specs.Closing.{switching, takeover_by, takeover_row}
 use Rattle.gcp_master.specs.Known.{resumed}
 use Rattle.gcp_master.specs.Laws.{KeepsGlobal, KeepsMicro, RequestsAreKept}
-use Rattle.gcp_master.specs.Master.{epoch_table, master_table}
+use Rattle.gcp_master.specs.Local.{all_local, counted_local, counts_local, hear_switch_if, hear_walk_if, switched_by}
+use Rattle.gcp_master.specs.Local.{switched_if, switched_row, walk_by, walk_if, walk_row, walked_by, walked_if}
+use Rattle.gcp_master.specs.Local.{walked_row}
+use Rattle.gcp_master.specs.Master.{epoch_table, local_table, master_table}
 use Rattle.gcp_master.specs.Numbers.{is_first, next_global, next_micro}
-use Rattle.gcp_master.specs.Requests.{asked_by, asked_row, global_asked, micro_asked}
+use Rattle.gcp_master.specs.Requests.{asked_by, asked_row, global_asked, local_asked, micro_asked}
 use Rattle.gcp_master.specs.Resume.{knowing, learned_if, order_by, order_row, resume_at, state_by, state_if, state_row}
-use Rattle.gcp_master.specs.Resume.{told_all_if}
+use Rattle.gcp_master.specs.Resume.{is_president, told_all_if}
 use Rattle.gcp_master.specs.Sends.{entering, go_on_if, go_on_row, listing, told_if}
-use Rattle.gcp_master.specs.State.{MasterState, all_in, at_phase, counted, counts}
+use Rattle.gcp_master.specs.State.{MasterState, all_in, at_phase, at_stage, counted, counts}
 use Rattle.gcp_master.specs.Voices.{is_among}
 use Rattle.gcp_master.proofs.TwiceLemmas.{listed_phase}
 
@@ -179,7 +186,7 @@ unfolding copy_row
 copy_moves s v epoch = by s.phase
   where
     by_all : (run : Run) (all : Bool) → Moves s.asked (copied_if (counted s v) run all).state
-    by_all run true = ends (counted s v) run (Global run.epoch run.copy)
+    by_all run true = ends (switching (counted s v) run) run (Global run.epoch run.copy run.local)
     by_all run false = inl refl
 
     by_if : (run : Run) (counting : Bool) → Moves s.asked (copy_if s v run counting).state
@@ -290,16 +297,77 @@ epoch_asks s v (GcpSaveConf epoch) = the_same s _ (save_moves s v epoch)
 epoch_asks s v (CopyGciConf epoch) = the_same s _ (copy_moves s v epoch)
 epoch_asks s v _ = the_same s s (inl refl)
 
+-- local checkpoints
+walk_moves : (s : MasterState) → Moves s.asked (walk_row s).state
+unfolding walk_row
+walk_moves s = by s.local.stage
+  where
+    by_if : (first : Bool) → Moves s.asked (walk_if s first).state
+    by_if true = inl refl
+    by_if false = inl refl
+
+    by : (at : LocalStage) → Moves s.asked (walk_by s at).state
+    by stage.Idle = by_if (is_president s.member s.view)
+    by _ = inl refl
+
+walked_asks : (s : MasterState) (v : Voice) → Asks s (walked_row s v).state
+unfolding walked_row
+walked_asks s v = by s.local.stage
+  where
+    stays : (now : MasterState) → now.asked ≡ s.asked → Asks s now
+    stays now same = the_same s now (inl same)
+
+    by_all : (all : Bool) → Asks s (walked_if (counted_local s v) all).state
+    by_all true =
+        record {
+          asked = local_asked s.asked;
+          global = λ e. e;
+          micro = λ e. e;
+          moves = asked_moves (at_stage (counted_local s v) stage.Closing) (local_asked s.asked);
+        }
+    by_all false = stays (counted_local s v) refl
+
+    by_if : (counting : Bool) → Asks s (hear_walk_if s v counting).state
+    by_if true = by_all (all_local (counted_local s v))
+    by_if false = stays s refl
+
+    by : (at : LocalStage) → Asks s (walked_by s v at).state
+    by stage.Walking = by_if (counts_local s v)
+    by _ = stays s refl
+
+switched_moves : (s : MasterState) (v : Voice) → Moves s.asked (switched_row s v).state
+unfolding switched_row
+switched_moves s v = by s.local.stage
+  where
+    by_all : (epoch : ℕ) (all : Bool) → Moves s.asked (switched_if (counted_local s v) epoch all).state
+    by_all epoch true = inl refl
+    by_all epoch false = inl refl
+
+    by_if : (epoch : ℕ) (counting : Bool) → Moves s.asked (hear_switch_if s v epoch counting).state
+    by_if epoch true = by_all epoch (all_local (counted_local s v))
+    by_if epoch false = inl refl
+
+    by : (at : LocalStage) → Moves s.asked (switched_by s v at).state
+    by (stage.Switching epoch) = by_if epoch (counts_local s v)
+    by _ = inl refl
+
+local_asks : (s : MasterState) (v : Voice) (signal : CheckpointSignal) → Asks s (local_table s v signal).state
+local_asks s v LcpReq = the_same s _ (walk_moves s)
+local_asks s v (LcpFragRep epoch) = walked_asks s v
+local_asks s v LcpSwitchConf = the_same s _ (switched_moves s v)
+local_asks s v _ = the_same s s (inl refl)
+
 asks : (s : MasterState) (v : Voice) (number : ℕ) (body : Body) → Asks s (master_table s v number body).state
 asks s v number (Host (Continue Members at)) = the_same s _ (go_on_moves s number at)
 asks s v number (Takeover TakeoverEnd) = the_same s _ (takeover_moves s)
 asks s v number (Epoch signal) = epoch_asks s v signal
+asks s v number (Checkpoint signal) = local_asks s v signal
 asks s v number _ = the_same s s (inl refl)
 
 -- what begins takes away what it serves, and nothing else
 begun_micro : (before : MasterState) (current : ℕ) → before.asked.micro ≡ true → KeepsMicro (begun before current).state
 unfolding begun
-begun_micro before current e = by (before.asked.global || before.asked.copy) before.asked.micro e
+begun_micro before current e = by (is_global_asked before.asked) before.asked.micro e
   where
     by_global : (next : Option ℕ) → KeepsMicro (begin_global before current next).state
     by_global None = inl e
@@ -307,7 +375,8 @@ begun_micro before current e = by (before.asked.global || before.asked.copy) bef
 
     by_micro : (next : Option ℕ) → next_micro current ≡ next → KeepsMicro (begin_micro before current next).state
     by_micro None is = inl e
-    by_micro (Some next) is = inr (record { epoch = current; next = next; copy = false }, (refl, is))
+    by_micro (Some next) is =
+        inr (record { epoch = current; next = next; copy = false; local = false }, (refl, is))
 
     by : (global micro : Bool) → micro ≡ true → KeepsMicro (begin_if before current global micro).state
     by true micro m = by_global (next_global current)
@@ -317,15 +386,18 @@ begun_micro before current e = by (before.asked.global || before.asked.copy) bef
 begun_global : (before : MasterState) (current : ℕ) → before.asked.global ≡ true
     → KeepsGlobal (begun before current).state
 unfolding begun
-begun_global before current e = by before.asked.global before.asked.copy before.asked.micro e
+begun_global before current e =
+    by before.asked.global (before.asked.copy || before.asked.local) before.asked.micro e
   where
     by_global : (next : Option ℕ) → next_global current ≡ next → KeepsGlobal (begin_global before current next).state
     by_global None is = inl e
-    by_global (Some next) is = inr (record { epoch = current; next = next; copy = before.asked.copy }, (refl, is))
+    by_global (Some next) is =
+        inr (record { epoch = current; next = next; copy = before.asked.copy; local = before.asked.local }, (refl, is))
 
-    by : (global copy micro : Bool) → global ≡ true → KeepsGlobal (begin_if before current (global || copy) micro).state
-    by true copy micro m = by_global (next_global current) refl
-    by false copy micro m = absurd (false≢true m)
+    by : (global other micro : Bool) → global ≡ true
+        → KeepsGlobal (begin_if before current (global || other) micro).state
+    by true other micro m = by_global (next_global current) refl
+    by false other micro m = absurd (false≢true m)
 
 kept_micro : (asked : Asked) (state : MasterState) → Moves asked state → asked.micro ≡ true → KeepsMicro state
 kept_micro asked state (inl same) e = inl (ap (λ (a : Asked). a.micro) same ∙ e)

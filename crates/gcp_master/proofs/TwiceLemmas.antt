@@ -1,36 +1,45 @@
 -- Confirmations that come once more at once.
-use Rattle.std.proofs.Common.{◌≡◌, ℕ, ◌==◌, ◌&&◌, ◌||◌, ◌⊎◌, Bool, true, false, not, nat_lt, refl, ap, sym, ◌∙◌, inl}
+use Rattle.std.proofs.Common.{◌≡◌, ℕ, ◌==◌, ◌&&◌, ◌⊎◌, Bool, true, false, not, nat_lt, [], refl, ap, sym, ◌∙◌, inl}
 use Rattle.std.proofs.Common.{inr}
 use Rattle.std.proofs.lemmas.Bool.{false≢true}
-use Rattle.std.specs.Prelude.{Option, None, Some, if◌then◌else◌}
+use Rattle.std.specs.Prelude.{Option, None, Some, if◌then◌else◌, is_some}
 use Rattle.sig_core.specs.declared.signal.Body.{Body}
-use Rattle.sig_core.specs.declared.signal.Body.TheVariants.{Epoch}
+use Rattle.sig_core.specs.declared.signal.Body.TheVariants.{Epoch, Checkpoint}
+use Rattle.sig_core.specs.declared.signal.checkpoint.CheckpointSignal.TheVariants.{LcpFragRep, LcpSwitchConf}
 use Rattle.sig_core.specs.declared.signal.epoch.EpochSignal.TheVariants.{GcpPrepareConf, GcpNodeFinish, GcpClosedConf}
 use Rattle.sig_core.specs.declared.signal.epoch.EpochSignal.TheVariants.{GcpSaveConf, CopyGciConf, GcpStateConf}
 use Rattle.sig_core.specs.Step.{Step, stay}
 use Rattle.gcp_master.specs.declared.known.Known.{Known}
 use Rattle.gcp_master.specs.declared.known.Told.{Told}
+use Rattle.gcp_master.specs.declared.local.Local.{Local}
+use Rattle.gcp_master.specs.declared.local.LocalStage.{LocalStage}
+use Rattle.gcp_master.specs.declared.local.LocalStage.TheVariants as stage
 use Rattle.gcp_master.specs.declared.orders.Ended.{Ended}
 use Rattle.gcp_master.specs.declared.orders.Ended.TheVariants.{Micro, Global}
+use Rattle.gcp_master.specs.declared.phase.Asked.{Asked}
 use Rattle.gcp_master.specs.declared.phase.Phase.{Phase}
 use Rattle.gcp_master.specs.declared.phase.Phase.TheVariants.{Unordered, Gathering, Resting, Preparing, Committing}
 use Rattle.gcp_master.specs.declared.phase.Phase.TheVariants.{Closing, Saving, Copying}
 use Rattle.gcp_master.specs.declared.phase.Run.{Run}
 use Rattle.gcp_master.specs.declared.voices.Voice.{Voice}
-use Rattle.gcp_master.specs.Begin.{begin_global, begin_if, begin_micro, begins, begins_if, begun}
+use Rattle.gcp_master.specs.Begin.{begin_global, begin_if, begin_micro, begins, begins_if, begun, is_global_asked}
 use Rattle.gcp_master.specs.Closing.{close_if_all, closed_if, copied_if, copy_by, copy_if, copy_row, ended, finish_by}
 use Rattle.gcp_master.specs.Closing.{finish_if, finish_row, note_by, note_if, note_row, noted_by, noted_if, prepare_by}
-use Rattle.gcp_master.specs.Closing.{prepare_if, prepare_row, prepared_if, save_by, save_if, save_row, saved_if}
+use Rattle.gcp_master.specs.Closing.{prepare_if, prepare_row, prepared_if, save_by, save_if, save_row, saved_if, switching}
 use Rattle.gcp_master.specs.Known.{last_run, resumed}
 use Rattle.gcp_master.specs.Laws.{TwiceConfirmedCountsOnce, is_confirmation}
+use Rattle.gcp_master.specs.Local.{all_local, counted_local, counts_local, hear_switch_if, hear_walk_if, switched_by}
+use Rattle.gcp_master.specs.Local.{switched_if, switched_row, walked_by, walked_if, walked_row}
 use Rattle.gcp_master.specs.Master.{master_table}
 use Rattle.gcp_master.specs.Numbers.{is_first, next_global, next_micro}
+use Rattle.gcp_master.specs.Requests.{asked_by, asked_row, local_asked}
 use Rattle.gcp_master.specs.Resume.{knowing, learned_if, resume_at, state_by, state_if, state_row, told_all_if}
 use Rattle.gcp_master.specs.Sends.{entering, listing, told_if}
-use Rattle.gcp_master.specs.State.{MasterState, all_in, at_phase, counted, counts}
+use Rattle.gcp_master.specs.State.{MasterState, all_in, at_phase, at_stage, counted, counts}
 use Rattle.gcp_master.specs.Voices.{is_among}
 use Rattle.gcp_master.proofs.ConfirmLemmas.{copy_ignored, counted_once, finish_ignored, note_ignored, prepare_ignored}
-use Rattle.gcp_master.proofs.ConfirmLemmas.{save_ignored, state_ignored}
+use Rattle.gcp_master.proofs.ConfirmLemmas.{counted_local_once, save_ignored, state_ignored, switch_ignored}
+use Rattle.gcp_master.proofs.ConfirmLemmas.{walk_ignored}
 
 -- a list leaves the phase
 pub listed_phase : (s : MasterState) (at : ℕ) → (listing s at).state.phase ≡ s.phase
@@ -49,7 +58,7 @@ rests _ = false
 
 begun_rests : (s : MasterState) (current : ℕ) → rests s.phase ≡ true → rests (begun s current).state.phase ≡ true
 unfolding begun
-begun_rests s current e = by (s.asked.global || s.asked.copy) s.asked.micro
+begun_rests s current e = by (is_global_asked s.asked) s.asked.micro
   where
     by_global : (next : Option ℕ) → rests (begin_global s current next).state.phase ≡ true
     by_global None = e
@@ -190,8 +199,9 @@ module _ (v : Voice) (epoch : ℕ) where
 
       by_all : (run : Run) (all : Bool) → Settles copy_row (copied_if (counted s v) run all).state
       by_all run true =
-          let now = (ended (counted s v) run (Global run.epoch run.copy)).state in
-          resting now now.phase (ended_rests (counted s v) run (Global run.epoch run.copy))
+          let what : Ended = Global run.epoch run.copy run.local in
+          let now = (ended (switching (counted s v) run) run what).state in
+          resting now now.phase (ended_rests (switching (counted s v) run) run what)
       by_all run false = copy_ignored (counted s v) v (counted_once s v) epoch
 
       by_if : (run : Run) → s.phase ≡ Copying run → (counting : Bool) → (run.epoch == epoch && counts s v) ≡ counting
@@ -252,7 +262,7 @@ module _ (v : Voice) (told : Told) where
 
   begun_calm : (s : MasterState) (current : ℕ) → counts s v ≡ false → Calm (begun s current).state
   unfolding begun
-  begun_calm s current none = by (s.asked.global || s.asked.copy) s.asked.micro
+  begun_calm s current none = by (is_global_asked s.asked) s.asked.micro
     where
       by_global : (next : Option ℕ) → Calm (begin_global s current next).state
       by_global None = inr none
@@ -329,6 +339,93 @@ module _ (v : Voice) (told : Told) where
           by_if known (learned_if known told (is_among s.view.full v.member)) is refl (counts s v) refl
       by _ is = ap (state_by s v told) is
 
+-- what is begun leaves the stage of a local checkpoint
+listed_local : (s : MasterState) (at : ℕ) → (listing s at).state.local ≡ s.local
+unfolding listing
+listed_local s at = by _
+  where
+    by : (left : Bool) → (told_if s left).local ≡ s.local
+    by true = refl
+    by false = refl
+
+begun_local : (s : MasterState) (current : ℕ) → (begun s current).state.local ≡ s.local
+unfolding begun
+begun_local s current = by (is_global_asked s.asked) s.asked.micro
+  where
+    by_global : (next : Option ℕ) → (begin_global s current next).state.local ≡ s.local
+    by_global None = refl
+    by_global (Some next) = refl
+
+    by_micro : (next : Option ℕ) → (begin_micro s current next).state.local ≡ s.local
+    by_micro None = refl
+    by_micro (Some next) = refl
+
+    by : (global micro : Bool) → (begin_if s current global micro).state.local ≡ s.local
+    by true micro = by_global (next_global current)
+    by false true = by_micro (next_micro current)
+    by false false = refl
+
+begins_local : (s : MasterState) (current : ℕ) (listed : Bool) → (begins s current listed).state.local ≡ s.local
+unfolding begins
+begins_local s current listed = by (begun s current).state (begun s current).spent listed ∙ begun_local s current
+  where
+    by : (now : MasterState) (spent listed : Bool) → (begins_if now spent listed).state.local ≡ now.local
+    by now true listed = refl
+    by now false true = refl
+    by now false false = listed_local now 0
+
+asked_local : (s : MasterState) (asked : Asked) → (asked_row s asked).state.local ≡ s.local
+unfolding asked_row
+asked_local s asked = by s.phase
+  where
+    by : (phase : Phase) → (asked_by (record s { asked = asked }) phase).state.local ≡ s.local
+    by (Resting current) = begins_local (record s { asked = asked }) current (is_some s.front)
+    by _ = refl
+
+walk_twice : (v : Voice) (s : MasterState) → walked_row (walked_row s v).state v ≡ stay (walked_row s v).state
+unfolding walked_row
+walk_twice v s = by s.local.stage refl
+  where
+    over : (now : MasterState) → now.local ≡ record { stage = stage.Closing; voices = [] }
+        → walked_row now v ≡ stay now
+    over now is = ap (λ (local : Local). walked_by now v local.stage) is
+
+    by_all : (all : Bool) → walked_row (walked_if (counted_local s v) all).state v
+        ≡ stay (walked_if (counted_local s v) all).state
+    by_all true =
+        over (asked_row (at_stage (counted_local s v) stage.Closing) (local_asked s.asked)).state
+        (asked_local (at_stage (counted_local s v) stage.Closing) (local_asked s.asked))
+    by_all false = walk_ignored (counted_local s v) v (counted_local_once s v)
+
+    by_if : s.local.stage ≡ stage.Walking → (counting : Bool) → counts_local s v ≡ counting
+        → walked_row (hear_walk_if s v counting).state v ≡ stay (hear_walk_if s v counting).state
+    by_if is true e = by_all (all_local (counted_local s v))
+    by_if is false e = ap (walked_by s v) is ∙ ap (hear_walk_if s v) e
+
+    by : (at : LocalStage) → s.local.stage ≡ at
+        → walked_row (walked_by s v at).state v ≡ stay (walked_by s v at).state
+    by stage.Walking is = by_if is (counts_local s v) refl
+    by _ is = ap (walked_by s v) is
+
+switch_twice : (v : Voice) (s : MasterState) → switched_row (switched_row s v).state v ≡ stay (switched_row s v).state
+unfolding switched_row
+switch_twice v s = by s.local.stage refl
+  where
+    by_all : (epoch : ℕ) (all : Bool) → switched_row (switched_if (counted_local s v) epoch all).state v
+        ≡ stay (switched_if (counted_local s v) epoch all).state
+    by_all epoch true = refl
+    by_all epoch false = switch_ignored (counted_local s v) v (counted_local_once s v)
+
+    by_if : (epoch : ℕ) → s.local.stage ≡ stage.Switching epoch → (counting : Bool) → counts_local s v ≡ counting
+        → switched_row (hear_switch_if s v epoch counting).state v ≡ stay (hear_switch_if s v epoch counting).state
+    by_if epoch is true e = by_all epoch (all_local (counted_local s v))
+    by_if epoch is false e = ap (switched_by s v) is ∙ ap (hear_switch_if s v epoch) e
+
+    by : (at : LocalStage) → s.local.stage ≡ at
+        → switched_row (switched_by s v at).state v ≡ stay (switched_by s v at).state
+    by (stage.Switching epoch) is = by_if epoch is (counts_local s v) refl
+    by _ is = ap (switched_by s v) is
+
 twice : (s : MasterState) (v : Voice) (number : ℕ) (body : Body) → is_confirmation body ≡ true
     → master_table (master_table s v number body).state v number body ≡ stay (master_table s v number body).state
 twice s v number (Epoch (GcpPrepareConf epoch)) e = prepare_twice v epoch s
@@ -345,6 +442,8 @@ twice s v number (Epoch (GcpStateConf current prepared next closed saved durable
       saved = saved;
       durable = durable;
     } in state_twice v told s
+twice s v number (Checkpoint (LcpFragRep epoch)) e = walk_twice v s
+twice s v number (Checkpoint LcpSwitchConf) e = switch_twice v s
 twice s v number _ e = absurd (false≢true e)
 
 pub twice_confirmed_counts_once : TwiceConfirmedCountsOnce

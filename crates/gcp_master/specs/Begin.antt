@@ -3,6 +3,7 @@ use Rattle.std.specs.Prelude.{ℕ, ◌||◌, Bool, true, false, [], Option, None
 use Rattle.sig_core.specs.declared.mark.Mark.TheVariants.{Stopped}
 use Rattle.sig_core.specs.declared.outcome.StopCause.TheVariants.{Clock}
 use Rattle.sig_core.specs.Step.{Step, nothing, and_mark, stay}
+use Rattle.gcp_master.specs.declared.phase.Asked.{Asked}
 use Rattle.gcp_master.specs.declared.phase.Phase.TheVariants.{Resting, Preparing}
 use Rattle.gcp_master.specs.Numbers.{next_global, next_micro}
 use Rattle.gcp_master.specs.Sends.{listing}
@@ -19,8 +20,8 @@ begin_global s current None = record { state = s; spent = true }
 begin_global s current (Some next) =
     record {
       state = record s {
-        phase = Preparing (record { epoch = current; next = next; copy = s.asked.copy });
-        asked = record { global = false; copy = false; micro = s.asked.micro };
+        phase = Preparing (record { epoch = current; next = next; copy = s.asked.copy; local = s.asked.local });
+        asked = record { global = false; copy = false; local = false; micro = s.asked.micro };
         voices = [];
       };
       spent = false;
@@ -32,8 +33,8 @@ begin_micro s current None = record { state = s; spent = true }
 begin_micro s current (Some next) =
     record {
       state = record s {
-        phase = Preparing (record { epoch = current; next = next; copy = false });
-        asked = record { global = s.asked.global; copy = s.asked.copy; micro = false };
+        phase = Preparing (record { epoch = current; next = next; copy = false; local = false });
+        asked = record s.asked { micro = false };
         voices = [];
       };
       spent = false;
@@ -49,8 +50,12 @@ begin_if s current true micro = begin_global s current (next_global current)
 begin_if s current false true = begin_micro s current (next_micro current)
 begin_if s current false false = begin_none s current
 
+-- a global checkpoint is asked for, by whom ever
+abbrev pub is_global_asked : Asked → Bool
+is_global_asked asked = asked.global || (asked.copy || asked.local)
+
 unfoldable pub begun : MasterState → ℕ → Begun
-begun s current = begin_if s current (s.asked.global || s.asked.copy) s.asked.micro
+begun s current = begin_if s current (is_global_asked s.asked) s.asked.micro
 
 -- Where the numbers are used up the host stops, and sends nothing. Where a list is under way it goes on with what has
 -- begun.

@@ -1,7 +1,9 @@
 -- The phases of a closing, by the confirmations of the members.
-use Rattle.std.specs.Prelude.{ℕ, ◌==◌, ◌&&◌, Bool, true, false, not, Some}
+use Rattle.std.specs.Prelude.{ℕ, ◌==◌, ◌&&◌, Bool, true, false, not, [], Some}
 use Rattle.sig_core.specs.declared.mark.Mark.TheVariants.{Closed, Durable}
 use Rattle.sig_core.specs.Step.{Step, stay}
+use Rattle.gcp_master.specs.declared.local.Local.{Local}
+use Rattle.gcp_master.specs.declared.local.LocalStage.TheVariants.{Switching}
 use Rattle.gcp_master.specs.declared.orders.Ended.{Ended}
 use Rattle.gcp_master.specs.declared.orders.Ended.TheVariants.{Micro, Global}
 use Rattle.gcp_master.specs.declared.phase.Phase.{Phase}
@@ -97,9 +99,19 @@ save_by s voice epoch _ = stay s
 unfoldable pub save_row : MasterState → Voice → ℕ → Step MasterState
 save_row s voice epoch = save_by s voice epoch s.phase
 
+-- behind a global checkpoint that a local one asked for the rows are to switch
+abbrev pub switching_if : Local → ℕ → Bool → Local
+switching_if local epoch true = record { stage = Switching epoch; voices = [] }
+switching_if local epoch false = local
+
+abbrev pub switching : MasterState → Run → MasterState
+switching s run = record s { local = switching_if s.local run.epoch run.local }
+
 -- the members write the system file: when all have, the epoch is durable
 abbrev pub copied_if : MasterState → Run → Bool → Step MasterState
-copied_if s run true = marking (Durable run.epoch) (ended s run (Global run.epoch run.copy))
+copied_if s run true =
+    marking (Durable run.epoch)
+    (ended (switching s run) run (Global run.epoch run.copy run.local))
 copied_if s run false = stay s
 
 abbrev pub copy_if : MasterState → Voice → Run → Bool → Step MasterState

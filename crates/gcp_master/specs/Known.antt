@@ -49,9 +49,10 @@ learned_of_epochs known told =
 abbrev pub learned : Known → Told → Known
 learned known told = if told.current == 0 then learned_of_rows known told else learned_of_epochs known told
 
--- the epoch that the last order named, and the one that follows it; no copying waits for it any more
+-- the epoch that the last order named, and the one that follows it; no copying and no local checkpoint waits for it any
+-- more
 abbrev pub last_run : Known → Run
-last_run known = record { epoch = known.epoch; next = known.next; copy = false }
+last_run known = record { epoch = known.epoch; next = known.next; copy = false; local = false }
 
 -- Where a master goes on, when all have told. No full member has committed the last order: with it, from its beginning.
 -- One hasn't, or one hasn't noted the epoch as closed, or of a checkpoint one hasn't saved it: from the commit on. Of a

@@ -1,8 +1,9 @@
 -- What is true of confirmations and requests, in any state of a master.
 use Rattle.std.specs.Prelude.{◌≡◌, ◌⊎◌, Bool, true, false, Some}
 use Rattle.sig_core.specs.declared.signal.Body.{Body}
-use Rattle.sig_core.specs.declared.signal.Body.TheVariants.{Epoch}
+use Rattle.sig_core.specs.declared.signal.Body.TheVariants.{Epoch, Checkpoint}
 use Rattle.sig_core.specs.declared.signal.Signal.{Signal}
+use Rattle.sig_core.specs.declared.signal.checkpoint.CheckpointSignal.TheVariants.{LcpFragRep, LcpSwitchConf}
 use Rattle.sig_core.specs.declared.signal.epoch.EpochSignal.TheVariants.{GcpPrepareConf, GcpNodeFinish, GcpClosedConf}
 use Rattle.sig_core.specs.declared.signal.epoch.EpochSignal.TheVariants.{GcpSaveConf, CopyGciConf, GcpStateConf}
 use Rattle.sig_core.specs.Step.{stay}
@@ -22,6 +23,8 @@ is_confirmation (Epoch (GcpClosedConf epoch)) = true
 is_confirmation (Epoch (GcpSaveConf epoch)) = true
 is_confirmation (Epoch (CopyGciConf epoch)) = true
 is_confirmation (Epoch (GcpStateConf current prepared next closed saved durable)) = true
+is_confirmation (Checkpoint (LcpFragRep epoch)) = true
+is_confirmation (Checkpoint LcpSwitchConf) = true
 is_confirmation body = false
 
 -- a confirmation of who isn't in the view changes nothing, sends nothing and marks nothing

@@ -2,6 +2,7 @@ pub mod Begin
 pub mod Closing
 pub mod Known
 pub mod Laws
+pub mod Local
 pub mod Master
 pub mod Numbers
 pub mod Orders

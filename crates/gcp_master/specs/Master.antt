@@ -2,8 +2,10 @@
 use Rattle.std.specs.Prelude.{ℕ, Bool, true, false, [], None}
 use Rattle.sig_core.specs.declared.member.Member.{Member}
 use Rattle.sig_core.specs.declared.signal.Body.{Body}
-use Rattle.sig_core.specs.declared.signal.Body.TheVariants.{Host, Takeover, Epoch}
+use Rattle.sig_core.specs.declared.signal.Body.TheVariants.{Host, Takeover, Epoch, Checkpoint}
 use Rattle.sig_core.specs.declared.signal.Signal.{Signal}
+use Rattle.sig_core.specs.declared.signal.checkpoint.CheckpointSignal.{CheckpointSignal}
+use Rattle.sig_core.specs.declared.signal.checkpoint.CheckpointSignal.TheVariants.{LcpReq, LcpFragRep, LcpSwitchConf}
 use Rattle.sig_core.specs.declared.signal.epoch.EpochSignal.{EpochSignal}
 use Rattle.sig_core.specs.declared.signal.epoch.EpochSignal.TheVariants.{GcpReq, MicroReq, GcpPrepareConf}
 use Rattle.sig_core.specs.declared.signal.epoch.EpochSignal.TheVariants.{GcpNodeFinish, GcpClosedConf, GcpSaveConf}
@@ -18,10 +20,11 @@ use Rattle.gcp_master.specs.declared.phase.Phase.{Phase}
 use Rattle.gcp_master.specs.declared.phase.Phase.TheVariants.{Unordered, Resting}
 use Rattle.gcp_master.specs.declared.voices.Voice.{Voice}
 use Rattle.gcp_master.specs.Closing.{copy_row, finish_row, note_row, prepare_row, save_row, takeover_row}
+use Rattle.gcp_master.specs.Local.{switched_row, walk_row, walked_row}
 use Rattle.gcp_master.specs.Requests.{asked_row, global_asked, micro_asked}
 use Rattle.gcp_master.specs.Resume.{is_president, order_row, state_row}
 use Rattle.gcp_master.specs.Sends.{go_on_row}
-use Rattle.gcp_master.specs.State.{MasterState}
+use Rattle.gcp_master.specs.State.{MasterState, no_local}
 
 -- the president of the first view rests in the epoch in which a life begins; the other masters do nothing
 abbrev pub first_phase : ℕ → Bool → Phase
@@ -36,9 +39,10 @@ fresh_master member view epoch =
       view = view;
       phase = first_phase epoch (is_president member view);
       front = None;
-      asked = record { global = false; copy = false; micro = false };
+      asked = record { global = false; copy = false; local = false; micro = false };
       owed = false;
       voices = [];
+      local = no_local;
     }
 
 -- what a block tells, as a signal has it
@@ -67,12 +71,20 @@ epoch_table s voice (GcpSaveConf epoch) = save_row s voice epoch
 epoch_table s voice (CopyGciConf epoch) = copy_row s voice epoch
 epoch_table s voice _ = stay s
 
+-- what it does at a signal of local checkpoints
+abbrev pub local_table : MasterState → Voice → CheckpointSignal → Step MasterState
+local_table s voice LcpReq = walk_row s
+local_table s voice (LcpFragRep epoch) = walked_row s voice
+local_table s voice LcpSwitchConf = switched_row s voice
+local_table s voice _ = stay s
+
 -- what it does, by who sent a signal, the number of the sender's view, and what the signal says. It leaves the others
 -- alone
 abbrev pub master_table : MasterState → Voice → ℕ → Body → Step MasterState
 master_table s voice number (Host (Continue Members at)) = go_on_row s number at
 master_table s voice number (Takeover TakeoverEnd) = takeover_row s
 master_table s voice number (Epoch signal) = epoch_table s voice signal
+master_table s voice number (Checkpoint signal) = local_table s voice signal
 master_table s voice number _ = stay s
 
 -- what it does at each signal

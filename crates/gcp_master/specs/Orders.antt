@@ -3,7 +3,8 @@ use Rattle.std.specs.Prelude.{ℕ, ◌+◌, ◌==◌, if◌then◌else◌, Bool,
 use Rattle.std.specs.List.{list_any}
 use Rattle.sig_core.specs.declared.member.Member.{Member}
 use Rattle.sig_core.specs.declared.signal.Body.{Body}
-use Rattle.sig_core.specs.declared.signal.Body.TheVariants.{Epoch}
+use Rattle.sig_core.specs.declared.signal.Body.TheVariants.{Epoch, Checkpoint}
+use Rattle.sig_core.specs.declared.signal.checkpoint.CheckpointSignal.TheVariants.{LcpFragOrd, LcpSwitch}
 use Rattle.sig_core.specs.declared.signal.epoch.EpochSignal.TheVariants.{GcpPrepare, GcpCommit, GcpClosed, GcpSaveReq}
 use Rattle.sig_core.specs.declared.signal.epoch.EpochSignal.TheVariants.{CopyGciReq, GcpDone, GcpStateReq}
 use Rattle.gcp_master.specs.declared.orders.Order.{Order}
@@ -18,6 +19,8 @@ order_body (order.Close epoch) = Epoch (GcpClosed epoch)
 order_body (order.Save epoch) = Epoch (GcpSaveReq epoch)
 order_body (order.Copy epoch mask) = Epoch (CopyGciReq epoch mask)
 order_body (order.Done epoch) = Epoch (GcpDone epoch)
+order_body order.Walk = Checkpoint LcpFragOrd
+order_body order.Switch = Checkpoint LcpSwitch
 
 -- a node is among the members
 abbrev pub has_node : ℕ → List Member → Bool

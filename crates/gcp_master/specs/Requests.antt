@@ -11,6 +11,10 @@ use Rattle.gcp_master.specs.State.{MasterState}
 abbrev pub global_asked : Asked → ℕ → Asked
 global_asked asked node = if node == 0 then record asked { global = true } else record asked { copy = true }
 
+-- a global checkpoint is asked for, by a local one
+abbrev pub local_asked : Asked → Asked
+local_asked asked = record asked { local = true }
+
 -- a micro closing is asked for
 abbrev pub micro_asked : Asked → Asked
 micro_asked asked = record asked { micro = true }

@@ -12,7 +12,7 @@ use Rattle.gcp_master.specs.declared.voices.Voice.{Voice}
 use Rattle.gcp_master.specs.Begin.{begins}
 use Rattle.gcp_master.specs.Known.{learned, nothing_known, resumed}
 use Rattle.gcp_master.specs.Sends.{entering}
-use Rattle.gcp_master.specs.State.{MasterState, all_in, counted, counts}
+use Rattle.gcp_master.specs.State.{MasterState, all_in, counted, counts, no_local}
 use Rattle.gcp_master.specs.Voices.{is_among, same_member}
 
 -- the master is ordered to go on: it asks both blocks of each member how far they are
@@ -64,10 +64,10 @@ is_president member view = is_first_by member (slice_get view.full 0)
 
 -- what is still asked for when a view is installed: of the president what the client asked for, of others nothing
 abbrev pub still_asked : Asked → Bool → Asked
-still_asked asked true = record { global = asked.global; copy = false; micro = asked.micro }
-still_asked asked false = record { global = false; copy = false; micro = false }
+still_asked asked true = record { global = asked.global; copy = false; local = false; micro = asked.micro }
+still_asked asked false = record { global = false; copy = false; local = false; micro = false }
 
--- another view is installed: what was under way is over, and a takeover has yet to end
+-- another view is installed: what was under way is over, a local checkpoint too, and a takeover has yet to end
 unfoldable pub in_view : MasterState → View → MasterState
 in_view s view =
     record {
@@ -78,4 +78,5 @@ in_view s view =
       asked = still_asked s.asked (is_president s.member view);
       owed = true;
       voices = [];
+      local = no_local;
     }

@@ -46,13 +46,19 @@ abbrev pub to_copying : ℕ → ℕ → Bool → List Outgoing
 to_copying node epoch true = to_place (record { node = node; block = block.Copy }) (Epoch (GcpRep epoch)) ∷ []
 to_copying node epoch false = []
 
+-- the rows of the full members are to switch to the local checkpoint that asked for it
+abbrev pub to_switch : View → Bool → List Outgoing
+to_switch view true = orders_at block.Lqh order.Switch view.full
+to_switch view false = []
+
 -- what is told when a closing has ended: a micro closing to the client; a global checkpoint to each member, to the
--- client, and to the copying of the node
+-- client, to the copying of the node, and to the rows that are to switch
 unfoldable pub front_sends : ℕ → View → Option Ended → List Outgoing
 front_sends node view None = []
 front_sends node view (Some (Micro epoch)) = to_place client (Epoch (MicroRep epoch)) ∷ []
-front_sends node view (Some (Global epoch copy)) =
-    to_both (order.Done epoch) view ++ to_place client (Epoch (GcpRep epoch)) ∷ to_copying node epoch copy
+front_sends node view (Some (Global epoch copy local)) =
+    to_both (order.Done epoch) view
+    ++ to_place client (Epoch (GcpRep epoch)) ∷ (to_copying node epoch copy ++ to_switch view local)
 
 -- what is ordered in a phase
 unfoldable pub phase_sends : View → Phase → List Outgoing
@@ -91,7 +97,7 @@ entering s phase = listing (at_phase s phase) 0
 abbrev pub marking : Mark → Step MasterState → Step MasterState
 marking mark step = record { state = step.state; effects = joined (and_mark nothing mark) step.effects }
 
--- The rest of the list. What was left when another view was installed isn't sent any more. No list has more than 50
+-- The rest of the list. What was left when another view was installed isn't sent any more. No list has more than 58
 -- signals.
 abbrev pub go_on_if : MasterState → ℕ → Bool → Step MasterState
 go_on_if s at true = listing s at

@@ -4,8 +4,9 @@ use Rattle.sig_core.specs.declared.mark.Mark.{Mark}
 use Rattle.sig_core.specs.declared.mark.Mark.TheVariants.{Closed, Durable, Stopped}
 use Rattle.sig_core.specs.declared.outcome.StopCause.TheVariants.{Clock}
 use Rattle.sig_core.specs.declared.signal.Body.{Body}
-use Rattle.sig_core.specs.declared.signal.Body.TheVariants.{Host, Epoch}
+use Rattle.sig_core.specs.declared.signal.Body.TheVariants.{Host, Epoch, Checkpoint}
 use Rattle.sig_core.specs.declared.signal.Signal.{Signal}
+use Rattle.sig_core.specs.declared.signal.checkpoint.CheckpointSignal.TheVariants.{LcpFragOrd, LcpSwitch, LcpRep}
 use Rattle.sig_core.specs.declared.signal.epoch.EpochSignal.TheVariants.{GcpStateReq, GcpPrepare, GcpCommit, GcpClosed}
 use Rattle.sig_core.specs.declared.signal.epoch.EpochSignal.TheVariants.{GcpSaveReq, CopyGciReq, GcpDone, GcpRep}
 use Rattle.sig_core.specs.declared.signal.epoch.EpochSignal.TheVariants.{MicroRep}
@@ -26,6 +27,9 @@ is_master_word (Epoch (CopyGciReq epoch mask)) = true
 is_master_word (Epoch (GcpDone epoch)) = true
 is_master_word (Epoch (GcpRep epoch)) = true
 is_master_word (Epoch (MicroRep epoch)) = true
+is_master_word (Checkpoint LcpFragOrd) = true
+is_master_word (Checkpoint LcpSwitch) = true
+is_master_word (Checkpoint (LcpRep epoch)) = true
 is_master_word (Host (Continue Members at)) = true
 is_master_word _ = false
 

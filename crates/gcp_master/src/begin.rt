@@ -1,13 +1,20 @@
 //! How a closing begins.
 ghost use Rattle.std.specs.Prelude.{◌≡◌, ◌+◌, ◌<◌, ◌≤◌, length};
 ghost use Rattle.sig_core.specs.Step.{IsTaken};
-ghost use Rattle.gcp_master.specs.Begin.{begin_global, begin_micro, begins, begun};
+ghost use Rattle.gcp_master.specs.Begin.{begin_global, begin_micro, begins, begun, is_global_asked};
 
 use crate::master::GcpMaster;
 use crate::numbers::{next_global, next_micro};
 use crate::phase::{Asked, Phase, Run};
 use crate::voices::Voices;
 use sig_core::{Mark, Outs, StopCause};
+
+// Whether a global checkpoint is asked for, by whom ever.
+fn is_global_asked(asked: Asked) -> bool
+    ensures { result ≡ is_global_asked asked }
+{
+    asked.global || (asked.copy || asked.local)
+}
 
 impl GcpMaster {
     // A global checkpoint begins, which this epoch follows. Answers whether there is no such number.
@@ -22,11 +29,13 @@ impl GcpMaster {
             epoch: current,
             next,
             copy: self.asked.copy,
+            local: self.asked.local,
         };
         self.phase = Phase::Preparing { run };
         self.asked = Asked {
             global: false,
             copy: false,
+            local: false,
             micro: self.asked.micro,
         };
         self.voices = Voices::new();
@@ -45,11 +54,13 @@ impl GcpMaster {
             epoch: current,
             next,
             copy: false,
+            local: false,
         };
         self.phase = Phase::Preparing { run };
         self.asked = Asked {
             global: self.asked.global,
             copy: self.asked.copy,
+            local: self.asked.local,
             micro: false,
         };
         self.voices = Voices::new();
@@ -63,7 +74,7 @@ impl GcpMaster {
         ensures state { self.new ≡ (begun self.old current).state }
         ensures spent { result ≡ (begun self.old current).spent }
     {
-        if self.asked.global || self.asked.copy {
+        if is_global_asked(self.asked) {
             self.begin_global(current, next_global(current))
         } else if self.asked.micro {
             self.begin_micro(current, next_micro(current))

@@ -123,7 +123,7 @@ impl GcpMaster {
         }
     }
 
-    // The epoch is durable.
+    // The epoch is durable. A local checkpoint that asked for that goes on.
     fn end_global(&mut self, run: Run, out: &mut Outs)
         requires { HasRoom out.old }
         ensures { IsTaken (copied_if self.old run true) self.new out.old out.new }
@@ -131,7 +131,9 @@ impl GcpMaster {
         let what = Ended::Global {
             epoch: run.epoch,
             copy: run.copy,
+            local: run.local,
         };
+        self.local = self.local.behind(run.epoch, run.local);
         out.mark(Mark::Durable { epoch: run.epoch });
         self.end(run, what, out);
     }

@@ -97,6 +97,7 @@ impl Known {
             epoch: self.epoch,
             next: self.next,
             copy: false,
+            local: false,
         };
         if self.greatest < self.next {
             Phase::Preparing { run }

@@ -1,17 +1,18 @@
 //! The master of a cluster's epochs.
 ghost use Rattle.std.specs.Prelude.{◌≡◌, IsOk, OnOk, OnErr, true};
 ghost use Rattle.sig_core.specs.Step.{HasRoom, IsTaken, IsUntouched};
-ghost use Rattle.gcp_master.specs.Master.{epoch_table, fresh_master, master_row};
+ghost use Rattle.gcp_master.specs.Master.{epoch_table, fresh_master, local_table, master_row};
 ghost use Rattle.gcp_master.specs.Resume.{in_view, is_president};
 ghost use Rattle.gcp_master.specs.State.{all_in, counted, counts};
 
 use crate::known::Told;
+use crate::local::Local;
 use crate::orders::Ended;
 use crate::phase::{Asked, Phase};
 use crate::voices::{VOICES, Voice, Voices, has_all, is_heard, is_in, is_same};
 use sig_core::{
-    Actor, Body, EpochSignal, HostSignal, Member, NoMemory, Outs, Signal, TakeoverSignal, View,
-    Work,
+    Actor, Body, CheckpointSignal, EpochSignal, HostSignal, Member, NoMemory, Outs, Signal,
+    TakeoverSignal, View, Work,
 };
 use std::alloc::Global;
 use std::marker::Model;
@@ -31,6 +32,8 @@ pub struct GcpMaster {
     pub(crate) owed: bool,
     /// Who has confirmed what was ordered last.
     pub(crate) voices: Voices,
+    /// How far a local checkpoint has come.
+    pub(crate) local: Local,
 }
 
 impl Model for GcpMaster {
@@ -38,7 +41,7 @@ impl Model for GcpMaster {
 
     ghost Value = { MasterState };
 
-    ghost view = { λ m. record { member = m.member; view = m.view; phase = m.phase; front = m.front; asked = m.asked; owed = m.owed; voices = m.voices } };
+    ghost view = { λ m. record { member = m.member; view = m.view; phase = m.phase; front = m.front; asked = m.asked; owed = m.owed; voices = m.voices; local = m.local } };
 }
 
 /// Whether the member is the oldest full one of the view.
@@ -69,10 +72,12 @@ impl GcpMaster {
             asked: Asked {
                 global: false,
                 copy: false,
+                local: false,
                 micro: false,
             },
             owed: false,
             voices: Voices::new(),
+            local: Local::none(),
         }
     }
 
@@ -102,6 +107,19 @@ impl GcpMaster {
         let voices = self.voices.as_slice();
         has_all(blocks, voices, self.view.full.as_slice())
             && has_all(blocks, voices, self.view.starting.as_slice())
+    }
+
+    // Handles a signal of local checkpoints.
+    fn handle_local(&mut self, voice: Voice, signal: &CheckpointSignal, out: &mut Outs)
+        requires { HasRoom out.old }
+        ensures { IsTaken (local_table self.old voice signal.now) self.new out.old out.new }
+    {
+        match signal {
+            CheckpointSignal::LcpReq => self.walk(out),
+            CheckpointSignal::LcpFragRep { epoch: _ } => self.hear_walked(voice, out),
+            CheckpointSignal::LcpSwitchConf => self.hear_switched(voice, out),
+            _ => {}
+        }
     }
 
     // Handles a signal of epochs.
@@ -178,6 +196,10 @@ impl Actor for GcpMaster {
             }
             Body::Epoch(signal) => {
                 self.handle_epoch(voice, signal, out);
+                Ok(())
+            }
+            Body::Checkpoint(signal) => {
+                self.handle_local(voice, signal, out);
                 Ok(())
             }
             _ => Ok(()),

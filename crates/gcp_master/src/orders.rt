@@ -2,7 +2,7 @@
 ghost use Rattle.std.specs.Prelude.{◌≡◌, ◌≤◌};
 ghost use Rattle.gcp_master.specs.Orders.{bit_if, has_node, mask_of, order_body};
 
-use sig_core::{Body, EpochSignal, Member};
+use sig_core::{Body, CheckpointSignal, EpochSignal, Member};
 
 /// An order, the same for each member.
 #[derive(Clone, Copy, Debug, PartialEq, Eq)]
@@ -16,6 +16,10 @@ pub enum Order {
     /// The mask has bit n - 1 for each full member n.
     Copy { epoch: u64, mask: u8 },
     Done { epoch: u64 },
+    /// Write what you have, for a local checkpoint.
+    Walk,
+    /// Switch to what you wrote.
+    Switch,
 }
 
 /// A closing that has ended, and of whose end not all were told yet.
@@ -28,6 +32,8 @@ pub enum Ended {
         epoch: u64,
         /// The copying of this node is to be told.
         copy: bool,
+        /// The rows of the full members are to switch to their local checkpoint.
+        local: bool,
     },
 }
 
@@ -47,6 +53,8 @@ impl Order {
             Order::Save { epoch } => Body::Epoch(EpochSignal::GcpSaveReq { epoch }),
             Order::Copy { epoch, mask } => Body::Epoch(EpochSignal::CopyGciReq { epoch, mask }),
             Order::Done { epoch } => Body::Epoch(EpochSignal::GcpDone { epoch }),
+            Order::Walk => Body::Checkpoint(CheckpointSignal::LcpFragOrd),
+            Order::Switch => Body::Checkpoint(CheckpointSignal::LcpSwitch),
         }
     }
 }

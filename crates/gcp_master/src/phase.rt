@@ -8,6 +8,8 @@ pub struct Asked {
     pub global: bool,
     /// A global checkpoint, by the copying of this node.
     pub copy: bool,
+    /// A global checkpoint, by a local one.
+    pub local: bool,
     /// A micro closing, by the client.
     pub micro: bool,
 }
@@ -20,6 +22,8 @@ pub struct Run {
     pub next: u64,
     /// The copying of this node asked for it.
     pub copy: bool,
+    /// A local checkpoint asked for it.
+    pub local: bool,
 }
 
 /// How far a master has come.

@@ -1,7 +1,7 @@
 //! Requests for closings.
 ghost use Rattle.std.specs.Prelude.{◌≡◌, is_some};
 ghost use Rattle.sig_core.specs.Step.{HasRoom, IsTaken};
-ghost use Rattle.gcp_master.specs.Requests.{asked_row, global_asked, micro_asked};
+ghost use Rattle.gcp_master.specs.Requests.{asked_row, global_asked, local_asked, micro_asked};
 
 use crate::master::GcpMaster;
 use crate::phase::{Asked, Phase};
@@ -17,14 +17,28 @@ impl Asked {
             Asked {
                 global: true,
                 copy: self.copy,
+                local: self.local,
                 micro: self.micro,
             }
         } else {
             Asked {
                 global: self.global,
                 copy: true,
+                local: self.local,
                 micro: self.micro,
             }
+        }
+    }
+
+    /// A global checkpoint is asked for too, by a local one.
+    pub fn and_local(self) -> Asked
+        ensures { result ≡ local_asked self }
+    {
+        Asked {
+            global: self.global,
+            copy: self.copy,
+            local: true,
+            micro: self.micro,
         }
     }
 
@@ -35,6 +49,7 @@ impl Asked {
         Asked {
             global: self.global,
             copy: self.copy,
+            local: self.local,
             micro: true,
         }
     }

@@ -4,6 +4,7 @@ ghost use Rattle.sig_core.specs.Step.{HasRoom, IsTaken};
 ghost use Rattle.gcp_master.specs.Resume.{in_view, learned_if, order_row, resume_at, state_row, still_asked};
 
 use crate::known::{Known, Told};
+use crate::local::Local;
 use crate::master::{GcpMaster, is_president};
 use crate::phase::{Asked, Phase};
 use crate::voices::{Voice, Voices, is_among};
@@ -17,12 +18,14 @@ fn still_asked(asked: Asked, president: bool) -> Asked
         Asked {
             global: asked.global,
             copy: false,
+            local: false,
             micro: asked.micro,
         }
     } else {
         Asked {
             global: false,
             copy: false,
+            local: false,
             micro: false,
         }
     }
@@ -89,5 +92,6 @@ impl GcpMaster {
         self.asked = still_asked(self.asked, president);
         self.owed = true;
         self.voices = Voices::new();
+        self.local = Local::none();
     }
 }

@@ -3,7 +3,7 @@ ghost use Rattle.std.specs.Prelude.{◌≡◌, ◌+◌, ◌<◌, ◌≤◌, ◌^
 ghost use Rattle.sig_core.specs.Portion.{all_offered, so_far};
 ghost use Rattle.sig_core.specs.Step.{HasRoom, IsTaken, joined};
 ghost use Rattle.gcp_master.specs.Sends.{entering, front_sends, go_on_row, list_effects, listing, master_sends};
-ghost use Rattle.gcp_master.specs.Sends.{orders_at, phase_sends, to_both, to_copying, to_each};
+ghost use Rattle.gcp_master.specs.Sends.{orders_at, phase_sends, to_both, to_copying, to_each, to_switch};
 
 use crate::master::GcpMaster;
 use crate::orders::{Ended, Order, mask_of};
@@ -15,8 +15,8 @@ use sig_core::{
 };
 
 /// More signals than a list of sends has: of eight members both blocks are told that an epoch is
-/// durable, and then the client, the copying, and the blocks that prepare.
-pub const SENDS: u64 = 64;
+/// durable, and then the client, the copying, the rows that switch, and the blocks that prepare.
+pub const SENDS: u64 = 72;
 
 impl GcpMaster {
     // Comes to a phase, and orders what is due there.
@@ -98,10 +98,11 @@ fn offer_front(node: u8, view: &View, front: Option<Ended>, portion: &mut Portio
         Some(Ended::Micro { epoch }) => {
             portion.offer(CLIENT, Body::Epoch(EpochSignal::MicroRep { epoch }), out);
         }
-        Some(Ended::Global { epoch, copy }) => {
+        Some(Ended::Global { epoch, copy, local }) => {
             offer_both(Order::Done { epoch }, view, portion, out);
             portion.offer(CLIENT, Body::Epoch(EpochSignal::GcpRep { epoch }), out);
             offer_copying(node, epoch, copy, portion, out);
+            offer_switches(view, local, portion, out);
         }
     }
 }
@@ -118,6 +119,23 @@ fn offer_copying(node: u8, epoch: u64, copy: bool, portion: &mut Portion, out: &
             block: BlockId::Copy,
         };
         portion.offer(to, Body::Epoch(EpochSignal::GcpRep { epoch }), out);
+    }
+}
+
+// The rows of the full members are told to switch, where a local checkpoint asked for the closing.
+fn offer_switches(view: &View, local: bool, portion: &mut Portion, out: &mut Outs)
+    requires { length out.old.sends + portion.old.room ≤ 15 }
+    ensures offered { so_far portion.new out.new ≡ all_offered (so_far portion.old out.old) (to_switch view.now local) }
+    ensures fits { length out.new.sends + portion.new.room ≤ 15 }
+{
+    if local {
+        offer_orders(
+            BlockId::Lqh,
+            Order::Switch,
+            view.full.as_slice(),
+            portion,
+            out,
+        );
     }
 }
 

@@ -5,3 +5,4 @@ pub mod epochs
 pub mod events
 pub mod replays
 pub mod room
+pub mod walks

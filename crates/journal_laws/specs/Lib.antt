@@ -1,4 +1,5 @@
 pub mod Asked
+pub mod Checkpoints
 pub mod Events
 pub mod Journal
 pub mod Laws

@@ -60,6 +60,18 @@ with_rows s rows = record {
 abbrev pub with_outlet : LqhState → OutletState → LqhState
 with_outlet s outlet = record s { outlet = outlet }
 
+abbrev pub with_journal : LqhState → JournalState → OutletState → LqhState
+with_journal s journal outlet = record {
+  node = s.node;
+  layout = s.layout;
+  rows = s.rows;
+  journal = journal;
+  outlet = outlet;
+  locks = s.locks;
+  waiting = s.waiting;
+  markers = s.markers;
+}
+
 abbrev pub with_locks : LqhState → Locks → LqhState
 with_locks s locks = record {
   node = s.node;

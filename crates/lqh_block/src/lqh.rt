@@ -44,6 +44,7 @@ impl<R: Rows, J: Journal> Model for Lqh<R, J> {
 impl<R: Rows, J: Journal> Lqh<R, J> {
     ghost use Rattle.lqh_block.specs.Due.{IsCovered};
     ghost use Rattle.lqh_block.specs.Lqh.{unasked_yet};
+    ghost use Rattle.lqh_block.specs.State.{with_journal};
 
     /// The rows of a node, with nothing under way. The journal has to keep as many bytes free as
     /// the ends of the rows' prepared records will need.
@@ -87,6 +88,16 @@ impl<R: Rows, J: Journal> Lqh<R, J> {
         ensures outlet { J.outlet_of result.now ≡ self.now.outlet }
     {
         &self.storage.journal
+    }
+
+    /// This journal takes the place of the one that there is. It has to keep as many bytes free.
+    pub fn set_journal(&mut self, journal: J)
+    where
+        J: Drop,
+        requires { (J.used_of journal).reserved ≡ self.old.journal.reserved }
+        ensures { self.new ≡ with_journal self.old (J.used_of journal) (J.outlet_of journal) }
+    {
+        self.storage.set_journal(journal);
     }
 }
 

@@ -32,6 +32,18 @@ pub struct Storage<R: Rows, J: Journal> {
 }
 
 impl<R: Rows, J: Journal> Storage<R, J> {
+    /// This journal takes the place of the one that there is. It has to keep as many bytes free.
+    pub fn set_journal(&mut self, journal: J)
+    where
+        J: Drop,
+        requires { (J.used_of journal).reserved ≡ (J.used_of self.old.journal).reserved }
+        ensures rows { R.state_of self.new.rows ≡ R.state_of self.old.rows }
+        ensures used { J.used_of self.new.journal ≡ J.used_of journal }
+        ensures outlet { J.outlet_of self.new.journal ≡ J.outlet_of journal }
+    {
+        self.journal = journal;
+    }
+
     /// Makes the memory to perform a request, so that `perform` wants none.
     ///
     /// # Errors

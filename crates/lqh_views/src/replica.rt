@@ -48,7 +48,9 @@ impl<R: Rows, J: Journal> Model for Replica<R, J> {
 
 impl<R: Rows, J: Journal> Replica<R, J> {
     ghost use Rattle.lqh_block.specs.Due.{IsCovered};
+    ghost use Rattle.lqh_block.specs.State.{with_journal};
     ghost use Rattle.lqh_views.specs.Replica.{fresh_replica};
+    ghost use Rattle.lqh_views.specs.State.{with_lqh};
 
     /// The rows of a node, with nothing under way, in a life that starts from an epoch. The journal
     /// has to keep as many bytes free as the ends of the rows' prepared records will need.
@@ -93,6 +95,30 @@ impl<R: Rows, J: Journal> Replica<R, J> {
         ensures outlet { J.outlet_of result.now ≡ self.now.lqh.outlet }
     {
         self.lqh.journal()
+    }
+
+    /// This journal takes the place of the one that there is. It has to keep as many bytes free.
+    pub fn set_journal(&mut self, journal: J)
+    where
+        J: Drop,
+        requires { (J.used_of journal).reserved ≡ self.old.lqh.journal.reserved }
+        ensures { self.new ≡ with_lqh self.old (with_journal self.old.lqh (J.used_of journal) (J.outlet_of journal)) }
+    {
+        self.lqh.set_journal(journal);
+    }
+
+    /// The node.
+    pub fn node(&self) -> u8
+        ensures { result ≡ self.now.lqh.node }
+    {
+        self.lqh.node()
+    }
+
+    /// The view in force.
+    pub fn view(&self) -> &View
+        ensures { result.now ≡ self.now.lqh.layout.view }
+    {
+        self.lqh.view()
     }
 
     /// The greatest epoch that was noted as saved.

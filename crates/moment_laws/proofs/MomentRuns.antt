@@ -1,6 +1,7 @@
 -- Right logs, in the order of views, are moments.
 use Rattle.std.proofs.Common.{◌≡◌, ◌≤◌, ℕ, List, [], ◌∷◌, ◌++◌, append_assoc, refl, sym, ap, subst, ◌∙◌, inl, inr}
 use Rattle.std.proofs.Common.{arith}
+use Rattle.std.proofs.Math.Path.{fun_ext}
 use Rattle.run_theory.proofs.Pasts.{past_nil, past_self}
 use Rattle.run_theory.proofs.Runs.{log_of-past}
 use Rattle.run_theory.specs.Lists.{IsPast}
@@ -51,6 +52,10 @@ module _ (start : Start) (logs : ℕ → List HostStep) (are : AreOfCluster star
         omega (arith, low, at),
         orderly (newer ++ q ∷ []) ps (is ∙ sym (append_assoc newer (q ∷ []) ps)) placed.1,
       )
+
+  -- at the end of that run they are its logs
+  pub logs_in_views : logs_of start (in_order (by_views start logs)) ≡ logs
+  logs_in_views = fun_ext (λ h. (run_in_views start logs are).has h)
 
   pub are_moments : IsMoment start logs (in_order (by_views start logs))
   are_moments =

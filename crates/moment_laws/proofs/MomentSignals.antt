@@ -47,7 +47,7 @@ module _ (start : Start) where
   n = sound_machine start
 
   -- a host has sent nothing of a greater view than its own
-  sent_low : (i j : ℕ) (log : List HostStep)
+  pub sent_low : (i j : ℕ) (log : List HostStep)
       → Each (λ (x : Addressed). x.signal.view.number ≤ (view_after start i log).number) (sent n i j log)
   sent_low i j [] = tt
   sent_low i j (e ∷ log) =

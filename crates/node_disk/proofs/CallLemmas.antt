@@ -53,6 +53,12 @@ pub none_left : (asks left calls : List Call) (told : Option (List Call)) → Ar
 none_left asks left calls told are is =
     are.runs told true (subst (λ calls. Runs calls are.now told true) (sym is) (are.tells, refl))
 
+-- a write by itself
+pub write_runs : (file at : ℕ) (bytes : List ℕ) (calls : List Call) (told : Option (List Call)) (ok : Bool)
+    → IsWritten calls told file at bytes ok → Runs (Wrote file at bytes ∷ []) calls told ok
+write_runs file at bytes calls told true is = inr (is.allowed, (is.grown, refl))
+write_runs file at bytes calls told false is = inl (is, refl)
+
 -- the calls are of files other than this one
 abbrev pub AreElsewhere : ℕ → List Call → Type 0
 AreElsewhere this [] = Unit {0}

@@ -13,8 +13,8 @@ use Rattle.sysfile_core.specs.Reading.{control_at, control_by, control_of_file, 
 use Rattle.sysfile_core.specs.Runs.{Runs}
 use Rattle.sysfile_core.specs.Slots.{control_bytes}
 use Rattle.sys_restart.proofs.NextLemmas.{control_long, control_split, read_back}
-use Rattle.node_disk.specs.Laws.{AControlSlotStays, HasControl, IsEither, MaySaveRows}
-use Rattle.node_disk.specs.Saving.{next_control, redo_calls, slot_behind}
+use Rattle.node_disk.specs.Laws.{AControlSlotStays, ANamingSlotStays, HasControl, IsEither, MaySaveRows}
+use Rattle.node_disk.specs.Saving.{named_control, next_control, redo_calls, slot_behind, walk_named}
 use Rattle.node_disk.specs.Slots.{SlotsInUse}
 use Rattle.node_disk.proofs.CallLemmas.{AreElsewhere}
 use Rattle.node_disk.proofs.RedoLemmas.{not_control, redo_elsewhere}
@@ -162,3 +162,32 @@ control_stays s epoch bytes before after ok has may runs = by (nat_le epoch s.co
           (control_bytes next) asks before after ok (stands_of s before has) (control_split next) (control_long next)
           found (refl, follows s epoch bytes may) apart made so),
     )
+
+-- and so is the one that names a checkpoint
+pub naming_stays : ANamingSlotStays
+naming_stays s finished before after ok has may runs = (
+  finds_either ControlSlot CONTROL_FILE CONTROL_BYTES (omega arith) (omega arith) (omega arith) control_by
+      (control_of_file generation) (IsOf generation) (are_read generation) s.control next s.control_at
+      (control_bytes next) [] before after ok (stands_of s before has) (control_split next) (control_long next) found
+      (refl, follows_it) tt runs,
+  λ so.
+      of_stands (walk_named s finished) after
+      (has_then ControlSlot CONTROL_FILE CONTROL_BYTES (omega arith) (omega arith) (omega arith) control_by
+      (control_of_file generation) (IsOf generation) (are_read generation) s.control next s.control_at
+      (control_bytes next) [] before after ok (stands_of s before has) (control_split next) (control_long next) found
+      (refl, follows_it) tt runs so),
+)
+  where
+    generation : ℕ
+    generation = s.control.generation
+
+    next : ControlSlot
+    next = named_control s finished
+
+    found : (place : ℕ) → control_by place (Some (control_bytes next)) ≡ Ok (Some next)
+    found place = read_back place next may.readable
+
+    follows_it : IfSome (of_generation generation (Some s.control)) (λ one. one.serial < next.serial)
+    follows_it =
+        subst (λ (one : Option ControlSlot). IfSome one (λ c. c.serial < next.serial))
+        (sym (own generation s.control refl)) (omega (arith, may.serial))

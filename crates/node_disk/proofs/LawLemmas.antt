@@ -10,8 +10,9 @@ use Rattle.sysfile_core.specs.declared.place.TheConstants.{CONTROL_FILE, SYSTEM_
 use Rattle.sysfile_core.specs.Places.{place_of}
 use Rattle.sysfile_core.specs.Slots.{control_bytes, system_bytes}
 use Rattle.sysfile_core.specs.Writing.{closing_by, opening, slot_calls, stands_closed}
-use Rattle.node_disk.specs.Laws.{RowsLeaveFiles, SystemLeavesFiles}
-use Rattle.node_disk.specs.Saving.{next_control, noted_system, redo_calls, rows_calls, slot_behind, system_calls}
+use Rattle.node_disk.specs.Laws.{CheckpointsLeaveFiles, RowsLeaveFiles, SystemLeavesFiles}
+use Rattle.node_disk.specs.Saving.{free_file, name_calls, named_control, next_control, noted_system, redo_calls}
+use Rattle.node_disk.specs.Saving.{rows_calls, settle_calls, slot_behind, system_calls, walk_calls}
 use Rattle.node_disk.specs.Slots.{SlotsInUse}
 use Rattle.node_disk.proofs.CallLemmas.{AreElsewhere, both_elsewhere, elsewhere_stays}
 use Rattle.node_disk.proofs.RedoLemmas.{redo_elsewhere}
@@ -71,3 +72,19 @@ system_leaves s epoch mask calls after ok file runs not_system =
     let bytes = files_of calls SYSTEM_FILE in
     elsewhere_stays file (system_calls bytes s epoch mask) calls after (Some after) ok
     (system_elsewhere s epoch mask bytes file not_system) runs refl
+
+-- the calls of a local checkpoint are of the file that isn't in use, and of the control file where it comes into use
+pub checkpoints_leave : CheckpointsLeaveFiles
+checkpoints_leave = record {
+  written = λ s piece calls after ok file runs apart.
+      elsewhere_stays file (walk_calls s piece) calls after (Some after) ok
+      (ne_eqb (free_file s) file (λ same. apart (sym same)), tt) runs refl;
+  settled = λ s calls after ok file runs apart.
+      elsewhere_stays file (settle_calls s) calls after (Some after) ok
+      (ne_eqb (free_file s) file (λ same. apart (sym same)), tt) runs refl;
+  named = λ s finished calls after ok file runs apart.
+      elsewhere_stays file (name_calls (files_of calls CONTROL_FILE) s finished) calls after (Some after) ok
+      (slot_elsewhere file (files_of calls CONTROL_FILE) CONTROL_FILE (place_of (1 - s.control_at))
+      (drop 1 (control_bytes (named_control s finished))) (ne_eqb CONTROL_FILE file (λ same. apart (sym same)))) runs
+      refl;
+}

@@ -6,8 +6,10 @@ use Rattle.host_io.specs.DiskState.{settled, state_of}
 use Rattle.host_io.specs.Image.{IsRecord, LeavesOnly}
 use Rattle.redo_log.specs.Stored.{files_of}
 use Rattle.sig_core.specs.declared.fault.ReadFault.{ReadFault}
+use Rattle.sig_core.specs.declared.piece.Piece.{Piece}
 use Rattle.sig_core.specs.declared.slots.ControlSlot.{ControlSlot}
 use Rattle.sig_core.specs.declared.slots.SystemSlot.{SystemSlot}
+use Rattle.sig_core.specs.declared.walk.Finished.{Finished}
 use Rattle.sig_core.specs.Ring.{file_of}
 use Rattle.sysfile_core.specs.declared.place.TheConstants.{CONTROL_FILE, SYSTEM_FILE}
 use Rattle.sysfile_core.specs.Reading.{control_at, control_of_file, system_at}
@@ -19,7 +21,8 @@ use Rattle.sys_restart.specs.declared.restored.Restored.{Restored}
 use Rattle.sys_restart.specs.Calls.{next_system}
 use Rattle.sys_restart.specs.Prepared.{HasSlot, IsReady, IsSettled}
 use Rattle.node_disk.specs.Found.{slots_in}
-use Rattle.node_disk.specs.Saving.{next_control, noted_system, rows_calls, rows_saved, system_calls, system_saved}
+use Rattle.node_disk.specs.Saving.{free_file, name_calls, named_control, next_control, noted_system, rows_calls}
+use Rattle.node_disk.specs.Saving.{rows_saved, settle_calls, system_calls, system_saved, walk_calls, walk_named}
 use Rattle.node_disk.specs.Slots.{SlotsInUse}
 
 -- whatever a save of rows comes to, a file stays that is neither the control file nor one of the redo of its parity
@@ -35,6 +38,18 @@ SystemLeavesFiles =
     (s : SlotsInUse) (epoch mask : ℕ) (calls after : List Call) (ok : Bool) (file : ℕ)
     → Runs (system_calls (files_of calls SYSTEM_FILE) s epoch mask) calls (Some after) ok → file ≢ SYSTEM_FILE
     → state_of after file ≡ state_of calls file
+
+-- Whatever the calls of a local checkpoint on its way come to, each file stays but that of checkpoints which isn't in
+-- use; and where it is brought into use each but the control file.
+pub record CheckpointsLeaveFiles : Type 0 where
+  pub written : (s : SlotsInUse) (piece : Piece) (calls after : List Call) (ok : Bool) (file : ℕ)
+      → Runs (walk_calls s piece) calls (Some after) ok → file ≢ free_file s
+      → state_of after file ≡ state_of calls file
+  pub settled : (s : SlotsInUse) (calls after : List Call) (ok : Bool) (file : ℕ)
+      → Runs (settle_calls s) calls (Some after) ok → file ≢ free_file s → state_of after file ≡ state_of calls file
+  pub named : (s : SlotsInUse) (finished : Finished) (calls after : List Call) (ok : Bool) (file : ℕ)
+      → Runs (name_calls (files_of calls CONTROL_FILE) s finished) calls (Some after) ok → file ≢ CONTROL_FILE
+      → state_of after file ≡ state_of calls file
 
 -- a slot of a file is in use: this one or that one
 abbrev pub IsEither : {S : Type 0} → Result (Option S) ReadFault → S → S → Type 0
@@ -70,6 +85,23 @@ AControlSlotStays =
     (λ image. IsEither (control_of_file s.control.generation (image CONTROL_FILE)) s.control
     (next_control s epoch bytes))
     × (ok ≡ true → HasControl (rows_saved s epoch bytes) after)
+
+-- a checkpoint whose slot can be read back
+pub record MayName (s : SlotsInUse) (finished : Finished) : Type 0 where
+  pub readable : IsControlSlot (named_control s finished)
+  pub serial : s.control.serial < 2 ^ 64 - 1
+
+-- So it is where a checkpoint is brought into use: at any moment the control slot in use is the old or the new one, and
+-- behind it the new one is.
+abbrev pub ANamingSlotStays : Type 0
+ANamingSlotStays =
+    (s : SlotsInUse) (finished : Finished) (before after : List Call) (ok : Bool)
+    → HasControl s before → MayName s finished
+    → Runs (name_calls (files_of before CONTROL_FILE) s finished) before (Some after) ok
+    → LeavesOnly after (length before)
+    (λ image. IsEither (control_of_file s.control.generation (image CONTROL_FILE)) s.control
+    (named_control s finished))
+    × (ok ≡ true → HasControl (walk_named s finished) after)
 
 -- the same of the system slot
 pub record HasSystem (s : SlotsInUse) (calls : List Call) : Type 0 where

@@ -1,6 +1,6 @@
 -- The calls by which a node saves its rows, and by which it notes an epoch.
 use Rattle.std.specs.Prelude.{ℕ, zero, suc, ◌+◌, ◌-◌, min, nat_le, nat_lt, List, [], ◌∷◌, ◌++◌, drop, length, map}
-use Rattle.std.specs.Prelude.{replicate, if◌then◌else◌}
+use Rattle.std.specs.Prelude.{replicate, if◌then◌else◌, Some}
 use Rattle.host_io.specs.Call.{Call, Synced, Wrote}
 use Rattle.host_io.specs.Memory.{one_more}
 use Rattle.redo_log.specs.Laws.{GiveOut, pieces_of}
@@ -9,11 +9,13 @@ use Rattle.sig_core.specs.declared.piece.Piece.{Piece}
 use Rattle.sig_core.specs.declared.ring.TheConstants.{LOG_FILE_BYTES}
 use Rattle.sig_core.specs.declared.slots.ControlSlot.{ControlSlot}
 use Rattle.sig_core.specs.declared.slots.SystemSlot.{SystemSlot}
+use Rattle.sig_core.specs.declared.walk.Finished.{Finished}
 use Rattle.sig_core.specs.Ring.{file_of, place_of}
 use Rattle.sysfile_core.specs.declared.place.TheConstants.{CONTROL_FILE, SYSTEM_FILE}
 use Rattle.sysfile_core.specs.Places as slots
 use Rattle.sysfile_core.specs.Slots.{control_bytes, system_bytes}
 use Rattle.sysfile_core.specs.Writing.{slot_calls}
+use Rattle.sys_restart.specs.Calls.{next_file}
 use Rattle.node_disk.specs.Slots.{SlotsInUse}
 
 -- a log that has still these bytes to give out, from a position on
@@ -94,3 +96,39 @@ system_saved s epoch mask =
     if nat_le epoch s.system.epoch
     then s
     else record s { system = noted_system s.system epoch mask; system_at = 1 - s.system_at }
+
+-- the file of checkpoints that isn't in use
+abbrev pub free_file : SlotsInUse → ℕ
+free_file s = next_file (Some s.control)
+
+-- a piece of a checkpoint on its way is written at its place there, whatever file it names
+abbrev pub walk_calls : SlotsInUse → Piece → List Call
+walk_calls s piece = Wrote (free_file s) piece.at piece.bytes ∷ []
+
+-- the checkpoint is synced
+abbrev pub settle_calls : SlotsInUse → List Call
+settle_calls s = Synced (free_file s) ∷ []
+
+-- the control slot behind another that names a checkpoint in this file, and the position from which on redo belongs to
+-- it
+abbrev pub naming_control : ControlSlot → ℕ → Finished → ControlSlot
+naming_control slot file finished =
+    record slot {
+      ckpt_file = file;
+      serial = one_more slot.serial;
+      redo_start = finished.from;
+      ckpt_size = finished.size;
+    }
+
+abbrev pub named_control : SlotsInUse → Finished → ControlSlot
+named_control s finished = naming_control s.control (free_file s) finished
+
+-- the calls that bring it into use
+abbrev pub name_calls : List ℕ → SlotsInUse → Finished → List Call
+name_calls control s finished =
+    slot_calls control CONTROL_FILE (slots.place_of (1 - s.control_at))
+    (drop 1 (control_bytes (named_control s finished)))
+
+-- the slots in use then
+abbrev pub walk_named : SlotsInUse → Finished → SlotsInUse
+walk_named s finished = record s { control = named_control s finished; control_at = 1 - s.control_at }

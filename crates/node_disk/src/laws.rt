@@ -1,5 +1,6 @@
 //! What holds of a node's disk while it saves, and behind it.
-ghost use Rattle.node_disk.specs.Laws.{AControlSlotStays, AReadyDiskHasSlots, ASystemSlotStays, RowsLeaveFiles, SlotsAreInUse, SystemLeavesFiles};
+ghost use Rattle.node_disk.specs.Laws.{AControlSlotStays, ANamingSlotStays, AReadyDiskHasSlots, ASystemSlotStays};
+ghost use Rattle.node_disk.specs.Laws.{CheckpointsLeaveFiles, RowsLeaveFiles, SlotsAreInUse, SystemLeavesFiles};
 ghost use Rattle.node_disk.specs.RedoLaws.{RedoIsSyncedFirst};
 
 /// A disk that is made ready for a life has slots of it, of which the system slot names it.
@@ -38,4 +39,17 @@ pub fn a_control_slot_stays()
 /// new one; behind it the new one is.
 pub fn a_system_slot_stays()
     ensures { ASystemSlotStays }
+{}
+
+/// Whatever a call of a local checkpoint on its way comes to, each file stays but that of checkpoints which
+/// isn't in use; and where it is brought into use, each but the control file.
+#[tactic(auto, using(crate::proofs::LawLemmas::checkpoints_leave))]
+pub fn checkpoints_leave_files()
+    ensures { CheckpointsLeaveFiles }
+{}
+
+/// Whatever a crash leaves at any moment where a checkpoint is brought into use, the control slot in use is
+/// the old or the new one; behind it the new one is.
+pub fn a_naming_slot_stays()
+    ensures { ANamingSlotStays }
 {}

@@ -21,8 +21,8 @@ use sysfile_core::{SYSTEM_FILE, system_bytes, write_slot};
 pub struct NodeSlots {
     system: SystemSlot,
     system_at: u8,
-    control: ControlSlot,
-    control_at: u8,
+    pub(crate) control: ControlSlot,
+    pub(crate) control_at: u8,
 }
 
 impl Model for NodeSlots {

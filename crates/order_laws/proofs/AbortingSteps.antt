@@ -52,7 +52,7 @@ use Rattle.world_core.specs.Steps.{Addressed, HostStep}
 use Rattle.key_laws.specs.Replica.{aborts, event_at, rests}
 use Rattle.host_laws.proofs.rows.Operations.{is_lqh, true_and}
 use Rattle.host_laws.proofs.rows.RequestCounts.{asked_by}
-use Rattle.host_laws.proofs.hosts.Sums.{total_one}
+use Rattle.host_laws.proofs.hosts.Sums.{one_most, total_one}
 use Rattle.host_laws.proofs.api.Wishes.{is_tc}
 use Rattle.host_laws.specs.Live.{of_live}
 use Rattle.host_laws.specs.ReplicaLaws.{event_in}
@@ -134,17 +134,13 @@ module _ (start : Start) (tx : TxId) (key : List ℕ) (at : ℕ) (inside : at < 
   wants_none list to (Host (Continue (work.Transaction other) place)) is = absurd (false≢true is)
   wants_none list to _ is = refl
 
-  few : (b : Bool) → one_if b ≤ 1
-  few true = omega arith
-  few false = omega arith
-
   -- a signal leads to an abort no more than it stands for something that is awaited
   wanted_due : (list : List Outgoing) (count : ℕ) (to : Place) (body : Body) → wanted list to body ≤ due tx count body
   wanted_due list count to (Chain (Abort other own)) =
       by (is_lqh to.block && (to.node == node)) (same_tx other tx) (same_key own key)
     where
       by : (a b c : Bool) → one_if (a && (b && c)) ≤ one_if b
-      by true true c = few c
+      by true true c = one_most c
       by true false c = omega arith
       by false b c = omega arith
   wanted_due list count to (Host (Continue (work.Transaction other) place)) =
@@ -152,7 +148,7 @@ module _ (start : Start) (tx : TxId) (key : List ℕ) (at : ℕ) (inside : at < 
       (any_sent (is_abort_to tx key (node_at (replicas start key) at)) (drop place list))
     where
       by : (a b c : Bool) → one_if (a && (b && c)) ≤ (if b then suc (count - suc place) else 0)
-      by true true c = omega (arith, few c)
+      by true true c = omega (arith, one_most c)
       by true false c = omega arith
       by false true c = omega arith
       by false false c = omega arith

@@ -4,7 +4,7 @@ use Rattle.std.proofs.Common.{drop, min}
 use Rattle.std.proofs.Common.{refl, sym, ap, ◌∙◌, arith, length-take, length-drop}
 use Rattle.std.proofs.lemmas.Bool.{false≢true, true≢false}
 use Rattle.std.proofs.lemmas.Bool.Decides.{nat_tests}
-use Rattle.std.proofs.lemmas.List.{length-map}
+use Rattle.std.proofs.lemmas.List.{length-append, length-map}
 use Rattle.std.specs.List.{flat_map}
 use Rattle.std.specs.Prelude.{◌-◌, if◌then◌else◌, nat_lt}
 use Rattle.run_theory.proofs.EachSent.{each_drop, each_flat, each_mapped, each_take}
@@ -36,6 +36,7 @@ use Rattle.lqh_block.specs.declared.request.Request.{Request}
 use Rattle.lqh_block.specs.Lqh.{lqh_table}
 use Rattle.lqh_block.specs.State.{LqhState, freed_lock, go_on_if}
 use Rattle.node_core.specs.Requests.{is_request}
+use Rattle.host_laws.proofs.hosts.Sums.{one_most}
 use Rattle.run_laws.proofs.transit.Weighing.{weigh, weigh_append, weigh_none}
 use Rattle.order_laws.specs.Awaited.{due, list_length}
 
@@ -81,17 +82,9 @@ request_due tx (Chain c) is = absurd (false≢true is)
 request_due tx (Host (Continue (work.Transaction other) at)) is = absurd (false≢true is)
 request_due tx _ is = refl
 
-few : (b : Bool) → one_if b ≤ 1
-few true = omega arith
-few false = omega arith
-
 pub weigh_ones : {A : Type 0} (f : A → ℕ) (xs : List A) → Each (λ x. f x ≤ 1) xs → weigh f xs ≤ length xs
 weigh_ones f [] all = omega arith
 weigh_ones f (x ∷ xs) all = omega (arith, all.0, weigh_ones f xs all.1)
-
-length_append : {A : Type 0} (xs ys : List A) → length (xs ++ ys) ≡ length xs + length ys
-length_append [] ys = omega arith
-length_append (x ∷ xs) ys = omega (arith, length_append xs ys)
 
 module _ (tx : TxId) where
   -- what so many signals stand for
@@ -203,7 +196,7 @@ module _ (tx : TxId) where
           arith,
           completions_long epoch awaited us,
           complete_long u u.written,
-          length_append (complete_if tx u u.written)
+          length-append (complete_if tx u u.written)
               (flat_map (key_sends layout tx (Completing epoch awaited)) us),
         )
 
@@ -223,7 +216,7 @@ module _ (tx : TxId) where
               arith,
               all us,
               length-map (chain_of layout u.key) (abort_of tx u.key),
-              length_append (aborts_of tx u.key (chain_of layout u.key))
+              length-append (aborts_of tx u.key (chain_of layout u.key))
                   (flat_map (key_sends layout tx (Aborting why verifying awaited)) us),
             )
     phase_long Open touched = none touched
@@ -242,15 +235,15 @@ module _ (tx : TxId) where
       IsOne o = due tx count o.body ≤ 1
 
       pub aborts_one : (key : List ℕ) (chain : List Member) → Each IsOne (aborts_of tx key chain)
-      aborts_one key chain = each_mapped IsOne (abort_of tx key) chain (λ r. few (same_tx tx tx))
+      aborts_one key chain = each_mapped IsOne (abort_of tx key) chain (λ r. one_most (same_tx tx tx))
 
       complete_one : (u : Touched) (b : Bool) → Each IsOne (complete_if tx u b)
-      complete_one u true = (few (same_tx tx tx), tt)
+      complete_one u true = (one_most (same_tx tx tx), tt)
       complete_one u false = tt
 
       key_one : (phase : Phase) (u : Touched) → Each IsOne (key_sends layout tx phase u)
       unfolding key_sends
-      key_one (Committing epoch awaited) u = (few (same_tx tx tx), tt)
+      key_one (Committing epoch awaited) u = (one_most (same_tx tx tx), tt)
       key_one (Completing epoch awaited) u = complete_one u u.written
       key_one (Aborting why verifying awaited) u = aborts_one u.key (chain_of layout u.key)
       key_one Open u = tt

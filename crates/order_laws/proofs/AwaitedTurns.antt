@@ -1,7 +1,7 @@
 -- Turn by turn, what a coordinator awaits of a transaction against what is under way.
 use Rattle.std.proofs.Common.{◌≡◌, ◌≤◌, ◌<◌, ◌+◌, ◌-◌, ℕ, suc, Bool, true, false, List, length, refl, sym, ap, ◌∙◌}
 use Rattle.std.proofs.Common.{arith}
-use Rattle.std.proofs.lemmas.Bool.{true≢false}
+use Rattle.std.proofs.lemmas.Bool.{ltb-true, true≢false}
 use Rattle.std.proofs.lemmas.Bool.Decides.{nat_tests}
 use Rattle.std.proofs.lemmas.List.{length-map}
 use Rattle.std.specs.Prelude.{if◌then◌else◌, nat_lt, None, Some}
@@ -130,9 +130,6 @@ module _ (node : ℕ) (layout : Layout) (tx : TxId) where
   pub last_is : (awaited : ℕ) → nat_lt 1 awaited ≡ false → awaited ≤ 1
   last_is awaited e = grind (arith, nat_tests, e)
 
-  more_is : (awaited : ℕ) → nat_lt 1 awaited ≡ true → 1 < awaited
-  more_is awaited e = grind (arith, nat_tests, e)
-
   module _ (t : Transaction) (body : Body) where
     -- where nothing that is awaited comes or is sent
     stays_so : Awaits t body (going (stay t))
@@ -242,14 +239,14 @@ module _ (node : ℕ) (layout : Layout) (tx : TxId) where
     commits_none = λ epoch is at none. enters_completing t body epoch (omega (arith, awaits_at t Verifying at));
     committed = λ key epoch awaited is at more.
         one_less t body (Committing epoch awaited) (Committing epoch (awaited - 1)) awaited at refl refl
-        (more_is awaited more) refl refl (ap (due tx (long t)) is ∙ own_one);
+        (ltb-true 1 awaited more) refl refl (ap (due tx (long t)) is ∙ own_one);
     committed_all = λ key epoch awaited is at last.
         enters_completing t body epoch
         (last_comes t body (Committing epoch awaited) awaited at refl (last_is awaited last)
         (ap (due tx (long t)) is ∙ own_one));
     completed = λ key epoch awaited is at more.
         one_less t body (Completing epoch awaited) (Completing epoch (awaited - 1)) awaited at refl refl
-        (more_is awaited more) refl refl (ap (due tx (long t)) is ∙ own_one);
+        (ltb-true 1 awaited more) refl refl (ap (due tx (long t)) is ∙ own_one);
     completed_all = λ key epoch awaited is at last.
         ends refl
         (last_comes t body (Completing epoch awaited) awaited at refl (last_is awaited last)
@@ -259,7 +256,7 @@ module _ (node : ℕ) (layout : Layout) (tx : TxId) where
     refuses = λ key why asked is on at. enters_abort t (asking t None) body why (awaits_at t Open at);
     aborted = λ key why verifying awaited is at more.
         one_less t body (Aborting why verifying awaited) (Aborting why verifying (awaited - 1)) awaited at refl refl
-        (more_is awaited more) refl refl (ap (due tx (long t)) is ∙ own_one);
+        (ltb-true 1 awaited more) refl refl (ap (due tx (long t)) is ∙ own_one);
     aborted_all = λ key why verifying awaited is at last.
         ends refl
         (last_comes t body (Aborting why verifying awaited) awaited at refl (last_is awaited last)

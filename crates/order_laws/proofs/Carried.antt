@@ -50,7 +50,7 @@ is_asked_by tx (asks q refused) = same_tx q.tx tx
 is_asked_by tx event = false
 
 module _ (tx : TxId) (key : List ℕ) where
-  other_off : (own : List ℕ) (event : Event) → is_asked_by tx event ≡ false
+  pub other_off : (own : List ℕ) (event : Event) → is_asked_by tx event ≡ false
       → is_asked_by tx (if_on own key event) ≡ false
   other_off own event off = by (same_key own key)
     where
@@ -58,11 +58,11 @@ module _ (tx : TxId) (key : List ℕ) where
       by true = off
       by false = refl
 
-  serves_off : (s : LqhState) (o : Option Request) → is_asked_by tx (serves_if key s o) ≡ false
+  pub serves_off : (s : LqhState) (o : Option Request) → is_asked_by tx (serves_if key s o) ≡ false
   serves_off s None = refl
   serves_off s (Some q) = other_off (work_key q.work) (serves (is_refused (storage_of s) q)) refl
 
-  expires_off : (o : Option (TxId × List ℕ)) → is_asked_by tx (expires_if key o) ≡ false
+  pub expires_off : (o : Option (TxId × List ℕ)) → is_asked_by tx (expires_if key o) ≡ false
   expires_off None = refl
   expires_off (Some wait) = other_off wait.1 (expires wait.0) refl
 

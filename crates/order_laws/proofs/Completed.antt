@@ -39,10 +39,10 @@ use Rattle.world_core.specs.Start.{Start}
 use Rattle.world_core.specs.Steps.{Addressed, HostStep}
 use Rattle.key_laws.specs.PrimaryEvents.{AtPrimary, ended_after}
 use Rattle.key_laws.specs.Replica.{Event, completes, event_at, rests}
-use Rattle.host_laws.proofs.api.Moves.{is_api_kind}
 use Rattle.host_laws.proofs.hosts.DihSends.{dih_kinds}
 use Rattle.host_laws.proofs.hosts.SendKinds.{each_of, is_dih_kind}
 use Rattle.host_laws.specs.ReplicaLaws.{event_in}
+use Rattle.run_laws.proofs.routes.Routes.{api_plain, dih_plain}
 use Rattle.run_laws.specs.Circle.{primary_along}
 use Rattle.run_laws.specs.Routes.{IsCompletionRouted, IsRouted}
 use Rattle.run_laws.specs.Transit.{AreInTransit, Comes, IsRun, logs_of}
@@ -181,14 +181,6 @@ module _ (start : Start) where
 
       host_is : e.host ≡ rows_host start (node_at chain at)
       host_is = rows_addressed start es e come to ∙ ap (rows_host start) routed.sent.node_is
-
-  api_plain : (body : Body) → is_api_kind body ≡ true → is_chain body ≡ false
-  api_plain (Chain c) e = cc
-  api_plain _ e = refl
-
-  dih_plain : (body : Body) → is_dih_kind body ≡ true → is_chain body ≡ false
-  dih_plain (Chain c) e = cc
-  dih_plain _ e = refl
 
   sends_tell : (es : List HostStep) (e : HostStep) → Comes start es e
       → Each (λ (o : Outgoing). TellsBehind (logs_of start (e ∷ es)) o.body)

@@ -49,6 +49,7 @@ use Rattle.world_core.specs.Machine.{after, signals_of, step_after}
 use Rattle.world_core.specs.Start.{Start}
 use Rattle.world_core.specs.Steps.{Addressed, HostStep}
 use Rattle.host_laws.proofs.hosts.BlocksAlong.{tc_layout}
+use Rattle.host_laws.proofs.hosts.Sums.{one_most}
 use Rattle.host_laws.proofs.rows.Operations.{is_lqh}
 use Rattle.host_laws.proofs.coordinator.OfLive.{each_found}
 use Rattle.host_laws.proofs.coordinator.OneWay.{back_aborting, forth_decided}
@@ -94,10 +95,6 @@ use Rattle.order_laws.proofs.Records.{holders_passed}
 use Rattle.order_laws.proofs.Still.{IsZero, home_for, home_low, none_weigh, replica_low}
 use Rattle.order_laws.proofs.Written.{none_sent, none_sent_where, passed_before, passed_has_written}
 
-few : (b : Bool) → one_if b ≤ 1
-few true = omega arith
-few false = omega arith
-
 -- the last completion of a row comes, the one at its primary
 record IsLast (tx : TxId) (key : List ℕ) (body : Body) : Type 0 where
   chain : List Member
@@ -113,14 +110,14 @@ module _ (tx : TxId) (key : List ℕ) where
   wanted_due list count to (Chain (Complete other own chain at)) = by (same_tx other tx) (same_key own key)
     where
       by : (a b : Bool) → one_if (a && b) ≤ one_if a
-      by true b = few b
+      by true b = one_most b
       by false b = omega arith
   wanted_due list count to (Host (Continue (work.Transaction other) at)) =
       by (is_tc to.block && (to.node == tx.tc)) (same_tx other tx)
       (any_sent (is_completion tx key) (drop at list))
     where
       by : (a b c : Bool) → one_if (a && (b && c)) ≤ (if b then suc (count - suc at) else 0)
-      by true true c = omega (arith, few c)
+      by true true c = omega (arith, one_most c)
       by true false c = omega arith
       by false true c = omega arith
       by false false c = omega arith

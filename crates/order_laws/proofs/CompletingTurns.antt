@@ -34,6 +34,7 @@ use Rattle.tc_block.specs.Turn.{Turn, asking, going}
 use Rattle.tc_block.proofs.EachTurn.{AbortForms, CommittedForms, TurnFormsAt, is_onward, ready_is, rows_at}
 use Rattle.tc_block.proofs.TurnRows.{is_turn, tx_in, turn_for}
 use Rattle.host_laws.proofs.rows.Operations.{true_and}
+use Rattle.run_laws.proofs.carried.CommitBegins.{end_silent}
 use Rattle.run_laws.proofs.hosts.TcOwn.{AreSilent}
 use Rattle.run_laws.proofs.hosts.TxTurns.{is_for, turn_each}
 use Rattle.run_laws.proofs.transit.Weighing.{in_sends}
@@ -156,10 +157,6 @@ module _ (node : ℕ) (layout : Layout) (tx : TxId) (key : List ℕ) (home : nod
   turn_none list to (Chain (Complete one own chain at)) is off = absurd (false≢true is)
   turn_none list to _ is off = refl
 
-  end_silent : (why : AbortCause) (b : Bool) → AreSilent tx (abort.abort_end node tx why b)
-  end_silent why true = (refl, (refl, tt))
-  end_silent why false = (refl, tt)
-
   module _ (t : Transaction) (to : Place) (body : Body) (own : is_for tx body ≡ true)
       (written : (is_verifying t.phase || is_decided t.phase) ≡ true → has_written key t.touched ≡ true)
       (few : is_completing t.phase ≡ true → length (list_of t) ≤ SENDS) where
@@ -202,7 +199,7 @@ module _ (node : ℕ) (layout : Layout) (tx : TxId) (key : List ℕ) (home : nod
     unfolding entering
     aborts u why off = record {
       enters = λ some. elsewhere refl refl;
-      ends = λ none. undecided refl off (end_silent why (abort.is_verifying u.phase));
+      ends = λ none. undecided refl off (end_silent node layout tx why (abort.is_verifying u.phase));
     }
 
     -- a key that was written is completed
@@ -265,7 +262,7 @@ module _ (node : ℕ) (layout : Layout) (tx : TxId) (key : List ℕ) (home : nod
       refuses = λ key why asked is on at. aborts (asking t None) why (ap is_decided at);
       aborted = λ key why verifying awaited is at more. elsewhere refl refl;
       aborted_all = λ key why verifying awaited is at last.
-          undecided refl (ap is_decided at) (end_silent why verifying);
+          undecided refl (ap is_decided at) (end_silent node layout tx why verifying);
     }
 
     pub turn_completes : Completes t to body (turn_for node layout tx body t)

@@ -29,11 +29,11 @@ use Rattle.world_core.specs.Hosts.{Membership, first_membership, home, receiver}
 use Rattle.world_core.specs.Machine.{after, all_addressed, counted, sent_count, signals_of, step_after}
 use Rattle.world_core.specs.Start.{Start}
 use Rattle.world_core.specs.Steps.{Addressed, HostStep}
-use Rattle.host_laws.proofs.api.Moves.{is_api_kind}
 use Rattle.host_laws.proofs.hosts.DihSends.{dih_kinds}
 use Rattle.host_laws.proofs.hosts.SendKinds.{SendsOnly, each_of, is_dih_kind}
 use Rattle.host_laws.proofs.coordinator.Lives.{IsOwn}
 use Rattle.host_laws.proofs.coordinator.TurnKinds.{OwnKinds, own_kinds}
+use Rattle.run_laws.proofs.routes.Routes.{api_plain, dih_plain}
 use Rattle.run_laws.specs.Transit.{AreInTransit, Comes, IsRun, logs_of}
 use Rattle.run_laws.proofs.hosts.HomeSteps.{all_home, own_home}
 use Rattle.run_laws.proofs.transit.Transit.{along_transit}
@@ -71,14 +71,6 @@ module _ (start : Start) where
   plain_home : (h : ℕ) (body : Body) → is_chain body ≡ false → IsFromHome h body
   plain_home h (Chain c) off = absurd (false≢true (sym off))
   plain_home h _ off = tt
-
-  api_plain : (body : Body) → is_api_kind body ≡ true → is_chain body ≡ false
-  api_plain (Chain c) e = cc
-  api_plain _ e = refl
-
-  dih_plain : (body : Body) → is_dih_kind body ≡ true → is_chain body ≡ false
-  dih_plain (Chain c) e = cc
-  dih_plain _ e = refl
 
   its_home : (h : ℕ) (one : TxId) → h ≡ home start one → (body : Body) → is_its one body ≡ true → IsFromHome h body
   its_home h one here (Chain (LqhKeyReq tx work chain at)) is =

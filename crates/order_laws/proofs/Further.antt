@@ -21,6 +21,7 @@ use Rattle.lqh_block.specs.State.{LqhState}
 use Rattle.lqh_block.specs.Storage as storage
 use Rattle.lqh_block.specs.Storage.{StorageState}
 use Rattle.lqh_block.specs.Work.{is_for}
+use Rattle.host_laws.proofs.hosts.Sums.{first_few}
 use Rattle.host_laws.proofs.rows.RequestCounts.{CountStep, asked_by, count_step, ends, is_work, performs, refuses}
 use Rattle.host_laws.proofs.rows.RequestCounts.{rests}
 use Rattle.order_laws.specs.Unanswered.{is_part_on}
@@ -48,21 +49,16 @@ module _ (tx : TxId) (key : List ℕ) (at : ℕ) where
   further_part (Chain (LqhKeyRef other own cause)) is = is
   further_part _ is = absurd (false≢true is)
 
-  few : (a b : Bool) → one_if (a && b) ≤ one_if a
-  few true true = omega arith
-  few true false = omega arith
-  few false b = omega arith
-
   -- a request that is performed is answered, or passed on to a place further on
   perform_further : (s : StorageState) (r : Request)
       → one_if (is_from tx key at r) ≤ further_out (storage.perform s r).effects.sends
   perform_further s r =
       perform_forms (λ step. one_if (is_from tx key at r) ≤ further_out step.effects.sends) s r (record {
-        log_full = λ used reserved need. omega (arith, few (is_for tx key r) (nat_le at r.at));
-        table_full = λ rows. omega (arith, few (is_for tx key r) (nat_le at r.at));
-        answers = λ a. omega (arith, few (is_for tx key r) (nat_le at r.at));
+        log_full = λ used reserved need. omega (arith, first_few (is_for tx key r) (nat_le at r.at));
+        table_full = λ rows. omega (arith, first_few (is_for tx key r) (nat_le at r.at));
+        answers = λ a. omega (arith, first_few (is_for tx key r) (nat_le at r.at));
         passes = λ image next is. omega (arith, passed (is_for tx key r) (nat_le at r.at) refl);
-        ends = λ image is. omega (arith, few (is_for tx key r) (nat_le at r.at));
+        ends = λ image is. omega (arith, first_few (is_for tx key r) (nat_le at r.at));
       })
     where
       next_behind : nat_le at r.at ≡ true → nat_lt at (r.at + 1) ≡ true
@@ -82,7 +78,7 @@ module _ (tx : TxId) (key : List ℕ) (at : ℕ) where
       let its : work_key r.work ≡ own = keys.same (work_key r.work) own parts.1 in
       omega (
         arith,
-        few (is_for tx key r) (nat_le at r.at),
+        first_few (is_for tx key r) (nat_le at r.at),
         ap (λ t. one_if (same_tx t tx && same_key (work_key r.work) key)) one,
         ap (λ k. one_if (same_tx other tx && same_key k key)) its,
       )

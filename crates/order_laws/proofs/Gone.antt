@@ -26,10 +26,11 @@ use Rattle.world_core.specs.Steps.{HostStep}
 use Rattle.key_laws.specs.Replica as replica
 use Rattle.key_laws.specs.Replica.{Event, Replica, aborts, ages, asks, commits, completes, expires, is_let_in}
 use Rattle.key_laws.specs.Replica.{key_after, rests, served_by, serves}
+use Rattle.host_laws.proofs.rows.QueueWaits.{waits_aged}
 use Rattle.host_laws.specs.ReplicaLaws.{event_in, key_in}
 use Rattle.host_laws.proofs.rows.Replicas.{logs_follow}
 use Rattle.order_laws.specs.Gone.{WhoHasGoneIsOut, gone_by, has_gone}
-use Rattle.order_laws.proofs.Lines.{holds_hold, holds_others, waits_aged, waits_last, waits_raised, waits_without}
+use Rattle.order_laws.proofs.Lines.{holds_hold, holds_others, waits_last, waits_raised, waits_without}
 
 pub not_true : (b : Bool) → (b ≡ true → ⊥) → b ≡ false
 not_true true never = absurd (never refl)

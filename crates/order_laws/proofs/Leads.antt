@@ -23,6 +23,7 @@ use Rattle.sig_core.specs.declared.signal.host.Work.TheVariants as work
 use Rattle.sig_core.specs.Same.{same_tx}
 use Rattle.tc_block.proofs.EachTurn.{is_onward}
 use Rattle.tc_block.specs.Part.{part_effects, rest_if}
+use Rattle.host_laws.proofs.hosts.Sums.{one_most}
 use Rattle.host_laws.proofs.rows.Operations.{is_lqh, true_and}
 use Rattle.host_laws.proofs.coordinator.Sends.{eqb-self}
 use Rattle.host_laws.proofs.api.Wishes.{is_tc}
@@ -123,10 +124,6 @@ module _ (tx : TxId) (test : Place → Body → Bool)
             ap (λ b. weigh w (take PORTION (drop at list) ++ rest_if node tx at b)) (more (here far)),
           )
 
-  few : (b : Bool) → one_if b ≤ 1
-  few true = omega arith
-  few false = omega arith
-
   -- the signal to go on leads to no more than the part that is sent then
   pub next_leads : (node : ℕ) (list : List Outgoing) (at : ℕ) (to : Place) → node ≡ tx.tc
       → lead tx test list to (Host (Continue (work.Transaction tx) at))
@@ -144,7 +141,7 @@ module _ (tx : TxId) (test : Place → Body → Bool)
       by true is =
           omega (
             arith,
-            few (leads tx test list to (Host (Continue (work.Transaction tx) at))),
+            one_most (leads tx test list to (Host (Continue (work.Transaction tx) at))),
             part_leads node list at home is,
           )
       by false off =

@@ -13,6 +13,7 @@ use Rattle.row_locks.specs.Holders.{agrees_with, hold, holder_of, holds, holds_e
 use Rattle.row_locks.specs.Queues.{aged_all, raised, raised_if, wait_of, waits, without}
 use Rattle.row_locks.specs.Rows.{RowLock, asked, asked_anew, asked_by, grown_old, is_quiet, may_hold, released, served}
 use Rattle.row_locks.specs.Rows.{served_if, unwaited}
+use Rattle.host_laws.proofs.rows.QueueWaits.{waits_aged}
 
 pub holds_others : (tx u : TxId) (hs : List Holder) → holds u (others tx hs) ≡ true → holds u hs ≡ true
 holds_others tx u [] is = is
@@ -90,10 +91,6 @@ waits_last u (v ∷ ws) w is = by (or_cases (same_tx v.tx u) (waits u (ws ++ w �
         → ((same_tx v.tx u || waits u ws) ≡ true) ⊎ (same_tx w.tx u ≡ true)
     by (inl own) more = inl (or_left (same_tx v.tx u) (waits u ws) own)
     by (inr rest) more = after (more rest)
-
-pub waits_aged : (u : TxId) (ws : List Wait) → waits u (aged_all ws) ≡ waits u ws
-waits_aged u [] = refl
-waits_aged u (w ∷ ws) = ap (λ b. same_tx w.tx u || b) (waits_aged u ws)
 
 raised_tx : (b : Bool) (mode : Mode) (w : Wait) → (raised_if b mode w).tx ≡ w.tx
 raised_tx true mode w = refl

@@ -38,7 +38,6 @@ use Rattle.world_core.specs.Hosts.{Membership, first_membership, receiver, rows_
 use Rattle.world_core.specs.Machine.{after, all_addressed, counted, machine, sent_count, signals_of, step_after}
 use Rattle.world_core.specs.Start.{Start}
 use Rattle.world_core.specs.Steps.{Addressed, HostStep}
-use Rattle.host_laws.proofs.api.Moves.{is_api_kind}
 use Rattle.host_laws.proofs.hosts.DihSends.{dih_kinds}
 use Rattle.host_laws.proofs.hosts.SendKinds.{SendsOnly, are_of, each_of, is_dih_kind}
 use Rattle.host_laws.proofs.coordinator.TurnKinds.{OwnKinds, own_kinds}
@@ -46,7 +45,7 @@ use Rattle.run_laws.specs.Routes.{IsForBlock, IsRequestRouted, IsRouted, replica
 use Rattle.run_laws.specs.Transit.{AreInTransit, Comes, IsRun, logs_of}
 use Rattle.run_laws.proofs.routes.Addressed.{comes_below, rows_addressed}
 use Rattle.run_laws.proofs.routes.Events.{coming_are_routed, placed}
-use Rattle.run_laws.proofs.routes.Routes.{all_routed}
+use Rattle.run_laws.proofs.routes.Routes.{all_routed, api_plain, dih_plain}
 use Rattle.run_laws.proofs.routes.Chain.{hosts_are_apart}
 use Rattle.run_laws.proofs.hosts.RowsNodes.{rows_come, rows_node}
 use Rattle.run_laws.proofs.transit.Transit.{along_transit, comes, earlier}
@@ -64,15 +63,6 @@ module _ (start : Start) where
   plain_front : (h : ℕ) (body : Body) → is_chain body ≡ false → IsFromFront h body
   plain_front h (Chain c) off = absurd (false≢true (sym off))
   plain_front h _ off = tt
-
-  -- what the shell and the block of epochs send is no request, and what a coordinator sends is for the first place
-  api_plain : (body : Body) → is_api_kind body ≡ true → is_chain body ≡ false
-  api_plain (Chain c) e = cc
-  api_plain _ e = refl
-
-  dih_plain : (body : Body) → is_dih_kind body ≡ true → is_chain body ≡ false
-  dih_plain (Chain c) e = cc
-  dih_plain _ e = refl
 
   abbrev is_first : Body → Bool
   is_first (Chain (LqhKeyReq tx work chain at)) = at == 0

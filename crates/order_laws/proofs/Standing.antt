@@ -41,7 +41,7 @@ use Rattle.world_core.specs.Machine.{after, machine}
 use Rattle.world_core.specs.Start.{Start}
 use Rattle.world_core.specs.Steps.{Addressed, HostStep}
 use Rattle.key_laws.specs.Replica.{Event, Replica, aborts, ages, asks, commits, completes, event_at, expires}
-use Rattle.key_laws.specs.Replica.{expires_if, if_on, is_refused, rests, serves, serves_if}
+use Rattle.key_laws.specs.Replica.{is_refused, rests, serves}
 use Rattle.host_laws.proofs.coordinator.OfLive.{each_found}
 use Rattle.host_laws.proofs.rows.Replicas.{logs_follow}
 use Rattle.host_laws.proofs.coordinator.Lives.{IsOwn}
@@ -70,7 +70,7 @@ use Rattle.order_laws.specs.Unanswered.{asks_on, is_on_key, is_part_on}
 use Rattle.order_laws.proofs.Attended.{first_idle}
 use Rattle.order_laws.proofs.Awaited as fare
 use Rattle.order_laws.proofs.Awaited.{Fares, fares}
-use Rattle.order_laws.proofs.Carried.{is_asked_by}
+use Rattle.order_laws.proofs.Carried.{expires_off, is_asked_by, other_off, serves_off}
 use Rattle.order_laws.proofs.Gone.{IsAwayFrom, away_after, not_true}
 use Rattle.order_laws.proofs.Unanswered.{parts_are_unanswered}
 
@@ -94,22 +94,6 @@ who_is_away_is_out start es key at tx run inside is =
         (is_away start key tx h log) (along log) is)
 
 module _ (tx : TxId) (key : List ℕ) where
-  other_off : (own : List ℕ) (event : Event) → is_asked_by tx event ≡ false
-      → is_asked_by tx (if_on own key event) ≡ false
-  other_off own event off = by (same_key own key)
-    where
-      by : (b : Bool) → is_asked_by tx (if b then event else rests) ≡ false
-      by true = off
-      by false = refl
-
-  serves_off : (s : LqhState) (o : Option Request) → is_asked_by tx (serves_if key s o) ≡ false
-  serves_off s None = refl
-  serves_off s (Some q) = other_off (work_key q.work) (serves (is_refused (storage_of s) q)) refl
-
-  expires_off : (o : Option (TxId × List ℕ)) → is_asked_by tx (expires_if key o) ≡ false
-  expires_off None = refl
-  expires_off (Some wait) = other_off wait.1 (expires wait.0) refl
-
   -- what is no part of an operation of it on the key is no request of it there
   rows_off : (s : LqhState) (body : Body) → is_part_on tx key body ≡ false
       → is_asked_by tx (event_at key s body) ≡ false
@@ -126,12 +110,12 @@ module _ (tx : TxId) (key : List ℕ) where
           → is_asked_by tx (if b then asks q (is_refused (storage_of s) q) else rests) ≡ false
       by true off = alone (same_tx v tx) off
       by false off = refl
-  rows_off s (Host (Continue work.Granted at)) off = serves_off s (first (is_granted s.locks) s.waiting)
-  rows_off s (Chain (Commit v own epoch chain at)) off = other_off own (commits v (at == 0)) refl
-  rows_off s (Chain (Complete v own chain at)) off = other_off own (completes v) refl
-  rows_off s (Chain (Abort v own)) off = other_off own (aborts v) refl
+  rows_off s (Host (Continue work.Granted at)) off = serves_off tx key s (first (is_granted s.locks) s.waiting)
+  rows_off s (Chain (Commit v own epoch chain at)) off = other_off tx key own (commits v (at == 0)) refl
+  rows_off s (Chain (Complete v own chain at)) off = other_off tx key own (completes v) refl
+  rows_off s (Chain (Abort v own)) off = other_off tx key own (aborts v) refl
   rows_off s (Host Round) off = refl
-  rows_off s (Host (Continue work.Expired at)) off = expires_off (expired s.locks)
+  rows_off s (Host (Continue work.Expired at)) off = expires_off tx key (expired s.locks)
   rows_off s _ off = refl
 
   -- who is away stays so, unless it asks

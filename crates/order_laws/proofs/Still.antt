@@ -1,8 +1,9 @@
 -- When nothing is under way: what is for hosts that are there isn't in transit.
-use Rattle.std.proofs.Common.{◌≡◌, ◌⊎◌, ◌≤◌, ◌<◌, ◌+◌, ℕ, zero, suc, Bool, true, false, List, [], ◌∷◌, ◌++◌, length}
+use Rattle.std.proofs.Common.{◌≡◌, ◌⊎◌, ◌≤◌, ◌<◌, ◌+◌, ℕ, suc, Bool, true, false, List, [], ◌∷◌, ◌++◌, length}
 use Rattle.std.proofs.Common.{refl, sym, ap}
 use Rattle.std.proofs.Common.{◌∙◌, subst, arith, inl, inr}
 use Rattle.std.proofs.lemmas.Bool.{cases_lt, eqb-true, false≢true, true≢false}
+use Rattle.std.proofs.lemmas.List.{length-append}
 use Rattle.std.specs.List.{list_any}
 use Rattle.std.specs.Prelude.{◌==◌, ◌&&◌, if◌then◌else◌}
 use Rattle.run_theory.specs.Links.{taken}
@@ -27,7 +28,7 @@ use Rattle.host_laws.proofs.api.Wishes.{is_tc}
 use Rattle.host_laws.specs.Ways.{back_by, forth_by, sent_ways}
 use Rattle.run_laws.specs.GivenUp.{is_carried_out, is_given_up}
 use Rattle.run_laws.specs.Routes.{IsForBlock, IsRouted, IsSentTo, replicas}
-use Rattle.run_laws.specs.Transit.{AreInTransit, Comes, IsRun, joined, logs_of}
+use Rattle.run_laws.specs.Transit.{AreInTransit, Comes, IsRun, logs_of}
 use Rattle.run_laws.proofs.routes.Addressed.{comes_below}
 use Rattle.run_laws.proofs.hosts.AlongSteps.{home_place}
 use Rattle.run_laws.proofs.routes.Routes.{signals_are_for_blocks, signals_are_routed}
@@ -134,14 +135,10 @@ module _ (start : Start) where
       by true e none more = absurd cc
       by false e none more = (e, more none)
 
-  length_append : {A : Type 0} (xs ys : List A) → length (xs ++ ys) ≡ length xs + length ys
-  length_append [] ys = omega arith
-  length_append (x ∷ xs) ys = omega (arith, length_append xs ys)
-
   nothing_before : {A : Type 0} (front back : List A) → front ++ back ≡ back → front ≡ []
   nothing_before [] back is = refl
   nothing_before (x ∷ front) back is =
-      absurd (omega (arith, ap length is, length_append front back))
+      absurd (omega (arith, ap length is, length-append front back))
 
   pub still_at_quiet : (es : List HostStep) → IsRun start es → IsQuiet (machine start) (hosts start) (logs_of start es)
       → (xs : List Addressed) × IsStill start es xs

@@ -5,5 +5,4 @@ pub mod Claims
 pub mod Lists
 pub mod NeverDown
 pub mod NoMarks
-pub mod Steps
 pub mod TellsTrue

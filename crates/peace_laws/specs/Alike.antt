@@ -1,6 +1,6 @@
 -- Hosts that are alike: one of a cluster in peace, and one of the plain machine, but for how far a closing has come and
 -- for epochs.
-use Rattle.std.specs.Prelude.{◌≡◌, List, [], map, Option, None, Some, false}
+use Rattle.std.specs.Prelude.{◌≡◌, Bool, List, [], map, Option, None, Some, false}
 use Rattle.api_block.specs.Given.{in_given}
 use Rattle.api_views.specs.Laws.{calm_state}
 use Rattle.dih_node.specs.State as views
@@ -30,25 +30,28 @@ pub record AreEpochsNear (one : views.DihState) (other : plain_dih.DihState) : T
   pub counted : map tx_of one.counted ≡ other.counted
   pub held : one.held ≡ []
 
--- No member is asked how far it is, and no copying of rows waits for the end of a closing: of the one that is under
--- way, of the last one, and of the next.
+-- No member is asked how far it is, and neither a copying of rows nor a local checkpoint waits for the end of a
+-- closing: of the one that is under way, of the last one, and of the next.
+abbrev pub IsForNone : Bool → Bool → Type 0
+IsForNone copy local = (copy ≡ false) × (local ≡ false)
+
 abbrev pub IsPhaseNear : Phase → Type 0
 IsPhaseNear (Gathering known) = ⊥
-IsPhaseNear (Preparing run) = run.copy ≡ false
-IsPhaseNear (Committing run) = run.copy ≡ false
-IsPhaseNear (Closing run) = run.copy ≡ false
-IsPhaseNear (Saving run) = run.copy ≡ false
-IsPhaseNear (Copying run) = run.copy ≡ false
+IsPhaseNear (Preparing run) = IsForNone run.copy run.local
+IsPhaseNear (Committing run) = IsForNone run.copy run.local
+IsPhaseNear (Closing run) = IsForNone run.copy run.local
+IsPhaseNear (Saving run) = IsForNone run.copy run.local
+IsPhaseNear (Copying run) = IsForNone run.copy run.local
 IsPhaseNear phase = Unit {0}
 
 abbrev pub IsFrontNear : Option Ended → Type 0
-IsFrontNear (Some (Global epoch copy)) = copy ≡ false
+IsFrontNear (Some (Global epoch copy local)) = IsForNone copy local
 IsFrontNear front = Unit {0}
 
 pub record IsMasterNear (m : MasterState) : Type 0 where
   pub phase : IsPhaseNear m.phase
   pub front : IsFrontNear m.front
-  pub asked : m.asked.copy ≡ false
+  pub asked : IsForNone m.asked.copy m.asked.local
 
 -- parts are near, where the client was told these replies before
 abbrev pub ArePartsNear : Start → List ApiReply → Parts → plain.Host → Type 0

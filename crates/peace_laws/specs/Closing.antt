@@ -2,7 +2,7 @@
 -- which nothing is under way any more: the client was told of its end, and all give the epoch that follows.
 use Rattle.std.specs.Prelude.{◌≡◌, ◌<◌, ℕ, ◌+◌, ◌*◌, suc, Bool, true, false, List, [], ◌∷◌, ◌++◌, Option, None, Some}
 use Rattle.api_views.specs.declared.closings.Closing.{Closing}
-use Rattle.api_views.specs.declared.closings.Closing.TheVariants.{Gcp, Micro}
+use Rattle.api_views.specs.declared.closings.Closing.TheVariants.{Gcp, Micro, Lcp}
 use Rattle.api_views.specs.Closings.{ask_of, closed_reply}
 use Rattle.api_views.specs.State.{ClientState}
 use Rattle.frag_map.specs.Replicas.{first_start}
@@ -22,17 +22,25 @@ use Rattle.calm_laws.specs.Alike.{first}
 use Rattle.peace_laws.specs.Moments.{GoesOn, IsStill, Moment, newest}
 use Rattle.peace_laws.specs.Rest.{GivesAlone, MasterRests}
 
+-- what the client asked for closes an epoch, and nothing else
+abbrev pub closes_epoch : Closing → Bool
+closes_epoch Gcp = true
+closes_epoch Micro = true
+closes_epoch Lcp = false
+
 -- A closing: the epoch that it closes, the one that follows, what the client asked for, and what it was told before.
 pub record Course : Type 0 where
   pub epoch : ℕ
   pub next : ℕ
   pub kind : Closing
+  pub closes : closes_epoch kind ≡ true
   pub before : List ApiReply
 
 -- the number that follows, unless they are used up
 abbrev pub next_of : Closing → ℕ → Option ℕ
 next_of Gcp epoch = next_global epoch
 next_of Micro epoch = next_micro epoch
+next_of Lcp epoch = None
 
 -- the host of the president's master, and those of the epochs and of the rows of the member at a place
 abbrev pub main : ℕ

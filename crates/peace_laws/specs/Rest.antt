@@ -28,7 +28,7 @@ pub record MasterRests (start : Start) (of : Member) (in_phase : Phase) (m : Mas
   pub view : m.view ≡ first start
   pub phase : m.phase ≡ in_phase
   pub front : m.front ≡ None
-  pub asked : m.asked ≡ record { global = false; copy = false; micro = false }
+  pub asked : m.asked ≡ record { global = false; copy = false; local = false; micro = false }
   pub owed : m.owed ≡ false
 
 -- the phase in which a master of this member would begin in this epoch

@@ -45,7 +45,8 @@ abbrev pub IsForMaster : Outgoing → Type 0
 IsForMaster sent = (sent.to.block ≡ GcpMaster) × (1 ≤ sent.to.node)
 
 -- Host h does something of a closing. Its plain one stays as it is, but for the epoch that it gives.
-pub record StepsNear (start : Start) (h : ℕ) (given : List ApiReply) (s : host.HostBody) (other : plain.Host) (x : Signal)
+pub record StepsNear (start : Start) (h : ℕ) (given : List ApiReply) (s : host.HostBody) (other : plain.Host)
+    (x : Signal)
     : Type 0
   where
     pub inner : plain.Host

@@ -48,7 +48,7 @@ pub data Stage : Type 0 where
   Copies : Stage
 
 abbrev pub run_of : Course → Run
-run_of c = record { epoch = c.epoch; next = c.next; copy = false }
+run_of c = record { epoch = c.epoch; next = c.next; copy = false; local = false }
 
 abbrev pub phase_of : Course → Stage → Phase
 phase_of c Prepares = phase.Preparing (run_of c)
@@ -103,15 +103,15 @@ going_on at = go_on_at (checkpoints 1) Members at
 
 -- what is told at the end
 abbrev pub ended_by : ℕ → Closing → Ended
-ended_by epoch Gcp = ended.Global epoch false
 ended_by epoch Micro = ended.Micro epoch
+ended_by epoch kind = ended.Global epoch false false
 
 abbrev pub ended_of : Course → Ended
 ended_of c = ended_by c.epoch c.kind
 
 abbrev pub report_by : ℕ → Closing → EpochSignal
-report_by epoch Gcp = signal.GcpRep epoch
 report_by epoch Micro = signal.MicroRep epoch
+report_by epoch kind = signal.GcpRep epoch
 
 abbrev pub report_of : Course → Outgoing
 report_of c = to_place client (Epoch (report_by c.epoch c.kind))
@@ -159,6 +159,8 @@ abbrev pub IsOrder : Course → Order → Type 0
 IsOrder c order.State = ⊥
 IsOrder c (order.Prepare epoch next) = (epoch ≡ c.epoch) × (next ≡ c.next)
 IsOrder c (order.Commit epoch next) = (epoch ≡ c.epoch) × (next ≡ c.next)
+IsOrder c order.Walk = ⊥
+IsOrder c order.Switch = ⊥
 IsOrder c order = Unit {0}
 
 -- with the mask of all members, where it has one,
@@ -282,7 +284,7 @@ pub record IsOver (start : Start) (c : Course) (m : Moment) (s : MasterState) : 
 pub record IsMaster (start : Start) (s : MasterState) : Type 0 where
   pub member : s.member ≡ first_start 1
   pub view : s.view ≡ first start
-  pub asked : s.asked ≡ record { global = false; copy = false; micro = false }
+  pub asked : s.asked ≡ record { global = false; copy = false; local = false; micro = false }
   pub owed : s.owed ≡ false
 
 -- A closing that is under way, or over.

@@ -54,6 +54,10 @@ appended s redo = record s { left = s.left ++ bytes_of redo; reserved = s.reserv
 abbrev pub cut_to : LogState → ℕ → LogState
 cut_to s at = record s { start = at }
 
+-- what stands from a position on, which what is used counts from
+abbrev pub rest_from : LogState → ℕ → LogState
+rest_from s at = record s { start = at; flushed = at; left = drop (at - s.flushed) s.left }
+
 -- what it has to give out
 abbrev pub outlet_in : LogState → OutletState
 outlet_in s = record { keeps = true; parity = s.parity; flushed = s.flushed; left = s.left }

@@ -4,7 +4,7 @@ ghost use Rattle.sig_core.specs.declared.journal.JournalFault.TheVariants as fau
 ghost use Rattle.sig_core.specs.Journal.{GivesOut as GivesBytes, Reserves, appending, behind, unreserving, used_from};
 ghost use Rattle.sig_core.specs.Redo.{size_of};
 ghost use Rattle.redo_log.specs.LogState.{GivesOut, LogView, appended, bytes_from, cut_to, end_of, fresh_log, journal_of, next_len};
-ghost use Rattle.redo_log.specs.LogState.{outlet_in, with_reserved};
+ghost use Rattle.redo_log.specs.LogState.{outlet_in, rest_from, with_reserved};
 
 use redo_format::encode;
 use sig_core::{
@@ -86,6 +86,13 @@ impl Log {
         self.end() - self.start
     }
 
+    /// The position up to which all bytes were given out, or given up.
+    pub fn flushed(&self) -> u64
+        ensures { result ≡ self.now.log.flushed }
+    {
+        self.flushed
+    }
+
     /// The bytes from a position on; none where they aren't kept any more, or not there yet.
     #[tactic(auto, unfolding(crate::specs::LogState::bytes_from))]
     pub fn bytes_from(&self, at: u64) -> &[u8]
@@ -96,6 +103,33 @@ impl Log {
         }
         let from = self.given + (at - self.flushed) as usize;
         &self.bytes[from..]
+    }
+
+    /// A log of what this one has from a position on: what stood before it is given up, and with it the
+    /// memory that it took.
+    ///
+    /// # Errors
+    /// `NoMemory`.
+    #[tactic(auto, unfolding(crate::specs::LogState::bytes_from))]
+    pub fn rest_from(&self, at: u64) -> Result<Log, NoMemory>
+        requires least { self.now.log.flushed ≤ at }
+        requires most { at ≤ end_of self.now.log }
+        ensures log { IfOk result (λ log. log.log ≡ rest_from self.now.log at) }
+        ensures used { IfOk result (λ log. journal_of log.log ≡ used_from (journal_of self.now.log) (outlet_in self.now.log) at) }
+    {
+        let rest = self.bytes_from(at);
+        let mut bytes = Vec::with_capacity(self.alloc, rest.len() + self.reserved as usize)?;
+        bytes.extend_from_slice(rest)?;
+        Ok(Log {
+            alloc: self.alloc,
+            generation: self.generation,
+            parity: self.parity,
+            start: at,
+            flushed: at,
+            bytes,
+            given: 0,
+            reserved: self.reserved,
+        })
     }
 
     // How many bytes the next piece has.

@@ -1,3 +1,4 @@
+pub mod locking
 pub mod masters
 pub mod others
 pub mod rows

@@ -2,3 +2,4 @@ pub mod Closings
 pub mod Copied
 pub mod History
 pub mod Keys
+pub mod Locks

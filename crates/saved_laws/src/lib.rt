@@ -5,6 +5,7 @@ mod closings;
 mod copied;
 mod history;
 mod keys;
+mod locks;
 
 pub use closings::{
     closed_ones_are_committed, commits_were_decided, committed_ones_are_final, saved_were_closed,
@@ -12,3 +13,4 @@ pub use closings::{
 pub use copied::{copied_were_saved, durable_were_noted};
 pub use history::saved_rows_are_history;
 pub use keys::{other_keys_stay, saved_are_below_the_last};
+pub use locks::{members_keep_locks, prepared_stand_alone};

@@ -1,12 +1,11 @@
 -- What the crates below say of faults, in the words of this one.
-use Rattle.std.proofs.Common.{◌≡◌, ◌∙◌, ℕ, ◌≤◌, ◌<◌, Bool, false, nat_lt, List, length, refl, ap, sym, subst, arith}
+use Rattle.std.proofs.Common.{◌≡◌, ◌∙◌, ℕ, ◌≤◌, Bool, false, nat_lt, List, length, refl, ap, sym, subst, arith}
 use Rattle.std.specs.Prelude.{Option, Result, Ok, Err}
-use Rattle.std.proofs.lemmas.Bool.{le-ltb, lt-ltb, true≢false}
+use Rattle.std.proofs.lemmas.Bool.{le-ltb, true≢false}
 use Rattle.sig_core.specs.Table.{Rows}
 use Rattle.sig_core.specs.declared.fault.ReadFault.{ReadFault}
 use Rattle.sig_core.specs.declared.fault.ReadFault.TheVariants.{Damaged, DiskFault, NoMemory}
 use Rattle.sig_core.specs.declared.fault.RestartFault.{RestartFault}
-use Rattle.lcp_store.specs.Reading as lcp
 use Rattle.lcp_store.specs.Reading.{rows_in}
 use Rattle.redo_log.specs.Stored as redo
 use Rattle.sysfile_core.specs.Reading as slots
@@ -25,20 +24,6 @@ pub slot_cause : (S : Type 0) (before now : ℕ) (fault : ReadFault) → slots.H
 slot_cause S before now (DiskFault count) is = is
 slot_cause S before now (Damaged file at byte) is = tt
 slot_cause S before now NoMemory is = tt
-
--- of checkpoints
-pub row_fault : (file saved : ℕ) (bytes : List ℕ) (fault : ReadFault) → lcp.Reads file saved bytes (Err fault)
-    → is_outer fault ≡ false → rows_in file saved bytes ≡ Err fault
-row_fault file saved bytes (DiskFault count) is inside = absurd is
-row_fault file saved bytes (Damaged of at byte) is inside = is
-row_fault file saved bytes NoMemory is inside = absurd (true≢false inside)
-
-pub row_cause : (file saved before now : ℕ) (bytes : List ℕ) (fault : ReadFault)
-    → lcp.Reads file saved bytes (Err fault)
-    → IsCause before now fault
-row_cause file saved before now bytes (DiskFault count) is = absurd is
-row_cause file saved before now bytes (Damaged of at byte) is = tt
-row_cause file saved before now bytes NoMemory is = tt
 
 -- of a read of bytes: it is none of what they hold
 pub read_fault : (before now : ℕ) (fault : ReadFault) → redo.IsFault before now fault
@@ -105,13 +90,3 @@ pub rows_whole : (file size saved : ℕ) (bytes : List ℕ) (rows : Rows) → ro
 rows_whole file size saved bytes rows is enough =
     ap (unless_cut file bytes (nat_lt (length bytes) size)) is
     ∙ ap (λ (cut : Bool). unless_cut file bytes cut (Ok rows)) (le-ltb (length bytes) size enough)
-
-pub rows_cut : (file size saved : ℕ) (bytes : List ℕ) (rows : Rows) → rows_in file saved bytes ≡ Ok rows
-    → length bytes < size → rows_in_size file size saved bytes ≡ Err (Damaged file (length bytes) 0)
-rows_cut file size saved bytes rows is few =
-    ap (unless_cut file bytes (nat_lt (length bytes) size)) is
-    ∙ ap (λ (cut : Bool). unless_cut file bytes cut (Ok rows)) (lt-ltb (length bytes) size few)
-
-pub rows_damaged : (file size saved : ℕ) (bytes : List ℕ) (fault : ReadFault) → rows_in file saved bytes ≡ Err fault
-    → rows_in_size file size saved bytes ≡ Err fault
-rows_damaged file size saved bytes fault is = ap (unless_cut file bytes (nat_lt (length bytes) size)) is

@@ -2,15 +2,13 @@
 use Rattle.std.proofs.Common.{◌≡◌, ◌∙◌, ℕ, zero, suc, ◌+◌, ◌-◌, ◌*◌, ◌≤◌, ◌<◌, Bool, true, false, List, [], ◌∷◌, ◌++◌, refl, ap, sym, subst, arith, if◌then◌else◌}
 use Rattle.std.specs.Prelude.{Option, None, Some, Result, Ok, Err}
 use Rattle.sig_core.specs.Table.{Rows}
-use Rattle.sig_core.specs.declared.fault.ReadFault.{ReadFault}
-use Rattle.sig_core.specs.declared.fault.ReadFault.TheVariants as read
 use Rattle.sig_core.specs.declared.fault.RestartFault.{RestartFault}
 use Rattle.sig_core.specs.declared.slots.ControlSlot.{ControlSlot}
 use Rattle.sig_core.specs.declared.slots.SystemSlot.{SystemSlot}
 use Rattle.sys_restart.specs.declared.groups.Source.{Source}
 use Rattle.sysfile_core.specs.declared.place.TheConstants.{CONTROL_FILE}
 use Rattle.sysfile_core.specs.Reading.{control_of_file}
-use Rattle.sys_restart.specs.Answers.{ReadsAll, is_outer, is_outside, of_node, on_node}
+use Rattle.sys_restart.specs.Answers.{ReadsAll, is_outside, on_node}
 use Rattle.sys_restart.specs.Files.{Disks, Files}
 use Rattle.sys_restart.specs.Groups.{and_rows, control_on, first_listed, is_listed, lacking, rows_by, rows_from, rows_of_group, source_of, source_or}
 use Rattle.sys_restart.specs.SlotRows.{rows_of_slot}
@@ -169,9 +167,3 @@ pub rows_end : (disks : Disks) (system : SystemSlot) (replicas group more : ℕ)
 unfolding rows_from
 rows_end disks system replicas group zero rows none = refl
 rows_end disks system replicas group (suc more) rows none = absurd (omega (arith, none))
-
--- a fault of reading a node's disk is one of what the files hold exactly where it is so with the node
-pub inside_of : (node : ℕ) (fault : ReadFault) → is_outside (of_node node fault) ≡ is_outer fault
-inside_of node (read.DiskFault count) = refl
-inside_of node (read.Damaged file at byte) = refl
-inside_of node read.NoMemory = refl

@@ -17,10 +17,9 @@ use Rattle.sig_core.specs.declared.signal.chain.ChainSignal.TheVariants.{Aborted
 use Rattle.sig_core.specs.declared.signal.client.ClientSignal.TheVariants.{NfCompleteRep}
 use Rattle.sig_core.specs.declared.signal.host.Work.TheVariants as work
 use Rattle.sig_core.specs.declared.signal.takeover.TakeoverSignal.TheVariants.{LqhTransEnd, TakeoverEnd, TakeoverOrd}
-use Rattle.sig_core.specs.declared.view.View.{View}
 use Rattle.sig_core.specs.Place.{checkpoints, client, takeover}
 use Rattle.sig_core.specs.Portion.{go_on_at}
-use Rattle.sig_core.specs.Step.{sends_only, stay, to_place}
+use Rattle.sig_core.specs.Step.{sends_only, to_place}
 use Rattle.step_forms.specs.Does.{Does, IsAmong, IsWord}
 use Rattle.step_forms.proofs.ListLemmas.{flat_in, mapped_in}
 use Rattle.step_forms.proofs.PortionLemmas.{portion_each}
@@ -32,7 +31,7 @@ use Rattle.takeover_block.specs.Rule.{after, entering, finishing, ruling, ruling
 use Rattle.takeover_block.specs.Sends.{abort_at, ask_effects, ask_of, asks_of, commit_along, complete_along}
 use Rattle.takeover_block.specs.Sends.{front_sends, key_sends, key_sends_along, stage_effects, stage_sends}
 use Rattle.takeover_block.specs.Sends.{told_aborted, told_committed}
-use Rattle.takeover_block.specs.State.{TakeoverState, in_view, with_gathered}
+use Rattle.takeover_block.specs.State.{TakeoverState, with_gathered}
 use Rattle.takeover_block.specs.Takeover.{takeover_row}
 use Rattle.takeover_block.specs.Words.{TakeoverKeepsToItsWords, is_takeover_mark, is_takeover_word}
 use Rattle.takeover_block.proofs.EachTakeover.{takeover_each}
@@ -260,11 +259,6 @@ takeover_does s x P M sends =
           ),
           rest.1,
         )
-
--- where a view is installed it sends nothing, and marks nothing
-pub takeover_installed_does : (s : TakeoverState) (view : View) (P : Outgoing → Type 0) (M : Mark → Type 0)
-    → Does P M (stay (in_view s view))
-takeover_installed_does s view P M = (tt, tt)
 
 pub takeover_words : TakeoverKeepsToItsWords
 takeover_words = record {

@@ -45,7 +45,7 @@ use Rattle.api_block.specs.State.{ApiState}
 use Rattle.api_block.proofs.ApiTurns.{ApiRequestForms, ApiSignalForms}
 use Rattle.api_block.proofs.Walk.{own_is}
 use Rattle.api_views.specs.declared.closings.Closing.{Closing}
-use Rattle.api_views.specs.declared.closings.Closing.TheVariants.{Gcp, Micro}
+use Rattle.api_views.specs.declared.closings.Closing.TheVariants.{Gcp, Micro, Lcp}
 use Rattle.api_views.specs.Client.{client_row}
 use Rattle.api_views.specs.Closings.{ask_of, closed_reply}
 use Rattle.api_views.specs.Members.{noted, president}
@@ -227,6 +227,7 @@ module _ (a : ApiState) (body : Body) (R : Talk) (forms : TalkForms a.opened a.r
 asks_plain : (closing : Closing) (node : ℕ) → IsPlain (to_place (checkpoints node) (ask_of closing))
 asks_plain Gcp node = refl
 asks_plain Micro node = refl
+asks_plain Lcp node = refl
 
 more_plain : (b : Bool) → ArePlain (more_if b)
 more_plain b = more_each IsPlain refl b
@@ -234,6 +235,7 @@ more_plain b = more_each IsPlain refl b
 closed_mute : (closing : Closing) (epoch : ℕ) → is_mute (closed_reply closing epoch) ≡ true
 closed_mute Gcp epoch = refl
 closed_mute Micro epoch = refl
+closed_mute Lcp epoch = refl
 
 -- the client's side, at what it is asked and told
 module _ (s : ClientState) (x : Signal) (R : Talk) (forms : TalkForms s.api.opened s.api.replies x.body R) where

@@ -29,7 +29,7 @@ use Rattle.api_block.specs.Opened.{is_named, is_tx, operating}
 use Rattle.api_block.proofs.Walk.{own_is}
 use Rattle.report_laws.specs.Answered.{answers_among, is_answered}
 use Rattle.outcome_laws.specs.Counts.{count_sent, is_begin, is_committing, is_unwished, is_wish, one_if}
-use Rattle.outcome_laws.proofs.coordinators.Lists.{count_between, count_more, none_counted}
+use Rattle.outcome_laws.proofs.coordinators.Lists.{count_between, count_more, none_counted, none_passes}
 use Rattle.talk_laws.proofs.ClientTalks.{ArePlain, IsPlain, Talk, TalkForms, is_plain}
 use Rattle.talk_laws.proofs.ShellTalks.{HostForms}
 
@@ -53,15 +53,6 @@ plain_key tx body plain = refl
 plain_wish : (tx : TxId) (body : Body) → is_plain body ≡ true → is_wish tx body ≡ false
 plain_wish tx (Client (TcCommitReq other)) plain = absurd cc
 plain_wish tx body plain = refl
-
--- where none is counted none passes
-none_passes : {A : Type 0} (p : A → Bool) (xs : List A) → count_by p xs ≡ 0 → Each (λ x. p x ≡ false) xs
-none_passes p [] none = tt
-none_passes p (x ∷ xs) none = (by (p x) refl, none_passes p xs (omega (arith, none, count_more p x xs)))
-  where
-    by : (b : Bool) → p x ≡ b → b ≡ false
-    by false is = refl
-    by true is = absurd (omega (arith, none, count_more p x xs, ap one_if is))
 
 module _ (tx : TxId) where
   -- of a transaction that is open: all operations but the one that is unanswered are

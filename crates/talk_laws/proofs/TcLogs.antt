@@ -261,7 +261,8 @@ module _ (tx : TxId) (me : Member) where
       own = first_part;
       runs = ap (λ (s : node.HostBody). s.parts) (tc_started start me there);
       is = record {
-        of = subst (IsTcOf me) (ap (λ (s : node.HostBody). s.parts) (tc_started start me there)) (tc_begins start me there);
+        of = subst (IsTcOf me) (ap (λ (s : node.HostBody). s.parts) (tc_started start me there))
+            (tc_begins start me there);
         talked = record {
           unborn = λ born. refl;
           fits = tt;

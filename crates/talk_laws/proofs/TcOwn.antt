@@ -21,6 +21,7 @@ use Rattle.tc_block.specs.Turn.{Turn}
 use Rattle.tc_block.specs.declared.transaction.Transaction.{Transaction}
 use Rattle.tc_block.proofs.EachTurn.{rows_of}
 use Rattle.tc_block.proofs.LiveSplit.{Split}
+use Rattle.tc_views.proofs.Walk.{coordinator_outcomes}
 use Rattle.tc_views.specs.Coordinator.{coordinator_row}
 use Rattle.tc_views.specs.State.{CoordinatorState, go_on_if}
 use Rattle.tc_views.specs.Views.{install_row}
@@ -40,7 +41,6 @@ use Rattle.outcome_laws.proofs.once.NobodyElse.{IsBeside, beside_light, nothing,
 use Rattle.outcome_laws.proofs.once.Counted.{count_none, is_counted}
 use Rattle.outcome_laws.proofs.once.CoordinatorScale.{IsTcOf, coordinator_light, of_coordinator}
 use Rattle.outcome_laws.proofs.once.Scales.{AreLight}
-use Rattle.outcome_laws.proofs.coordinators.Steps.{coordinator_each}
 use Rattle.talk_laws.proofs.ClientLogs.{uncounted_key}
 use Rattle.talk_laws.proofs.ClientTrack.{is_key}
 use Rattle.talk_laws.proofs.TcTalks.{AreMute, IsMute, Talks, answers, asks, is_talk, more_mute, operates, rests}
@@ -74,7 +74,7 @@ module _ (me : Member) where
   row_own : (s : CoordinatorState) (x : Signal) → IsCoordinatorOf me s
       → Each (OwnTalk me) (coordinator_row s x).effects.sends
   row_own s x of =
-      coordinator_each (λ u t turn. Talks s.tc.node u t x.body turn) (λ step. Each (OwnTalk me) step.effects.sends) s x
+      coordinator_outcomes (λ u t turn. Talks s.tc.node u t x.body turn) (λ step. Each (OwnTalk me) step.effects.sends) s x
       (record {
         calm = record {
           turns = λ u t at split.

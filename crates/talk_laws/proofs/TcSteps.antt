@@ -18,6 +18,7 @@ use Rattle.sig_core.specs.Step.{Step, joined, sends_only}
 use Rattle.report_laws.specs.Asked.{asked_by}
 use Rattle.tc_block.specs.State.{TcState}
 use Rattle.tc_block.proofs.EachTurn.{rows_of}
+use Rattle.tc_views.proofs.Walk.{coordinator_outcomes, inner}
 use Rattle.tc_views.specs.Coordinator.{coordinator_row}
 use Rattle.tc_views.specs.State.{CoordinatorState, go_on_if}
 use Rattle.tc_views.specs.Views.{install_row}
@@ -25,7 +26,6 @@ use Rattle.world_core.specs.Entries.{verified_by}
 use Rattle.outcome_laws.specs.Counts.{IsCoordinatorOf, count_sent, is_asking, one_if}
 use Rattle.outcome_laws.proofs.coordinators.BeginsAndAsks.{asks_once}
 use Rattle.outcome_laws.proofs.coordinators.Lists.{count_more, keys_once}
-use Rattle.outcome_laws.proofs.coordinators.Steps.{coordinator_each, inner}
 use Rattle.talk_laws.proofs.Picks.{pick_sends, picked_both}
 use Rattle.talk_laws.proofs.TcTalks.{AreMute, Talks, more_mute, resume_talks, turn_talks}
 use Rattle.talk_laws.proofs.TcTrack.{Gives, IsFit, Says, SaysBy, Talked, begins_says, mute_picks, mute_told}
@@ -88,7 +88,7 @@ module _ (tx : TxId) where
       where
         row_says : (x : Signal) → SaysBy tx told took gave x.body (inner (coordinator_row s x))
         row_says x =
-            coordinator_each (λ u t turn. Talks s.tc.node u t x.body turn) (SaysBy tx told took gave x.body) s x
+            coordinator_outcomes (λ u t turn. Talks s.tc.node u t x.body turn) (SaysBy tx told took gave x.body) s x
             (record {
               calm = record {
                 turns = λ u t at split.

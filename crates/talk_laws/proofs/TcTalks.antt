@@ -19,6 +19,7 @@ use Rattle.sig_core.specs.Op.{key_of}
 use Rattle.sig_core.specs.Place.{client, epochs}
 use Rattle.sig_core.specs.Step.{to_place}
 use Rattle.frag_map.specs.Layout.{Layout, chain_of}
+use Rattle.tc_block.proofs.EachResume.{ResumeForms}
 use Rattle.tc_block.specs.Abort.{abort_end, is_verifying}
 use Rattle.tc_block.specs.Operate.{is_ready}
 use Rattle.tc_block.specs.Part.{part_effects, rest_if}
@@ -34,7 +35,6 @@ use Rattle.tc_block.specs.declared.touched.Touched.{Touched}
 use Rattle.tc_block.specs.declared.transaction.Transaction.{Transaction}
 use Rattle.tc_block.proofs.EachTurn.{AbortForms, CommittedForms, TurnForms, ready_is}
 use Rattle.tc_views.specs.State.{go_on_if}
-use Rattle.outcome_laws.proofs.coordinators.Steps.{ResumeForms}
 
 -- the signal asks for an operation or answers one, or asks for an epoch with them all
 abbrev pub is_talk : Body → Bool

@@ -1,8 +1,8 @@
 -- A member that has ended an epoch has ended it for good, since what it counts from then on has a later one; and what
 -- it reports to be ended has ended.
-use Rattle.std.proofs.Common.{◌≡◌, ◌<◌, ◌||◌, ℕ, Bool, true, false, nat_le, nat_lt, List, [], ◌∷◌, ◌++◌, length, refl}
+use Rattle.std.proofs.Common.{◌≡◌, ◌<◌, ℕ, Bool, true, false, nat_le, nat_lt, List, [], ◌∷◌, ◌++◌, length, refl}
 use Rattle.std.proofs.Common.{subst, arith}
-use Rattle.std.proofs.lemmas.Bool.{leb-false, leb-true, or_parts}
+use Rattle.std.proofs.lemmas.Bool.{leb-false, leb-true, or_from, or_parts}
 use Rattle.std.specs.Prelude.{Some, remove}
 use Rattle.run_theory.proofs.Pasts.{each_append}
 use Rattle.run_theory.specs.Lists.{Each}
@@ -35,10 +35,6 @@ later_of epoch (one ∷ counted) none =
     let parts = or_parts (nat_le one.epoch epoch) (is_unfinished counted epoch) none in
     (leb-false one.epoch epoch parts.0, later_of epoch counted parts.1)
 
-or_none : (a b : Bool) → a ≡ false → b ≡ false → (a || b) ≡ false
-or_none true b is other = is
-or_none false b is other = other
-
 not_before : (one epoch : ℕ) → epoch < one → nat_le one epoch ≡ false
 not_before one epoch above = by (nat_le one epoch) refl
   where
@@ -49,7 +45,7 @@ not_before one epoch above = by (nat_le one epoch) refl
 finished_of : (epoch : ℕ) (counted : List Counted) → AreLater epoch counted → is_unfinished counted epoch ≡ false
 finished_of epoch [] later = refl
 finished_of epoch (one ∷ counted) later =
-    or_none (nat_le one.epoch epoch) (is_unfinished counted epoch) (not_before one.epoch epoch later.0)
+    or_from (nat_le one.epoch epoch) (is_unfinished counted epoch) (not_before one.epoch epoch later.0)
     (finished_of epoch counted later.1)
 
 -- what is counted stays later

@@ -1,5 +1,5 @@
 -- An epoch is closed by the president of the current view, where each full member has ended it and takeover is over.
-use Rattle.std.proofs.Common.{◌<◌, ◌≡◌, ◌≤◌, ◌⊎◌, ℕ, zero, suc, Bool, true, false, List, [], ◌∷◌, refl, sym, ap, subst}
+use Rattle.std.proofs.Common.{◌<◌, ◌≡◌, ◌≤◌, ◌⊎◌, ℕ, Bool, true, false, List, [], ◌∷◌, refl, sym, ap, subst}
 use Rattle.std.proofs.Common.{◌∙◌}
 use Rattle.std.proofs.Common.{inl, inr, arith}
 use Rattle.std.proofs.lemmas.Bool.{true≢false}
@@ -11,7 +11,6 @@ use Rattle.sig_core.specs.declared.member.Member.{Member}
 use Rattle.sig_core.specs.declared.place.BlockId.TheVariants as block
 use Rattle.sig_core.specs.declared.signal.Signal.{Signal}
 use Rattle.sig_core.specs.declared.view.View.{View}
-use Rattle.sig_core.specs.Step.{Step}
 use Rattle.gcp_master.specs.declared.phase.Phase.TheVariants.{Unordered, Committing}
 use Rattle.gcp_master.specs.declared.voices.Voice.{Voice}
 use Rattle.gcp_master.specs.Master.{fresh_master, master_row}
@@ -35,6 +34,7 @@ use Rattle.moment_laws.proofs.MomentTurns.{current_rises, host_low, old_current,
 use Rattle.moment_laws.proofs.MomentViews.{current_above, current_number, moment_less, number_in}
 use Rattle.moment_laws.proofs.PartTaken.{IsTakenNow}
 use Rattle.outcome_laws.proofs.order.BeforeInLists.{in_either}
+use Rattle.epoch_laws.proofs.FallAll.{told_view}
 use Rattle.epoch_laws.specs.Alike.{EachFull}
 use Rattle.epoch_laws.specs.Masters.{EachHeard}
 use Rattle.epoch_laws.specs.Members.{IsFirst, IsPresident, IsStanding, epochs_of, master_in, master_of}
@@ -71,11 +71,6 @@ is_or one other = by (gcp.same_member one other) refl
 pub first_or : (member : Member) (members : List Member) → IsFirst member members ⊎ (IsFirst member members → ⊥)
 first_or member [] = inr (λ is. is)
 first_or member (oldest ∷ members) = is_or member oldest
-
--- where the shell's replies are told its host stands where it stood
-told_view : (h : ℕ) (t : Step node.HostBody) → (told h t).standing.view ≡ t.state.standing.view
-told_view zero t = refl
-told_view (suc h) t = refl
 
 module _ (own : EndsAreOwn) (start : Start) (all : ℕ → List HostStep) (e : HostStep) (es : List HostStep)
     (begins : start.start_epoch < start.epoch) (moment : IsMoment start all (e ∷ es))

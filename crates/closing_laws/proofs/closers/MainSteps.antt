@@ -170,7 +170,8 @@ module _ (x : Signal) where
               subst (λ (v : View). fence_at (part.Main between) x.to.block v.number ≤ x.view.number) view_is
               (not_barred (host_of standing between) x clear fenced);
         })
-        to (ap (λ (h : hosts.HostBody). h.parts) state ∙ parts) (ap (λ (h : hosts.HostBody). h.standing.view) state ∙ stood)
+        to (ap (λ (h : hosts.HostBody). h.parts) state ∙ parts)
+        (ap (λ (h : hosts.HostBody). h.standing.view) state ∙ stood)
         front none (marks ∙ ap (λ (own : List Mark). front ++ own) effects)
 
     headed_goes : (standing : Standing) (p : MainPart) → Goes shape p standing.view x

@@ -65,4 +65,6 @@ master_marks s x =
         unmarked s (voice_of x) x.body t 0,
       );
       makes_durable = λ run step is at on all marks. (record { run = run; epoch_is = refl; phase = at }, marks);
+      walks = λ is at first. tt;
+      tells_local = λ epoch is at. tt;
     })

@@ -1,7 +1,7 @@
 -- Whose count is ended, the coordinator has forgotten it, for ever.
-use Rattle.std.proofs.Common.{◌≡◌, ◌⊎◌, ◌∙◌, ◌++◌, ◌<◌, ℕ, Bool, true, false, List, [], ◌∷◌, arith, refl, sym, ap}
+use Rattle.std.proofs.Common.{◌≡◌, ◌⊎◌, ◌∙◌, ◌++◌, ◌<◌, ℕ, true, false, List, [], ◌∷◌, arith, refl, sym, ap}
 use Rattle.std.proofs.Common.{subst, inl, inr}
-use Rattle.std.proofs.lemmas.Bool.{leb-false, leb-true, true≢false}
+use Rattle.std.proofs.lemmas.Bool.{leb-false, true≢false}
 use Rattle.std.specs.Prelude.{nat_le, None, Some}
 use Rattle.run_theory.specs.Lists.{Each, IsIn}
 use Rattle.run_theory.proofs.Pasts.{each_append, each_from, each_map}
@@ -36,6 +36,7 @@ use Rattle.moment_laws.proofs.MomentSignals.{EachSent, sent_next}
 use Rattle.moment_laws.proofs.MomentTurns.{host_low, own_log}
 use Rattle.moment_laws.proofs.MomentViews.{moment_less}
 use Rattle.outcome_laws.specs.Counts.{IsCoordinatorOf, coordinator_member, is_unborn}
+use Rattle.request_laws.proofs.phases.OneWay.{lower_come}
 use Rattle.request_laws.specs.Blocks.{coordinator_after}
 use Rattle.request_laws.specs.Ways.{entry_of}
 use Rattle.request_laws.proofs.phases.AlongLogs.{coordinator_comes}
@@ -63,13 +64,6 @@ SaysOut start logs body = Unit {0}
 
 itself : (n q : ℕ) → n ≡ q → nat_le n q ≡ false → ⊥
 itself n q is off = omega (arith, is, leb-false n q off)
-
-lower_come : (q n : ℕ) → q < n → nat_le n q ≡ false
-lower_come q n low = by (nat_le n q) refl
-  where
-    by : (b : Bool) → nat_le n q ≡ b → b ≡ false
-    by true is = absurd (omega (arith, low, leb-true n q is))
-    by false is = refl
 
 counting_says : (start : Start) (logs : ℕ → List HostStep) (sends : List Outgoing) → AreCounting sends
     → Each (λ (o : Outgoing). SaysOut start logs o.body) sends

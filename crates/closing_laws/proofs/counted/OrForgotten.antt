@@ -1,7 +1,7 @@
 -- Whoever was decided is counted, or its coordinator has forgotten it.
 use Rattle.std.proofs.Common.{◌≡◌, ◌≢◌, ◌⊎◌, ◌∙◌, ◌++◌, ◌||◌, ℕ, Bool, true, false, List, [], ◌∷◌, refl, sym, ap, subst}
 use Rattle.std.proofs.Common.{inl, inr}
-use Rattle.std.proofs.lemmas.Bool.{cases_eq, true≢false}
+use Rattle.std.proofs.lemmas.Bool.{cases_eq, or_cases, true≢false}
 use Rattle.std.specs.List.{list_any}
 use Rattle.std.specs.Prelude.{None}
 use Rattle.run_theory.specs.Lists.{IsIn}
@@ -67,10 +67,6 @@ any_behind tx (mark ∷ front) marks none = by (is_decision tx mark) none (any_b
         → (b || list_any (is_decision tx) (front ++ marks)) ≡ list_any (is_decision tx) marks
     by true none rest = absurd (true≢false none)
     by false none rest = rest none
-
-either : (a b : Bool) → (a || b) ≡ true → (a ≡ true) ⊎ (b ≡ true)
-either true b is = inl refl
-either false b is = inr is
 
 -- it is counted, or forgotten
 abbrev IsAccounted : Start → (ℕ → List HostStep) → TxId → Type 0
@@ -201,7 +197,7 @@ module _ (start : Start) (all : ℕ → List HostStep) (e : HostStep) (es : List
 
       own_accounted : IsAccounted start old tx → IsAccounted start new tx
       own_accounted was decided =
-          by (either (list_any (is_decision tx) e.step.marks) (has_mark (is_decision tx) log) marked)
+          by (or_cases (list_any (is_decision tx) e.step.marks) (has_mark (is_decision tx) log) marked)
         where
           marked : (list_any (is_decision tx) e.step.marks || has_mark (is_decision tx) log) ≡ true
           marked = subst (λ one. has_mark (is_decision tx) one ≡ true) new_log decided

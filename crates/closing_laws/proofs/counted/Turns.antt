@@ -25,8 +25,8 @@ use Rattle.sig_core.specs.Place.{client}
 use Rattle.sig_core.specs.Step.{Step, to_place}
 use Rattle.sig_core.proofs.Keys.{same_tx-self}
 use Rattle.frag_map.specs.Layout.{Layout, chain_of}
+use Rattle.tc_block.proofs.EachResume.{ResumeForms}
 use Rattle.tc_block.specs.Complete.{written_count}
-use Rattle.tc_block.specs.Doom.{is_undecided}
 use Rattle.tc_block.specs.Part.{part_effects, rest_if}
 use Rattle.tc_block.specs.Phases.{is_decided}
 use Rattle.tc_block.specs.Resume.{anew_if, resume_row}
@@ -45,13 +45,13 @@ use Rattle.tc_views.specs.State.{CoordinatorState, go_on_with}
 use Rattle.tc_views.specs.State as views
 use Rattle.outcome_laws.specs.Counts.{IsCoordinatorOf}
 use Rattle.outcome_laws.proofs.order.BeforeInLists.{in_either}
-use Rattle.outcome_laws.proofs.coordinators.Steps as walk
-use Rattle.outcome_laws.proofs.coordinators.Steps.{ResumeForms}
+use Rattle.tc_block.proofs.EachResume as walk
 use Rattle.request_laws.specs.Ways.{entry_of}
 use Rattle.request_laws.proofs.phases.TurnSends.{AreSpared, IsSpared}
 use Rattle.request_laws.proofs.phases.Steps.{Walks, begins, coordinator_walks, is_about, left_of, passes, resumes}
 use Rattle.request_laws.proofs.phases.Steps.{stays, turns}
 use Rattle.commit_laws.proofs.commits.EndTurns.{HasEpoch, before, by_now}
+use Rattle.commit_laws.proofs.fates.LostStays.{undecided_not}
 use Rattle.commit_laws.proofs.forth.Speaks.{gives_epoch}
 
 -- the signal ends a count
@@ -68,13 +68,6 @@ data OverTurn (tx : TxId) (t : Transaction) (body : Body) (turn : Turn) : Type 0
   gives_up : turn.over ≡ true → is_decided t.phase ≡ false → gives_epoch body ≡ false → OverTurn tx t body turn
   wrote_none : turn.over ≡ true → (written_count t.touched == 0) ≡ true → HasEpoch tx t body → OverTurn tx t body turn
   completes : turn.over ≡ true → (key : List ℕ) → body ≡ Chain (Completed tx key) → OverTurn tx t body turn
-
-undecided_not : (phase : Phase) → is_undecided phase ≡ true → is_decided phase ≡ false
-undecided_not Open is = refl
-undecided_not Verifying is = refl
-undecided_not (Committing epoch awaited) is = absurd (true≢false (sym is))
-undecided_not (Completing epoch awaited) is = absurd (true≢false (sym is))
-undecided_not (Aborting why verifying awaited) is = refl
 
 module _ (node : ℕ) (layout : Layout) (tx : TxId) where
   front_counting : (phase : Phase) → AreCounting (front_sends tx phase)

@@ -35,10 +35,6 @@ AgreeOnOrders start logs =
 abbrev Agrees : ℕ → ℕ → DihState → Type 0
 Agrees epoch next s = s.next ≡ next → s.prepared ≡ epoch
 
-pub across_next : (epoch next : ℕ) (s : DihState) → IsAcross epoch next s → s.next ≡ next
-across_next epoch next s (inl ready) = ready.next_is
-across_next epoch next s (inr gone) = gone.next_is
-
 -- where an order of the president isn't late for a member, whoever knows the epoch that it names to follow knows it
 module _ (start : Start) (logs : ℕ → List HostStep) (agree : AgreeOnOrders start logs) (m : Member)
     (inside : IsIn m (current start logs).full) (epoch next : ℕ) (rises : epoch < next)

@@ -9,7 +9,7 @@ use Rattle.sig_core.specs.declared.signal.Signal.{Signal}
 use Rattle.sig_core.specs.Step.{Step, stay}
 use Rattle.gcp_master.specs.declared.known.Known.{Known}
 use Rattle.gcp_master.specs.declared.known.Told.{Told}
-use Rattle.gcp_master.specs.declared.orders.Ended.TheVariants.{Micro, Global}
+use Rattle.gcp_master.specs.declared.orders.Ended.TheVariants.{Micro}
 use Rattle.gcp_master.specs.declared.phase.Asked.{Asked}
 use Rattle.gcp_master.specs.declared.phase.Phase.{Phase}
 use Rattle.gcp_master.specs.declared.phase.Phase.TheVariants.{Gathering, Committing, Closing, Saving, Copying}
@@ -20,9 +20,9 @@ use Rattle.gcp_master.specs.Resume.{knowing, learned_if}
 use Rattle.gcp_master.specs.Sends.{listing, marking}
 use Rattle.gcp_master.specs.State.{MasterState, at_phase}
 use Rattle.gcp_master.specs.Voices.{is_among}
-use Rattle.gcp_master.proofs.Outcomes.{BeginOutcomes, Begins, Resumes, a_global, a_micro, at_end, beginning, heard_one}
-use Rattle.gcp_master.proofs.Outcomes.{known_with, master_outcomes, not_owing, nothing_asked, stopping, to_commit}
-use Rattle.gcp_master.proofs.Outcomes.{to_copy, to_prepare}
+use Rattle.gcp_master.proofs.Outcomes.{BeginOutcomes, Begins, Resumes, a_global, a_micro, at_durable, at_end, beginning}
+use Rattle.gcp_master.proofs.Outcomes.{have_walked, heard_local, heard_one, known_with, master_outcomes, not_owing}
+use Rattle.gcp_master.proofs.Outcomes.{nothing_asked, stopping, telling_local, to_commit, to_copy, to_prepare, walking}
 use Rattle.gcp_master.proofs.Walk.{listing_state}
 use Rattle.epoch_laws.proofs.MasterMoves.{state_body, voice_of}
 
@@ -153,7 +153,14 @@ module _ (Late : ℕ → Type 0) (Knows : Known → Type 0) where
                 lists (at_phase (heard_one s x) (Copying run)) 0 (late (Saving run) at);
             copies = λ run is at on some. unmarked (stay (heard_one s x)) was;
             ends_global = λ run is at on all.
-                ends_durable run (at_end (heard_one s x) run (Global run.epoch run.copy)) tt;
+                ends_durable run (at_durable (heard_one s x) run) tt;
+            walks = λ is at first. unmarked (walking s) was;
+            hears_walk = λ epoch is at on some. unmarked (stay (heard_local s x)) was;
+            asks_walked = λ epoch is at on all. unmarked (stay (have_walked s)) was;
+            asks_walked_resting = λ epoch current is at on all rests.
+                begins (have_walked s) current (is_some s.front) was;
+            hears_switch = λ epoch is at on some. unmarked (stay (heard_local s x)) was;
+            ends_local = λ epoch is at on all. unmarked (telling_local s epoch) was;
           })
 
 -- whatever it takes

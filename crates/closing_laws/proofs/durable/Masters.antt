@@ -28,6 +28,7 @@ use Rattle.view_laws.proofs.follow.Hosts.{main_started}
 use Rattle.moment_laws.specs.Moments.{IsMoment, current, logs_of}
 use Rattle.moment_laws.proofs.MomentTurns.{own_behind}
 use Rattle.moment_laws.proofs.PartTaken.{IsTakenNow}
+use Rattle.epoch_laws.proofs.MasterResumption.{across_next}
 use Rattle.epoch_laws.specs.Alike.{EachFull, IsAcross, Waits}
 use Rattle.epoch_laws.specs.Masters.{IsHad, IsRightIn}
 use Rattle.epoch_laws.specs.Members.{IsFirst, IsPresident, IsStanding, epochs_of, master_in, master_of}
@@ -44,7 +45,7 @@ use Rattle.epoch_laws.proofs.MomentEvents.{MasterDoes, enters, enters_takes, ins
 use Rattle.epoch_laws.proofs.StandMasters.{Stood, before_it, master_view, rose, stood, stood_by}
 use Rattle.epoch_laws.proofs.StandTakes.{taken_true}
 use Rattle.closing_laws.proofs.closers.Hear.{first_or}
-use Rattle.closing_laws.proofs.durable.LastOrders.{AgreeOnOrders, across_next}
+use Rattle.closing_laws.proofs.durable.LastOrders.{AgreeOnOrders}
 use Rattle.closing_laws.proofs.durable.Reached.{HasReached, each_reached_next}
 
 abbrev pub IsRunReached : Start → (ℕ → List HostStep) → Phase → Type 0

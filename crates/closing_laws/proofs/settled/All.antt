@@ -39,6 +39,7 @@ use Rattle.outcome_laws.proofs.order.BeforeInLists.{kept_in}
 use Rattle.outcome_laws.specs.Counts.{coordinator_member}
 use Rattle.outcome_laws.specs.Decided.{IsMarked}
 use Rattle.epoch_laws.specs.Members.{IsFirst, IsPresident}
+use Rattle.commit_laws.proofs.led.Entries.{one_entry}
 use Rattle.commit_laws.specs.Commits.{HasWritten}
 use Rattle.commit_laws.specs.Fates.{Fate, aborts, commits, fate, fate_if, is_led_by_full, undetermined}
 use Rattle.commit_laws.specs.Going.{decided_ops, is_decided, is_forth, is_lost, is_written_by}
@@ -54,7 +55,7 @@ use Rattle.closing_laws.specs.Over.{LeavesNone, OverLeavesNone}
 use Rattle.closing_laws.specs.Stays.{ClosedStayClosed}
 use Rattle.closing_laws.proofs.settled.Cuts.{cut_moment, events_of, goes_on, logs_are, marks_at}
 use Rattle.closing_laws.proofs.settled.GoneAbort.{StaysDecided, never_applied, stays_decided}
-use Rattle.closing_laws.proofs.settled.Histories.{WritesOne, in_entries, one_entry, own_ops, stays_in, writes_one}
+use Rattle.closing_laws.proofs.settled.Histories.{WritesOne, in_entries, own_ops, stays_in, writes_one}
 use Rattle.closing_laws.proofs.settled.Led.{IsDecidedAndDone, done_where_led}
 use Rattle.closing_laws.proofs.settled.TwoRuns.{comes_also}
 
@@ -290,7 +291,8 @@ module _ (closers : ClosersHaveHeardAll) (durable : DurableWereClosed) (uncounte
         moment_before start large found.newer (found.event ∷ found.older)
         (subst (IsMoment start large) found.is (cut_moment start small large less more cut)) in
         let closing = closers start large found.event found.older begins moment epoch found.there in
-        stays_there start large more z there wrote uncounted forgotten leaves small begins less cut epoch low found.newer
+        stays_there start large more z there wrote uncounted forgotten leaves small begins less cut epoch low
+        found.newer
         found.event found.older found.is closing.member closing.is
         (president_made start large (found.event ∷ found.older) moment closing.member closing.is.president)
 
@@ -303,5 +305,6 @@ module _ (closers : ClosersHaveHeardAll) (durable : DurableWereClosed) (uncounte
             closed_stay start small large begins less more cut epoch
             (record { host = h; below = below; marked = closed }) z there wrote low
         by (inr saved) =
-            closed_stay start small large begins less more cut epoch (durable start small begins less h epoch below saved) z
+            closed_stay start small large begins less more cut epoch
+            (durable start small begins less h epoch below saved) z
             there wrote low

@@ -1,13 +1,11 @@
 -- Whoever is decided in a cut, and applied there, has its entry in the history of that cut.
 use Rattle.std.proofs.Common.{◌≡◌, ◌⊎◌, ◌∙◌, ◌++◌, cond, ℕ, zero, suc, Bool, true, false, List, [], ◌∷◌, filter, sym}
 use Rattle.std.proofs.Common.{ap, subst, inl, inr}
-use Rattle.std.proofs.lemmas.Bool.{true≢false}
 use Rattle.std.specs.List.{list_any}
-use Rattle.run_theory.proofs.Pasts.{each_in, in_past, past_self, past_trans}
+use Rattle.run_theory.proofs.Pasts.{in_past, past_self, past_trans}
 use Rattle.run_theory.specs.Cuts.{IsCut}
 use Rattle.run_theory.specs.Lists.{IsIn, IsPast}
 use Rattle.sig_core.proofs.Keys.{same_key-self, same_tx-self}
-use Rattle.sig_core.proofs.TxLemmas.{same_tx-swap}
 use Rattle.sig_core.specs.declared.entry.Entry.{Entry}
 use Rattle.sig_core.specs.declared.member.TxId.{TxId}
 use Rattle.sig_core.specs.declared.op.Answer.{Answer}
@@ -26,7 +24,6 @@ use Rattle.moment_laws.specs.Moments.{IsMoment, logs_of}
 use Rattle.outcome_laws.proofs.knowledge.CommitsWereDecided.{in_turned}
 use Rattle.outcome_laws.proofs.once.DecidedOnce.{decided_once}
 use Rattle.outcome_laws.proofs.order.EventsBefore.{entries_past}
-use Rattle.outcome_laws.specs.Outcomes.{AreOnce}
 use Rattle.commit_laws.specs.Going.{decided_ops, is_decided, is_written_by}
 use Rattle.commit_laws.specs.Traces.{IsApplied}
 use Rattle.commit_laws.specs.Values.{is_final}
@@ -34,7 +31,7 @@ use Rattle.commit_laws.proofs.settled.All.{all_stand}
 use Rattle.commit_laws.proofs.views.AtEvents.{any_of, some_of}
 use Rattle.commit_laws.proofs.forth.All.{forth_is_known}
 use Rattle.commit_laws.proofs.led.Applied.{HasEntryOf, applied_are_final, entry_of_decided}
-use Rattle.commit_laws.proofs.led.Entries.{entries_final}
+use Rattle.commit_laws.proofs.led.Entries.{entries_final, one_entry}
 use Rattle.commit_laws.proofs.markers.Lists.{in_filter}
 use Rattle.closing_laws.proofs.settled.Cuts.{cut_moment, events_of, logs_are}
 
@@ -107,18 +104,6 @@ entries_grow small large cut x (suc n) there =
         inl (subst (λ log. IsIn x (entries_of n log)) (sym (cut n).is)
         (in_past x (entries_front n (cut n).newer (small n)) own))
     by (inr lower) rest = inr (rest lower)
-
--- and no two of them are of one transaction
-pub one_entry : (xs : List Entry) (a b : Entry) → AreOnce xs → IsIn a xs → IsIn b xs → same_tx a.tx b.tx ≡ true → a ≡ b
-one_entry [] a b once left right same = absurd left
-one_entry (x ∷ xs) a b once (inl one) (inl other) same = one ∙ sym other
-one_entry (x ∷ xs) a b once (inl one) (inr rest) same =
-    let off = each_in (λ (c : Entry). same_tx c.tx x.tx ≡ false) b xs once.0 rest in
-    absurd (true≢false (sym same ∙ (ap (λ (c : Entry). same_tx c.tx b.tx) one ∙ (same_tx-swap x.tx b.tx ∙ off))))
-one_entry (x ∷ xs) a b once (inr rest) (inl other) same =
-    let off = each_in (λ (c : Entry). same_tx c.tx x.tx ≡ false) a xs once.0 rest in
-    absurd (true≢false (sym same ∙ (ap (λ (c : Entry). same_tx a.tx c.tx) other ∙ off)))
-one_entry (x ∷ xs) a b once (inr left) (inr right) same = one_entry xs a b once.1 left right same
 
 -- who wrote has written some key
 pub record WritesOne (ops : List (Op × Answer)) : Type 0 where

@@ -1,34 +1,27 @@
 -- Whatever comes to be known to the client's side was done, and committed by its coordinator, before.
-use Rattle.std.proofs.Common.{◌≡◌, ◌||◌, ◌∙◌, ℕ, Bool, true, false, List, ◌∷◌, refl, sym, subst}
+use Rattle.std.proofs.Common.{◌≡◌, ◌∙◌, ℕ, true, false, List, ◌∷◌, sym, subst}
 use Rattle.std.proofs.lemmas.Bool.{true≢false}
-use Rattle.run_theory.proofs.Pasts.{each_in}
-use Rattle.run_theory.proofs.EventCases.{event_cases}
-use Rattle.sig_core.proofs.TxLemmas.{same_tx-is}
 use Rattle.sig_core.specs.declared.member.TxId.{TxId}
-use Rattle.sig_core.specs.declared.outs.Outgoing.{Outgoing}
 use Rattle.sig_core.specs.declared.signal.Body.{Body}
 use Rattle.sig_core.specs.declared.signal.Body.TheVariants.{Client}
 use Rattle.sig_core.specs.declared.signal.client.ClientSignal.{ClientSignal}
-use Rattle.sig_core.specs.declared.signal.client.ClientSignal.TheVariants.{TcCommitAck, TcCommitConf, TcKeyFailConf}
-use Rattle.node_views.specs.WellFormed.{is_well_formed}
+use Rattle.sig_core.specs.declared.signal.client.ClientSignal.TheVariants.{TcCommitConf, TcKeyFailConf}
 use Rattle.world_core.specs.Start.{Start}
 use Rattle.world_core.specs.Steps.{Addressed, HostStep}
-use Rattle.world_views.specs.Hosts.{started}
-use Rattle.world_views.specs.Machine.{IsOwnWork, machine, step_after}
+use Rattle.world_views.specs.Machine.{IsOwnWork}
 use Rattle.moment_laws.proofs.MomentSignals.{EachSent, taken_told}
 use Rattle.moment_laws.proofs.MomentViews.{moment_less}
 use Rattle.moment_laws.specs.Moments.{IsMoment, logs_of}
-use Rattle.request_laws.specs.Ways.{is_sent}
+use Rattle.commit_laws.proofs.forth.KnownComes.{TakesWord, takes_word}
+use Rattle.commit_laws.proofs.hosts.MarkCases.{known_cases}
 use Rattle.commit_laws.specs.Commits.{ComesWhenDone, IsDone}
 use Rattle.commit_laws.specs.Forth.{IsForth, TellsForth}
 use Rattle.commit_laws.specs.Going.{is_forth}
-use Rattle.commit_laws.specs.Traces.{has_sent, is_acknowledgement, is_known}
+use Rattle.commit_laws.specs.Traces.{is_known}
 use Rattle.commit_laws.proofs.settled.All.{all_stand}
 use Rattle.commit_laws.proofs.commits.Step.{not_closing}
-use Rattle.commit_laws.proofs.gathering.EndsTold.{AreEnds, IsEnd, beside_ends}
 use Rattle.commit_laws.proofs.forth.All.{forth_is_known}
 use Rattle.commit_laws.proofs.forth.Client.{IsToldOf, by_coordinator, by_takeover}
-use Rattle.commit_laws.proofs.hosts.SomePasses.{passing}
 
 pub record IsDoneBefore (start : Start) (es : List HostStep) (tx : TxId) : Type 0 where
   pub done : IsDone start (logs_of start es) tx
@@ -43,41 +36,12 @@ module _ (start : Start) (all : ℕ → List HostStep) (e : HostStep) (es : List
     before : IsMoment start all es
     before = moment_less start all e es moment
 
-    abbrev sends : List Outgoing
-    sends = (step_after start 0 (logs_of start es 0) e).effects.sends
-
-    -- the event takes word of the commit
-    record TakesWord (tx : TxId) : Type 0 where
-      sound : is_well_formed start.shape e.step.taken ≡ true
-      told : IsToldOf tx e.step.taken.body
-
-    ends : AreEnds TakesWord sends
-    unfolding started
-    ends = beside_ends start 0 tt TakesWord (old 0) e (λ sound tx told. record { sound = sound; told = told })
-
-    word_of : (tx : TxId) (body : Body) → IsEnd TakesWord body → is_acknowledgement tx body ≡ true → TakesWord tx
-    word_of tx (Client (TcCommitAck other)) is own = subst TakesWord (same_tx-is other tx own) is
-    word_of tx body is own = absurd (true≢false (sym own))
-
     module _ (tx : TxId) (off : is_known start (logs_of start es) tx ≡ false)
         (is : is_known start (logs_of start (e ∷ es)) tx ≡ true) where
-      acknowledges : is_sent (is_acknowledgement tx) sends ≡ true
-      acknowledges =
-          event_cases (machine start) e es 0
-          (λ log. has_sent start (is_acknowledgement tx) 0 log ≡ true → is_sent (is_acknowledgement tx) sends ≡ true)
-          (λ at. sent at (is_sent (is_acknowledgement tx) sends) refl)
-          (λ other is. absurd (true≢false (sym is ∙ off))) is
-        where
-          sent : e.host ≡ 0 → (b : Bool) → is_sent (is_acknowledgement tx) sends ≡ b
-              → (b || has_sent start (is_acknowledgement tx) 0 (logs_of start es 0)) ≡ true → b ≡ true
-          sent at true here is = refl
-          sent at false here is = absurd (true≢false (sym is ∙ off))
-
-      word : TakesWord tx
+      word : TakesWord start e tx
       word =
-          let one = passing (λ (o : Outgoing). is_acknowledgement tx o.body) sends acknowledges in
-          word_of tx one.item.body (each_in (λ (o : Outgoing). IsEnd TakesWord o.body) one.item sends ends one.there)
-          one.is
+          takes_word start e (old 0) tx
+          (known_cases start e es tx (λ at here. here) (λ was. absurd (true≢false (sym was ∙ off))) is)
 
       -- what is told of all that was sent is told of it
       told_of : (K : Body → Type 0) (signal : ClientSignal) → e.step.taken.body ≡ Client signal

@@ -1,10 +1,10 @@
 -- Where a transaction aborts, and has no full coordinator, no full member had a trace of it on the way there.
-use Rattle.std.proofs.Common.{◌≡◌, ◌⊎◌, ◌||◌, ◌&&◌, ◌∙◌, ◌++◌, ℕ, Bool, true, false, List, [], ◌∷◌, refl, sym, ap}
+use Rattle.std.proofs.Common.{◌≡◌, ◌⊎◌, ◌||◌, ◌&&◌, ◌∙◌, ◌++◌, ℕ, Bool, true, false, List, ◌∷◌, refl, sym, ap}
 use Rattle.std.proofs.Common.{subst, inl, inr}
 use Rattle.std.proofs.lemmas.Bool.{and_parts, or_cases, or_left, or_right, true≢false}
 use Rattle.std.specs.List.{list_any}
 use Rattle.std.specs.Prelude.{Option, None, Some}
-use Rattle.run_theory.specs.Lists.{Each, IsIn, IsPast}
+use Rattle.run_theory.specs.Lists.{IsIn, IsPast}
 use Rattle.sig_core.proofs.Keys.{same_tx-self}
 use Rattle.sig_core.specs.declared.member.Member.{Member}
 use Rattle.sig_core.specs.declared.member.TxId.{TxId}
@@ -17,6 +17,7 @@ use Rattle.moment_laws.proofs.MomentMembers.{current_made}
 use Rattle.moment_laws.specs.Moments.{IsMoment, current, logs_of}
 use Rattle.moment_laws.specs.Places.{ldm_of}
 use Rattle.request_laws.specs.Blocks.{rows_after}
+use Rattle.commit_laws.proofs.markers.Traces.{each_fails}
 use Rattle.commit_laws.specs.Fates.{aborts, fate, is_led_by_full}
 use Rattle.commit_laws.specs.Going.{is_forth, is_lost}
 use Rattle.commit_laws.specs.Traces.{has_marker_at, has_trace, is_committed_at, is_committed_by, is_committed_of}
@@ -91,16 +92,6 @@ module _ (start : Start) (all : ℕ → List HostStep) (es : List HostStep) (mom
         by : (leave_trace tx (rows_at start logs member) ≡ true) ⊎ (is_known start logs tx ≡ true) → ⊥
         by (inl trace) = untraced member full trace
         by (inr known) = unknown known
-
--- where none passes each fails
-each_fails : {A : Type 0} (p : A → Bool) (xs : List A) → list_any p xs ≡ false → Each (λ x. p x ≡ false) xs
-each_fails p [] none = tt
-each_fails p (x ∷ xs) none = by (p x) refl none (each_fails p xs)
-  where
-    by : (b : Bool) → p x ≡ b → (b || list_any p xs) ≡ false
-        → (list_any p xs ≡ false → Each (λ x. p x ≡ false) xs) → (p x ≡ false) × Each (λ x. p x ≡ false) xs
-    by true is none more = absurd (true≢false none)
-    by false is none more = (is, more none)
 
 -- whoever is committed at a member, and isn't known, has left a trace there
 module _ (start : Start) (logs : ℕ → List HostStep) (member : Member) (key : List ℕ) (tx : TxId)

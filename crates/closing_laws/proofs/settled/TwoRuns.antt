@@ -1,7 +1,7 @@
 -- Two moments of different runs: where a host has entered a view on the way to one, and the hosts of the rows of its
 -- full members stand in it there, the other run, as it comes to that view, has no more of their logs.
 use Rattle.std.proofs.Common.{◌≡◌, ◌≢◌, ◌≤◌, ◌<◌, ◌⊎◌, ◌∙◌, ◌++◌, ℕ, List, [], ◌∷◌, append_assoc, refl, sym, ap, subst}
-use Rattle.std.proofs.Common.{inl, inr, arith, zero, suc}
+use Rattle.std.proofs.Common.{inl, inr, arith}
 use Rattle.std.proofs.lemmas.Bool.{cases_eq, cases_lt}
 use Rattle.std.specs.Prelude.{Some}
 use Rattle.run_theory.proofs.Pasts.{past_cases, past_self, past_trans}
@@ -11,14 +11,12 @@ use Rattle.sig_core.specs.declared.member.Member.{Member}
 use Rattle.sig_core.specs.declared.outs.Outgoing.{Outgoing}
 use Rattle.sig_core.specs.declared.signal.Signal.{Signal}
 use Rattle.sig_core.specs.declared.view.View.{View}
-use Rattle.sig_core.specs.Step.{Step}
-use Rattle.node_views.specs.declared.host_body.HostBody as node
 use Rattle.node_views.specs.Blocks.{parts_entered, settled_at}
 use Rattle.node_views.specs.declared.parts.Parts.{Parts}
 use Rattle.world_core.specs.Hosts.{hosts}
 use Rattle.world_core.specs.Start.{Start}
 use Rattle.world_core.specs.Steps.{HostStep}
-use Rattle.world_views.specs.Machine.{after, step_after, told}
+use Rattle.world_views.specs.Machine.{after, step_after}
 use Rattle.view_laws.proofs.eras.Rises.{entered_follows, host_follows, settled_above, view_rises}
 use Rattle.view_laws.proofs.fences.Ranks.{pasts_compare}
 use Rattle.view_laws.proofs.runs.AllSound.{have_orderly}
@@ -31,13 +29,10 @@ use Rattle.moment_laws.proofs.PartSteps.{step_do}
 use Rattle.moment_laws.specs.Moments.{IsMoment, current, logs_of}
 use Rattle.moment_laws.specs.Parts.{Enters, PartsDo, Takes, enters, leaves, settles, stays, takes}
 use Rattle.moment_laws.specs.Places.{ldm_of}
+use Rattle.epoch_laws.proofs.FallAll.{told_view}
 use Rattle.outcome_laws.proofs.order.EventsBefore.{IsUpTo, events_up_to, moment_before}
 use Rattle.request_laws.proofs.tokens.HostsApart.{ldm_low}
 use Rattle.closing_laws.proofs.settled.Cuts.{log_past}
-
-told_view : (h : ℕ) (t : Step node.HostBody) → (told h t).standing.view ≡ t.state.standing.view
-told_view zero t = refl
-told_view (suc h) t = refl
 
 -- A host that comes to stand in a greater view by a signal stands in no lesser one than the signal's.
 module _ (start : Start) (h : ℕ) (log : List HostStep) (e : HostStep) where

@@ -1,7 +1,6 @@
 -- Once a takeover is over, whoever commits and has no coordinator in the current view is done.
-use Rattle.std.proofs.Common.{◌≡◌, ◌≤◌, ◌⊎◌, ◌==◌, ◌+◌, ◌∙◌, nat_lt, ℕ, true, false, List, [], ◌∷◌, arith, inl, inr}
-use Rattle.std.proofs.Common.{length, refl, sym, ap, subst}
-use Rattle.std.proofs.lemmas.Bool.{eqb-true}
+use Rattle.std.proofs.Common.{◌≡◌, ◌≤◌, ◌⊎◌, ◌==◌, ◌∙◌, nat_lt, ℕ, true, false, List, [], ◌∷◌, arith, inl, inr}
+use Rattle.std.proofs.Common.{refl, sym, ap, subst}
 use Rattle.std.specs.Prelude.{Option, None, Some, slice_get}
 use Rattle.run_theory.specs.Links.{sent, sent_by, taken}
 use Rattle.run_theory.specs.Lists.{Each, IsIn}
@@ -47,12 +46,13 @@ use Rattle.moment_laws.specs.Places.{tc_of}
 use Rattle.moment_laws.proofs.MomentHosts.{tc_low, tc_started}
 use Rattle.moment_laws.proofs.MomentSignals.{IsClosed, sent_below}
 use Rattle.moment_laws.proofs.MomentTurns.{current_rises, old_current}
-use Rattle.moment_laws.proofs.MomentViews.{current_above, current_number, moment_less, number_in, stands_in_current}
+use Rattle.moment_laws.proofs.MomentViews.{current_number, moment_less, number_in, stands_in_current}
 use Rattle.request_laws.specs.Blocks.{takeover_after, takeover_in}
 use Rattle.request_laws.proofs.phases.Stands.{coordinators_stand}
 use Rattle.request_laws.proofs.routes.Entering.{own_full}
 use Rattle.request_laws.proofs.routes.Headers.{sent_so, takeover_fenced}
 use Rattle.request_laws.proofs.routes.PartSteps.{TcStep, takeover_is}
+use Rattle.commit_laws.proofs.reported.Takeovers.{has_members}
 use Rattle.commit_laws.specs.Answered.{AllWereCommittedIn, IsAnswered}
 use Rattle.commit_laws.specs.Gathering.{EndsGathering}
 use Rattle.commit_laws.specs.Reported.{AreAttended, GatheringsList, IsListed, IsSaid, aborted, known, told}
@@ -71,7 +71,7 @@ use Rattle.commit_laws.proofs.forth.KnownComes.{known_commit}
 use Rattle.commit_laws.proofs.orders.First.{orders_come_first}
 use Rattle.commit_laws.proofs.orders.Sound.{given_so, sound_closes}
 use Rattle.commit_laws.proofs.reported.Rulings.{IsLast, SaidBy, TellsAll, TellsOn, goes_on_telling, tells_more}
-use Rattle.commit_laws.proofs.fates.SpokenHost.{StandsStill}
+use Rattle.commit_laws.proofs.fates.SpokenHost.{StandsStill, stood_still}
 use Rattle.commit_laws.proofs.fates.SpokenTakeover.{IsAbortingAt}
 use Rattle.commit_laws.proofs.takeover.GoesOn.{stands_on}
 use Rattle.commit_laws.proofs.takeover.Words.{Aborts}
@@ -100,14 +100,6 @@ record SeesToAll (start : Start) (logs : ℕ → List HostStep) : Type 0 where
       → Each (λ (y : Addressed). y.signal.body ≡ Takeover TakeoverEnd
       → y.signal.view.number ≡ current_number start logs → AreSeenTo start logs)
       (sent (sound_machine start) (tc_of start member) j (logs (tc_of start member)))
-
--- a view with a full member counts some
-has_members : (view : View) (m : Member) → IsIn m view.full → (member_count view == 0) ≡ true → ⊥
-has_members view m there none = by view.full there none
-  where
-    by : (xs : List Member) → IsIn m xs → (length xs + length view.starting == 0) ≡ true → ⊥
-    by [] there none = absurd there
-    by (x ∷ xs) there none = absurd (omega (arith, eqb-true (length (x ∷ xs) + length view.starting) 0 none))
 
 module _ (start : Start) (all : ℕ → List HostStep) (e : HostStep) (es : List HostStep)
     (moment : IsMoment start all (e ∷ es))
@@ -156,17 +148,6 @@ module _ (start : Start) (all : ℕ → List HostStep) (e : HostStep) (es : List
     module _ (was : SeesToAll start (logs_of start es)) (member : Member) (there : IsIn member (made start)) where
       abbrev h : ℕ
       h = tc_of start member
-
-      -- the host stood in the current view before, and that is the same
-      still_by : (number : ℕ) → number ≡ current_number start new → number ≤ number_in start old h
-          → StandsStill start e es member
-      still_by number is low =
-          let above = current_above start old h (tc_low start member there) in
-          let rises = current_rises start all e es moment in
-          record {
-            current_is = old_current start all e es moment (omega (arith, is, low, above, rises));
-            number_is = omega (arith, is, low, above, rises);
-          }
 
       was_tells : StandsStill start e es member → TellsAll O S (takeover_at start old member)
       was_tells still =
@@ -225,7 +206,7 @@ module _ (start : Start) (all : ℕ → List HostStep) (e : HostStep) (es : List
                   let number : view.number ≡ stood.number = ap (λ (v : View). v.number) seen in
                   let here : stood.number ≡ number_in start old h =
                   ap (λ k. (view_after start k (old k)).number) at in
-                  still_by view.number stands (omega (arith, number, here))
+                  stood_still start all e es moment member there view.number stands (omega (arith, number, here))
 
               takeover_was : takeover_at start old member ≡ between.takeover
               takeover_was = takeover_same ∙ ap (λ (q : TcPart). q.takeover) (sym same)
@@ -355,7 +336,8 @@ module _ (start : Start) (all : ℕ → List HostStep) (e : HostStep) (es : List
           subst (λ k. TellsAll O S (takeover_after start member (e ∷ old k))) at
           (tells_here at
           (subst (λ k. (view_after start k (e ∷ old k)).number ≡ current_number start new) (sym at) stands)))
-          (λ other stands. was_tells (still_by (number_in start old h) stands (omega arith)))
+          (λ other stands. was_tells (stood_still start all e es moment member there (number_in start old h) stands
+          (omega arith)))
 
       abbrev Told : Addressed → Type 0
       Told y =

@@ -236,5 +236,6 @@ all_over own start all [] begins moment member there none =
     (master_in (fresh_master member (first_layout start.shape).view 0) s.parts).view)
     (main_started start member there))
 all_over own start all (e ∷ es) begins moment member there none =
-    over_next own start all e es begins moment (all_over own start all es begins (moment_less start all e es moment)) member
+    over_next own start all e es begins moment (all_over own start all es begins (moment_less start all e es moment))
+    member
     there none

@@ -10,7 +10,7 @@ use Rattle.gcp_master.specs.Master.{master_row}
 use Rattle.gcp_master.specs.Resume.{in_view}
 use Rattle.gcp_master.specs.Sends.{listing}
 use Rattle.gcp_master.specs.State.{MasterState}
-use Rattle.gcp_master.proofs.Outcomes.{BeginOutcomes, master_outcomes}
+use Rattle.gcp_master.proofs.Outcomes.{BeginOutcomes, have_walked, master_outcomes}
 use Rattle.gcp_master.proofs.Walk.{listing_state}
 
 module _ (s : MasterState) (x : Signal) where
@@ -53,6 +53,13 @@ module _ (s : MasterState) (x : Signal) where
         goes_copying = λ run is at on all. lists _ 0 refl;
         copies = λ run is at on some. inr refl;
         ends_global = λ run is at on all. begins _ run.next false refl;
+        walks = λ is at first. inr refl;
+        hears_walk = λ epoch is at on some. inr refl;
+        asks_walked = λ epoch is at on all. inr refl;
+        asks_walked_resting = λ epoch current is at on all rests.
+            begins (have_walked s) current (is_some s.front) refl;
+        hears_switch = λ epoch is at on some. inr refl;
+        ends_local = λ epoch is at on all. inr refl;
       })
 
 -- and where a view is installed it owes one

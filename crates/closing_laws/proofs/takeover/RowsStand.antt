@@ -35,7 +35,6 @@ use Rattle.world_views.specs.Machine.{machine, signals_of, step_after}
 use Rattle.view_laws.specs.Order.{is_sound, sound_machine}
 use Rattle.view_laws.specs.Runs.{view_after}
 use Rattle.view_laws.specs.Votes.{main_of}
-use Rattle.view_laws.proofs.eras.Rises.{view_rises}
 use Rattle.view_laws.proofs.eras.SoundLogs.{each_filter}
 use Rattle.view_laws.proofs.follow.Senders.{each_sent}
 use Rattle.moment_laws.specs.Moments.{IsMoment, current, logs_of}
@@ -44,7 +43,7 @@ use Rattle.moment_laws.specs.PartSteps.{PartEnters, PartTakes, handles, ignores,
 use Rattle.moment_laws.specs.Places.{ldm_of, tc_of}
 use Rattle.moment_laws.proofs.MomentHosts.{tc_low, tc_started}
 use Rattle.moment_laws.proofs.MomentMembers.{current_made}
-use Rattle.moment_laws.proofs.MomentSignals.{IsClosed, sent_below}
+use Rattle.moment_laws.proofs.MomentSignals.{IsClosed, sent_below, sent_low}
 use Rattle.moment_laws.proofs.MomentTurns.{current_rises, number_rises, old_current}
 use Rattle.moment_laws.proofs.MomentViews.{current_above, current_number, moment_less, number_in, stands_in_current}
 use Rattle.request_laws.specs.Blocks.{takeover_after, takeover_in}
@@ -77,34 +76,6 @@ pub record OversStand (start : Start) (logs : ℕ → List HostStep) : Type 0 wh
       → Each (λ (y : Addressed). y.signal.body ≡ Takeover TakeoverEnd
       → y.signal.view.number ≡ current_number start logs → AreStanding start logs)
       (sent (sound_machine start) (tc_of start member) j (logs (tc_of start member)))
-
--- a host has sent nothing of a greater view than its own
-sent_low : (start : Start) (i j : ℕ) (log : List HostStep)
-    → Each (λ (x : Addressed). x.signal.view.number ≤ (view_after start i log).number)
-    (sent (sound_machine start) i j log)
-sent_low start i j [] = tt
-sent_low start i j (e ∷ log) =
-    put_each n IsLow j (sent_by n i log e) (sent n i j log) (sent_by_each n IsLow i log e (λ goes. new))
-    (each_map _ IsLow (sent n i j log) old (sent_low start i j log))
-  where
-    n : Machine HostStep Addressed
-    n = sound_machine start
-
-    IsLow : Addressed → Type 0
-    IsLow = λ x. x.signal.view.number ≤ (view_after start i (e ∷ log)).number
-
-    new : Each IsLow (n.sends i log e)
-    new =
-        each_filter IsLow (is_sound start) (signals_of start i log e)
-        (each_map _ IsLow (signals_of start i log e)
-        (λ x one.
-        let same : x.signal.view.number ≡ (view_after start i (e ∷ log)).number =
-        ap (λ (v : View). v.number) one.view_is in
-        omega (arith, same))
-        (each_sent start i log e))
-
-    old : (x : Addressed) → x.signal.view.number ≤ (view_after start i log).number → IsLow x
-    old x low = let rises = view_rises start i log e in omega (arith, low, rises)
 
 none_in : {A : Type 0} (x : A) (xs : List A) → length xs ≡ 0 → IsIn x xs → ⊥
 none_in x [] none there = there
@@ -388,7 +359,8 @@ overs_first start = record {
     rests : (member : Member) → IsIn member (made start)
         → is_at_work (takeover_at start (logs_of start []) member).stage ≡ false
     rests member there =
-        ap (λ (s : node.HostBody). is_at_work (takeover_in (resting member.node (first_layout start.shape)) s.parts).stage)
+        ap (λ (s : node.HostBody). is_at_work (takeover_in (resting member.node (first_layout start.shape))
+        s.parts).stage)
         (tc_started start member there)
 
 overs_stand : (start : Start) (all : ℕ → List HostStep) (es : List HostStep) → IsMoment start all es

@@ -1,6 +1,6 @@
 -- Whoever has no coordinator in the current view is seen to when it aborts, or each key that it wrote was committed in
 -- that view, or the client's side knows of its commit; then its commit is done.
-use Rattle.std.proofs.Common.{◌≡◌, ◌⊎◌, ◌∙◌, ℕ, Bool, true, false, List, ◌∷◌, inl, inr, refl, sym, subst}
+use Rattle.std.proofs.Common.{◌≡◌, ◌⊎◌, ◌∙◌, ℕ, true, false, List, ◌∷◌, inl, inr, refl, sym, subst}
 use Rattle.std.proofs.lemmas.Bool.{true≢false}
 use Rattle.run_theory.specs.Links.{sent}
 use Rattle.run_theory.proofs.Pasts.{each_in}
@@ -11,9 +11,10 @@ use Rattle.world_core.specs.Start.{Start}
 use Rattle.world_core.specs.Steps.{Addressed, HostStep}
 use Rattle.view_laws.specs.Order.{sound_machine}
 use Rattle.moment_laws.specs.Moments.{IsMoment, current, logs_of}
+use Rattle.commit_laws.proofs.reported.Takeovers.{led_fate}
 use Rattle.commit_laws.specs.Answered.{AllWereCommittedIn, WasCommittedIn}
 use Rattle.commit_laws.specs.Commits.{ComesFromTheEnd, CommitsStand, HasWritten, IsDone}
-use Rattle.commit_laws.specs.Fates.{Fate, aborts, commits, fate, fate_if, is_led_by_full, undetermined}
+use Rattle.commit_laws.specs.Fates.{Fate, aborts, commits, fate, is_led_by_full, undetermined}
 use Rattle.commit_laws.specs.Going.{is_decided, is_forth, is_lost}
 use Rattle.commit_laws.specs.Takeovers.{IsOrphan}
 use Rattle.commit_laws.specs.Together.{FatesMove}
@@ -30,12 +31,6 @@ module _ (start : Start) (logs : ℕ → List HostStep) where
     committing : is_decided start logs tx ≡ true → AllWereCommittedIn start logs (current start logs).number tx
         → IsSeenTo tx
     leading : is_led_by_full start logs tx ≡ true → IsSeenTo tx
-
-led_fate : (known full forth lost trace : Bool) → fate_if known full forth lost trace ≡ undetermined → full ≡ true
-led_fate true full forth lost trace is = absurd cc
-led_fate false true forth lost trace is = refl
-led_fate false false forth lost true is = absurd cc
-led_fate false false forth lost false is = absurd cc
 
 -- so it is of whom the client's side is told
 pub told_seen : (start : Start) (all : ℕ → List HostStep) (es : List HostStep) → IsMoment start all es → (tx : TxId)

@@ -109,7 +109,7 @@ module _ (tx : TxId) where
       absurd (let both : false ≡ true = sym off ∙ (ap (λ v. same_tx v tx) same ∙ same_tx-self tx) in cc)
   more_kind _ off same = refl
 
-  roll_same : (body : Body) → tx_in body ≡ tx → is_roll body ≡ roll_of tx body
+  pub roll_same : (body : Body) → tx_in body ≡ tx → is_roll body ≡ roll_of tx body
   roll_same (Client (TcRollbackReq other)) same = sym (ap (λ v. same_tx v tx) same ∙ same_tx-self tx)
   roll_same _ same = refl
 

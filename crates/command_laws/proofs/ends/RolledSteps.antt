@@ -3,7 +3,6 @@
 use Rattle.std.proofs.Common.{◌≡◌, ◌<◌, ◌+◌, ℕ, Bool, true, false, List, [], ◌∷◌, ◌++◌, refl, sym, ap, ◌∙◌, subst}
 use Rattle.std.proofs.Common.{arith}
 use Rattle.std.specs.Prelude.{◌&&◌, if◌then◌else◌, not, Option, None, Some}
-use Rattle.sig_core.proofs.Keys.{same_tx-self}
 use Rattle.sig_core.specs.declared.member.TxId.{TxId}
 use Rattle.sig_core.specs.declared.outs.Outgoing.{Outgoing}
 use Rattle.sig_core.specs.declared.place.BlockId.{BlockId}
@@ -35,8 +34,8 @@ use Rattle.host_laws.proofs.hosts.SendKinds.{none_of}
 use Rattle.host_laws.proofs.coordinator.Moves.{same_tx-is}
 use Rattle.host_laws.proofs.api.Wishes.{is_tc, sends_of}
 use Rattle.run_laws.proofs.hosts.AlongSteps.{first_none}
-use Rattle.command_laws.proofs.ends.AbortSteps.{is_roll_to, roll_of}
-use Rattle.command_laws.proofs.ends.AbortTurns.{is_loose, is_requested, is_roll}
+use Rattle.command_laws.proofs.ends.AbortSteps.{is_roll_to, roll_of, roll_same}
+use Rattle.command_laws.proofs.ends.AbortTurns.{is_loose, is_requested}
 use Rattle.command_laws.proofs.hosts.BlockSteps.{tc_host}
 use Rattle.command_laws.proofs.quiet.Homes.{sound_at}
 use Rattle.command_laws.proofs.hosts.HostSends.{IsOfTc, is_other_kind}
@@ -95,10 +94,6 @@ module _ (tx : TxId) where
       by true told rest = absurd (omega (arith, none, ap one_if told))
       by false told rest = omega (arith, rest, ap one_if (told_right x.body told))
 
-  roll_same : (body : Body) → tx_in body ≡ tx → is_roll body ≡ roll_of tx body
-  roll_same (Client (TcRollbackReq other)) same = sym (ap (λ v. same_tx v tx) same ∙ same_tx-self tx)
-  roll_same _ same = refl
-
   roll_in : (body : Body) → roll_of tx body ≡ true → (is_turn body ≡ true) × (tx_in body ≡ tx)
   roll_in (Client (TcRollbackReq other)) e = (refl, same_tx-is other tx e)
   roll_in _ e = cc
@@ -126,7 +121,7 @@ module _ (tx : TxId) where
         fine = subst (RolledOption (not (roll_of tx body))) live was.rolled
 
         q : StaysRolled (turn_row s body t)
-        q = rolled_turn s body t (ap (λ r. is_loose (not r) t.phase) (roll_same body same) ∙ fine)
+        q = rolled_turn s body t (ap (λ r. is_loose (not r) t.phase) (roll_same tx body same) ∙ fine)
 
         by : (b : Bool) → (turn_row s body t).over ≡ b
             → RolledOption true (if b then None else Some (turn_row s body t).step.state)

@@ -1,5 +1,6 @@
 -- What a host sends of a kind, block by block.
 use Rattle.std.proofs.Common.{◌≡◌, ℕ, Bool, true, false, List, [], ◌∷◌, ◌++◌, refl, arith}
+use Rattle.std.proofs.lemmas.Bool.{or_left, or_right}
 use Rattle.std.specs.Prelude.{◌||◌, Option}
 use Rattle.sig_core.specs.declared.outs.Outgoing.{Outgoing}
 use Rattle.sig_core.specs.declared.place.Place.{Place}
@@ -40,27 +41,19 @@ pub record IsOfTc (test : Place → Body → Bool) : Type 0 where
   pub others : (to : Place) (body : Body) → is_other_kind body ≡ true → test to body ≡ false
   pub begins : (name : Option ℕ) (node : ℕ) → test (coordinator node) (Client (TcBeginReq name)) ≡ false
 
-pub or_first : (a b : Bool) → a ≡ true → (a || b) ≡ true
-or_first true b e = refl
-or_first false b e = cc
-
-pub or_second : (a b : Bool) → b ≡ true → (a || b) ≡ true
-or_second true b e = refl
-or_second false b e = e
-
 module _ (test : Place → Body → Bool) where
   module _ (only : IsOfTc test) where
     pub not_of_api : IsNotOfApi test
     not_of_api = record {
-      kinds = λ to body e. only.others to body (or_first (is_api_kind body) _ e);
+      kinds = λ to body e. only.others to body (or_left (is_api_kind body) _ e);
       begins = only.begins;
     }
 
     pub not_of_dih : (to : Place) (body : Body) → is_dih_kind body ≡ true → test to body ≡ false
-    not_of_dih to body e = only.others to body (or_second (is_api_kind body) _ (or_first (is_dih_kind body) _ e))
+    not_of_dih to body e = only.others to body (or_right (is_api_kind body) _ (or_left (is_dih_kind body) _ e))
 
     pub not_of_lqh : (to : Place) (body : Body) → is_lqh_kind body ≡ true → test to body ≡ false
-    not_of_lqh to body e = only.others to body (or_second (is_api_kind body) _ (or_second (is_dih_kind body) _ e))
+    not_of_lqh to body e = only.others to body (or_right (is_api_kind body) _ (or_right (is_dih_kind body) _ e))
 
   pub api_silent : IsNotOfApi test → (s : ApiState) (body : Body) → sends_of test (api_table s body).effects.sends ≡ 0
   api_silent fails s body =

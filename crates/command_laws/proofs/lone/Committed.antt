@@ -34,12 +34,13 @@ use Rattle.world_core.specs.Start.{Start}
 use Rattle.world_core.specs.Steps.{HostStep}
 use Rattle.host_laws.proofs.api.Begins.{in_middle}
 use Rattle.host_laws.proofs.hosts.LinkCounts.{all_three, steps, at_shell, steps_from}
+use Rattle.host_laws.proofs.hosts.Sums.{first_few}
 use Rattle.host_laws.proofs.rows.Operations.{right_of}
 use Rattle.run_theory.proofs.Tally.{tally_append, tally_in}
 use Rattle.host_laws.proofs.coordinator.Keys.{answer_of, is_asked, is_key, key_of_tx}
 use Rattle.host_laws.proofs.coordinator.Lives.{is_keyed, is_start}
 use Rattle.host_laws.proofs.api.Wishes.{is_api, is_tc}
-use Rattle.run_theory.specs.Counts.{one_if, tally}
+use Rattle.run_theory.specs.Counts.{tally}
 use Rattle.host_laws.specs.OpenedAfter.{opened_after, opened_in}
 use Rattle.answer_laws.proofs.Lives.{once_started}
 use Rattle.answer_laws.specs.Answered.{EachIsAnswered, is_answered_by}
@@ -92,12 +93,7 @@ request_plain_wish tx to body is = and_off (is_tc to.block) (plain body is)
 
 fewer_asked : (tx : TxId) (live : List (TxId × Transaction)) → tally (is_asked tx) live ≤ tally (is_keyed tx) live
 fewer_asked tx [] = omega arith
-fewer_asked tx (e ∷ live) = omega (arith, fewer_asked tx live, few (same_tx e.0 tx) (is_some e.1.asked))
-  where
-    few : (a b : Bool) → one_if (a && b) ≤ one_if a
-    few true true = omega arith
-    few true false = omega arith
-    few false b = omega arith
+fewer_asked tx (e ∷ live) = omega (arith, fewer_asked tx live, first_few (same_tx e.0 tx) (is_some e.1.asked))
 
 module _ (start : Start) (was now : ℕ → List HostStep) (op : Op)
     (served : IsServedBetween start was now (Operate None op)) where

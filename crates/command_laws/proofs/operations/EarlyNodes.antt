@@ -1,5 +1,6 @@
 -- A step of a host, where no commit or abort of the transaction is wished for.
 use Rattle.std.proofs.Common.{◌≡◌, ◌⊎◌, true, false, List, refl, sym, ap, ◌∙◌, subst, inl}
+use Rattle.std.proofs.lemmas.Bool.{or_left, or_right}
 use Rattle.std.specs.Prelude.{◌&&◌, Some}
 use Rattle.sig_core.specs.declared.member.TxId.{TxId}
 use Rattle.sig_core.specs.declared.outs.Outgoing.{Outgoing}
@@ -24,8 +25,7 @@ use Rattle.host_laws.specs.Live.{of_live}
 use Rattle.command_laws.proofs.operations.EarlySteps.{GoesPast, IsOpenNow, IsPastNow, Leaves, StaysClean, bad_tc}
 use Rattle.command_laws.proofs.operations.EarlySteps.{clean_goes, fair_loss, is_bad, is_loss, is_wish_to, no_loss}
 use Rattle.command_laws.proofs.operations.EarlySteps.{past_goes, tc_no_ref, wish_of}
-use Rattle.command_laws.proofs.hosts.HostSends.{IsNotOfApi, api_silent, not_of_api, not_of_dih, not_of_lqh, or_first}
-use Rattle.command_laws.proofs.hosts.HostSends.{or_second}
+use Rattle.command_laws.proofs.hosts.HostSends.{IsNotOfApi, api_silent, not_of_api, not_of_dih, not_of_lqh}
 use Rattle.command_laws.proofs.hosts.BlockSteps.{tc_host}
 use Rattle.command_laws.proofs.ends.FairRows.{is_fair, lqh_fair}
 use Rattle.command_laws.proofs.hosts.TcPath.{IsSound, tc_goes}
@@ -33,7 +33,7 @@ use Rattle.command_laws.proofs.hosts.TcPath.{IsSound, tc_goes}
 module _ (tx : TxId) where
   loss_api : IsNotOfApi (is_loss tx)
   loss_api = record {
-    kinds = λ to b e. no_loss tx to b (or_first (is_api_kind b) (is_dih_kind b) e);
+    kinds = λ to b e. no_loss tx to b (or_left (is_api_kind b) (is_dih_kind b) e);
     begins = λ name node. refl;
   }
 
@@ -78,7 +78,7 @@ module _ (tx : TxId) where
         go t (dih_takes step) =
             rests t _ step.tc step.effects (none_of is_dih_kind (is_bad tx) (not_of_dih (is_bad tx) (bad_tc tx))
             (dih_table (dih_of g) x.body).effects.sends (dih_kinds (dih_of g) x.body))
-            (none_of is_dih_kind (is_loss tx) (λ to b e. no_loss tx to b (or_second (is_api_kind b) (is_dih_kind b) e))
+            (none_of is_dih_kind (is_loss tx) (λ to b e. no_loss tx to b (or_right (is_api_kind b) (is_dih_kind b) e))
             (dih_table (dih_of g) x.body).effects.sends (dih_kinds (dih_of g) x.body))
         go t (rows_take step) =
             rests t _ step.tc step.effects (none_of is_lqh_kind (is_bad tx) (not_of_lqh (is_bad tx) (bad_tc tx))

@@ -32,7 +32,7 @@ use Rattle.world_core.specs.Hosts.{home, hosts, rows_host}
 use Rattle.world_core.specs.Machine.{after, machine}
 use Rattle.world_core.specs.Start.{Start}
 use Rattle.world_core.specs.Steps.{HostStep}
-use Rattle.host_laws.proofs.hosts.Sums.{total_at}
+use Rattle.host_laws.proofs.hosts.Sums.{one_most, total_at}
 use Rattle.run_theory.proofs.Tally.{only_one, tally_in}
 use Rattle.run_theory.specs.Counts.{one_if, total}
 use Rattle.answer_laws.proofs.Aborts.{no_abort}
@@ -87,10 +87,6 @@ member_at (m ∷ chain) (suc at) low = let rest = member_at chain at (omega (ari
 few_budget : (b : Bool) (o : Option Transaction) → budget_by b o ≤ 1
 few_budget b (Some t) = by (is_aborting t.phase)
   where
-    one_most : (c : Bool) → one_if c ≤ 1
-    one_most true = omega arith
-    one_most false = omega arith
-
     by : (c : Bool) → (if c then 1 else one_if (is_some t.asked)) ≤ 1
     by true = omega arith
     by false = one_most (is_some t.asked)

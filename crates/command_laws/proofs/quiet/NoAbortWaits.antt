@@ -12,9 +12,9 @@ use Rattle.run_theory.proofs.Merging.{logs_merged, merged_run}
 use Rattle.run_theory.proofs.Pasts.{each_in}
 use Rattle.run_theory.specs.Lists.{IsIn}
 use Rattle.run_theory.specs.Orders.{merged}
-use Rattle.run_theory.specs.Runs.{IsWithin}
-use Rattle.run_theory.specs.Counts.{one_if, tally, total}
+use Rattle.run_theory.specs.Counts.{one_if, total}
 use Rattle.run_theory.proofs.Tally.{only_one, tally_in}
+use Rattle.run_theory.specs.Runs.{IsWithin}
 use Rattle.sig_core.proofs.Keys.{same_key-self, same_tx-self}
 use Rattle.sig_core.specs.Chain.{node_at}
 use Rattle.sig_core.specs.declared.member.TxId.{TxId}
@@ -38,7 +38,7 @@ use Rattle.world_core.specs.Machine.{after, machine}
 use Rattle.world_core.specs.Quiet.{IsQuiet}
 use Rattle.world_core.specs.Start.{Start}
 use Rattle.world_core.specs.Steps.{Addressed, HostStep}
-use Rattle.host_laws.proofs.hosts.Sums.{total_at}
+use Rattle.host_laws.proofs.hosts.Sums.{one_most, total_at}
 use Rattle.run_laws.specs.Circle.{at_host}
 use Rattle.run_laws.specs.GivenUp.{is_carried_out, is_given_up}
 use Rattle.run_laws.specs.Live.{live_at}
@@ -81,7 +81,7 @@ use Rattle.order_laws.proofs.Unanswered.{parts_are_unanswered}
 use Rattle.row_records.proofs.KeyLemmas as keys
 use Rattle.sig_core.specs.Place.{rows_of}
 use Rattle.std.proofs.lemmas.Bool.{and_parts, cases_lt}
-use Rattle.std.specs.Prelude.{◌&&◌, if◌then◌else◌, is_some}
+use Rattle.std.specs.Prelude.{if◌then◌else◌, is_some}
 use Rattle.sig_core.proofs.TxLemmas.{same_tx-is}
 use Rattle.host_laws.proofs.rows.Operations.{true_and}
 
@@ -279,15 +279,11 @@ module _ (start : Start) (es : List HostStep) (run : IsRun start es) (quiet : Ar
       f : ℕ → ℕ
       f k = waiting_on tx key (after start k (logs_of start es k))
 
-      few_if : (b : Bool) → one_if b ≤ 1
-      few_if true = omega arith
-      few_if false = omega arith
-
       few : total (hosts start) f ≤ 1
       few = omega (
         arith,
         parts_are_unanswered start es still.0 tx key run still.1.transit,
-        few_if (asks_on key (live_at start (logs_of start es) tx)),
+        one_most (asks_on key (live_at start (logs_of start es) tx)),
       )
 
       by : (h ≡ j) ⊎ (h ≢ j) → q ≡ r
@@ -455,6 +451,17 @@ module _ (start : Start) (es : List HostStep) (run : IsRun start es) (quiet : Ar
           (IsOwned s.node s.next_seq (sent_ways start back_by (home start tx) (logs_of start es (home start tx))))
           s.live tx t (log_sound start (home start tx) (logs_of start es (home start tx))).tc.live there).given on
 
+-- quiet logs are those of a run
+pub quiet_runs : (start : Start) (logs : ℕ → List HostStep) → AreQuiet start logs
+    → IsRun start (merged (machine start) (hosts start) logs)
+quiet_runs start logs quiet = record {
+  shape = quiet.shape;
+  run = merged_run (machine start) (stamped start) (hosts start) logs quiet.within quiet.right;
+  within =
+      subst (IsWithin (hosts start)) (sym (logs_merged (machine start) (hosts start) logs quiet.within quiet.right))
+      quiet.within;
+}
+
 pub no_abort_waits : NoAbortWaits
 no_abort_waits start logs h tx t asked quiet low live is = by (is_aborting t.phase) refl
   where
@@ -464,22 +471,13 @@ no_abort_waits start logs h tx t asked quiet low live is = by (is_aborting t.pha
     same : logs_of start (merged (machine start) (hosts start) logs) ≡ logs
     same = logs_merged (machine start) (hosts start) logs quiet.within quiet.right
 
-    run : IsRun start (merged (machine start) (hosts start) logs)
-    run = record {
-      shape = quiet.shape;
-      run = merged_run (machine start) (stamped start) (hosts start) logs quiet.within quiet.right;
-      within = subst (IsWithin (hosts start))
-          (sym (logs_merged (machine start) (hosts start) logs quiet.within quiet.right))
-          quiet.within;
-    }
-
     at : h ≡ home start tx
     at = (at_home start tx h (logs h) t low (live_tx start tx h (logs h) t live)).is
 
     by : (b : Bool) → is_aborting t.phase ≡ b → b ≡ false
     by false e = refl
     by true e =
-        absurd (none_aborts start (merged (machine start) (hosts start) logs) run
+        absurd (none_aborts start (merged (machine start) (hosts start) logs) (quiet_runs start logs quiet)
         (subst (AreQuiet start) (sym same) quiet) tx t asked (omega (arith, low, at))
         (subst (λ (l : ℕ → List HostStep). IsLiveAs tx t (after start (home start tx) (l (home start tx)))) (sym same)
         (subst (λ k. IsLiveAs tx t (after start k (logs k))) at live)) is e)

@@ -17,23 +17,23 @@ use Rattle.row_locks.proofs.LocksLemmas.{key_cmp}
 use Rattle.row_locks.specs.Tables.{or_unlocked}
 use Rattle.lqh_block.specs.Lqh.{lqh_table}
 use Rattle.lqh_block.specs.State.{LqhState}
-use Rattle.node_core.proofs.HostCases.{IsRowsStep, keeps_rows}
+use Rattle.node_core.proofs.HostCases.{IsRowsStep}
 use Rattle.node_core.specs.Blocks.{lqh_of}
 use Rattle.node_core.specs.Fresh.{fresh_part}
 use Rattle.node_core.specs.Requests.{is_request}
 use Rattle.world_core.proofs.HostNumbers.{host_below, rows_run, rows_started}
-use Rattle.world_core.specs.Hosts.{host_for, hosts, rows_host, started}
+use Rattle.world_core.specs.Hosts.{host_for, hosts, rows_host}
 use Rattle.world_core.specs.Machine.{after, machine, step_after}
 use Rattle.world_core.specs.Start.{Start}
 use Rattle.world_core.specs.Steps.{HostStep}
 use Rattle.host_laws.proofs.coordinator.HostTurns.{rows_turn}
 use Rattle.host_laws.proofs.hosts.LinkCounts.{sent_signals, signals, taken_signals, to_host}
-use Rattle.host_laws.proofs.rows.Node.{lqh_node}
 use Rattle.host_laws.proofs.rows.Operations.{is_lqh, left_of, right_of, true_and}
 use Rattle.host_laws.proofs.api.Wishes.{sends_of}
 use Rattle.run_theory.specs.Counts.{one_if}
 use Rattle.run_laws.proofs.hosts.AlongSteps.{Goes, along, few_taken, rows_place, goes_cases}
 use Rattle.answer_laws.proofs.Flows.{flow_grows}
+use Rattle.answer_laws.proofs.Queued.{rows_know}
 use Rattle.answer_laws.specs.Answered.{AreQuiet}
 use Rattle.command_laws.proofs.rounds.ClosedWaits.{goes_over, is_closed, is_over, is_timer, rows_go_over, some_closed}
 
@@ -90,15 +90,6 @@ module _ (start : Start) (key : List ℕ) (node : ℕ) (some_node : 1 ≤ node) 
 
   low : at < hosts start
   low = host_below start (rows_of node) some_node few_nodes
-
-  first_node : (lqh_of (started start at)).node ≡ node
-  unfolding fresh_part
-  first_node = ap (λ h. (lqh_of h).node) (rows_started start node some_node few_nodes)
-
-  rows_node : (log : List HostStep) → (lqh_of (after start at log)).node ≡ node
-  rows_node [] = first_node
-  rows_node (e ∷ log) = keeps_rows (λ s. s.node ≡ node) (λ s x was. lqh_node s x.body ∙ was)
-      (after start at log) e.step.taken (rows_node log)
 
   -- while a wait is closed the rows go on
   abbrev GoesOnClosed : (ℕ → List HostStep) → Type 0
@@ -195,7 +186,8 @@ module _ (start : Start) (key : List ℕ) (node : ℕ) (some_node : 1 ≤ node) 
                 sent_now,
                 taken_few,
                 more,
-                ap (λ n. goes_over key n (lqh_table s e.step.taken.body).effects.sends) (rows_node (logs at)),
+                ap (λ n. goes_over key n (lqh_table s e.step.taken.body).effects.sends)
+                    (rows_know start node some_node few_nodes (logs at)),
                 ap (λ f. goes_over key node f.sends) step.effects,
               )
 

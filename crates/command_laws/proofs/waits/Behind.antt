@@ -1,7 +1,7 @@
 -- The transaction that the API is told of holds the lock for which its own one waits.
 use Rattle.std.proofs.Common.{◌≡◌, ◌⊎◌, ◌<◌, ◌≤◌, ℕ, zero, suc, Bool, true, false, List, [], ◌∷◌, ◌++◌, refl, sym, ap}
 use Rattle.std.proofs.Common.{subst, ◌∙◌, inl, inr, append_assoc, arith}
-use Rattle.std.proofs.lemmas.Bool.{cases_lt}
+use Rattle.std.proofs.lemmas.Bool.{cases_lt, or_left, or_right}
 use Rattle.std.specs.Prelude.{◌&&◌, ◌||◌, IfSome, Some}
 use Rattle.run_theory.proofs.Pasts.{each_after, each_in}
 use Rattle.run_theory.specs.Cuts.{IsCut}
@@ -48,21 +48,13 @@ first_holds : (tx : TxId) (holders : List Holder) → same_tx (first_other tx ho
 first_holds tx [] apart = absurd (let both : true ≡ false = sym (same_tx-self tx) ∙ apart in cc)
 first_holds tx (h ∷ holders) apart = by (same_tx h.tx tx) apart (first_holds tx holders)
   where
-    or_last : (a b : Bool) → b ≡ true → (a || b) ≡ true
-    or_last true b e = refl
-    or_last false b e = e
-
-    or_front : (a b : Bool) → a ≡ true → (a || b) ≡ true
-    or_front true b e = refl
-    or_front false b e = cc
-
     by : (b : Bool) → same_tx (tx_if b (first_other tx holders) h.tx) tx ≡ false
         → (same_tx (first_other tx holders) tx ≡ false → holds (first_other tx holders) holders ≡ true)
         → (same_tx h.tx (tx_if b (first_other tx holders) h.tx) || holds (tx_if b (first_other tx holders) h.tx)
         holders) ≡ true
     by true off rest =
-        or_last (same_tx h.tx (first_other tx holders)) (holds (first_other tx holders) holders) (rest off)
-    by false off rest = or_front (same_tx h.tx h.tx) (holds h.tx holders) (same_tx-self h.tx)
+        or_right (same_tx h.tx (first_other tx holders)) (holds (first_other tx holders) holders) (rest off)
+    by false off rest = or_left (same_tx h.tx h.tx) (holds h.tx holders) (same_tx-self h.tx)
 
 -- whom a transaction waits behind holds the lock, where no wait is closed, and is another one
 pub behind_locks : (locks : Locks) (key : List ℕ) (tx who : TxId) → AreOrderly locks

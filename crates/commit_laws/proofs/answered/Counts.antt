@@ -1,7 +1,8 @@
 -- Signals of distinct keys are counted: where each key has one at most, and there are as many as keys, each key has
 -- one.
 use Rattle.std.proofs.Common.{◌≡◌, ◌≤◌, ◌+◌, ◌||◌, ◌&&◌, ◌==◌, ℕ, Bool, true, false, if◌then◌else◌, List, [], ◌∷◌}
-use Rattle.std.proofs.Common.{length, refl, ap, arith}
+use Rattle.std.proofs.Common.{length, refl, sym, ap, arith}
+use Rattle.std.proofs.lemmas.Bool.{and_parts, true≢false}
 use Rattle.std.specs.List.{list_any}
 use Rattle.std.specs.Prelude.{not}
 use Rattle.run_theory.specs.Lists.{Each}
@@ -16,6 +17,7 @@ use Rattle.world_core.specs.Start.{Start}
 use Rattle.world_core.specs.Steps.{HostStep}
 use Rattle.view_laws.specs.Order.{sound_machine}
 use Rattle.outcome_laws.specs.Counts.{one_if}
+use Rattle.request_laws.proofs.routes.BesideRows.{is_of_rows}
 use Rattle.request_laws.specs.Tokens.{taken_along}
 use Rattle.commit_laws.proofs.drive.Kinds.{comes, committing, numbered}
 use Rattle.commit_laws.proofs.drive.Lists.{any, mine, only}
@@ -70,6 +72,14 @@ taken_none start p none (e ∷ log) =
 module _ (tx : TxId) (number : ℕ) where
   abbrev pub told : (List ℕ → Bool) → Signal → Bool
   told wk = numbered number (comes committing (mine tx wk))
+
+  -- rows tell that
+  pub told_rows : (wk : List ℕ → Bool) (y : Signal) → told wk y ≡ true → is_of_rows y.body ≡ true
+  told_rows wk y is = by y.body (and_parts (comes committing (mine tx wk) y.body) (y.view.number == number) is).0
+    where
+      by : (body : Body) → comes committing (mine tx wk) body ≡ true → is_of_rows body ≡ true
+      by (Chain signal) is = refl
+      by body is = absurd (true≢false (sym is))
 
   -- a test of a key that is one of two is one of theirs
   module _ (f g h : List ℕ → Bool) (parts : (key : List ℕ) → one_if (f key) ≤ one_if (g key) + one_if (h key)) where

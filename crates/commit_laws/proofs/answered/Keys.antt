@@ -1,8 +1,8 @@
 -- Where a coordinator completes a transaction that it has driven in its view, each key that the transaction touched was
 -- committed in that view.
-use Rattle.std.proofs.Common.{◌≡◌, ◌≤◌, ◌&&◌, ◌==◌, inl, inr, ◌∙◌, ℕ, Bool, true, false, List, [], ◌∷◌, refl, sym, ap}
+use Rattle.std.proofs.Common.{◌≡◌, ◌≤◌, ◌&&◌, inl, inr, ◌∙◌, ℕ, Bool, true, false, List, [], ◌∷◌, refl, sym, ap}
 use Rattle.std.proofs.Common.{arith, subst}
-use Rattle.std.proofs.lemmas.Bool.{and_parts, or_left, or_right, true≢false}
+use Rattle.std.proofs.lemmas.Bool.{or_left, or_right, true≢false}
 use Rattle.std.specs.Prelude.{Some, not}
 use Rattle.run_theory.specs.Lists.{Each, IsIn}
 use Rattle.run_theory.proofs.Pasts.{each_map}
@@ -12,7 +12,6 @@ use Rattle.sig_core.specs.declared.member.TxId.{TxId}
 use Rattle.sig_core.specs.declared.outs.Outgoing.{Outgoing}
 use Rattle.sig_core.specs.declared.signal.Body.{Body}
 use Rattle.sig_core.specs.declared.signal.Body.TheVariants.{Chain}
-use Rattle.sig_core.specs.declared.signal.Signal.{Signal}
 use Rattle.sig_core.specs.declared.signal.chain.ChainSignal.TheVariants.{Commit}
 use Rattle.sig_core.specs.Same.{same_key, same_tx}
 use Rattle.sig_core.proofs.Keys.{same_key-self}
@@ -36,13 +35,12 @@ use Rattle.request_laws.specs.Blocks.{coordinator_after}
 use Rattle.request_laws.specs.Routed.{layout_in}
 use Rattle.request_laws.specs.Tokens.{all_sent, sent_along, taken_along}
 use Rattle.request_laws.specs.Ways.{entry_of}
-use Rattle.request_laws.proofs.routes.BesideRows.{is_of_rows}
 use Rattle.request_laws.proofs.tokens.SumsOverHosts.{takes_few}
 use Rattle.commit_laws.specs.Answered.{WasCommittedIn}
-use Rattle.commit_laws.proofs.answered.Counts.{among, each_told, outside, told}
+use Rattle.commit_laws.proofs.answered.Counts.{among, each_told, outside, told, told_rows}
 use Rattle.commit_laws.proofs.answered.Told.{told_sent}
 use Rattle.commit_laws.proofs.drive.Foreign.{IsLedIn}
-use Rattle.commit_laws.proofs.drive.Kinds.{comes, committing, goes, numbered}
+use Rattle.commit_laws.proofs.drive.Kinds.{committing, goes, numbered}
 use Rattle.commit_laws.proofs.drive.Led.{owners_own}
 use Rattle.commit_laws.proofs.drive.Lists.{commits_of, completions_of, mine, only, taken_less}
 use Rattle.commit_laws.proofs.drive.Moments.{told_few}
@@ -109,20 +107,13 @@ module _ (start : Start) (all : ℕ → List HostStep) (es : List HostStep) (mom
     there_too : IsIn (coordinator_member tx) (made start)
     there_too = subst (λ (m : Member). IsIn m (made start)) (sym own) there
 
-    rows : (wk : List ℕ → Bool) (y : Signal) → told tx n wk y ≡ true → is_of_rows y.body ≡ true
-    rows wk y is = by y.body (and_parts (comes committing (mine tx wk) y.body) (y.view.number == n) is).0
-      where
-        by : (body : Body) → comes committing (mine tx wk) body ≡ true → is_of_rows body ≡ true
-        by (Chain signal) is = refl
-        by body is = absurd (true≢false (sym is))
-
     -- what its host took was sent, and no more than its host commits
     taken_sent : (wk : List ℕ → Bool) → taken_along start (told tx n wk) log ≤ all_sent start (told tx n wk) logs
     taken_sent wk =
         omega (
           arith,
           total_at (hosts start) (λ k. taken_along start (told tx n wk) (logs k)) h (tc_low start member there),
-          takes_few start (told tx n wk) (rows wk) all es moment,
+          takes_few start (told tx n wk) (told_rows tx n wk) all es moment,
         )
 
     taken_own : (wk : List ℕ → Bool) → taken_along start (told tx n wk) log

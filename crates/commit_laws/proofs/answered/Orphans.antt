@@ -14,7 +14,6 @@ use Rattle.sig_core.specs.declared.member.TxId.{TxId}
 use Rattle.sig_core.specs.declared.outs.Outgoing.{Outgoing}
 use Rattle.sig_core.specs.declared.signal.Body.{Body}
 use Rattle.sig_core.specs.declared.signal.Body.TheVariants.{Chain}
-use Rattle.sig_core.specs.declared.signal.Signal.{Signal}
 use Rattle.sig_core.specs.declared.signal.chain.ChainSignal.TheVariants.{Commit}
 use Rattle.sig_core.specs.declared.view.View.{View}
 use Rattle.sig_core.specs.Same.{same_key, same_tx}
@@ -45,15 +44,14 @@ use Rattle.outcome_laws.specs.Counts.{count_sent, one_if}
 use Rattle.outcome_laws.proofs.coordinators.Lists.{count_both}
 use Rattle.request_laws.specs.Blocks.{takeover_after}
 use Rattle.request_laws.specs.Tokens.{all_sent, sent_along, taken_along}
-use Rattle.request_laws.proofs.routes.BesideRows.{is_of_rows}
 use Rattle.request_laws.proofs.orphans.TakeoversOfOrphans.{takeovers_are_of_orphans}
 use Rattle.request_laws.proofs.tokens.SumsOverHosts.{takes_before}
 use Rattle.request_laws.proofs.tokens.FirstInView.{total_of_zero}
 use Rattle.commit_laws.specs.Answered.{WasCommittedIn}
 use Rattle.commit_laws.specs.Once.{owners_sent}
-use Rattle.commit_laws.proofs.answered.Counts.{among, each_told, outside, told}
+use Rattle.commit_laws.proofs.answered.Counts.{among, each_told, outside, told, told_rows}
 use Rattle.commit_laws.proofs.answered.Told.{WasSent, sent_some, told_sent}
-use Rattle.commit_laws.proofs.drive.Kinds.{comes, committing, goes, numbered}
+use Rattle.commit_laws.proofs.drive.Kinds.{committing, goes, numbered}
 use Rattle.commit_laws.proofs.drive.Lists.{any, mine, only, taken_less}
 use Rattle.commit_laws.proofs.drive.Moments.{told_few}
 use Rattle.commit_laws.proofs.drive.Once.{all_once}
@@ -330,13 +328,6 @@ module _ (start : Start) (all : ℕ → List HostStep) (e : HostStep) (es : List
     owners_none : owners_sent start (numbered n (goes committing (mine tx (outside keys)))) old ≡ 0
     owners_none = total_of_zero (made start) sent_others none_outside
 
-    rows : (wk : List ℕ → Bool) (y : Signal) → told tx n wk y ≡ true → is_of_rows y.body ≡ true
-    rows wk y is = by y.body (and_parts (comes committing (mine tx wk) y.body) (y.view.number == n) is).0
-      where
-        by : (body : Body) → comes committing (mine tx wk) body ≡ true → is_of_rows body ≡ true
-        by (Chain signal) is = refl
-        by body is = absurd (true≢false (sym is))
-
     -- what its host takes by the event was sent before it
     taken_sent : (wk : List ℕ → Bool) → taken_along start (told tx n wk) (e ∷ log) ≤ all_sent start (told tx n wk) old
     taken_sent wk =
@@ -345,7 +336,7 @@ module _ (start : Start) (all : ℕ → List HostStep) (e : HostStep) (es : List
           total_at (hosts start) (λ k. taken_along start (told tx n wk) (logs_of start (e ∷ es) k)) h
               (tc_low start member there),
           ap (taken_along start (told tx n wk)) (log_of-own (machine start) e es h at),
-          takes_before start (told tx n wk) (rows wk) all e es moment,
+          takes_before start (told tx n wk) (told_rows tx n wk) all e es moment,
         )
 
     once : (key : List ℕ) → taken_along start (told tx n (only key)) (e ∷ log) ≤ 1

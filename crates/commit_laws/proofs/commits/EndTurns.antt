@@ -26,6 +26,7 @@ use Rattle.sig_core.specs.Op.{key_of}
 use Rattle.sig_core.specs.Place.{client}
 use Rattle.sig_core.specs.Step.{Step, to_place}
 use Rattle.frag_map.specs.Layout.{Layout, chain_of}
+use Rattle.tc_block.proofs.EachResume.{ResumeForms}
 use Rattle.tc_block.specs.Abort.{abort_end, is_verifying}
 use Rattle.tc_block.specs.Complete.{written_count}
 use Rattle.tc_block.specs.Part.{part_effects, rest_if}
@@ -45,8 +46,7 @@ use Rattle.tc_views.specs.State as views
 use Rattle.tc_views.specs.State.{CoordinatorState, go_on_with}
 use Rattle.outcome_laws.specs.Counts.{IsCoordinatorOf}
 use Rattle.outcome_laws.proofs.order.BeforeInLists.{in_either}
-use Rattle.outcome_laws.proofs.coordinators.Steps as walk
-use Rattle.outcome_laws.proofs.coordinators.Steps.{ResumeForms}
+use Rattle.tc_block.proofs.EachResume as walk
 use Rattle.request_laws.specs.Ways.{entry_of}
 use Rattle.request_laws.proofs.phases.TurnSends.{AreSpared, IsSpared}
 use Rattle.request_laws.proofs.phases.Steps.{Walks, begins, coordinator_walks, is_about, is_held_back, left_of, passes}

@@ -8,8 +8,7 @@ use Rattle.run_theory.proofs.Pasts.{each_map}
 use Rattle.run_theory.specs.Lists.{Each}
 use Rattle.sig_core.specs.Firsts.{drop_first, first}
 use Rattle.outcome_laws.specs.Counts.{one_if}
-use Rattle.outcome_laws.proofs.coordinators.Lists.{count_more}
-use Rattle.commit_laws.proofs.fates.Committed.{none_passes}
+use Rattle.outcome_laws.proofs.coordinators.Lists.{count_more, none_passes}
 
 module _ {A : Type 0} (t p : A → Bool) (q : A) (own : t q ≡ true) where
   pub first_dropped : (xs : List A) → first p xs ≡ Some q → count_by t xs ≡ 1 + count_by t (drop_first p xs)

@@ -23,7 +23,7 @@ use Rattle.tc_block.specs.Sends.{commit_of, complete_if, complete_of, front_send
 use Rattle.row_records.proofs.KeyLemmas.{same as same_keys}
 use Rattle.run_laws.specs.Keyed.{AreApart}
 use Rattle.outcome_laws.specs.Counts.{count_sent, one_if}
-use Rattle.outcome_laws.proofs.coordinators.Lists.{count_both, count_more, none_counted}
+use Rattle.outcome_laws.proofs.coordinators.Lists.{count_both, count_more, none_counted, one_few, second_few}
 use Rattle.commit_laws.proofs.drive.Kinds.{Drive, Keys, committing, completing, goes}
 
 -- of this transaction these keys
@@ -46,10 +46,6 @@ pub taken_less : {A : Type 0} (p : A → Bool) (n : ℕ) (xs : List A) → count
 taken_less p zero xs = omega arith
 taken_less p (suc n) [] = omega arith
 taken_less p (suc n) (x ∷ xs) = omega (arith, count_more p x (take n xs), count_more p x xs, taken_less p n xs)
-
-one_few : (b : Bool) → one_if b ≤ 1
-one_few true = omega arith
-one_few false = omega arith
 
 pub taken_few : {A : Type 0} (p : A → Bool) (n : ℕ) (xs : List A) → count_by p (take n xs) ≤ n
 taken_few p zero xs = omega arith
@@ -171,11 +167,6 @@ module _ (layout : Layout) (tx : TxId) where
     abbrev own : Keys
     own = mine tx (only key)
 
-    one_less : (a b : Bool) → one_if (a && b) ≤ one_if b
-    one_less true b = omega arith
-    one_less false true = omega arith
-    one_less false false = omega arith
-
     -- commits of other keys
     commits_off : (epoch awaited : ℕ) (touched : List Touched)
         → Each (λ (u : Touched). same_key u.key key ≡ false) touched
@@ -187,7 +178,7 @@ module _ (layout : Layout) (tx : TxId) where
           arith,
           count_more (λ (o : Outgoing). goes committing own o.body) (commit_of tx epoch t)
               (commits_of epoch awaited touched),
-          one_less (same_tx tx tx) (same_key t.key key),
+          second_few (same_tx tx tx) (same_key t.key key),
           ap one_if off.0,
           commits_off epoch awaited touched off.1,
         )
@@ -201,7 +192,7 @@ module _ (layout : Layout) (tx : TxId) where
         omega (
           arith,
           count_more (λ (o : Outgoing). goes completing own o.body) (complete_of tx t) [],
-          one_less (same_tx tx tx) (same_key t.key key),
+          second_few (same_tx tx tx) (same_key t.key key),
         )
     one_completed t false = omega arith
 
@@ -259,7 +250,7 @@ module _ (layout : Layout) (tx : TxId) where
             omega (
               arith,
               more,
-              one_less (same_tx tx tx) (same_key t.key key),
+              second_few (same_tx tx tx) (same_key t.key key),
               ap one_if off,
               rest,
             )

@@ -22,10 +22,10 @@ use Rattle.takeover_block.specs.declared.stage.Stage.TheVariants.{Resting}
 use Rattle.takeover_block.specs.State.{TakeoverState, resting}
 use Rattle.takeover_block.specs.Takeover.{takeover_row}
 use Rattle.dih_node.specs.Dih.{dih_row}
+use Rattle.node_views.specs.Fence.{is_body_fenced}
 use Rattle.node_views.specs.declared.host_body.HostBody as hosts_of
 use Rattle.node_views.specs.declared.parts.Parts.TheVariants as part
 use Rattle.node_views.specs.declared.tc_part.TcPart.{TcPart}
-use Rattle.node_views.specs.Fence.{is_body_fenced}
 use Rattle.node_views.specs.Parts.{tc_row}
 use Rattle.world_core.specs.Hosts.{hosts}
 use Rattle.world_core.specs.Start.{Start, made}
@@ -67,6 +67,11 @@ use Rattle.sig_core.specs.Step.{Step, stay}
 abbrev pub is_order : Body → Bool
 is_order (Takeover TakeoverOrd) = true
 is_order body = false
+
+pub plain : (body : Body) → is_order body ≡ true
+    → (is_own_work body ≡ false) × ((y : Signal) → is_body_fenced y body ≡ true)
+plain (Takeover TakeoverOrd) own = (refl, λ y. refl)
+plain body own = absurd (true≢false (sym own))
 
 -- in each view one is taken at most
 abbrev pub OrdersAreOnce : Type 0
@@ -176,11 +181,6 @@ module _ (orders : OrdersAreOnce) (start : Start) (all : ℕ → List HostStep) 
         taken =
             handled_now start all e es moment tc_kind tc_is tc.own tc.runs between tc.does.front
             (entering start all e es moment me there at) passed block.Takeover to
-
-        plain : (body : Body) → is_order body ≡ true
-            → (is_own_work body ≡ false) × ((y : Signal) → is_body_fenced y body ≡ true)
-        plain (Takeover TakeoverOrd) own = (refl, λ y. refl)
-        plain body own = absurd (true≢false (sym own))
 
         one : 1 ≤ taken_now start all e es moment (numbered number is_order)
         one =

@@ -1,5 +1,5 @@
 -- The lists of commits and completions of a takeover: each names a key once, since each key was gathered once.
-use Rattle.std.proofs.Common.{◌≡◌, ◌≤◌, ◌+◌, ◌&&◌, ◌||◌, ◌++◌, ◌∙◌, ℕ, Bool, true, false, List, [], ◌∷◌, refl, sym, ap}
+use Rattle.std.proofs.Common.{◌≡◌, ◌≤◌, ◌+◌, ◌||◌, ◌++◌, ◌∙◌, ℕ, Bool, true, false, List, [], ◌∷◌, refl, sym, ap}
 use Rattle.std.proofs.Common.{arith}
 use Rattle.std.proofs.lemmas.Bool.{true≢false}
 use Rattle.std.specs.List.{flat_map}
@@ -15,7 +15,7 @@ use Rattle.takeover_block.specs.Keys.{has_key, with_key, with_key_if}
 use Rattle.takeover_block.specs.Sends.{abort_at, commit_along, complete_along, front_sends, key_sends, key_sends_along}
 use Rattle.takeover_block.specs.Sends.{stage_sends}
 use Rattle.outcome_laws.specs.Counts.{count_sent, one_if}
-use Rattle.outcome_laws.proofs.coordinators.Lists.{count_both, count_more, none_counted}
+use Rattle.outcome_laws.proofs.coordinators.Lists.{count_both, count_more, none_counted, one_few, second_few}
 use Rattle.run_theory.proofs.EachSent.{each_mapped}
 use Rattle.run_theory.proofs.Pasts.{each_append}
 use Rattle.commit_laws.proofs.drive.Kinds.{Drive, Keys, committing, completing, goes}
@@ -47,15 +47,6 @@ with_key_apart keys key apart = by (has_key keys key) refl
     by : (b : Bool) → has_key keys key ≡ b → KeysApart (with_key_if keys key b)
     by true is = apart
     by false off = last_apart keys key off apart
-
-one_less : (a b : Bool) → one_if (a && b) ≤ one_if b
-one_less true b = omega arith
-one_less false true = omega arith
-one_less false false = omega arith
-
-one_few : (b : Bool) → one_if b ≤ 1
-one_few true = omega arith
-one_few false = omega arith
 
 -- the stage commits keys, or completes them
 abbrev pub is_way : Drive → Stage → Bool
@@ -134,7 +125,7 @@ module _ (layout : Layout) (g : Gathered) where
           arith,
           count_both (λ (o : Outgoing). goes drive own o.body) (key_sends layout g.tx stage u) (list_for keys),
           key_count drive own stage u,
-          one_less (same_tx g.tx g.tx) (same_key u key),
+          second_few (same_tx g.tx g.tx) (same_key u key),
           ap one_if off.0,
           none_for keys off.1,
         )
@@ -168,7 +159,7 @@ module _ (layout : Layout) (g : Gathered) where
               arith,
               more,
               key_count drive own stage u,
-              one_less (same_tx g.tx g.tx) (same_key u key),
+              second_few (same_tx g.tx g.tx) (same_key u key),
               ap one_if off,
               rest,
             )

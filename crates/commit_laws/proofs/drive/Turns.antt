@@ -23,6 +23,7 @@ use Rattle.sig_core.specs.Op.{key_of}
 use Rattle.sig_core.specs.Place.{client}
 use Rattle.sig_core.specs.Step.{sending, sends_only, stay}
 use Rattle.frag_map.specs.Layout.{Layout, chain_of}
+use Rattle.tc_block.proofs.EachResume.{ResumeForms, resumes}
 use Rattle.tc_block.specs.declared.phase.Phase.{Phase}
 use Rattle.tc_block.specs.declared.phase.Phase.TheVariants.{Aborting, Committing, Completing, Open, Verifying}
 use Rattle.tc_block.specs.declared.transaction.Transaction.{Transaction}
@@ -42,7 +43,6 @@ use Rattle.tc_block.specs.Sends.{abort_of, aborts_of, entering, go_on_if, key_se
 use Rattle.tc_block.specs.Sends.{waits_of}
 use Rattle.tc_block.specs.Turn.{Turn, asking, at_phase, ending, going}
 use Rattle.tc_block.proofs.EachTurn.{AbortForms, TurnFormsAt, ready_is}
-use Rattle.outcome_laws.proofs.coordinators.Steps.{ResumeForms, resumes}
 use Rattle.request_laws.proofs.phases.TurnSends.{AreSpared}
 
 -- the signal commits or completes a key

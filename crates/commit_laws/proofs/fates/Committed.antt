@@ -4,7 +4,7 @@ use Rattle.std.proofs.Common.{◌≡◌, ◌≤◌, ◌<◌, ◌⊎◌, ◌==◌
 use Rattle.std.proofs.Common.{refl, sym, ap, subst, arith, inl, inr}
 use Rattle.std.proofs.lemmas.Bool.{cases_lt, or_cases, true≢false}
 use Rattle.std.specs.Prelude.{if◌then◌else◌, is_some, not, Option, None, Some}
-use Rattle.std.specs.List.{count_by, list_any}
+use Rattle.std.specs.List.{list_any}
 use Rattle.run_theory.specs.Lists.{Each, IsIn}
 use Rattle.sig_core.specs.declared.mark.Mark.{Mark}
 use Rattle.sig_core.specs.declared.mark.Mark.TheVariants.{Decided}
@@ -37,9 +37,9 @@ use Rattle.moment_laws.proofs.MomentHosts.{host_made}
 use Rattle.moment_laws.proofs.MomentTurns.{current_rises}
 use Rattle.moment_laws.proofs.MomentViews.{current_above, moment_less, moment_within}
 use Rattle.moment_laws.proofs.PartTaken.{IsTakenNow}
-use Rattle.outcome_laws.specs.Counts.{coordinator_member, is_decision, one_if}
+use Rattle.outcome_laws.specs.Counts.{coordinator_member, is_decision}
 use Rattle.outcome_laws.specs.Decided.{IsMarked}
-use Rattle.outcome_laws.proofs.coordinators.Lists.{count_more}
+use Rattle.outcome_laws.proofs.coordinators.Lists.{none_passes}
 use Rattle.request_laws.specs.Phases.{CoordinatorStands, HasGone, IsGivenWith, SaysIn, WaitsWith}
 use Rattle.request_laws.specs.Tokens.{IsAlone, IsQuiet, count_waiting, has_asked, is_token, may_go, number_now}
 use Rattle.request_laws.specs.Ways.{has_gone_forth}
@@ -192,15 +192,6 @@ module _ (start : Start) (all : ℕ → List HostStep) (es : List HostStep) (mom
         by true b c is none = absurd (true≢false is)
         by false true c is none = absurd (true≢false none)
         by false false c is none = refl
-
--- where none is counted none passes
-pub none_passes : {A : Type 0} (p : A → Bool) (xs : List A) → count_by p xs ≡ 0 → Each (λ x. p x ≡ false) xs
-none_passes p [] none = tt
-none_passes p (x ∷ xs) none = (by (p x) refl, none_passes p xs (omega (arith, none, count_more p x xs)))
-  where
-    by : (b : Bool) → p x ≡ b → b ≡ false
-    by false is = refl
-    by true is = absurd (omega (arith, none, count_more p x xs, ap one_if is))
 
 -- where a token is taken, none of its transaction waits at the rows that take it
 module _ (start : Start) (all : ℕ → List HostStep) (e : HostStep) (es : List HostStep)

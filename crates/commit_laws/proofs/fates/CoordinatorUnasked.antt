@@ -17,6 +17,7 @@ use Rattle.world_core.specs.Steps.{HostStep}
 use Rattle.world_views.specs.Machine.{step_after}
 use Rattle.view_laws.specs.Runs.{view_after}
 use Rattle.moment_laws.specs.Places.{tc_of}
+use Rattle.outcome_laws.proofs.coordinators.Lists.{none_passes}
 use Rattle.outcome_laws.specs.Counts.{coordinator_member, count_sent, is_unborn}
 use Rattle.request_laws.specs.Blocks.{coordinator_after}
 use Rattle.request_laws.specs.Drives.{is_request, was_sent_in}
@@ -26,7 +27,6 @@ use Rattle.request_laws.proofs.phases.AlongLogs.{coordinator_comes, coordinator_
 use Rattle.request_laws.proofs.phases.Moves.{Comes, begun, changed, same}
 use Rattle.request_laws.proofs.tokens.CoordinatorEvents.{StepTokens, always_fits, step_tokens}
 use Rattle.request_laws.proofs.tokens.Steps.{TokenMove, quiet, sends_one}
-use Rattle.commit_laws.proofs.fates.Committed.{none_passes}
 use Rattle.commit_laws.proofs.parts.Own.{no_request}
 
 module _ (start : Start) (tx : TxId) (there : IsIn (coordinator_member tx) (made start)) where

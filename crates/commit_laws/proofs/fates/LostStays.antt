@@ -4,7 +4,7 @@ use Rattle.std.proofs.Common.{ap, subst, inl, inr}
 use Rattle.std.proofs.lemmas.Bool.{and_parts, true≢false, or_right}
 use Rattle.std.specs.Prelude.{if◌then◌else◌, Option, None, Some}
 use Rattle.run_theory.specs.Lists.{IsIn}
-use Rattle.run_theory.proofs.Pasts.{each_append, each_map}
+use Rattle.run_theory.proofs.Pasts.{each_append}
 use Rattle.run_theory.proofs.EventCases.{event_cases}
 use Rattle.frag_map.specs.Layout.{first_layout}
 use Rattle.sig_core.specs.declared.member.Member.{Member}
@@ -14,8 +14,7 @@ use Rattle.sig_core.specs.declared.place.BlockId.{BlockId}
 use Rattle.sig_core.specs.declared.place.BlockId.TheVariants as block
 use Rattle.sig_core.specs.declared.place.Part.TheVariants.{Tc}
 use Rattle.sig_core.specs.declared.signal.Body.{Body}
-use Rattle.sig_core.specs.declared.signal.Body.TheVariants.{Client, Epoch, Membership}
-use Rattle.sig_core.specs.declared.signal.client.ClientSignal.TheVariants.{TcCommitConf}
+use Rattle.sig_core.specs.declared.signal.Body.TheVariants.{Epoch, Membership}
 use Rattle.sig_core.specs.declared.signal.epoch.EpochSignal.TheVariants.{DiVerifyConf}
 use Rattle.sig_core.specs.declared.signal.membership.MembershipSignal.TheVariants.{FenceReq}
 use Rattle.sig_core.specs.declared.signal.Signal.{Signal}
@@ -55,7 +54,8 @@ use Rattle.request_laws.proofs.phases.TurnSends.{AreSpared, IsSpared}
 use Rattle.request_laws.proofs.phases.Turns as turns
 use Rattle.request_laws.proofs.phases.Turns.{Changes, IsStill}
 use Rattle.request_laws.proofs.phases.Steps.{left_of}
-use Rattle.request_laws.proofs.phases.OneWay.{WaySays, goes_one_way, sent_before, sent_behind, at_decided, at_aborting}
+use Rattle.request_laws.proofs.phases.OneWay.{WaySays, commits_untold, goes_one_way, sent_before, sent_behind}
+use Rattle.request_laws.proofs.phases.OneWay.{at_decided, at_aborting}
 use Rattle.request_laws.proofs.phases.OneWay.{is_decided_as, aborting_not_decided}
 use Rattle.commit_laws.specs.Lost.{LostStay}
 use Rattle.commit_laws.proofs.fates.LostDoomed.{Dooms, IsPromise, IsThere, IsUndecidedThere, row_dooms, takes_no_epoch}
@@ -106,16 +106,7 @@ module _ (tx : TxId) where
         promise,
       )
 
-commits_untold : (tx : TxId) (sends : List Outgoing) → AreSpared turns.is_commit_told sends
-    → AreSpared (tells_commit tx) sends
-commits_untold tx sends all =
-    each_map (IsSpared turns.is_commit_told) (IsSpared (tells_commit tx)) sends (λ o is. by o.body is) all
-  where
-    by : (body : Body) → turns.is_commit_told body ≡ false → tells_commit tx body ≡ false
-    by (Client (TcCommitConf other epoch)) is = absurd (true≢false is)
-    by body is = refl
-
-undecided_not : (phase : Phase) → is_undecided phase ≡ true → is_decided phase ≡ false
+pub undecided_not : (phase : Phase) → is_undecided phase ≡ true → is_decided phase ≡ false
 undecided_not Open is = refl
 undecided_not Verifying is = refl
 undecided_not (Committing epoch awaited) is = absurd (true≢false (sym is))
@@ -171,7 +162,8 @@ module _ (start : Start) (member : Member) (there : IsIn member (made start)) (t
     -- the coordinator behind the event is that of the part that the step leaves
     now_is : (p : TcPart) → (step_after start h log e).state.parts ≡ part.Tc p → c (e ∷ log) ≡ p.coordinator
     now_is p is =
-        ap (λ (s : hosts.HostBody). coordinator_in (fresh_coordinator member.node member.start (first_layout start.shape))
+        ap (λ (s : hosts.HostBody). coordinator_in (fresh_coordinator member.node member.start
+        (first_layout start.shape))
         s.parts)
         (told_some h (part_some start Tc member) (step_after start h log e))
         ∙ ap (coordinator_in (fresh_coordinator member.node member.start (first_layout start.shape))) is

@@ -17,7 +17,6 @@ use Rattle.sig_core.specs.declared.view.View.{View}
 use Rattle.sig_core.specs.Step.{Step}
 use Rattle.sig_core.specs.Same.{same_tx}
 use Rattle.sig_core.proofs.Keys.{same_tx-self}
-use Rattle.host_laws.proofs.coordinator.OfLive.{each_found}
 use Rattle.tc_block.specs.Phases.{is_aborting, is_decided}
 use Rattle.tc_block.specs.Turn.{Turn}
 use Rattle.tc_block.specs.declared.phase.Phase.{Phase}
@@ -38,6 +37,7 @@ use Rattle.tc_block.specs.declared.phase.Phase.TheVariants.{Aborting, Committing
 use Rattle.tc_views.specs.Words.{is_coordinator_word}
 use Rattle.tc_views.proofs.Walk.{coordinator_installed_each, coordinator_words}
 use Rattle.sig_core.specs.declared.mark.Mark.{Mark}
+use Rattle.commit_laws.proofs.forth.Coordinator.{own_is}
 use Rattle.commit_laws.proofs.hosts.CoordinatorSends.{is_beside, sent_by}
 use Rattle.commit_laws.proofs.hosts.SomePasses.{passed}
 
@@ -125,26 +125,22 @@ module _ (member : Member) (s : CoordinatorState) (of : IsCoordinatorOf member s
   abbrev pub Forth : Type 0
   Forth = IsShown is_decided tells_commit member s (coordinator_row s x).state tx (coordinator_row s x).effects.sends
 
-  own_is : (t : Transaction) → entry_of s tx ≡ Some t → coordinator_member tx ≡ member
-  own_is t there =
-      each_found (λ (e : TxId × Transaction). coordinator_member e.0 ≡ member) s.tc.live tx t of.own there
-
   -- by a turn of it, beside which more may be sent
   turned : (p : Phase → Bool) (told : TxId → Body → Bool) (t : Transaction) → entry_of s tx ≡ Some t → (turn : Turn)
       → entry_of step.state tx ≡ left_of turn → (more : List Outgoing)
       → step.effects.sends ≡ turn.step.effects.sends ++ more → ByTurn p told tx t turn
       → IsShown p told member s step.state tx step.effects.sends
   turned p told t there turn now more sends (before is) =
-      record { own = own_is t there; shows = before_it (ap (is_at p) there ∙ is) }
+      record { own = own_is member s of x tx t there; shows = before_it (ap (is_at p) there ∙ is) }
   turned p told t there turn now more sends (behind on is) =
       record {
-        own = own_is t there;
+        own = own_is member s of x tx t there;
         shows = behind_it (ap (is_at p) now
             ∙ (ap (λ b. is_at p (if b then None else Some turn.step.state)) on ∙ is));
       }
   turned p told t there turn now more sends (telling is) =
       record {
-        own = own_is t there;
+        own = own_is member s of x tx t there;
         shows = tells_it (ap (is_sent (told tx)) sends
             ∙ sent_before (told tx) turn.step.effects.sends more is);
       }

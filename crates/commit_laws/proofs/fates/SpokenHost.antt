@@ -1,5 +1,5 @@
 -- What the host of a coordinator and a takeover sends at an event speaks truly, if what the takeover has stands.
-use Rattle.std.proofs.Common.{◌≡◌, ◌∙◌, ℕ, Bool, true, List, ◌∷◌, refl, sym, ap, subst, arith}
+use Rattle.std.proofs.Common.{◌≡◌, ◌≤◌, ◌∙◌, ℕ, Bool, true, List, ◌∷◌, refl, sym, ap, subst, arith}
 use Rattle.std.specs.Prelude.{None}
 use Rattle.run_theory.specs.Lists.{IsIn}
 use Rattle.run_theory.proofs.Pasts.{each_append, each_map}
@@ -57,6 +57,19 @@ use Rattle.commit_laws.proofs.takeover.Words.{Aborts, Commits}
 pub record StandsStill (start : Start) (e : HostStep) (es : List HostStep) (member : Member) : Type 0 where
   pub current_is : current start (logs_of start (e ∷ es)) ≡ current start (logs_of start es)
   pub number_is : number_in start (logs_of start es) (tc_of start member) ≡ current_number start (logs_of start es)
+
+-- so it is where the host stands in the current view behind the event, and stood in that of this number before
+pub stood_still : (start : Start) (all : ℕ → List HostStep) (e : HostStep) (es : List HostStep)
+    → IsMoment start all (e ∷ es) → (member : Member) → IsIn member (made start) → (number : ℕ)
+    → number ≡ current_number start (logs_of start (e ∷ es))
+    → number ≤ number_in start (logs_of start es) (tc_of start member) → StandsStill start e es member
+stood_still start all e es moment member there number is low =
+    let above = current_above start (logs_of start es) (tc_of start member) (tc_low start member there) in
+    let rises = current_rises start all e es moment in
+    record {
+      current_is = old_current start all e es moment (omega (arith, is, low, above, rises));
+      number_is = omega (arith, is, low, above, rises);
+    }
 
 -- of a takeover that stood still: it has what it should, and all that it has gathered is so if all members end by the
 -- event

@@ -17,7 +17,6 @@ use Rattle.sig_core.specs.declared.signal.Body.{Body}
 use Rattle.sig_core.specs.declared.signal.Body.TheVariants.{Client, Host}
 use Rattle.sig_core.specs.declared.signal.Signal.{Signal}
 use Rattle.sig_core.specs.declared.signal.client.ClientSignal.TheVariants.{TcCommitAck}
-use Rattle.sig_core.specs.declared.signal.host.HostSignal.TheVariants.{Closed}
 use Rattle.sig_core.specs.Rows.{no_rows}
 use Rattle.sig_core.specs.Step.{Step}
 use Rattle.sig_core.proofs.Keys.{same_tx-self}
@@ -34,7 +33,7 @@ use Rattle.world_core.specs.Hosts.{member_at, part_by}
 use Rattle.world_core.specs.Start.{Start, made}
 use Rattle.world_core.specs.Steps.{Addressed, HostStep}
 use Rattle.world_views.specs.Hosts.{part_started, started}
-use Rattle.world_views.specs.Machine.{IsOwnWork, after, machine, signals_of, step_after, step_by, told}
+use Rattle.world_views.specs.Machine.{after, machine, signals_of, step_after, step_by, told}
 use Rattle.world_views.proofs.FreshBodies.{none_pending}
 use Rattle.view_laws.specs.Order.{is_sound, sound_machine}
 use Rattle.view_laws.proofs.eras.Shapes.{shape_stays}
@@ -43,9 +42,10 @@ use Rattle.view_laws.proofs.follow.Senders.{IsSentBy, each_sent}
 use Rattle.moment_laws.specs.Moments.{IsMoment, logs_of}
 use Rattle.moment_laws.specs.Places.{ldm_of, tc_of}
 use Rattle.moment_laws.proofs.MomentHosts.{HasNoTc, TcHost, of_none, of_tc, part_some, tc_host_is}
-use Rattle.moment_laws.proofs.MomentSignals.{EachSent, IsClosed, sent_next, taken_told}
+use Rattle.moment_laws.proofs.MomentSignals.{EachSent, sent_next, taken_told}
 use Rattle.moment_laws.proofs.MomentTurns.{host_low}
 use Rattle.moment_laws.proofs.MomentViews.{moment_less}
+use Rattle.outcome_laws.proofs.knowledge.Moments.{not_closed, not_own}
 use Rattle.outcome_laws.specs.Counts.{coordinator_member}
 use Rattle.outcome_laws.specs.Known.{IsDecidedIf, RowsKnow, TakeoverKnows}
 use Rattle.outcome_laws.proofs.knowledge.Hosts.{HasNoShell, never_shell}
@@ -70,14 +70,6 @@ is_host body = false
 host_speaks : (F A : TxId → Type 0) (body : Body) → is_host body ≡ true → Speaks F A body
 host_speaks F A (Host signal) is = tt
 host_speaks F A body is = absurd cc
-
-not_own : (start : Start) (h : ℕ) (body : Body) → is_host body ≡ false → IsOwnWork start h body → ⊥
-not_own start h (Host signal) is work = absurd cc
-not_own start h body is work = work
-
-not_closed : (body : Body) → is_host body ≡ false → IsClosed body → ⊥
-not_closed body is closed =
-    let host : is_host (Host (Closed closed.cause)) ≡ false = subst (λ b. is_host b ≡ false) closed.is is in absurd cc
 
 -- whoever is acknowledged among signals is spoken of
 spoken_of : (F A : TxId → Type 0) (tx : TxId) (sends : List Outgoing) → AreSpoken F A sends

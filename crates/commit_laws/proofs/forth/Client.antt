@@ -10,7 +10,7 @@ use Rattle.sig_core.specs.declared.signal.Signal.{Signal}
 use Rattle.sig_core.specs.declared.signal.client.ClientSignal.TheVariants.{TcCommitAck, TcCommitConf, TcKeyFailConf}
 use Rattle.sig_core.specs.Step.{Step}
 use Rattle.api_views.specs.declared.closings.Closing.{Closing}
-use Rattle.api_views.specs.declared.closings.Closing.TheVariants.{Gcp, Micro}
+use Rattle.api_views.specs.declared.closings.Closing.TheVariants.{Gcp, Micro, Lcp}
 use Rattle.api_views.specs.Client.{client_row}
 use Rattle.api_views.specs.Closings.{ask_of}
 use Rattle.api_views.specs.State.{ClientState}
@@ -38,6 +38,7 @@ module _ (x : Signal) where
   asks : (closing : Closing) → Answers x.body (ask_of closing)
   asks Gcp = tt
   asks Micro = tt
+  asks Lcp = tt
 
   -- whatever it takes
   pub client_acknowledges : (s : ClientState) → Fine (client_row s x)

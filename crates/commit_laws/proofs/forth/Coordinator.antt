@@ -109,7 +109,7 @@ module _ (member : Member) (s : CoordinatorState) (of : IsCoordinatorOf member s
   abbrev Forth : Type 0
   Forth = GoesForth member s step.state tx step.effects.sends
 
-  own_is : (t : Transaction) → entry_of s tx ≡ Some t → coordinator_member tx ≡ member
+  pub own_is : (t : Transaction) → entry_of s tx ≡ Some t → coordinator_member tx ≡ member
   own_is t there =
       each_found (λ (e : TxId × Transaction). coordinator_member e.0 ≡ member) s.tc.live tx t of.own there
 

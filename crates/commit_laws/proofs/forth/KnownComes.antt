@@ -45,6 +45,31 @@ use Rattle.commit_laws.proofs.records.Replicas.{chain_replica, members_full}
 use Rattle.commit_laws.proofs.forth.TellersFull.{teller_full}
 use Rattle.commit_laws.proofs.markers.Traces.{marker_commits, record_commits}
 
+-- the client's side takes word of the commit by the event
+pub record TakesWord (start : Start) (e : HostStep) (tx : TxId) : Type 0 where
+  pub sound : is_well_formed start.shape e.step.taken ≡ true
+  pub told : IsToldOf tx e.step.taken.body
+
+module _ (start : Start) (e : HostStep) (log : List HostStep) where
+  abbrev shell_sends : List Outgoing
+  shell_sends = (step_after start 0 log e).effects.sends
+
+  ends : AreEnds (TakesWord start e) shell_sends
+  unfolding started
+  ends = beside_ends start 0 tt (TakesWord start e) log e (λ sound tx told. record { sound = sound; told = told })
+
+  word_of : (tx : TxId) (body : Body) → IsEnd (TakesWord start e) body → is_acknowledgement tx body ≡ true
+      → TakesWord start e tx
+  word_of tx (Client (TcCommitAck other)) is own = subst (TakesWord start e) (same_tx-is other tx own) is
+  word_of tx body is own = absurd (true≢false (sym own))
+
+  -- so it does where it acknowledges
+  pub takes_word : (tx : TxId) → is_sent (is_acknowledgement tx) shell_sends ≡ true → TakesWord start e tx
+  takes_word tx acknowledges =
+      let one = passing (λ (o : Outgoing). is_acknowledgement tx o.body) shell_sends acknowledges in
+      word_of tx one.item.body
+      (each_in (λ (o : Outgoing). IsEnd (TakesWord start e) o.body) one.item shell_sends ends one.there) one.is
+
 module _ (start : Start) (all : ℕ → List HostStep) (e : HostStep) (es : List HostStep)
     (follows : Follows start all e es)
   where
@@ -62,19 +87,6 @@ module _ (start : Start) (all : ℕ → List HostStep) (e : HostStep) (es : List
 
     abbrev sends : List Outgoing
     sends = (step_after start 0 (old 0) e).effects.sends
-
-    -- the event takes word of the commit
-    record TakesWord (tx : TxId) : Type 0 where
-      sound : is_well_formed start.shape e.step.taken ≡ true
-      told : IsToldOf tx e.step.taken.body
-
-    ends : AreEnds TakesWord sends
-    unfolding started
-    ends = beside_ends start 0 tt TakesWord (old 0) e (λ sound tx told. record { sound = sound; told = told })
-
-    word_of : (tx : TxId) (body : Body) → IsEnd TakesWord body → is_acknowledgement tx body ≡ true → TakesWord tx
-    word_of tx (Client (TcCommitAck other)) is own = subst TakesWord (same_tx-is other tx own) is
-    word_of tx body is own = absurd (true≢false (sym own))
 
     module _ (tx : TxId) (off : is_known start old tx ≡ false) where
       -- whatever is committed at all replicas left a trace at one
@@ -118,11 +130,8 @@ module _ (start : Start) (all : ℕ → List HostStep) (e : HostStep) (es : List
         acknowledges =
             known_cases start e es tx (λ at here. here) (λ was. absurd (true≢false (sym was ∙ off))) is
 
-        word : TakesWord tx
-        word =
-            let one = passing (λ (o : Outgoing). is_acknowledgement tx o.body) sends acknowledges in
-            word_of tx one.item.body (each_in (λ (o : Outgoing). IsEnd TakesWord o.body) one.item sends ends one.there)
-            one.is
+        word : TakesWord start e tx
+        word = takes_word start e (old 0) tx acknowledges
 
         -- what is told of all that was sent is told of it
         told_of : (K : Body → Type 0) (signal : ClientSignal) → e.step.taken.body ≡ Client signal

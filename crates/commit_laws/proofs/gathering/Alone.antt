@@ -12,7 +12,6 @@ use Rattle.sig_core.specs.declared.member.Member.{Member}
 use Rattle.sig_core.specs.declared.member.TxId.{TxId}
 use Rattle.sig_core.specs.declared.place.BlockId.{BlockId}
 use Rattle.sig_core.specs.declared.place.BlockId.TheVariants as block
-use Rattle.sig_core.specs.declared.signal.Body.{Body}
 use Rattle.sig_core.specs.declared.signal.Body.TheVariants.{Takeover}
 use Rattle.sig_core.specs.declared.signal.Signal.{Signal}
 use Rattle.sig_core.specs.declared.signal.takeover.TakeoverSignal.TheVariants.{TakeoverOrd}
@@ -28,13 +27,11 @@ use Rattle.takeover_block.specs.Takeover.{takeover_row}
 use Rattle.takeover_block.proofs.EachTakeover.{is_gathering, takeover_each}
 use Rattle.node_views.specs.declared.parts.Parts.TheVariants as part
 use Rattle.node_views.specs.declared.tc_part.TcPart.{TcPart}
-use Rattle.node_views.specs.Fence.{is_body_fenced}
 use Rattle.node_views.specs.Parts.{tc_row}
 use Rattle.world_core.specs.Hosts.{hosts, member_at}
 use Rattle.world_core.specs.Start.{Start, made}
 use Rattle.world_core.specs.Steps.{HostStep}
 use Rattle.world_views.specs.Machine.{machine}
-use Rattle.world_views.specs.Sending.{is_own_work}
 use Rattle.view_laws.specs.Runs.{WasInstalled, view_after}
 use Rattle.view_laws.proofs.runs.AllSound.{have_orderly}
 use Rattle.view_laws.proofs.runs.ChosenViews.{one_view}
@@ -55,7 +52,7 @@ use Rattle.commit_laws.specs.Ruling.{AllRest, NoneRuled}
 use Rattle.commit_laws.specs.Takeovers.{IsOrphan, takeover_at}
 use Rattle.commit_laws.proofs.drive.Kinds.{numbered}
 use Rattle.commit_laws.proofs.drive.Ordered.{ruled}
-use Rattle.commit_laws.proofs.drive.Ruled.{OrdersAreOnce, is_order}
+use Rattle.commit_laws.proofs.drive.Ruled.{OrdersAreOnce, is_order, plain}
 
 -- a sum is no less than one or two of what it adds
 one_low : (n : ℕ) (f : ℕ → ℕ) (h : ℕ) → h < n → f h ≤ total n f
@@ -137,11 +134,6 @@ not_both stage.Resting is = refl
 not_both (stage.Committing e n) is = absurd (true≢false (sym is))
 not_both (stage.Completing e n) is = absurd (true≢false (sym is))
 not_both (stage.Aborting n) is = absurd (true≢false (sym is))
-
-pub plain : (body : Body) → is_order body ≡ true
-    → (is_own_work body ≡ false) × ((y : Signal) → is_body_fenced y body ≡ true)
-plain (Takeover TakeoverOrd) own = (refl, λ y. refl)
-plain body own = absurd (true≢false (sym own))
 
 module _ (orders : OrdersAreOnce) (start : Start) (all : ℕ → List HostStep) (tx : TxId) (number : ℕ)
     (left : (view : View) → WasInstalled start all view → view.number ≡ number → is_coordinated view.full tx ≡ false)

@@ -5,7 +5,6 @@ use Rattle.std.proofs.Common.{sym, ap, arith, subst}
 use Rattle.std.proofs.lemmas.Bool.{cases_eq, true≢false}
 use Rattle.run_theory.specs.Lists.{IsIn}
 use Rattle.commit_laws.proofs.hosts.PartEach.{between_so}
-use Rattle.commit_laws.proofs.gathering.Alone.{plain}
 use Rattle.host_laws.proofs.hosts.Sums.{total_at}
 use Rattle.sig_core.specs.declared.member.Member.{Member}
 use Rattle.sig_core.specs.declared.outs.Outgoing.{Outgoing}
@@ -62,7 +61,7 @@ use Rattle.commit_laws.proofs.gathering.AskedLists.{asks_once, counted, none_cou
 use Rattle.commit_laws.proofs.gathering.AskedTakeover.{Stands, off_stands, takes_quiet, takes_stand}
 use Rattle.commit_laws.proofs.drive.Idle.{idle_stays}
 use Rattle.commit_laws.proofs.drive.Kinds.{numbered}
-use Rattle.commit_laws.proofs.drive.Ruled.{OrdersAreOnce, is_order}
+use Rattle.commit_laws.proofs.drive.Ruled.{OrdersAreOnce, is_order, plain}
 use Rattle.commit_laws.proofs.gathering.Words.{aside_none, asked_in, asks_at, coordinator_none, none_asks}
 use Rattle.commit_laws.proofs.gathering.Words.{tc_enters_none}
 use Rattle.commit_laws.proofs.orders.Sent.{sent_few}

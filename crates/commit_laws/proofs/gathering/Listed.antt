@@ -3,8 +3,6 @@ use Rattle.std.proofs.Common.{◌≡◌, ◌⊎◌, ◌∙◌, ◌||◌, ◌&&�
 use Rattle.std.proofs.lemmas.Bool.{and_parts, or_cases}
 use Rattle.std.specs.List.{list_any}
 use Rattle.run_theory.specs.Lists.{IsIn}
-use Rattle.run_theory.specs.Logs.{IsRunning}
-use Rattle.run_theory.specs.Runs.{Happens}
 use Rattle.run_theory.proofs.Pasts.{each_in}
 use Rattle.sig_core.specs.declared.member.Member.{Member}
 use Rattle.sig_core.specs.declared.member.TxId.{TxId}
@@ -18,10 +16,10 @@ use Rattle.takeover_block.specs.declared.gathered.Gathered.{Gathered}
 use Rattle.takeover_block.proofs.EachTakeover.{is_gathering}
 use Rattle.world_core.specs.Start.{Start}
 use Rattle.world_core.specs.Steps.{HostStep}
-use Rattle.view_laws.specs.Order.{sound_machine}
 use Rattle.moment_laws.specs.Moments.{IsMoment, current, logs_of}
-use Rattle.moment_laws.specs.Places.{ldm_of, tc_of}
+use Rattle.moment_laws.specs.Places.{ldm_of}
 use Rattle.moment_laws.proofs.MomentViews.{moment_less}
+use Rattle.commit_laws.proofs.gathering.TellingsGathered.{closing_runs}
 use Rattle.commit_laws.specs.Fates.{is_led_by_full}
 use Rattle.commit_laws.specs.Gathering.{EndsGathering}
 use Rattle.commit_laws.specs.Going.{is_forth, is_lost}
@@ -52,11 +50,6 @@ module _ (behind : EndsComeBehind) (ended : AllHaveEnded) (told : TellingsAreGat
     less : IsMoment start all es
     less = moment_less start all e es moment
 
-    running : IsRunning (sound_machine start) (old (tc_of start member))
-    running =
-        let happens : Happens (sound_machine start) es e = moment.run.1 in
-        subst (λ k. IsRunning (sound_machine start) (old k)) closing.host_is happens.step.runs
-
     -- whoever has a marker at a full member is listed
     marked : (one : Member) → IsIn one (current start old).full → (key : List ℕ)
         → has_marker_at start old one key tx ≡ true
@@ -66,7 +59,8 @@ module _ (behind : EndsComeBehind) (ended : AllHaveEnded) (told : TellingsAreGat
         let among = (tells behind ended told start all e es moment member closing one full tx orphan key).1 is in
         let noted =
         tellings_noted first tellings_are_for_takeovers start all es less member closing.made_is
-        (ap (λ (v : View). v.number) closing.stands) running (ldm_of start one) among.signal
+        (ap (λ (v : View). v.number) closing.stands) (closing_runs start all e es moment member closing)
+        (ldm_of start one) among.signal
         (front.before among.signal among.there) tx key among.telling (ap is_gathering closing.gathers) in
         record {
           entry = noted.entry;

@@ -71,7 +71,8 @@ module _ (start : Start) where
   -- takeovers rest at the start
   first_rests : AllRest start (λ h. [])
   first_rests member there same =
-      ap (λ (s : hosts.HostBody). is_at_work (takeover_in (resting member.node (first_layout start.shape)) s.parts).stage)
+      ap (λ (s : hosts.HostBody). is_at_work (takeover_in (resting member.node (first_layout start.shape))
+      s.parts).stage)
       (tc_started start member there)
 
   now_rest : (es : List HostStep) → NoneRuled start es → AllRest start (logs_of start es)

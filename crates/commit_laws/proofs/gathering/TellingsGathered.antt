@@ -116,16 +116,19 @@ noted_each tx key Marked gs order has =
       λ marked none. has.committed marked (ap (λ (q : Gathered). q.epoch) (sym is) ∙ none),
     ))
 
+-- the host of the takeover to which the last member ends runs
+pub closing_runs : (start : Start) (all : ℕ → List HostStep) (e : HostStep) (es : List HostStep)
+    → IsMoment start all (e ∷ es) → (member : Member) → EndsGathering start e es member
+    → IsRunning (sound_machine start) (logs_of start es (tc_of start member))
+closing_runs start all e es moment member closing =
+    let happens : Happens (sound_machine start) es e = moment.run.1 in
+    subst (λ k. IsRunning (sound_machine start) (logs_of start es k)) closing.host_is happens.step.runs
+
 module _ (first : OrdersComeFirst) (start : Start) (all : ℕ → List HostStep) (e : HostStep) (es : List HostStep)
     (moment : IsMoment start all (e ∷ es)) (member : Member) (closing : EndsGathering start e es member)
   where
     abbrev old : ℕ → List HostStep
     old = logs_of start es
-
-    running : IsRunning (sound_machine start) (old (tc_of start member))
-    running =
-        let happens : Happens (sound_machine start) es e = moment.run.1 in
-        subst (λ k. IsRunning (sound_machine start) (old k)) closing.host_is happens.step.runs
 
     -- what was told until the last member ends is noted
     pub gathered_noted : (i : ℕ) (y : Addressed)
@@ -139,4 +142,5 @@ module _ (first : OrdersComeFirst) (start : Start) (all : ℕ → List HostStep)
         (gathered_fit start member closing.made_is (old (tc_of start member))).order
         (tellings_noted first tellings_are_for_takeovers start all es (moment_less start all e es moment) member
         closing.made_is
-        (ap (λ (v : View). v.number) closing.stands) running i y there tx key tells (ap is_gathering closing.gathers))
+        (ap (λ (v : View). v.number) closing.stands) (closing_runs start all e es moment member closing) i y there tx
+        key tells (ap is_gathering closing.gathers))

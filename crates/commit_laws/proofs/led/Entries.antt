@@ -1,7 +1,7 @@
 -- A transaction is decided once, so that its entry takes effect just where it is final.
 use Rattle.std.proofs.Common.{◌≡◌, ◌≢◌, ◌≤◌, ◌+◌, ◌⊎◌, ◌||◌, ℕ, Bool, true, false, List, [], ◌∷◌, ◌++◌, reverse, refl}
 use Rattle.std.proofs.Common.{sym, ap, ◌∙◌, subst, inl, inr, arith}
-use Rattle.std.proofs.lemmas.Bool.{cases_eq, true≢false}
+use Rattle.std.proofs.lemmas.Bool.{cases_eq, or_right, true≢false}
 use Rattle.std.proofs.lemmas.List.{reverse-reverse}
 use Rattle.std.specs.List.{count_by, list_any}
 use Rattle.run_theory.proofs.Pasts.{each_in, in_append}
@@ -75,10 +75,6 @@ fresh_from decided (Decided tx epoch ∷ marks) new few = (
       (λ u. omega (arith, few u, count_more (is_decision u) (Decided tx epoch) marks)),
 )
   where
-    or_right : (a b : Bool) → b ≡ true → (a || b) ≡ true
-    or_right true b is = refl
-    or_right false b is = is
-
     by : (u : TxId) → list_any (is_decision u) marks ≡ true → (b : Bool) → same_tx tx u ≡ b → (b || decided u) ≡ false
     by u any true same =
         absurd (omega (
@@ -92,10 +88,6 @@ fresh_from decided (Decided tx epoch ∷ marks) new few = (
 fresh_from decided (mark ∷ marks) new few =
     fresh_from decided marks (λ u any. new u (or_right (is_decision u mark) (list_any (is_decision u) marks) any))
     (λ u. omega (arith, few u, count_more (is_decision u) mark marks))
-  where
-    or_right : (a b : Bool) → b ≡ true → (a || b) ≡ true
-    or_right true b is = refl
-    or_right false b is = is
 
 module _ (start : Start) (all : ℕ → List HostStep) (e : HostStep) (es : List HostStep)
     (moment : IsMoment start all (e ∷ es))

@@ -1,5 +1,5 @@
 -- Fair events leave a key tidy, and led to what it was led to; so does the installation of a view.
-use Rattle.std.proofs.Common.{◌≡◌, ◌||◌, ◌&&◌, cond, ℕ, Bool, true, false, List, [], ◌∷◌, filter, refl, sym, ap, ◌∙◌}
+use Rattle.std.proofs.Common.{◌≡◌, ◌||◌, ◌&&◌, cond, Bool, true, false, List, [], ◌∷◌, filter, refl, sym, ap, ◌∙◌}
 use Rattle.std.proofs.Common.{inl, inr}
 use Rattle.std.proofs.lemmas.Bool.{not-true, or_left, or_right, true≢false}
 use Rattle.std.specs.Prelude.{if◌then◌else◌, is_some, Option, None, Some}
@@ -23,7 +23,6 @@ use Rattle.sig_core.specs.declared.member.TxId.{TxId}
 use Rattle.sig_core.specs.declared.op.Answer.{Answer}
 use Rattle.sig_core.specs.declared.op.Answer.TheVariants.{Done, Found, Missing, E626, E630}
 use Rattle.sig_core.specs.declared.op.Op.{Op}
-use Rattle.sig_core.specs.declared.op.Op.TheVariants.{Get}
 use Rattle.sig_core.specs.declared.rows.PendingRecord.{PendingRecord}
 use Rattle.sig_core.specs.declared.signal.chain.RowWork.{RowWork}
 use Rattle.sig_core.specs.declared.signal.chain.RowWork.TheVariants.{Operate, Store}
@@ -31,7 +30,8 @@ use Rattle.sig_core.specs.Firsts.{first}
 use Rattle.sig_core.specs.Op.{answer_to, image_of, key_of}
 use Rattle.sig_core.specs.Same.{same_tx}
 use Rattle.lqh_block.specs.declared.request.Request.{Request}
-use Rattle.lqh_block.specs.Work.{op_mode, work_mode}
+use Rattle.lqh_block.specs.Work.{work_mode}
+use Rattle.key_laws.proofs.PrimaryGood.{writes_exclusive}
 use Rattle.key_laws.specs.Backup.{Backup}
 use Rattle.key_laws.specs.BackupEvents.{backup_of}
 use Rattle.key_laws.specs.LockLaws.{is_attended}
@@ -57,13 +57,6 @@ both_lead decided final a b c one other =
 
 pub itself : (decided final : TxId → Bool) (b : Backup) → IsTidy decided b → Leads decided final b b
 itself decided final b tidy = record { tidy = tidy; led = λ value led. led }
-
--- only a write takes effect, and that needs the lock exclusive
-writes_exclusive : (op : Op) (row : Option (List ℕ)) → answer_to op row ≡ Done → op_mode op ≡ Exclusive
-unfolding answer_to
-writes_exclusive (Get key) None is = absurd cc
-writes_exclusive (Get key) (Some value) is = absurd cc
-writes_exclusive _ row is = refl
 
 module _ (decided final : TxId → Bool) (c : Cell) (lock : RowLock) (tx : TxId) (tidy : IsTidy decided (seen c lock))
     (off : IsUnkept decided final c.pending tx) where

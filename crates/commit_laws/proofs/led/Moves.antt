@@ -14,6 +14,8 @@ use Rattle.sig_core.specs.declared.member.TxId.{TxId}
 use Rattle.sig_core.specs.declared.rows.PendingRecord.{PendingRecord}
 use Rattle.sig_core.specs.Rows as rows
 use Rattle.sig_core.specs.Same.{same_tx}
+use Rattle.key_laws.proofs.BackupMoves.{edited_none, edited_same}
+use Rattle.key_laws.proofs.PrimaryGood.{still_owned}
 use Rattle.key_laws.specs.Backup.{Backup, IsLedUnlessSpoilt, is_spoilt, kept_of}
 use Rattle.key_laws.specs.Primary.{HasPrepared, HoldOn, IsOwned}
 use Rattle.key_laws.specs.PrimaryLaws.{nobody_gone}
@@ -23,18 +25,13 @@ use Rattle.key_laws.proofs.Holding.{holds_so, only_holder}
 use Rattle.key_laws.proofs.PrimaryValue.{all_committed}
 use Rattle.key_laws.proofs.RecordLemmas.{OnlyOf, committed_keeps, each-edited, each-stored, each_apart, each_both}
 use Rattle.key_laws.proofs.RecordLemmas.{each_found, if_keeps, if_same, kept_row-aborted, kept_row-committed}
-use Rattle.key_laws.proofs.RecordLemmas.{kept_row-completed, kept_row-one, kept_row-stored, none_first, once-edited}
+use Rattle.key_laws.proofs.RecordLemmas.{kept_row-completed, kept_row-one, kept_row-stored, once-edited}
 use Rattle.key_laws.proofs.RecordLemmas.{once-stored, unless_keeps, unless_same}
 use Rattle.commit_laws.specs.Led.{IsTidy, IsUnkept, Leads}
 
 -- what is committed is decided
 abbrev IsOver : (TxId → Bool) → PendingRecord → Type 0
 IsOver decided r = r.committed ≡ true → decided r.tx ≡ true
-
-still_owned : (gone : TxId → Bool) (before after : List Holder) → HoldOn gone before after → (r : PendingRecord)
-    → gone r.tx ≡ false → IsOwned before r → IsOwned after r
-still_owned gone before after on r here (inl is) = inl is
-still_owned gone before after on r here (inr is) = inr (on.exclusive r.tx here is)
 
 -- all that isn't committed is of an exclusive holder
 pub only_held : (decided : TxId → Bool) (b : Backup) → IsTidy decided b → (tx : TxId)
@@ -58,30 +55,6 @@ prepared_holds decided b tidy tx x is waits = by (each_found (IsOwned b.holders)
 pub only_prepared : (decided : TxId → Bool) (b : Backup) → IsTidy decided b → (tx : TxId) (x : PendingRecord)
     → found tx b.pending ≡ Some x → x.committed ≡ false → OnlyOf tx b.pending
 only_prepared decided b tidy tx x is waits = only_held decided b tidy tx (prepared_holds decided b tidy tx x is waits)
-
--- an edit leaves records alone where the transaction has none
-pub edited_none : (f : PendingRecord → Option PendingRecord) (tx : TxId) (xs : List PendingRecord)
-    → found tx xs ≡ None → edited f tx xs ≡ xs
-edited_none f tx [] none = refl
-edited_none f tx (r ∷ rest) none =
-    let parts = none_first tx r rest none in
-    ap (λ b. if b then put_back (f r) rest else r ∷ edited f tx rest) parts.0
-    ∙ ap (λ w. r ∷ w) (edited_none f tx rest parts.1)
-
--- a commit does where the transaction's record is committed
-edited_same : (tx : TxId) (xs : List PendingRecord) (x : PendingRecord) → found tx xs ≡ Some x → x.committed ≡ true
-    → edited as_committed tx xs ≡ xs
-edited_same tx [] x is done = absurd cc
-edited_same tx (r ∷ rest) x is done = by (same_tx r.tx tx) refl is (λ more. edited_same tx rest x more done)
-  where
-    by : (b : Bool) → same_tx r.tx tx ≡ b → (if b then Some r else found tx rest) ≡ Some x
-        → (found tx rest ≡ Some x → edited as_committed tx rest ≡ rest)
-        → (if b then committed r ∷ rest else r ∷ edited as_committed tx rest) ≡ r ∷ rest
-    by true e is more =
-        let one : r ≡ x = cc in
-        let own : r.committed ≡ true = ap (λ (r : PendingRecord). r.committed) one ∙ done in
-        λ i. record { tx = r.tx; key = r.key; image = r.image; committed = sym own i; epoch = r.epoch } ∷ rest
-    by false e is more = ap (λ w. r ∷ w) (more is)
 
 -- and an abort too
 edited_kept : (tx : TxId) (xs : List PendingRecord) (x : PendingRecord) → found tx xs ≡ Some x → x.committed ≡ true

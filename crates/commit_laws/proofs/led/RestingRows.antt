@@ -1,7 +1,6 @@
 -- At rest a live replica of a key has no record of it, and so has the row that the history leaves.
 use Rattle.std.proofs.Common.{◌≡◌, ◌≢◌, ◌||◌, ◌++◌, ◌<◌, ◌+◌, ◌-◌, ◌*◌, ◌∙◌, ℕ, zero, suc, Bool, true, false, length}
 use Rattle.std.proofs.Common.{List, [], ◌∷◌, refl, sym, ap, subst, arith, inl, inr}
-use Rattle.std.proofs.Math.Path.{fun_ext}
 use Rattle.std.proofs.lemmas.Bool.{or_from, true≢false}
 use Rattle.std.specs.List.{list_any}
 use Rattle.std.specs.Prelude.{if◌then◌else◌, is_some, Option, None, Some}
@@ -40,13 +39,12 @@ use Rattle.world_core.specs.Start.{Start, made}
 use Rattle.world_core.specs.Steps.{Addressed, HostStep}
 use Rattle.world_views.specs.At.{row_at, row_in}
 use Rattle.world_views.specs.Machine.{after, machine}
-use Rattle.view_laws.proofs.eras.Order.{run_in_views}
 use Rattle.view_laws.proofs.runs.FirstMembers.{made_same, node_low, node_some}
 use Rattle.view_laws.specs.Order.{by_views}
 use Rattle.view_laws.specs.Runs.{AreOfCluster}
 use Rattle.moment_laws.proofs.MomentHosts.{ldm_number}
 use Rattle.moment_laws.proofs.MomentMembers.{full_made}
-use Rattle.moment_laws.proofs.MomentRuns.{are_moments}
+use Rattle.moment_laws.proofs.MomentRuns.{are_moments, logs_in_views}
 use Rattle.moment_laws.proofs.MomentViews.{moment_installed, moment_less}
 use Rattle.moment_laws.specs.Moments.{IsMoment, current, logs_of}
 use Rattle.moment_laws.specs.Places.{ldm_of}
@@ -378,20 +376,17 @@ module _ (stand : AllStandAlways) (start : Start) (logs : ℕ → List HostStep)
   abbrev events : List HostStep
   events = in_order (by_views start logs)
 
-  logs_are : logs_of start events ≡ logs
-  logs_are = fun_ext (λ h. (run_in_views start logs are).has h)
-
   module _ (key : List ℕ) (at_rest : IsAtRest start logs key) (member : Member)
       (live : IsLiveReplica start logs key member) where
     replica_events : IsReplicaOf start (logs_of start events) key member
     replica_events =
         full_replica start logs events (are_moments start logs are) key member
-        (subst (λ ls. IsIn member (current start ls).full) (sym logs_are)
+        (subst (λ ls. IsIn member (current start ls).full) (sym (logs_in_views start logs are))
         (subst (λ (v : View). IsIn member v.full) (greatest_current start logs are) live.live))
         live.holding
 
     replica_logs : IsReplicaOf start logs key member
-    replica_logs = subst (λ ls. IsReplicaOf start ls key member) logs_are replica_events
+    replica_logs = subst (λ ls. IsReplicaOf start ls key member) (logs_in_views start logs are) replica_events
 
     in_made : IsIn member (made start)
     in_made = replica_made start logs events (are_moments start logs are) key member replica_events
@@ -402,7 +397,7 @@ module _ (stand : AllStandAlways) (start : Start) (logs : ℕ → List HostStep)
         (subst (λ k. IsSettled key (logs k)) (rows_number start member in_made) (at_rest member live))
         (subst (λ (ls : ℕ → List HostStep). (v : TxId)
         → is_some (found v (replica_at start ls member key).cell.pending) ≡ true
-        → IsUnfinished key v (ls (ldm_of start member))) logs_are
+        → IsUnfinished key v (ls (ldm_of start member))) (logs_in_views start logs are)
         (unfinished stand start logs events (are_moments start logs are) key member replica_events))
 
 pub resting_rows : AllStandAlways → RestingRowsFollow

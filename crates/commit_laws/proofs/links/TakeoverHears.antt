@@ -110,7 +110,8 @@ module _ (x : Signal) (signal : TakeoverSignal) (body_is : x.body ≡ Takeover s
       unfolding host_row
       step_hears h standing high sound = stopped (own_stop h x)
         where
-          hushed_hears : (step : Step hosts.HostBody) → Hears p standing.view x step → Hears p standing.view x (hushed step)
+          hushed_hears : (step : Step hosts.HostBody) → Hears p standing.view x step
+              → Hears p standing.view x (hushed step)
           hushed_hears step (stops is) = stops is
           hushed_hears step (heard between seen front entering parts stood) =
               heard between seen front entering parts stood

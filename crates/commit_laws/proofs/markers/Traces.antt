@@ -28,6 +28,7 @@ use Rattle.outcome_laws.specs.Counts.{coordinator_member}
 use Rattle.request_laws.specs.Blocks.{rows_after}
 use Rattle.request_laws.specs.Ways.{has_gone_forth}
 use Rattle.request_laws.proofs.tokens.HostsApart.{ldm_no_tc}
+use Rattle.commit_laws.proofs.records.KeptRows.{some_is}
 use Rattle.commit_laws.specs.Commits.{ComesWhenDone, HasWritten, IsDone, LeavesTraceOn, committed_there, marked_there}
 use Rattle.commit_laws.specs.Fates.{aborts, commits, fate, fate_if, is_led_by_full}
 use Rattle.commit_laws.specs.Forth.{ForthIsKnownAlways}
@@ -56,11 +57,8 @@ commits_traced false true false lost trace gone left = absurd (true≢false (sym
 commits_traced false false forth lost true gone left = refl
 commits_traced false false forth lost false gone left = absurd (true≢false (sym left))
 
-some_is : (r own : PendingRecord) → Some r ≡ Some own → r ≡ own
-some_is r own is = cc
-
 -- where none passes each fails
-each_fails : {A : Type 0} (p : A → Bool) (xs : List A) → list_any p xs ≡ false → Each (λ x. p x ≡ false) xs
+pub each_fails : {A : Type 0} (p : A → Bool) (xs : List A) → list_any p xs ≡ false → Each (λ x. p x ≡ false) xs
 each_fails p [] none = tt
 each_fails p (x ∷ xs) none = by (p x) refl none (each_fails p xs)
   where

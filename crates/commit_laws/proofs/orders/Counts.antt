@@ -19,7 +19,7 @@ use Rattle.sig_core.specs.Place.{membership}
 use Rattle.sig_core.specs.Portion.{rest_if}
 use Rattle.outcome_laws.specs.Counts.{one_if}
 use Rattle.outcome_laws.proofs.once.Counted.{count_none}
-use Rattle.outcome_laws.proofs.coordinators.Lists.{count_both, count_more}
+use Rattle.outcome_laws.proofs.coordinators.Lists.{count_both, count_more, one_few}
 use Rattle.commit_laws.proofs.orders.Words.{AreQuiet, IsQuiet, is_membership, is_ordering}
 
 -- the order to a takeover, and the signals to go on from a place up to this one
@@ -106,10 +106,6 @@ module _ (node : ℕ) (front : List Outgoing) (order : Outgoing) (back : List Ou
           quiet_none last back then,
           one_few (is_counted last order),
         )
-      where
-        one_few : (b : Bool) → one_if b ≤ 1
-        one_few true = omega arith
-        one_few false = omega arith
 
     rest_few : (at : ℕ) (b : Bool) → count_orders last (rest_if (membership node) Members at b) ≤ 1
     rest_few at true = few (nat_le (at + PORTION) last)

@@ -18,12 +18,15 @@ master_orders_none s x =
         saves = λ run member is there. refl;
         copies = λ run member is there. refl;
         tells_micro = λ epoch is. refl;
-        tells_global = λ epoch copy is. refl;
-        tells_members = λ epoch copy to member is one there. refl;
-        tells_copying = λ epoch is. refl;
+        tells_global = λ epoch copy local is. refl;
+        tells_members = λ epoch copy local to member is one there. refl;
+        tells_copying = λ epoch local is. refl;
+        switches = λ epoch copy member is there. refl;
         goes_on = λ left. refl;
       };
       closed = λ run at is. tt;
       durable = λ run is at on all. tt;
       stopped = tt;
+      walks = λ member is at first there. refl;
+      tells_local = λ epoch is at. refl;
     })).0

@@ -38,6 +38,7 @@ use Rattle.view_laws.proofs.memberships.SetTests.{same_is}
 use Rattle.moment_laws.specs.Moments.{IsMoment, logs_of}
 use Rattle.moment_laws.proofs.MomentTurns.{host_low}
 use Rattle.moment_laws.proofs.MomentViews.{moment_less}
+use Rattle.outcome_laws.proofs.coordinators.Lists.{one_few}
 use Rattle.outcome_laws.specs.Counts.{one_if}
 use Rattle.request_laws.specs.Tokens.{all_sent, all_taken, sent_along, taken_along}
 use Rattle.request_laws.proofs.routes.Headers.{event_past, own_installed}
@@ -74,10 +75,6 @@ below false c so = omega arith
 
 reaches : (n a b : ℕ) → a ≤ b → nat_le n a ≡ true → nat_le n b ≡ true
 reaches n a b low is = grind (arith, nat_tests)
-
-one_few : (b : Bool) → one_if b ≤ 1
-one_few true = omega arith
-one_few false = omega arith
 
 grows : (c : Bool) (n a b : ℕ) → a ≤ b → one_if (c && nat_le n a) ≤ one_if (c && nat_le n b)
 grows true n a b low = below (nat_le n a) (nat_le n b) (reaches n a b low)

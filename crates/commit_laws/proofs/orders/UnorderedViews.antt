@@ -56,8 +56,7 @@ use Rattle.commit_laws.specs.Takeovers.{takeover_at}
 use Rattle.commit_laws.specs.Traces.{rows_at}
 use Rattle.commit_laws.proofs.drive.Idle.{idle_stays}
 use Rattle.commit_laws.proofs.drive.Kinds.{numbered}
-use Rattle.commit_laws.proofs.drive.Ruled.{is_order}
-use Rattle.commit_laws.proofs.gathering.Alone.{plain}
+use Rattle.commit_laws.proofs.drive.Ruled.{is_order, plain}
 use Rattle.commit_laws.proofs.hosts.RowsTurn.{IsBetween, RowsTurn, as_was, enter_now, entered, rest_now, rows_turn}
 use Rattle.commit_laws.proofs.hosts.RowsTurn.{take_now}
 use Rattle.commit_laws.proofs.orders.UnorderedHosts.{AreNoReports, IsNoReport, beside_no_reports}
@@ -85,7 +84,8 @@ module _ (start : Start) (number : ℕ) where
         ap (λ (s : hosts.HostBody). (takeover_in (resting member.node (first_layout start.shape)) s.parts).stage)
         (tc_started start member there);
     reports = λ member there stands.
-        ap (λ (s : hosts.HostBody). (rows_in (no_replica start member) s.parts).report) (ldm_started start member there);
+        ap (λ (s : hosts.HostBody). (rows_in (no_replica start member) s.parts).report)
+        (ldm_started start member there);
   }
 
 module _ (start : Start) (all : ℕ → List HostStep) (e : HostStep) (es : List HostStep)

@@ -17,6 +17,7 @@ use Rattle.moment_laws.specs.Moments.{IsMoment, current, logs_of}
 use Rattle.moment_laws.specs.Places.{ldm_of, tc_of}
 use Rattle.moment_laws.proofs.MomentHosts.{ldm_started}
 use Rattle.moment_laws.proofs.MomentTurns.{host_low}
+use Rattle.outcome_laws.proofs.coordinators.Lists.{none_passes}
 use Rattle.outcome_laws.specs.Counts.{coordinator_member, count_sent}
 use Rattle.request_laws.specs.Blocks.{coordinator_after}
 use Rattle.request_laws.specs.Drives.{asked_in}
@@ -30,7 +31,6 @@ use Rattle.request_laws.proofs.tokens.HostsApart.{ldm_no_tc}
 use Rattle.commit_laws.specs.Parts.{IsHale}
 use Rattle.commit_laws.specs.Together.{Follows}
 use Rattle.commit_laws.specs.Transit.{AreInTransit, Takes}
-use Rattle.commit_laws.proofs.fates.Committed.{none_passes}
 use Rattle.commit_laws.proofs.fates.Going.{hale_made}
 use Rattle.commit_laws.proofs.parts.Own.{PartsOf, bodies_sent, goes_on_so, hale_was, sent_now}
 

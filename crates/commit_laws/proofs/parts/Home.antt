@@ -49,7 +49,7 @@ use Rattle.moment_laws.proofs.MomentViews.{moment_less}
 use Rattle.moment_laws.proofs.PartKinds.{tc_is}
 use Rattle.moment_laws.proofs.PartTaken.{IsTakenNow, handled_now}
 use Rattle.outcome_laws.specs.Counts.{coordinator_member, count_sent, one_if}
-use Rattle.outcome_laws.proofs.coordinators.Lists.{count_both, count_more}
+use Rattle.outcome_laws.proofs.coordinators.Lists.{count_both, count_more, none_passes}
 use Rattle.request_laws.specs.Blocks.{coordinator_after, rows_after}
 use Rattle.request_laws.specs.Drives.{asked_in}
 use Rattle.request_laws.specs.Routed.{layout_in}
@@ -66,7 +66,6 @@ use Rattle.commit_laws.specs.Settled.{HasImageIf, IsSettledWith, is_changing}
 use Rattle.commit_laws.specs.Together.{Follows}
 use Rattle.commit_laws.specs.Traces.{record_at, replica_at, rows_at}
 use Rattle.commit_laws.specs.Transit.{AreInTransit, Takes, is_closing}
-use Rattle.commit_laws.proofs.fates.Committed.{none_passes}
 use Rattle.commit_laws.proofs.fates.Going.{hale_made}
 use Rattle.commit_laws.proofs.parts.Hosts.{EntryGoes, Sends, begun, entry_goes, kept, moved}
 use Rattle.commit_laws.proofs.parts.Own.{PartsOf, bodies_sent, goes_on_so, hale_was, members_still, no_request}

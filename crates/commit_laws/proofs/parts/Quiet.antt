@@ -20,12 +20,13 @@ use Rattle.world_core.specs.Steps.{Addressed, HostStep}
 use Rattle.view_laws.specs.Runs.{view_after}
 use Rattle.moment_laws.specs.Moments.{IsMoment, current, logs_of}
 use Rattle.moment_laws.specs.Places.{ldm_of}
+use Rattle.outcome_laws.proofs.coordinators.Lists.{none_passes}
 use Rattle.request_laws.specs.Tokens.{IsQuiet, count_waiting, is_token, is_token_in, number_now}
 use Rattle.request_laws.proofs.tokens.Alone.{quiet_unless_asked}
 use Rattle.commit_laws.specs.Parts.{IsHale, Tells, Told, answers, part_if, part_of, performs, refuses}
 use Rattle.commit_laws.specs.Traces.{rows_at}
 use Rattle.commit_laws.specs.Transit.{AreInTransit, is_closing}
-use Rattle.commit_laws.proofs.fates.Committed.{calm_stops, none_passes}
+use Rattle.commit_laws.proofs.fates.Committed.{calm_stops}
 use Rattle.commit_laws.proofs.fates.Going.{hale_calm, hale_made}
 use Rattle.commit_laws.proofs.links.TransitCounts.{none_in_transit}
 

@@ -43,6 +43,7 @@ use Rattle.view_laws.proofs.eras.SoundLogs.{each_filter}
 use Rattle.moment_laws.specs.Moments.{IsMoment, current, logs_of}
 use Rattle.moment_laws.specs.Places.{ldm_of}
 use Rattle.moment_laws.proofs.MomentViews.{moment_less}
+use Rattle.outcome_laws.proofs.coordinators.Lists.{none_passes}
 use Rattle.request_laws.specs.Blocks.{rows_after}
 use Rattle.request_laws.specs.Replicas.{event_by}
 use Rattle.request_laws.specs.Routed.{layout_in}
@@ -57,7 +58,7 @@ use Rattle.commit_laws.specs.Settled.{IsSettledWith}
 use Rattle.commit_laws.specs.Together.{Follows}
 use Rattle.commit_laws.specs.Traces.{replica_at, rows_at}
 use Rattle.commit_laws.specs.Transit.{AreInTransit, Takes, is_closing}
-use Rattle.commit_laws.proofs.fates.Committed.{alone_waits, none_passes}
+use Rattle.commit_laws.proofs.fates.Committed.{alone_waits}
 use Rattle.commit_laws.proofs.commits.Places.{request_place}
 use Rattle.commit_laws.proofs.fates.Going.{hale_made}
 use Rattle.commit_laws.proofs.records.MemberKeeps.{KeepsFor, KeepsTo, between_keeps, keeps_both, keeps_self}

@@ -44,6 +44,7 @@ use Rattle.view_laws.proofs.runs.FirstMembers.{made_same}
 use Rattle.moment_laws.specs.Moments.{IsMoment, current, logs_of}
 use Rattle.moment_laws.specs.Places.{ldm_of}
 use Rattle.moment_laws.proofs.MomentViews.{moment_less}
+use Rattle.outcome_laws.proofs.coordinators.Lists.{none_passes}
 use Rattle.request_laws.specs.Blocks.{rows_after}
 use Rattle.request_laws.specs.Replicas.{event_by, event_if}
 use Rattle.request_laws.specs.Routed.{IsGivenUp, WasAskedIn, WasDrivenIn, layout_in}
@@ -59,7 +60,6 @@ use Rattle.commit_laws.specs.Parts.{IsHale, PartsStand, Tells, Told, part_of, pe
 use Rattle.commit_laws.specs.Together.{Follows}
 use Rattle.commit_laws.specs.Traces.{replica_at, rows_at}
 use Rattle.commit_laws.specs.Transit.{AreInTransit, Takes}
-use Rattle.commit_laws.proofs.fates.Committed.{none_passes}
 use Rattle.commit_laws.proofs.commits.Places.{At, in_at, within_at}
 use Rattle.commit_laws.proofs.fates.Going.{each_passing, hale_made}
 use Rattle.commit_laws.proofs.records.MemberKeeps.{between_keeps}

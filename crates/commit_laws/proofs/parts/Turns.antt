@@ -30,7 +30,7 @@ use Rattle.tc_block.specs.Touched.{fits}
 use Rattle.tc_block.specs.Turn.{Turn}
 use Rattle.tc_block.proofs.EachTurn.{AbortForms, CommittedForms, TurnFormsAt, ready_is, rows_at}
 use Rattle.tc_block.proofs.TurnRows.{turn_for, turn_with, tx_in}
-use Rattle.outcome_laws.proofs.coordinators.Steps as walk
+use Rattle.tc_block.proofs.EachResume as walk
 
 module _ (layout : Layout) (tx : TxId) where
   -- an operation is asked for, of the primary of its key

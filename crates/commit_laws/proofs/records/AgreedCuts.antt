@@ -1,7 +1,6 @@
 -- Records of whoever takes effect in a later cut agree: it isn't lost in the cut.
-use Rattle.std.proofs.Common.{◌≡◌, ◌++◌, ◌&&◌, ◌||◌, ◌∙◌, ℕ, Bool, true, false, not, filter, List, [], ◌∷◌, refl, sym}
+use Rattle.std.proofs.Common.{◌≡◌, ◌++◌, ◌&&◌, ◌||◌, ◌∙◌, ℕ, Bool, true, false, not, List, [], ◌∷◌, refl, sym}
 use Rattle.std.proofs.Common.{ap, subst}
-use Rattle.std.proofs.Math.Path.{fun_ext}
 use Rattle.std.proofs.lemmas.Bool.{true≢false}
 use Rattle.run_theory.specs.Cuts.{IsCut}
 use Rattle.run_theory.specs.Lists.{IsIn, IsPast}
@@ -12,18 +11,17 @@ use Rattle.sig_core.specs.declared.member.TxId.{TxId}
 use Rattle.sig_core.specs.Same.{same_tx}
 use Rattle.sig_core.proofs.Keys.{same_tx-self}
 use Rattle.tc_block.specs.Doom.{is_among}
-use Rattle.world_core.specs.History.{history, is_kept}
+use Rattle.world_core.specs.History.{history}
 use Rattle.world_core.specs.Hosts.{hosts}
 use Rattle.world_core.specs.Start.{Start, made}
 use Rattle.world_core.specs.Steps.{HostStep}
-use Rattle.view_laws.proofs.eras.Entries.{stand_in_order}
-use Rattle.view_laws.proofs.eras.Order.{run_in_views}
-use Rattle.view_laws.specs.Order.{by_views, entries_along}
+use Rattle.view_laws.specs.Order.{by_views}
 use Rattle.view_laws.specs.Runs.{AreOfCluster}
-use Rattle.moment_laws.proofs.MomentRuns.{are_moments}
+use Rattle.moment_laws.proofs.MomentRuns.{are_moments, logs_in_views}
 use Rattle.moment_laws.specs.Moments.{logs_of}
 use Rattle.moment_laws.specs.Places.{tc_of}
 use Rattle.outcome_laws.specs.Counts.{coordinator_member}
+use Rattle.commit_laws.proofs.led.CutsLegal.{history_in_views}
 use Rattle.commit_laws.specs.Cuts.{IsAnsweredOn, RecordsAgree}
 use Rattle.commit_laws.specs.Going.{is_back, is_forth, is_lost, own_coordinator}
 use Rattle.commit_laws.specs.Values.{history_at, is_final}
@@ -46,26 +44,19 @@ module _ (start : Start) (logs : ℕ → List HostStep) (are : AreOfCluster star
   abbrev events : List HostStep
   events = in_order (by_views start logs)
 
-  logs_are : logs_of start (in_order (by_views start logs)) ≡ logs
-  logs_are = fun_ext (λ h. (run_in_views start logs are).has h)
-
-  history_is : history_at start events events ≡ history (hosts start) logs
-  history_is =
-      ap (λ (ls : ℕ → List HostStep). filter (is_kept (hosts start) ls) (entries_along start events)) logs_are
-      ∙ ap (filter (is_kept (hosts start) logs)) (sym (stand_in_order start logs are))
-
   -- whoever has an entry in their history went forth
   module _ (tx : TxId) (entry : Entry) (inside : IsIn entry (history (hosts start) logs)) (own : entry.tx ≡ tx) where
     final : is_final start events tx ≡ true
     final =
         any_of (λ (b : Entry). same_tx b.tx tx) (history_at start events events) entry
-        (subst (IsIn entry) (sym history_is) inside) (ap (λ (v : TxId). same_tx v tx) own ∙ same_tx-self tx)
+        (subst (IsIn entry) (sym (history_in_views start logs are)) inside)
+        (ap (λ (v : TxId). same_tx v tx) own ∙ same_tx-self tx)
 
     forth_at_end : is_forth start (logs_of start events) tx ≡ true
     forth_at_end = finals_are_forth start logs events (are_moments start logs are) tx final
 
     went_forth : is_forth start logs tx ≡ true
-    went_forth = subst (λ ls. is_forth start ls tx ≡ true) logs_are forth_at_end
+    went_forth = subst (λ ls. is_forth start ls tx ≡ true) (logs_in_views start logs are) forth_at_end
 
     coordinator_made : IsIn (coordinator_member tx) (made start)
     coordinator_made = forth_made start logs events (are_moments start logs are) tx forth_at_end
@@ -96,6 +87,6 @@ pub records_agree : RecordsAgree
 records_agree start small large are_small are_large cut tx key answered entry inside own =
     subst
     (λ ls. is_lost start ls tx ≡ false → IsAnsweredOn start ls tx key → Agree start ls tx key)
-    (logs_are start small are_small)
+    (logs_in_views start small are_small)
     (records_agree_always start small (in_order (by_views start small)) (are_moments start small are_small) tx key)
     (not_lost start large are_large tx entry inside own small cut) answered

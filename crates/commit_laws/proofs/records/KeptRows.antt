@@ -51,7 +51,7 @@ first_of : (xs : List Member) (x : Member) → IsIn x xs → First xs
 first_of [] x there = absurd there
 first_of (y ∷ ys) x there = record { one = y; is = refl }
 
-some_is : (r own : PendingRecord) → Some r ≡ Some own → r ≡ own
+pub some_is : (r own : PendingRecord) → Some r ≡ Some own → r ≡ own
 some_is r own is = cc
 
 module _ (forth : ForthIsKnownAlways) (remembered : CommitsAreRemembered) (acknowledged : AcknowledgedAreKnown)

@@ -23,6 +23,7 @@ use Rattle.row_locks.specs.Rows.{RowLock, asked, grown_old, unwaited}
 use Rattle.row_locks.proofs.OrderlyLemmas.{grown_old_orderly}
 use Rattle.lqh_block.specs.declared.request.Request.{Request}
 use Rattle.lqh_block.specs.Work.{work_mode}
+use Rattle.key_laws.proofs.KeyAfter.{asked_lock, served_lock}
 use Rattle.key_laws.specs.Primary.{HasPrepared, HoldOn}
 use Rattle.key_laws.specs.PrimaryLaws.{nobody_gone}
 use Rattle.key_laws.specs.Records.{committed_row, found, seen_by}
@@ -84,15 +85,6 @@ asked_row r now q refused (Queued ahead) = refl
 served_row : (r : Replica) (refused : Bool) (o : Option Request) → (served_by r refused o).cell.row ≡ r.cell.row
 served_row r refused None = refl
 served_row r refused (Some q) = worked_row r.cell q.tx refused q.work
-
-asked_lock : (r : Replica) (now : RowLock) (q : Request) (refused : Bool) (answer : Lock)
-    → (asked_by r now q refused answer).lock ≡ now
-asked_lock r now q refused Granted = refl
-asked_lock r now q refused (Queued ahead) = refl
-
-served_lock : (r : Replica) (refused : Bool) (o : Option Request) → (served_by r refused o).lock ≡ r.lock
-served_lock r refused None = refl
-served_lock r refused (Some q) = refl
 
 module _ (tx : TxId) (r : Replica) (orderly : IsOrderly r.lock) where
   -- nobody else has something prepared where it holds the lock

@@ -26,6 +26,7 @@ use Rattle.row_locks.specs.Rows.{RowLock, asked, grown_old}
 use Rattle.row_locks.proofs.OrderlyLemmas.{grown_old_orderly}
 use Rattle.lqh_block.specs.declared.request.Request.{Request}
 use Rattle.lqh_block.specs.Work.{op_mode, work_mode}
+use Rattle.key_laws.proofs.KeyAfter.{asked_lock, served_lock}
 use Rattle.key_laws.specs.LockLaws.{is_attended}
 use Rattle.key_laws.specs.Records.{AreOnce, as_committed, committed, edited, found, if_committed, seen_by}
 use Rattle.key_laws.specs.Records.{unless_committed}
@@ -58,15 +59,6 @@ module _ (tx : TxId) where
   lets_go (completes u) = same_tx u tx
   lets_go (aborts u) = same_tx u tx
   lets_go event = false
-
-  asked_lock : (r : Replica) (now : RowLock) (q : Request) (refused : Bool) (answer : Lock)
-      → (asked_by r now q refused answer).lock ≡ now
-  asked_lock r now q refused Granted = refl
-  asked_lock r now q refused (Queued ahead) = refl
-
-  served_lock : (r : Replica) (refused : Bool) (o : Option Request) → (served_by r refused o).lock ≡ r.lock
-  served_lock r refused None = refl
-  served_lock r refused (Some q) = refl
 
   pub hold_after : (event : Event) (r : Replica) → IsOrderly r.lock → lets_go event ≡ false → holds r ≡ true
       → holds (key_after event r) ≡ true

@@ -1,6 +1,6 @@
 -- No transaction has two records on a key, after every log of the host of the rows.
 use Rattle.std.proofs.Common.{◌≡◌, ℕ, Bool, true, false, filter, map, List, [], ◌∷◌, refl, sym, subst}
-use Rattle.std.specs.Prelude.{Option, None, Some}
+use Rattle.std.specs.Prelude.{Option}
 use Rattle.run_theory.specs.Lists.{IsIn}
 use Rattle.sig_core.specs.declared.member.Member.{Member}
 use Rattle.sig_core.specs.declared.member.TxId.{TxId}
@@ -12,24 +12,19 @@ use Rattle.sig_core.specs.declared.signal.Signal.{Signal}
 use Rattle.sig_core.specs.declared.signal.chain.RowWork.{RowWork}
 use Rattle.sig_core.specs.declared.signal.chain.RowWork.TheVariants.{Operate, Store}
 use Rattle.sig_core.specs.declared.view.View.{View}
-use Rattle.sig_core.specs.Firsts.{first}
 use Rattle.sig_core.specs.Op.{answer_to, image_of, key_of}
 use Rattle.sig_core.specs.Rows.{RowsState, is_on, no_rows, prepared, put_row}
-use Rattle.row_locks.specs.declared.mode.Lock.{Lock}
-use Rattle.row_locks.specs.declared.mode.Lock.TheVariants.{Granted, Queued}
-use Rattle.row_locks.specs.Rows.{asked}
-use Rattle.lqh_block.specs.declared.request.Request.{Request}
-use Rattle.lqh_block.specs.Work.{work_mode}
 use Rattle.lqh_views.specs.Replica.{installed, replica_row}
 use Rattle.lqh_views.specs.State.{ReplicaState}
 use Rattle.node_core.specs.Fresh.{own_rows, with_rows}
-use Rattle.key_laws.specs.Records.{AreOnce, as_committed, found, if_committed, seen_by, unless_committed, without_epoch}
-use Rattle.key_laws.specs.Replica.{Cell, Event, Replica, aborts, ages, asked_by, asks, at_key, commits, completes}
-use Rattle.key_laws.specs.Replica.{expires, is_let_in, key_after, operated, rests, served_by, serves, storing, worked}
-use Rattle.key_laws.proofs.RecordLemmas.{committed_keeps, if_keeps, once-edited, once-stored, unless_keeps}
+use Rattle.key_laws.specs.Records.{AreOnce, found, seen_by, without_epoch}
+use Rattle.key_laws.specs.Replica.{Cell, Replica, at_key}
+use Rattle.key_laws.specs.Replica.{operated, storing, worked}
+use Rattle.key_laws.proofs.RecordLemmas.{once-stored}
 use Rattle.host_laws.specs.ReplicaLaws.{IsWell}
 use Rattle.world_core.specs.Start.{Start, made}
 use Rattle.world_core.specs.Steps.{HostStep}
+use Rattle.run_laws.proofs.fades.Records.{once_after}
 use Rattle.request_laws.specs.Blocks.{rows_after}
 use Rattle.request_laws.specs.Replicas.{event_under}
 use Rattle.request_laws.proofs.replicas.KeyEvents.{installations_keep_well, signals_are_events, signals_keep_well}
@@ -53,27 +48,6 @@ once_worked : (c : Cell) (v : TxId) (refused : Bool) (w : RowWork) → AreOnce c
 once_worked c v refused (Store key image) once = once_storing c v key image refused once
 once_worked c v refused (Operate op) once =
     once_operated c v op refused (answer_to op (seen_by c.row (found v c.pending))) once
-
-once_after : (event : Event) (r : Replica) → AreOnce r.cell.pending → AreOnce (key_after event r).cell.pending
-once_after rests r once = once
-once_after (asks q refused) r once = by (asked r.lock q.tx (work_mode q.work)).answer
-  where
-    by : (answer : Lock)
-        → AreOnce (asked_by r (asked r.lock q.tx (work_mode q.work)).lock q refused answer).cell.pending
-    by Granted = once_worked r.cell q.tx refused q.work once
-    by (Queued ahead) = once
-once_after (serves refused) r once = by (first (is_let_in r.lock) r.waiting)
-  where
-    by : (o : Option Request) → AreOnce (served_by r refused o).cell.pending
-    by None = once
-    by (Some q) = once_worked r.cell q.tx refused q.work once
-once_after (commits tx true) r once = once-edited as_committed committed_keeps tx r.cell.pending once
-once_after (commits tx false) r once = once-edited as_committed committed_keeps tx r.cell.pending once
-once_after (completes tx) r once = once-edited unless_committed unless_keeps tx r.cell.pending once
-once_after (aborts tx) r once = once-edited if_committed if_keeps tx r.cell.pending once
-once_after (expires tx) r once = once
-once_after (ages None) r once = once
-once_after (ages (Some tx)) r once = once
 
 -- rows that are well and have each record once
 record AreSo (s : ReplicaState) : Type 0 where

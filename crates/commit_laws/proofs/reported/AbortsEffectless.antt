@@ -2,7 +2,6 @@
 use Rattle.std.proofs.Common.{◌≡◌, ◌≢◌, ◌≤◌, ◌+◌, ◌∙◌, ℕ, zero, suc, Bool, true, false, List, [], ◌∷◌, refl, sym, ap}
 use Rattle.std.proofs.Common.{subst, arith, inl, inr}
 use Rattle.std.proofs.lemmas.Bool.{or_left, or_right}
-use Rattle.std.proofs.Math.Path.{fun_ext}
 use Rattle.std.specs.List.{count_by}
 use Rattle.run_theory.proofs.Pasts.{each_from, each_in}
 use Rattle.run_theory.specs.Lists.{Each}
@@ -24,10 +23,9 @@ use Rattle.world_core.specs.Hosts.{hosts}
 use Rattle.world_core.specs.Marks.{has_mark}
 use Rattle.world_core.specs.Start.{Start}
 use Rattle.world_core.specs.Steps.{HostStep}
-use Rattle.view_laws.proofs.eras.Order.{run_in_views}
 use Rattle.view_laws.specs.Order.{by_views}
 use Rattle.view_laws.specs.Runs.{AreOfCluster}
-use Rattle.moment_laws.proofs.MomentRuns.{are_moments}
+use Rattle.moment_laws.proofs.MomentRuns.{are_moments, logs_in_views}
 use Rattle.moment_laws.specs.Moments.{IsMoment, logs_of}
 use Rattle.outcome_laws.proofs.downfall.NeverDecided.{none_down_decided}
 use Rattle.outcome_laws.proofs.once.ReportedOnce.{reported_once}
@@ -110,16 +108,14 @@ module _ (reported : ReportedAbort) (applied : AppliedCommit) (start : Start) (l
     abbrev events : List HostStep
     events = in_order (by_views start logs)
 
-    logs_are : logs_of start events ≡ logs
-    logs_are = fun_ext (λ h. (run_in_views start logs are).has h)
-
     moment : IsMoment start logs events
     moment = are_moments start logs are
 
     fate_is : fate start (logs_of start events) tx ≡ aborts
     fate_is =
         reported start logs events moment tx why not_down
-        (subst (λ (ls : ℕ → List HostStep). IsMarked (Reported tx (Aborted why)) (ls 0)) (sym logs_are) marked)
+        (subst (λ (ls : ℕ → List HostStep). IsMarked (Reported tx (Aborted why)) (ls 0))
+        (sym (logs_in_views start logs are)) marked)
 
     none_reported : (h : ℕ) → has_mark (is_reported tx) (logs h) ≡ true → ⊥
     none_reported zero has = reported_apart start logs are tx why marked has
@@ -130,7 +126,7 @@ module _ (reported : ReportedAbort) (applied : AppliedCommit) (start : Start) (l
     final_one entry kept is = record {
       entry = entry;
       tx_is = is;
-      kept = ap (λ (ls : ℕ → List HostStep). is_kept (hosts start) ls entry) logs_are ∙ kept;
+      kept = ap (λ (ls : ℕ → List HostStep). is_kept (hosts start) ls entry) (logs_in_views start logs are) ∙ kept;
     }
 
     -- an entry of it takes no effect
@@ -142,7 +138,8 @@ module _ (reported : ReportedAbort) (applied : AppliedCommit) (start : Start) (l
         by (by_write wrote key at) =
             not_both (sym (applied start logs events moment tx key at) ∙ fate_is)
         by (by_report wrote h has) =
-            none_reported h (subst (λ (ls : ℕ → List HostStep). has_mark (is_reported tx) (ls h) ≡ true) logs_are has)
+            none_reported h (subst (λ (ls : ℕ → List HostStep). has_mark (is_reported tx) (ls h) ≡ true)
+            (logs_in_views start logs are) has)
 
     none_kept : Each (λ (entry : Entry). same_tx entry.tx tx ≡ false) (history (hosts start) logs)
     none_kept =

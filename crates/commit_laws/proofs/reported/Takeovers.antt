@@ -1,5 +1,5 @@
 -- A takeover that is complete in a view has told the client's side of each commit of which only members know.
-use Rattle.std.proofs.Common.{◌≡◌, ◌≢◌, ◌⊎◌, ◌∙◌, ◌≤◌, ◌<◌, ◌==◌, ◌+◌, ◌++◌, ℕ, Bool, true, false, append-nil, nat_lt}
+use Rattle.std.proofs.Common.{◌≡◌, ◌≢◌, ◌⊎◌, ◌∙◌, ◌<◌, ◌==◌, ◌+◌, ◌++◌, ℕ, Bool, true, false, append-nil, nat_lt}
 use Rattle.std.proofs.Common.{length, List, [], ◌∷◌, inl, inr, refl, sym, ap, subst, arith}
 use Rattle.std.proofs.lemmas.Bool.{eqb-true, true≢false}
 use Rattle.std.proofs.lemmas.Bool.Decides.{nat_tests}
@@ -54,8 +54,8 @@ use Rattle.moment_laws.specs.Parts.{Enters, IsPassed, enters, stays}
 use Rattle.moment_laws.specs.Places.{tc_of}
 use Rattle.moment_laws.proofs.MomentHosts.{TcHost, of_none, of_tc, part_some, tc_host_is, tc_low}
 use Rattle.moment_laws.proofs.MomentMembers.{current_made}
-use Rattle.moment_laws.proofs.MomentTurns.{current_rises, host_low, old_current}
-use Rattle.moment_laws.proofs.MomentViews.{current_above, current_number, moment_less, number_in, stands_in_current}
+use Rattle.moment_laws.proofs.MomentTurns.{host_low}
+use Rattle.moment_laws.proofs.MomentViews.{current_number, moment_less, number_in, stands_in_current}
 use Rattle.moment_laws.proofs.PartTaken.{IsTakenNow, passed_now}
 use Rattle.outcome_laws.proofs.order.BeforeInLists.{in_either}
 use Rattle.outcome_laws.specs.Counts.{coordinator_member}
@@ -83,7 +83,7 @@ use Rattle.commit_laws.proofs.hosts.Goes.{HostGoes, halts, host_goes, leaves, ta
 use Rattle.commit_laws.proofs.reported.Rulings.{AreLast, IsLast, SaidBy, TellsAll, goes_on_telling, tells_more}
 use Rattle.commit_laws.proofs.reported.Sent.{CanTell, IsNew, IsPutAt, can_before, comes_now, goes_on_link, new_sent}
 use Rattle.commit_laws.proofs.reported.Sent.{put_at, was_there}
-use Rattle.commit_laws.proofs.fates.SpokenHost.{StandsStill}
+use Rattle.commit_laws.proofs.fates.SpokenHost.{StandsStill, stood_still}
 use Rattle.commit_laws.proofs.fates.SpokenTakeover.{IsAbortingAt}
 use Rattle.commit_laws.proofs.takeover.GoesOn.{stands_on}
 use Rattle.commit_laws.proofs.takeover.Words.{Aborts}
@@ -95,7 +95,7 @@ made_sound start tx there =
     let low = node_low start (coordinator_member tx) there in
     grind (arith, nat_tests, some, low)
 
-led_fate : (known full forth lost trace : Bool) → fate_if known full forth lost trace ≡ undetermined → full ≡ true
+pub led_fate : (known full forth lost trace : Bool) → fate_if known full forth lost trace ≡ undetermined → full ≡ true
 led_fate true full forth lost trace is = absurd cc
 led_fate false true forth lost trace is = refl
 led_fate false false forth lost true is = absurd cc
@@ -122,7 +122,7 @@ unsound_aborts start all es moment tx off = by (fate start (logs_of start es) tx
         (current_made start all es moment one.one one.there)))
 
 -- a view with a member counts some
-has_members : (view : View) (m : Member) → IsIn m view.full → (member_count view == 0) ≡ true → ⊥
+pub has_members : (view : View) (m : Member) → IsIn m view.full → (member_count view == 0) ≡ true → ⊥
 has_members view m there none = by view.full there none
   where
     by : (xs : List Member) → IsIn m xs → (length xs + length view.starting == 0) ≡ true → ⊥
@@ -207,16 +207,6 @@ module _ (list : GatheringsList) (start : Start) (all : ℕ → List HostStep) (
       abbrev S : TxId → Type 0
       S tx = IsSaid start (logs_of start (e ∷ es)) tx (sent (sound_machine start) (tc_of start member) 0 log)
 
-      still_by : (number : ℕ) → number ≡ current_number start new → number ≤ number_in start old h
-          → StandsStill start e es member
-      still_by number is low =
-          let above = current_above start old h (tc_low start member there) in
-          let rises = current_rises start all e es moment in
-          record {
-            current_is = old_current start all e es moment (omega (arith, is, low, above, rises));
-            number_is = omega (arith, is, low, above, rises);
-          }
-
       was : StandsStill start e es member → IsRunning n log → CanTell start h log
           → TellsAll O S (takeover_after start member log)
       was still runs can =
@@ -284,7 +274,7 @@ module _ (list : GatheringsList) (start : Start) (all : ℕ → List HostStep) (
               still : StandsStill start e es member
               still =
                   let number : view.number ≡ stood.number = ap (λ (v : View). v.number) same in
-                  still_by view.number stands (omega (arith, number))
+                  stood_still start all e es moment member there view.number stands (omega (arith, number))
 
               takeover_same : takeover_after start member log ≡ own.own.takeover
               takeover_same = takeover_is start member h log refl own.own own.runs
@@ -422,7 +412,8 @@ module _ (list : GatheringsList) (start : Start) (all : ℕ → List HostStep) (
               where
                 next_view : step.state.standing.view ≡ view
                 next_view =
-                    ap (λ (s : hosts.HostBody). s.standing.view) (sym (told_some h (part_some start kinds.Tc member) step))
+                    ap (λ (s : hosts.HostBody). s.standing.view)
+                    (sym (told_some h (part_some start kinds.Tc member) step))
 
                 by : HostGoes start.shape (part.Tc own.own) stood x step → Behind
                 by (halts is) = absurd (true≢false (sym (ap stops_by marks ∙ is) ∙ runs))
@@ -537,7 +528,8 @@ module _ (list : GatheringsList) (start : Start) (all : ℕ → List HostStep) (
           (λ log. (view_after start h log).number ≡ current_number start new → IsRunning n log → CanTell start h log
           → TellsAll O (λ tx. IsSaid start new tx (sent n h 0 log)) (takeover_after start member log))
           (λ at stands runs can. tells_now at can stands runs)
-          (λ off stands. was (still_by (number_in start old h) stands (omega arith)))
+          (λ off stands. was (stood_still start all e es moment member there (number_in start old h) stands
+          (omega arith)))
 
     -- and so it is of each word that a takeover is complete
     module _ (tells : (member : Member) → IsIn member (made start) → TakeoverTells start (logs_of start es) member)

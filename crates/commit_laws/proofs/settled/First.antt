@@ -47,7 +47,8 @@ module _ (start : Start) where
 
     none_wait : (rows_at start none member).lqh.waiting ≡ []
     none_wait =
-        ap (λ (s : node.HostBody). (rows_in (no_replica start member) s.parts).lqh.waiting) (ldm_started start member there)
+        ap (λ (s : node.HostBody). (rows_in (no_replica start member) s.parts).lqh.waiting)
+        (ldm_started start member there)
 
     abbrev FirstIsRuled : List Gathered → Type 0
     FirstIsRuled gathered =

@@ -1,5 +1,5 @@
 -- What stands of takeovers stands behind each event.
-use Rattle.std.proofs.Common.{◌≡◌, ◌∙◌, ◌≤◌, ℕ, true, List, ◌∷◌, refl, sym, ap, subst, arith}
+use Rattle.std.proofs.Common.{◌≡◌, ◌∙◌, ℕ, true, List, ◌∷◌, refl, sym, ap, subst, arith}
 use Rattle.run_theory.specs.Lists.{Each, IsIn}
 use Rattle.run_theory.proofs.EventCases.{event_cases}
 use Rattle.sig_core.specs.declared.member.Member.{Member}
@@ -28,9 +28,7 @@ use Rattle.moment_laws.specs.Moments.{IsMoment, current, logs_of}
 use Rattle.moment_laws.specs.Parts.{IsPassed}
 use Rattle.moment_laws.specs.PartSteps.{PartEnters, PartTakes, handles, ignores, installs, remains, tc_kind}
 use Rattle.moment_laws.specs.Places.{tc_of}
-use Rattle.moment_laws.proofs.MomentHosts.{tc_low}
-use Rattle.moment_laws.proofs.MomentTurns.{current_rises, old_current}
-use Rattle.moment_laws.proofs.MomentViews.{current_above, current_number, number_in}
+use Rattle.moment_laws.proofs.MomentViews.{current_number, number_in}
 use Rattle.moment_laws.proofs.PartTaken.{IsTakenNow}
 use Rattle.outcome_laws.specs.Tells.{TellsOfRecord}
 use Rattle.request_laws.specs.Blocks.{takeover_after}
@@ -45,7 +43,7 @@ use Rattle.commit_laws.specs.Together.{FatesMove, Follows}
 use Rattle.commit_laws.proofs.fates.Forth.{commits_more}
 use Rattle.commit_laws.proofs.forth.Speaks.{Anyone, Of}
 use Rattle.commit_laws.proofs.fates.SpokenEvents.{fenced_keeps}
-use Rattle.commit_laws.proofs.fates.SpokenHost.{StandsStill, between_closes, taken}
+use Rattle.commit_laws.proofs.fates.SpokenHost.{between_closes, stood_still, taken}
 use Rattle.commit_laws.proofs.fates.SpokenTakeover.{Hears, TakeoverIs, goes_on_so, is_installed}
 use Rattle.commit_laws.proofs.takeover.GoesOn.{stands_on, takeover_goes}
 use Rattle.commit_laws.proofs.takeover.Words.{Aborts, Commits, IsRight, Stands, is_stands}
@@ -74,17 +72,6 @@ module _ (whole : GatheringsAreWhole) (start : Start) (all : ℕ → List HostSt
 
     abbrev Has : TakeoverState → Type 0
     Has s = TakeoverIs (Aborts start new) (Commits start new) (IsRight start new) s
-
-    -- where the host stands in the current view behind the event, and stood in that of this number before
-    still_by : (number : ℕ) → number ≡ current_number start new → number ≤ number_in start old h
-        → StandsStill start e es member
-    still_by number is low =
-        let above = current_above start old h (tc_low start member there) in
-        let rises = current_rises start all e es moment in
-        record {
-          current_is = old_current start all e es moment (omega (arith, is, low, above, rises));
-          number_is = omega (arith, is, low, above, rises);
-        }
 
     module _ (at : e.host ≡ tc_of start member) where
       abbrev step : TcStep start (tc_of start member) log e
@@ -145,7 +132,7 @@ module _ (whole : GatheringsAreWhole) (start : Start) (all : ℕ → List HostSt
             subst (λ (q : TcPart). Has q.takeover) (sym same)
             (subst Has (takeover_is start member h log refl p step.runs)
             (stands_on start all e es follows moves member there
-            (still_by view.number stands (omega (arith, number)))))
+            (stood_still start all e es moment member there view.number stands (omega (arith, number)))))
         between_has (installs above same still none) =
             subst (λ (q : TcPart). Has q.takeover) (sym same)
             (is_installed (Aborts start new) (Commits start new) (IsRight start new) p.takeover x.view)
@@ -187,7 +174,7 @@ module _ (whole : GatheringsAreWhole) (start : Start) (all : ℕ → List HostSt
         own_next
         (λ off stands.
         stands_on start all e es follows moves member there
-        (still_by (number_in start old h) stands (omega arith)))
+        (stood_still start all e es moment member there (number_in start old h) stands (omega arith)))
 
     -- the takeover has the layout of the view in which its host stands
     laid : (takeover_at start new member).layout.view ≡ view_after start (tc_of start member) (new (tc_of start member))

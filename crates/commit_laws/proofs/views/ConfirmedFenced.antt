@@ -3,7 +3,7 @@
 use Rattle.std.proofs.Common.{◌≡◌, ◌≤◌, ◌==◌, ◌&&◌, ◌||◌, ◌+◌, ◌++◌, ℕ, Bool, true, false, cond, filter, List, [], ◌∷◌}
 use Rattle.std.proofs.Common.{refl, sym, ap, subst, inl, inr, arith}
 use Rattle.std.proofs.lemmas.Bool.{true≢false}
-use Rattle.std.specs.Prelude.{Option, None, Some, if◌then◌else◌, not}
+use Rattle.std.specs.Prelude.{if◌then◌else◌, not}
 use Rattle.frag_map.specs.Layout.{first_layout}
 use Rattle.run_theory.specs.Counts.{one_if, tally}
 use Rattle.run_theory.specs.Links.{IsGiven, is_from, put, sent, taken}
@@ -34,9 +34,9 @@ use Rattle.view_laws.specs.Votes.{main_of}
 use Rattle.view_laws.proofs.eras.Shapes.{shape_stays}
 use Rattle.view_laws.proofs.fences.Answers.{confirms_fence, confs_none, few_more, sent_few, unasked}
 use Rattle.view_laws.proofs.fences.AskedAndConfirmed.{IsAskedAs, IsHeard, confirmed_heard, confs_by, confs_of}
-use Rattle.view_laws.proofs.fences.WhatLinksOwe.{HasTaken, IsThere, asks_fence, in_ldm, running}
+use Rattle.view_laws.proofs.fences.WhatLinksOwe.{HasTaken, asks_fence, in_ldm, not_below, running}
 use Rattle.view_laws.proofs.fences.Links.{requests_high_past}
-use Rattle.view_laws.proofs.fences.Raised.{IsFencedAt, taken_fenced}
+use Rattle.view_laws.proofs.fences.Raised.{taken_fenced}
 use Rattle.view_laws.proofs.fences.Seen.{fence_is, fence_or, fence_seen}
 use Rattle.view_laws.proofs.fences.AlwaysThere.{fences_are_there}
 use Rattle.view_laws.proofs.follow.TakenOnce.{IsTakenOnce, taken_once}
@@ -236,11 +236,6 @@ module _ (start : Start) (all : ℕ → List HostStep) (es : List HostStep) (mom
           sent_fewer start confirms_fence host main (logs host),
           sent_few start all moment.cluster me there at fenced (logs host) (moment.inside host),
         )
-
-    not_below : (number view : ℕ) (fence : Option ℕ) → IsThere fence → IsFencedAt number fence
-        → number ≤ fence_or fence view
-    not_below number view None there low = absurd there
-    not_below number view (Some fence) there low = low
 
     asked_later : (number rank : ℕ) → IsAskedAs me (first_layout start.shape) (events_in start logs me) number rank
         → IsAskedAs me (first_layout start.shape) (events_in start all me) number rank

@@ -48,12 +48,14 @@ module _ (start : Start) (member : Member) (there : IsIn member (made start)) (t
     first_unknown = record {
       record_none =
           subst
-          (λ (s : node.HostBody). found tx (at_key key (rows_in (no_replica start member) s.parts).lqh).cell.pending ≡ None)
+          (λ (s : node.HostBody). found tx (at_key key (rows_in (no_replica start member) s.parts).lqh).cell.pending
+          ≡ None)
           (sym (ldm_started start member there))
           (ap (λ (xs : List PendingRecord). found tx (map without_epoch (filter (is_on key) xs)))
           (none_pending no_rows (own_rows start.shape member.node start.rows) start.start_epoch));
       marker_none =
-          ap (λ (s : node.HostBody). list_any (is_marker tx key) (rows_in (no_replica start member) s.parts).lqh.markers)
+          ap (λ (s : node.HostBody). list_any (is_marker tx key)
+          (rows_in (no_replica start member) s.parts).lqh.markers)
           (ldm_started start member there);
     }
 

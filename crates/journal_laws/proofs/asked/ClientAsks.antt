@@ -27,7 +27,7 @@ use Rattle.api_block.specs.Opened.{answered, asked_for, begun, begun_operating, 
 use Rattle.api_block.specs.State.{ApiState}
 use Rattle.api_block.proofs.ApiTurns.{ApiRequestForms, ApiSignalForms}
 use Rattle.api_views.specs.declared.closings.Closing.{Closing}
-use Rattle.api_views.specs.declared.closings.Closing.TheVariants.{Gcp, Micro}
+use Rattle.api_views.specs.declared.closings.Closing.TheVariants.{Gcp, Micro, Lcp}
 use Rattle.api_views.specs.Client.{client_row}
 use Rattle.api_views.specs.Closings.{ask_of}
 use Rattle.api_views.specs.Members.{noted, president}
@@ -123,6 +123,7 @@ module _ (a : ApiState) (all : Each OpensWell a.opened) where
 asks_well : (closing : Closing) (node : ℕ) → AsksWell (to_place (checkpoints node) (ask_of closing))
 asks_well Gcp node = tt
 asks_well Micro node = tt
+asks_well Lcp node = tt
 
 module _ (s : ClientState) (x : Signal) (all : ClientWell s) (asked : IsWellAsked x.body) where
   abbrev ClientGoes : Step ClientState → Type 0

@@ -18,10 +18,10 @@ use Rattle.gcp_master.specs.Resume.{knowing, learned_if}
 use Rattle.gcp_master.specs.Sends.{listing}
 use Rattle.gcp_master.specs.State.{MasterState, at_phase}
 use Rattle.gcp_master.specs.Voices.{is_among}
-use Rattle.gcp_master.proofs.Outcomes.{BeginOutcomes, Begins, Resumes, a_global, a_micro, at_end, beginning, heard_one}
-use Rattle.gcp_master.proofs.Outcomes.{known_with, master_outcomes, not_owing, nothing_asked, to_commit, to_copy}
-use Rattle.gcp_master.proofs.Outcomes.{to_prepare, voice_of}
-use Rattle.gcp_master.proofs.Walk.{listing_does, listing_state}
+use Rattle.gcp_master.proofs.Outcomes.{BeginOutcomes, Begins, Resumes, a_global, a_micro, at_end, beginning}
+use Rattle.gcp_master.proofs.Outcomes.{have_walked, heard_one, known_with, master_outcomes, not_owing, nothing_asked}
+use Rattle.gcp_master.proofs.Outcomes.{to_commit, to_copy, to_prepare, voice_of}
+use Rattle.gcp_master.proofs.Walk.{listing_does, listing_state, walking_does}
 use Rattle.journal_laws.proofs.epochs.Low.{IsLow, IsLowTold, TellsLow, next_global_low, next_micro_low, zero_low}
 
 -- the epoch in which it rests, or that is to follow
@@ -50,9 +50,10 @@ lists s at low = (
     saves = λ run member is there. tt;
     copies = λ run member is there. tt;
     tells_micro = λ epoch is. tt;
-    tells_global = λ epoch copy is. tt;
-    tells_members = λ epoch copy to member is one there. tt;
-    tells_copying = λ epoch is. tt;
+    tells_global = λ epoch copy local is. tt;
+    tells_members = λ epoch copy local to member is one there. tt;
+    tells_copying = λ epoch local is. tt;
+    switches = λ epoch copy member is there. tt;
     goes_on = λ left. tt;
   })).0,
 )
@@ -136,6 +137,14 @@ master_low s x low told =
             follows = λ phase asked is front. (begins_low _ run.next own phase asked is, tt);
             begins = λ phase asked is front. lists _ 0 (begins_low _ run.next own phase asked is);
           };
+      walks = λ is at first.
+          (low, (walking_does s TellsLow (λ (mark : Mark). Unit {0}) (λ member there. tt)).0);
+      hears_walk = λ epoch is at on some. (low, tt);
+      asks_walked = λ epoch is at on all. (low, tt);
+      asks_walked_resting = λ epoch current is at on all rests.
+          begins (have_walked s) current (is_some s.front) low (subst PhaseLow rests low);
+      hears_switch = λ epoch is at on some. (low, tt);
+      ends_local = λ epoch is at on all. (low, (tt, tt));
     })
   where
     knows : (known : Known) (t : Told) → IsLow known.next → IsLow t.next

@@ -54,7 +54,7 @@ module _ (s : RowsState) (log : List Redo) (is : IsOrderly s) (has : HasPrepares
   abort_has tx key (Some image) = has_aborted s (abort_record s tx key) log tx key has (aborts s tx key is).prepared
 
   -- what is prepared behind an event is in the log behind it
-  has_more : (event : Event) → HasPrepares (changed event s) (logged event s log)
+  pub has_more : (event : Event) → HasPrepares (changed event s) (logged event s log)
   has_more (Prepare tx fragment key image) =
       has_after s (storing s tx key image) log tx key fragment image has (stores s tx key image is)
   has_more (Commit tx key epoch) = commit_has tx key epoch (image_in s tx key) refl
@@ -77,7 +77,7 @@ module _ (s : RowsState) (log : List Redo) (is : IsOrderly s) (has : HasPrepares
   abort_applies epoch before tx key None = refl
   abort_applies epoch before tx key (Some image) = refl
 
-  replays_more : (epoch : ℕ) (before : Rows) (event : Event)
+  pub replays_more : (epoch : ℕ) (before : Rows) (event : Event)
       → replayed epoch before (logged event s log) ≡ left_by epoch event s (replayed epoch before log)
   replays_more epoch before (Prepare tx fragment key image) = refl
   replays_more epoch before (Commit tx key at) = commit_applies epoch before tx key at (image_in s tx key) refl

@@ -15,8 +15,9 @@ use Rattle.sig_core.specs.declared.outcome.Outcome.{Outcome}
 use Rattle.sig_core.specs.declared.outcome.Outcome.TheVariants as outcome
 use Rattle.sig_core.specs.declared.outs.Outgoing.{Outgoing}
 use Rattle.sig_core.specs.declared.signal.Body.{Body}
-use Rattle.sig_core.specs.declared.signal.Body.TheVariants.{Host, Client, Epoch}
+use Rattle.sig_core.specs.declared.signal.Body.TheVariants.{Host, Client, Epoch, Checkpoint}
 use Rattle.sig_core.specs.declared.signal.Signal.{Signal}
+use Rattle.sig_core.specs.declared.signal.checkpoint.CheckpointSignal.TheVariants.{LcpReq}
 use Rattle.sig_core.specs.declared.signal.client.ClientSignal.TheVariants.{TcBeginReq, TcKeyReq, TcCommitReq}
 use Rattle.sig_core.specs.declared.signal.client.ClientSignal.TheVariants.{TcCommitAck}
 use Rattle.sig_core.specs.declared.signal.client.ClientSignal.TheVariants.{TcRollbackReq, TcRollbackRep, TcWaitReq}
@@ -32,6 +33,7 @@ use Rattle.api_block.specs.Opened.{asked_for, has_tx, is_tx}
 use Rattle.api_views.specs.Client.{client_row}
 use Rattle.api_views.specs.Members.{noted}
 use Rattle.api_views.specs.State.{ClientState}
+use Rattle.outcome_laws.proofs.coordinators.Lists.{first_few}
 use Rattle.outcome_laws.specs.Counts.{count_open, count_sent, count_unwished, is_begin, is_committing, is_report}
 use Rattle.outcome_laws.specs.Counts.{is_unwished, is_wish, one_if}
 use Rattle.outcome_laws.proofs.client.Turns.{ArePlain, ClientForms, client_turns, is_plain}
@@ -88,6 +90,7 @@ plain_wish : (tx : TxId) (body : Body) → is_plain body ≡ true → is_wish tx
 plain_wish tx (Host told) is = refl
 plain_wish tx (Epoch (GcpReq by)) is = refl
 plain_wish tx (Epoch MicroReq) is = refl
+plain_wish tx (Checkpoint LcpReq) is = refl
 plain_wish tx (Client (TcBeginReq name)) is = refl
 plain_wish tx (Client (TcKeyReq other op)) is = refl
 plain_wish tx (Client (TcRollbackReq other)) is = refl
@@ -110,11 +113,6 @@ plain_count tx (sent ∷ sends) plain =
 and_true : (b : Bool) → (b && true) ≡ b
 and_true true = refl
 and_true false = refl
-
-and_less : (a b : Bool) → one_if (a && b) ≤ one_if a
-and_less true true = omega arith
-and_less true false = omega arith
-and_less false b = omega arith
 
 and_none : (a b : Bool) → b ≡ true → one_if (a && not b) ≡ 0
 and_none true true is = refl
@@ -264,7 +262,7 @@ module _ (tx : TxId) (opened : List OpenTransaction) (body : Body) where
         (omega (
           arith,
           plain_count tx sends plain,
-          and_less (has_tx tx u) (not (is_committing u.doing)),
+          first_few (has_tx tx u) (not (is_committing u.doing)),
           ap (λ o. one_if (is_tx tx o)) e,
           ap (λ b. one_if (is_begin tx b)) is,
         ));

@@ -17,8 +17,9 @@ use Rattle.sig_core.specs.declared.outs.Outgoing.{Outgoing}
 use Rattle.sig_core.specs.declared.place.BlockId.TheVariants.{Lqh, Qmgr}
 use Rattle.sig_core.specs.declared.request.ApiReq.{ApiReq}
 use Rattle.sig_core.specs.declared.signal.Body.{Body}
-use Rattle.sig_core.specs.declared.signal.Body.TheVariants.{Host, Client, Epoch}
+use Rattle.sig_core.specs.declared.signal.Body.TheVariants.{Host, Client, Epoch, Checkpoint}
 use Rattle.sig_core.specs.declared.signal.Signal.{Signal}
+use Rattle.sig_core.specs.declared.signal.checkpoint.CheckpointSignal.TheVariants.{LcpReq}
 use Rattle.sig_core.specs.declared.signal.client.ClientSignal.TheVariants.{TcBeginReq, TcBeginConf, TcKeyReq}
 use Rattle.sig_core.specs.declared.signal.client.ClientSignal.TheVariants.{TcCommitReq, TcCommitConf, TcCommitAck}
 use Rattle.sig_core.specs.declared.signal.client.ClientSignal.TheVariants.{TcRollbackReq, TcRollbackRep, TcKeyFailConf}
@@ -43,7 +44,7 @@ use Rattle.api_block.specs.State.{ApiState}
 use Rattle.api_block.proofs.ApiTurns.{ApiRequestForms, ApiSignalForms}
 use Rattle.api_block.proofs.Walk.{own_is}
 use Rattle.api_views.specs.declared.closings.Closing.{Closing}
-use Rattle.api_views.specs.declared.closings.Closing.TheVariants.{Gcp, Micro}
+use Rattle.api_views.specs.declared.closings.Closing.TheVariants.{Gcp, Micro, Lcp}
 use Rattle.api_views.specs.Client.{client_row}
 use Rattle.api_views.specs.Closings.{ask_of}
 use Rattle.api_views.specs.Members.{noted, president}
@@ -60,6 +61,7 @@ is_plain (Host (Continue (Transaction tx) at)) = false
 is_plain (Host told) = true
 is_plain (Epoch (GcpReq by)) = true
 is_plain (Epoch MicroReq) = true
+is_plain (Checkpoint LcpReq) = true
 is_plain (Client (TcBeginReq name)) = true
 is_plain (Client (TcKeyReq tx op)) = true
 is_plain (Client (TcRollbackReq tx)) = true
@@ -117,7 +119,7 @@ pub record ClientForms (opened : List OpenTransaction) (body : Body)
       → R (remove opened at) sends (Reported tx outcome.Unknown ∷ [])
 
 -- what the API tells all rows
-all_told : (told : News) (view : View) → ArePlain (telling_all told (everyone view))
+pub all_told : (told : News) (view : View) → ArePlain (telling_all told (everyone view))
 all_told told view = each_mapped IsPlain (telling told) (everyone view) (λ member. by told)
   where
     by : (news : News) → is_plain (news_body news) ≡ true
@@ -185,6 +187,7 @@ module _ (a : ApiState) (body : Body) (R : List OpenTransaction → List Outgoin
 asks_plain : (closing : Closing) (node : ℕ) → IsPlain (to_place (checkpoints node) (ask_of closing))
 asks_plain Gcp node = refl
 asks_plain Micro node = refl
+asks_plain Lcp node = refl
 
 more_plain : (b : Bool) → ArePlain (more_if b)
 more_plain b = more_each IsPlain refl b

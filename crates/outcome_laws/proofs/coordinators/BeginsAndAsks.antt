@@ -30,6 +30,7 @@ use Rattle.tc_block.specs.Turn.{Turn}
 use Rattle.tc_block.specs.declared.transaction.Transaction.{Transaction}
 use Rattle.tc_block.proofs.EachTurn.{rows_of}
 use Rattle.tc_block.proofs.LiveSplit.{AreOthers, Split, once_gone, once_inserted, once_set}
+use Rattle.tc_views.proofs.Walk.{coordinator_outcomes, inner}
 use Rattle.tc_views.specs.Coordinator.{coordinator_row, fresh_coordinator}
 use Rattle.tc_views.specs.Laws.{AreOnce}
 use Rattle.tc_views.specs.State.{CoordinatorState, go_on_if}
@@ -43,7 +44,6 @@ use Rattle.outcome_laws.proofs.coordinators.Claims.{turn_claims}
 use Rattle.outcome_laws.proofs.coordinators.Lists.{are_once, come_to, comes_to, count_between, count_both, count_more}
 use Rattle.outcome_laws.proofs.coordinators.Lists.{keys_once}
 use Rattle.outcome_laws.proofs.coordinators.Lists.{next_is_other, none_counted, put_last}
-use Rattle.outcome_laws.proofs.coordinators.Steps.{coordinator_each, inner}
 
 -- the same of the coordinator within its view as of the one under views
 record IsOf (member : Member) (s : TcState) : Type 0 where
@@ -368,7 +368,7 @@ module _ (member : Member) where
       → Leaves member s.tc (inner (coordinator_row s x))
   coordinator_leaves s x of =
       let own = within_view member s of in
-      coordinator_each (λ tx t turn. Claims s.tc.node tx t turn) (λ step. Leaves member s.tc step) s x (record {
+      coordinator_outcomes (λ tx t turn. Claims s.tc.node tx t turn) (λ step. Leaves member s.tc step) s x (record {
         calm = record {
           turns = λ tx t at split.
               rows_of s.tc.node s.tc.layout tx t x.body (λ turn. Claims s.tc.node tx t turn)

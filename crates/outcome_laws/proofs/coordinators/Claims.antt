@@ -19,6 +19,7 @@ use Rattle.sig_core.specs.Op.{key_of}
 use Rattle.sig_core.specs.Place.{epochs}
 use Rattle.sig_core.specs.Step.{to_place}
 use Rattle.frag_map.specs.Layout.{Layout, chain_of}
+use Rattle.tc_block.proofs.EachResume.{ResumeForms}
 use Rattle.tc_block.specs.Abort.{abort_end, is_verifying}
 use Rattle.tc_block.specs.Part.{part_effects, rest_if}
 use Rattle.tc_block.specs.Phases.{is_open}
@@ -31,7 +32,6 @@ use Rattle.tc_block.specs.declared.touched.Touched.{Touched}
 use Rattle.tc_block.specs.declared.transaction.Transaction.{Transaction}
 use Rattle.tc_block.proofs.EachTurn.{AbortForms, CommittedForms, TurnForms, ready_is}
 use Rattle.tc_views.specs.State.{go_on_if}
-use Rattle.outcome_laws.proofs.coordinators.Steps.{ResumeForms}
 
 -- the signal tells that a transaction has begun, asks for an epoch, or asks a coordinator for the commit
 abbrev pub is_claim : Body → Bool

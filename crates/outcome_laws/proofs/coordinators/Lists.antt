@@ -3,7 +3,7 @@
 use Rattle.std.proofs.Common.{◌≡◌, ◌∙◌, ◌+◌, ◌≤◌, ◌<◌, ℕ, Bool, true, false, cond, List, [], ◌∷◌, ◌++◌, arith, refl, ap}
 use Rattle.std.proofs.lemmas.Bool.{leb-false, leb-true}
 use Rattle.std.proofs.lemmas.List.Sums.{sum_by-append, sum_by-cons}
-use Rattle.std.specs.Prelude.{if◌then◌else◌, nat_le}
+use Rattle.std.specs.Prelude.{if◌then◌else◌, nat_le, ◌&&◌}
 use Rattle.std.specs.List.{count_by}
 use Rattle.indexmap.specs.IndexMap.{insert_entry}
 use Rattle.run_theory.specs.Lists.{Each}
@@ -63,6 +63,21 @@ put_last (e ∷ es) tx t others = by (same_tx tx e.0) (same_tx-swap tx e.0 ∙ o
     by true off more = absurd cc
     by false off more = ap (λ rest. e ∷ rest) more
 
+-- a test counts one at most, and two together no more than either
+pub one_few : (b : Bool) → one_if b ≤ 1
+one_few true = omega arith
+one_few false = omega arith
+
+pub first_few : (a b : Bool) → one_if (a && b) ≤ one_if a
+first_few true true = omega arith
+first_few true false = omega arith
+first_few false b = omega arith
+
+pub second_few : (a b : Bool) → one_if (a && b) ≤ one_if b
+second_few true b = omega arith
+second_few false true = omega arith
+second_few false false = omega arith
+
 -- one more entry
 pub count_more : {A : Type 0} (p : A → Bool) (x : A) (xs : List A)
     → count_by p (x ∷ xs) ≡ one_if (p x) + count_by p xs
@@ -71,6 +86,15 @@ count_more {A} p x xs = sum_by-cons (λ (y : A). cond (p y) 1 0) x xs ∙ ap (λ
     by : (b : Bool) → cond b 1 0 ≡ one_if b
     by true = refl
     by false = refl
+
+-- none is counted: each fails the test
+pub none_passes : {A : Type 0} (p : A → Bool) (xs : List A) → count_by p xs ≡ 0 → Each (λ x. p x ≡ false) xs
+none_passes p [] none = tt
+none_passes p (x ∷ xs) none = (by (p x) refl, none_passes p xs (omega (arith, none, count_more p x xs)))
+  where
+    by : (b : Bool) → p x ≡ b → b ≡ false
+    by false is = refl
+    by true is = absurd (omega (arith, none, count_more p x xs, ap one_if is))
 
 pub count_both : {A : Type 0} (p : A → Bool) (xs ys : List A)
     → count_by p (xs ++ ys) ≡ count_by p xs + count_by p ys

@@ -16,6 +16,7 @@ use Rattle.sig_core.specs.Op.{key_of}
 use Rattle.sig_core.specs.Same.{same_tx}
 use Rattle.sig_core.specs.Step.{Step}
 use Rattle.frag_map.specs.Layout.{Layout, chain_of}
+use Rattle.tc_block.proofs.EachResume.{ResumeForms}
 use Rattle.tc_block.specs.Abort.{abort_end, is_verifying}
 use Rattle.tc_block.specs.Live.{turned, turned_if, without}
 use Rattle.tc_block.specs.Operate.{fresh}
@@ -31,12 +32,12 @@ use Rattle.tc_block.specs.declared.touched.Touched.{Touched}
 use Rattle.tc_block.specs.declared.transaction.Transaction.{Transaction}
 use Rattle.tc_block.proofs.EachTurn.{AbortForms, CommittedForms, TurnForms, rows_of}
 use Rattle.tc_block.proofs.LiveSplit.{Live, Split}
+use Rattle.tc_views.proofs.Walk.{coordinator_outcomes, inner}
 use Rattle.tc_views.specs.Coordinator.{coordinator_row}
 use Rattle.tc_views.specs.State.{CoordinatorState, go_on_if}
 use Rattle.tc_views.specs.Views.{install_row, tasks_at}
 use Rattle.outcome_laws.specs.Down.{CoordinatorHasNoDown, IsNotDown, IsNotDownIn, TellsNoDown}
 use Rattle.outcome_laws.proofs.downfall.Sends.{AreNoDown, IsNoDown}
-use Rattle.outcome_laws.proofs.coordinators.Steps.{ResumeForms, coordinator_each, inner}
 
 -- the entry of a transaction that is aborted for another cause
 abbrev IsUp : TxId × Transaction → Type 0
@@ -211,7 +212,7 @@ begun_up (e ∷ es) tx all = by (same_tx tx e.0) (begun_up es tx all.1)
 coordinator_up : (s : CoordinatorState) (x : Signal) → CoordinatorHasNoDown s → TellsNoDown x.body
     → IsUpStep (inner (coordinator_row s x))
 coordinator_up s x up told =
-    coordinator_each (λ tx t turn. IsUpTurn turn) (λ step. IsUpStep step) s x (record {
+    coordinator_outcomes (λ tx t turn. IsUpTurn turn) (λ step. IsUpStep step) s x (record {
       calm = record {
         turns = λ tx t at split.
             rows_of s.tc.node s.tc.layout tx t x.body (λ turn. IsUpTurn turn)

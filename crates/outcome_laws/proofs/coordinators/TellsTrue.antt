@@ -17,6 +17,7 @@ use Rattle.sig_core.specs.Op.{key_of}
 use Rattle.sig_core.specs.Same.{same_tx}
 use Rattle.sig_core.specs.Step.{Step}
 use Rattle.frag_map.specs.Layout.{Layout, chain_of}
+use Rattle.tc_block.proofs.EachResume.{ResumeForms}
 use Rattle.tc_block.specs.Abort.{abort_end, is_verifying}
 use Rattle.tc_block.specs.Live.{turned, turned_if, without}
 use Rattle.tc_block.specs.Operate.{fresh}
@@ -32,12 +33,12 @@ use Rattle.tc_block.specs.declared.touched.Touched.{Touched}
 use Rattle.tc_block.specs.declared.transaction.Transaction.{Transaction}
 use Rattle.tc_block.proofs.EachTurn.{AbortForms, CommittedForms, TurnForms, rows_of}
 use Rattle.tc_block.proofs.LiveSplit.{Live, Split}
+use Rattle.tc_views.proofs.Walk.{coordinator_outcomes, inner}
 use Rattle.tc_views.specs.Coordinator.{coordinator_row}
 use Rattle.tc_views.specs.State.{CoordinatorState, go_on_if}
 use Rattle.tc_views.specs.Views.{install_row, tasks_at}
 use Rattle.outcome_laws.specs.Known.{CoordinatorKnows, IsDecidedIn}
 use Rattle.outcome_laws.specs.Tells.{Tells}
-use Rattle.outcome_laws.proofs.coordinators.Steps.{ResumeForms, coordinator_each, inner}
 
 module _ (D : TxId → ℕ → Type 0) (B : TxId → Type 0) where
   -- what is sent tells true things
@@ -223,7 +224,7 @@ module _ (D : TxId → ℕ → Type 0) (B : TxId → Type 0) where
   coordinator_true : (s : CoordinatorState) (x : Signal) → CoordinatorKnows D B s → Tells D B x.body
       → IsTrueStep (inner (coordinator_row s x))
   coordinator_true s x known told =
-      coordinator_each (λ tx t turn. IsTrue tx turn) (λ step. IsTrueStep step) s x (record {
+      coordinator_outcomes (λ tx t turn. IsTrue tx turn) (λ step. IsTrueStep step) s x (record {
         calm = record {
           turns = λ tx t at split.
               rows_of s.tc.node s.tc.layout tx t x.body (λ turn. IsTrue tx turn)

@@ -53,11 +53,11 @@ host_tells : (D : TxId → ℕ → Type 0) (B : TxId → Type 0) (body : Body) �
 host_tells D B (Host signal) is = tt
 host_tells D B body is = absurd cc
 
-not_own : (start : Start) (h : ℕ) (body : Body) → is_host body ≡ false → IsOwnWork start h body → ⊥
+pub not_own : (start : Start) (h : ℕ) (body : Body) → is_host body ≡ false → IsOwnWork start h body → ⊥
 not_own start h (Host signal) is work = absurd cc
 not_own start h body is work = work
 
-not_closed : (body : Body) → is_host body ≡ false → IsClosed body → ⊥
+pub not_closed : (body : Body) → is_host body ≡ false → IsClosed body → ⊥
 not_closed body is closed =
     let host : is_host (Host (Closed closed.cause)) ≡ false = subst (λ b. is_host b ≡ false) closed.is is in absurd cc
 

@@ -1,6 +1,6 @@
 -- The host of a transaction's coordinator tells of its begin once, and asks for its epoch once, and no other host does:
 -- so each host is told of it, and asked, once at most.
-use Rattle.std.proofs.Common.{◌≡◌, ◌≢◌, ◌≤◌, ◌<◌, ◌⊎◌, ◌∙◌, ℕ, Bool, true, false, List, [], ◌∷◌, ap, arith, inl, inr}
+use Rattle.std.proofs.Common.{◌≡◌, ◌≢◌, ◌≤◌, ◌<◌, ◌⊎◌, ◌∙◌, ℕ, Bool, false, List, [], ◌∷◌, ap, arith, inl, inr}
 use Rattle.std.proofs.Common.{refl, subst, sym}
 use Rattle.std.proofs.lemmas.Bool.{cases_lt}
 use Rattle.run_theory.specs.Lists.{IsIn}
@@ -22,6 +22,7 @@ use Rattle.world_views.specs.Hosts.{started}
 use Rattle.view_laws.specs.Runs.{AreOfCluster}
 use Rattle.moment_laws.proofs.MomentHosts.{HasNoTc, TcHost, of_none, of_tc, tc_host_is, tc_started}
 use Rattle.moment_laws.specs.Places.{tc_of}
+use Rattle.outcome_laws.proofs.coordinators.Lists.{one_few}
 use Rattle.outcome_laws.specs.Counts.{coordinator_member, is_asking, is_begin, is_unborn, may_ask, one_if}
 use Rattle.outcome_laws.specs.Once.{takes_in}
 use Rattle.outcome_laws.specs.Own.{IsOwnAt}
@@ -166,10 +167,6 @@ module _ (tx : TxId) (start : Start) (logs : ℕ → List HostStep) (are : AreOf
       coordinator_light (is_begin tx) (uncounted_begin tx) me (λ s. one_if (is_unborn s tx))
       (λ s x of. begins_once me tx s x of) (λ s view of. begins_once_installed tx s view)
 
-  few_ones : (b : Bool) → one_if b ≤ 1
-  few_ones true = omega arith
-  few_ones false = omega arith
-
   begins_are : IsOnce (is_begin tx)
   begins_are = record {
     counts = uncounted_begin tx;
@@ -177,7 +174,7 @@ module _ (tx : TxId) (start : Start) (logs : ℕ → List HostStep) (are : AreOf
     apart = begins_apart tx;
     may = λ s. one_if (is_unborn s tx);
     light = begin_light;
-    first = λ me. few_ones (is_unborn (fresh_coordinator me.node me.start (first_layout start.shape)) tx);
+    first = λ me. one_few (is_unborn (fresh_coordinator me.node me.start (first_layout start.shape)) tx);
   }
 
   asks_are : IsOnce (is_asking tx)
@@ -188,7 +185,7 @@ module _ (tx : TxId) (start : Start) (logs : ℕ → List HostStep) (are : AreOf
     may = λ s. may_ask s tx;
     light = ask_light tx;
     first = λ me.
-        let ones = few_ones (is_unborn (fresh_coordinator me.node me.start (first_layout start.shape)) tx) in
+        let ones = one_few (is_unborn (fresh_coordinator me.node me.start (first_layout start.shape)) tx) in
         omega (arith, ones);
   }
 

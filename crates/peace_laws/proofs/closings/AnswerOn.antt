@@ -6,7 +6,7 @@ use Rattle.std.proofs.lemmas.Bool.{and_parts, eq-eqb, false≢true, true≢false
 use Rattle.std.proofs.lemmas.Bool.Decides.{nat_tests}
 use Rattle.std.specs.Prelude.{◌&&◌, drop, nat_eq, Some}
 use Rattle.api_views.specs.declared.closings.Closing.{Closing}
-use Rattle.api_views.specs.declared.closings.Closing.TheVariants.{Gcp, Micro}
+use Rattle.api_views.specs.declared.closings.Closing.TheVariants.{Gcp, Micro, Lcp}
 use Rattle.frag_map.specs.Replicas.{first_start}
 use Rattle.frag_map.specs.Shape.{IsShape}
 use Rattle.gcp_master.specs.declared.voices.Voice.{Voice}
@@ -28,7 +28,7 @@ use Rattle.sig_core.specs.Step.{Step, stay}
 use Rattle.world_core.specs.Hosts.{host_for, member_at}
 use Rattle.world_core.specs.Start.{Start, made}
 use Rattle.calm_laws.specs.Alike.{first}
-use Rattle.peace_laws.specs.Closing.{Course, host_in, main}
+use Rattle.peace_laws.specs.Closing.{Course, closes_epoch, host_in, main}
 use Rattle.peace_laws.specs.Moments.{IsTaken, Moment, Takes}
 use Rattle.peace_laws.specs.UnderWay.{AnAnswer, Closes, Commits, CommittedAt, Copies, IsAnswer, IsAt}
 use Rattle.peace_laws.specs.UnderWay.{IsMaster, IsOver, IsOwed, IsTrue, IsUnderWay, Prepares, Saves, Stage}
@@ -347,6 +347,7 @@ module _ (start : Start) (shape : IsShape start.shape) (c : Course) (first_is : 
               → c.kind ≡ Gcp
           unfolding front_sends
           lone Gcp is many = is
+          lone Lcp is many = absurd (true≢false (sym c.closes ∙ ap closes_epoch is))
           lone Micro is many = absurd (true≢false (sym many ∙ few))
             where
               few : nat_lt (0 + PORTION) (length (master_sends o)) ≡ false

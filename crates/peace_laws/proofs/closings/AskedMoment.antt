@@ -62,7 +62,7 @@ use Rattle.peace_laws.specs.Parts.{plain_replies}
 use Rattle.peace_laws.specs.Peace.{asks_by, asks_closing, is_closing_request}
 use Rattle.peace_laws.specs.Rest.{AreAtRestIn}
 use Rattle.peace_laws.specs.Steps.{RequestsNear}
-use Rattle.peace_laws.proofs.closings.AskingSteps.{asks_for, closing_of, closings_are_asked_near, table_is}
+use Rattle.peace_laws.proofs.closings.AskingSteps.{asks_for, closing_of, closings_are_asked_near, course_of, table_is}
 use Rattle.peace_laws.proofs.near.CalmNear.{inner_api}
 use Rattle.peace_laws.proofs.closings.Ease.{near_parts_by, near_row, requests_for_blocks}
 use Rattle.peace_laws.proofs.closings.Moments.{Links, moment}
@@ -132,6 +132,7 @@ module _ (start : Start) (shape : IsShape start.shape) (request : ApiReq) (asks 
 given_kind : (kind : Closing) → is_own_work (ask_of kind) ≡ false
 given_kind closing.Gcp = refl
 given_kind closing.Micro = refl
+given_kind closing.Lcp = refl
 
 -- The step.
 module _ (hosts_level : HostsAreLevel) (start : Start) (shape : IsShape start.shape) (request : ApiReq)
@@ -302,7 +303,7 @@ module _ (hosts_level : HostsAreLevel) (start : Start) (shape : IsShape start.sh
 
   pub asked_for : (next : ℕ)
       → IsAskedFor start
-      (record { epoch = epoch; next = next; kind = kind_of; before = replies_in start 0 (log 0) })
+      (course_of request epoch next (replies_in start 0 (log 0)))
       asked_moment
   unfolding links_now mids
   asked_for next =

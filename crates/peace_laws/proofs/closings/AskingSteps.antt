@@ -7,7 +7,7 @@ use Rattle.std.specs.Prelude.{◌+◌, is_some, not, Option, None, Some}
 use Rattle.api_block.specs.Api.{api_table, request_row}
 use Rattle.api_block.specs.State.{ApiState, about, with_replies}
 use Rattle.api_views.specs.declared.closings.Closing.{Closing}
-use Rattle.api_views.specs.declared.closings.Closing.TheVariants.{Gcp, Micro}
+use Rattle.api_views.specs.declared.closings.Closing.TheVariants.{Gcp, Micro, Lcp}
 use Rattle.api_views.specs.declared.stops.HostStop.{HostStop}
 use Rattle.api_views.specs.Client.{asked_row, client_table, command_if, command_row}
 use Rattle.api_views.specs.Closings.{ask_at, asked_if, asking, closing_row}
@@ -47,6 +47,7 @@ use Rattle.world_views.specs.Machine.{replies_at, step_by, stops_by, told}
 use Rattle.calm_laws.specs.Alike.{IsAtEase, first}
 use Rattle.calm_laws.proofs.plain_steps.Client.{some_runs}
 use Rattle.peace_laws.specs.Alike.{AreNear, ArePartsNear, RestsOfClosings}
+use Rattle.peace_laws.specs.Closing.{Course, closes_epoch}
 use Rattle.peace_laws.specs.Parts.{plain_replies}
 use Rattle.peace_laws.specs.Peace.{asks_by, is_closing_request}
 use Rattle.peace_laws.specs.Steps.{ClosingsAreAskedNear, IsForMaster, IsOfClosing}
@@ -72,6 +73,14 @@ abbrev pub closing_of : ApiReq → Closing
 closing_of request.Micro = Micro
 closing_of request = Gcp
 
+pub closing_closes : (r : ApiReq) → closes_epoch (closing_of r) ≡ true
+closing_closes request.Micro = refl
+closing_closes _ = refl
+
+abbrev pub course_of : ApiReq → ℕ → ℕ → List ApiReply → Course
+course_of request epoch next before =
+    record { epoch = epoch; next = next; kind = closing_of request; closes = closing_closes request; before = before }
+
 -- the client's side asks for it
 abbrev pub asks_for : ClientState → Closing → Step ClientState
 asks_for s closing =
@@ -81,14 +90,15 @@ asks_for s closing =
     }
 
 -- a step of a host and one of its plain one, where the one is asked for a closing
-record AskedNear (start : Start) (given : List ApiReply) (t : Step host.HostBody) (other : Step plain.Host) : Type 0 where
-  near : AreNear start given (told 0 t) other.state
-  plain : other.effects.sends ≡ []
-  plain_marks : other.effects.marks ≡ []
-  none : plain_replies (replies_at 0 t) ≡ []
-  marks : t.effects.marks ≡ []
-  sends : Each (IsOfClosing 0) t.effects.sends
-  masters : Each IsForMaster t.effects.sends
+record AskedNear (start : Start) (given : List ApiReply) (t : Step host.HostBody) (other : Step plain.Host) : Type 0
+  where
+    near : AreNear start given (told 0 t) other.state
+    plain : other.effects.sends ≡ []
+    plain_marks : other.effects.marks ≡ []
+    none : plain_replies (replies_at 0 t) ≡ []
+    marks : t.effects.marks ≡ []
+    sends : Each (IsOfClosing 0) t.effects.sends
+    masters : Each IsForMaster t.effects.sends
 
 -- a client's side that is near, of a cluster of some nodes, and for which none is under way
 module _ (start : Start) (given : List ApiReply) (shape : IsShape start.shape) (standing : Standing)
@@ -122,22 +132,23 @@ module _ (start : Start) (given : List ApiReply) (shape : IsShape start.shape) (
   abbrev shell : host.HostBody
   shell = record { standing = standing; parts = Shell p }
 
-  sends_request : (closing : Closing) (node : Option ℕ) → IsNodeOf node
+  sends_request : (closing : Closing) → closes_epoch closing ≡ true → (node : Option ℕ) → IsNodeOf node
       → Each (IsOfClosing 0) (ask_at closing node) × Each IsForMaster (ask_at closing node)
-  sends_request closing None some = (tt, tt)
-  sends_request Gcp (Some node) some = ((refl, tt), ((refl, some), tt))
-  sends_request Micro (Some node) some = ((refl, tt), ((refl, some), tt))
+  sends_request closing closes None some = (tt, tt)
+  sends_request Gcp closes (Some node) some = ((refl, tt), ((refl, some), tt))
+  sends_request Micro closes (Some node) some = ((refl, tt), ((refl, some), tt))
+  sends_request Lcp closes (Some node) some = absurd (false≢true closes)
 
-  requested : (closing : Closing)
+  requested : (closing : Closing) → closes_epoch closing ≡ true
       → Each (IsOfClosing 0) (asking closing p.client.api.view) × Each IsForMaster (asking closing p.client.api.view)
-  requested closing =
-      sends_request closing (president p.client.api.view)
+  requested closing closes =
+      sends_request closing closes (president p.client.api.view)
       (subst (λ (view : View). IsNodeOf (president view)) (sym near.1.0) (first_president start.shape.nodes))
 
-  asks_near : (closing : Closing)
+  asks_near : (closing : Closing) → closes_epoch closing ≡ true
       → AskedNear start given (with_parts shell (in_shell (in_client p (asks_for p.client closing))))
       (plain_row.in_shell (stay (about a None)))
-  asks_near closing = record {
+  asks_near closing closes = record {
     near = record {
       standing = ease;
       parts = (
@@ -158,8 +169,8 @@ module _ (start : Start) (given : List ApiReply) (shape : IsShape start.shape) (
     plain_marks = refl;
     none = ap plain_replies near.1.1.0;
     marks = refl;
-    sends = (requested closing).0;
-    masters = (requested closing).1;
+    sends = (requested closing closes).0;
+    masters = (requested closing closes).1;
   }
 
   asked_near : (x : Signal) → x.view ≡ first start → (body : Body) → asks_by block.Api body ≡ true
@@ -174,7 +185,7 @@ module _ (start : Start) (given : List ApiReply) (shape : IsShape start.shape) (
       ∙ ap (client_table p.client x) (sym same)
       ∙ table_is x r at is))
       (sym (ap (api_table a) (sym same) ∙ plain_is r is))
-      (asks_near (closing_of r))
+      (asks_near (closing_of r) (closing_closes r))
   asked_near x view body is same = absurd (false≢true is)
 
 -- what a plain host does, by the block that a signal is for

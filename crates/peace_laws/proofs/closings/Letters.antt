@@ -6,7 +6,7 @@ use Rattle.std.specs.Prelude.{◌&&◌, ◌^◌, nat_lt}
 use Rattle.std.proofs.lemmas.Bool.{false≢true}
 use Rattle.std.proofs.lemmas.Nat.{mod-mul-add}
 use Rattle.api_views.specs.declared.closings.Closing.{Closing}
-use Rattle.api_views.specs.declared.closings.Closing.TheVariants.{Gcp, Micro}
+use Rattle.api_views.specs.declared.closings.Closing.TheVariants.{Gcp, Micro, Lcp}
 use Rattle.api_views.specs.Closings.{ask_of}
 use Rattle.frag_map.specs.Layout.{members}
 use Rattle.frag_map.specs.Shape.{IsShape}
@@ -27,7 +27,7 @@ use Rattle.sig_core.specs.Step.{to_place}
 use Rattle.world_core.specs.Hosts.{hosts, part_by}
 use Rattle.world_core.specs.Start.{Start}
 use Rattle.calm_laws.specs.Plain.{is_beating, is_main}
-use Rattle.peace_laws.specs.Closing.{Course, host_in, main}
+use Rattle.peace_laws.specs.Closing.{Course, closes_epoch, host_in, main}
 use Rattle.peace_laws.specs.Moments.{Moment}
 use Rattle.peace_laws.specs.Peace.{has_closer, is_closer, is_for_closing}
 use Rattle.peace_laws.specs.UnderWay.{HasMask, IsAnswer, IsLetter, IsOrder, answer, block_of}
@@ -102,6 +102,8 @@ module _ (start : Start) (shape : IsShape start.shape) (c : Course) where
   order_sound (order.Copy epoch m) fits mask =
       ap (is_mask start.shape) mask ∙ mask_fits start.shape.nodes shape.nodes_some shape.nodes_few
   order_sound (order.Done epoch) fits mask = refl
+  order_sound order.Walk fits mask = absurd fits
+  order_sound order.Switch fits mask = absurd fits
 
   order_open : (o : Order) (cause : StopCause) → order_body o ≡ Host (Closed cause) → ⊥
   unfolding order_body
@@ -112,6 +114,8 @@ module _ (start : Start) (shape : IsShape start.shape) (c : Course) where
   order_open (order.Save epoch) cause is = absurd (cc (is))
   order_open (order.Copy epoch m) cause is = absurd (cc (is))
   order_open (order.Done epoch) cause is = absurd (cc (is))
+  order_open order.Walk cause is = absurd (cc (is))
+  order_open order.Switch cause is = absurd (cc (is))
 
   order_closes : (rows : Bool) (body : Body) → IsSend main (block_of rows) body
       → is_for_closing (block_of rows) body ≡ true
@@ -180,10 +184,12 @@ module _ (start : Start) (shape : IsShape start.shape) (c : Course) where
   report_sound : (epoch : ℕ) (kind : Closing) → is_body_sound start.shape (Epoch (report_by epoch kind)) ≡ true
   report_sound epoch Gcp = refl
   report_sound epoch Micro = refl
+  report_sound epoch Lcp = refl
 
   report_closes : (epoch : ℕ) (kind : Closing) → is_for_closing block.Api (Epoch (report_by epoch kind)) ≡ true
   report_closes epoch Gcp = refl
   report_closes epoch Micro = refl
+  report_closes epoch Lcp = refl
 
   report_fits : IsFit start main 0 (report_of c)
   report_fits =
@@ -201,25 +207,28 @@ module _ (start : Start) (shape : IsShape start.shape) (c : Course) where
   request_sound : (kind : Closing) → is_body_sound start.shape (ask_of kind) ≡ true
   request_sound Gcp = refl
   request_sound Micro = refl
+  request_sound Lcp = refl
 
   request_open : (kind : Closing) (cause : StopCause) → ask_of kind ≡ Host (Closed cause) → ⊥
   request_open Gcp cause is = absurd (cc (is))
   request_open Micro cause is = absurd (cc (is))
+  request_open Lcp cause is = absurd (cc (is))
 
-  request_closes : (kind : Closing) → is_for_closing block.GcpMaster (ask_of kind) ≡ true
-  request_closes Gcp = refl
-  request_closes Micro = refl
+  request_closes : (kind : Closing) → closes_epoch kind ≡ true → is_for_closing block.GcpMaster (ask_of kind) ≡ true
+  request_closes Gcp closes = refl
+  request_closes Micro closes = refl
+  request_closes Lcp closes = absurd (false≢true closes)
 
-  pub request_fits : (kind : Closing) → IsFit start 0 main (to_place (checkpoints 1) (ask_of kind))
-  request_fits kind =
+  pub request_fits : IsFit start 0 main (to_place (checkpoints 1) (ask_of c.kind))
+  request_fits =
       record {
         from_low = omega arith;
         low = main_there;
         beats = λ beats. refl;
         block = refl;
-        sound = request_sound kind;
-        open_link = request_open kind;
-        closing = λ send. request_closes kind;
+        sound = request_sound c.kind;
+        open_link = request_open c.kind;
+        closing = λ send. request_closes c.kind c.closes;
       }
 
   -- whatever is under way

@@ -1,16 +1,16 @@
 -- What the president's master does where a member answers in a stage of a closing.
-use Rattle.std.proofs.Common.{◌≡◌, ◌⊎◌, ◌∙◌, ◌&&◌, ◌||◌, inl, inr, Bool, true, false, not, [], refl, sym, ap}
-use Rattle.std.proofs.lemmas.Bool.{false≢true}
+use Rattle.std.proofs.Common.{◌≡◌, ◌⊎◌, ◌∙◌, ◌&&◌, inl, inr, Bool, true, false, not, [], refl, sym, ap}
+use Rattle.std.proofs.lemmas.Bool.{false≢true, true≢false}
 use Rattle.std.specs.Prelude.{◌==◌, Some}
 use Rattle.api_views.specs.declared.closings.Closing.{Closing}
-use Rattle.api_views.specs.declared.closings.Closing.TheVariants.{Gcp, Micro}
+use Rattle.api_views.specs.declared.closings.Closing.TheVariants.{Gcp, Micro, Lcp}
 use Rattle.gcp_master.specs.declared.orders.Ended.{Ended}
 use Rattle.gcp_master.specs.declared.orders.Ended.TheVariants as ended_as
 use Rattle.gcp_master.specs.declared.phase.Asked.{Asked}
 use Rattle.gcp_master.specs.declared.phase.Phase.TheVariants as phase
 use Rattle.gcp_master.specs.declared.phase.Run.{Run}
 use Rattle.gcp_master.specs.declared.voices.Voice.{Voice}
-use Rattle.gcp_master.specs.Begin.{begin_if, begins, begins_if, begun}
+use Rattle.gcp_master.specs.Begin.{begin_if, begins, begins_if, begun, is_global_asked}
 use Rattle.gcp_master.specs.Closing.{close_if_all, closed_if, copied_if, copy_by, copy_if, copy_row, ended, finish_by}
 use Rattle.gcp_master.specs.Closing.{finish_if, finish_row, note_by, note_if, note_row, noted_by, noted_if, prepare_by}
 use Rattle.gcp_master.specs.Closing.{prepare_if, prepare_row, prepared_if, save_by, save_if, save_row, saved_if}
@@ -22,7 +22,7 @@ use Rattle.sig_core.specs.declared.mark.Mark.TheVariants.{Closed, Durable}
 use Rattle.sig_core.specs.declared.signal.epoch.EpochSignal.{EpochSignal}
 use Rattle.sig_core.specs.declared.signal.epoch.EpochSignal.TheVariants as signal
 use Rattle.sig_core.specs.Step.{Step, stay}
-use Rattle.peace_laws.specs.Closing.{Course}
+use Rattle.peace_laws.specs.Closing.{Course, closes_epoch}
 use Rattle.peace_laws.specs.UnderWay.{Closes, Commits, Copies, IsAnswer, Prepares, Saves, Stage, blocks_of, ended_by}
 use Rattle.peace_laws.specs.UnderWay.{ended_of}
 use Rattle.peace_laws.specs.UnderWay.{is_later, is_saving, phase_of, run_of}
@@ -43,7 +43,7 @@ completed c Prepares s true = entering s (phase.Committing (run_of c))
 completed c Commits s true = marking (Closed c.epoch) (entering s (phase.Closing (run_of c)))
 completed c Closes s true = noted_by s (run_of c) (is_first c.next)
 completed c Saves s true = entering s (phase.Copying (run_of c))
-completed c Copies s true = marking (Durable c.epoch) (ended s (run_of c) (ended_as.Global c.epoch false))
+completed c Copies s true = marking (Durable c.epoch) (ended s (run_of c) (ended_as.Global c.epoch false false))
 
 abbrev pub answered : Course → Stage → MasterState → Voice → Bool → Step MasterState
 answered c stage s voice true = completed c stage (counted s voice) (all_in (blocks_of stage) (counted s voice))
@@ -133,9 +133,10 @@ module _ (c : Course) (s : MasterState) (voice : Voice) (owed : s.owed ≡ false
 abbrev pub is_gcp : Closing → Bool
 is_gcp Gcp = true
 is_gcp Micro = false
+is_gcp Lcp = true
 
 abbrev none_asked : Asked
-none_asked = record { global = false; copy = false; micro = false }
+none_asked = record { global = false; copy = false; local = false; micro = false }
 
 -- a master that has ended the closing
 abbrev pub over_at : Course → MasterState → MasterState
@@ -163,9 +164,9 @@ module _ (c : Course) (s : MasterState) (asked : s.asked ≡ none_asked) where
       ∙ ap (λ (a : Asked).
       begins_if
       (begin_if (record (at_phase s (phase.Resting c.next)) { front = Some (ended_of c) }) c.next
-      (a.global || a.copy) a.micro).state
+      (is_global_asked a) a.micro).state
       (begin_if (record (at_phase s (phase.Resting c.next)) { front = Some (ended_of c) }) c.next
-      (a.global || a.copy) a.micro).spent false) asked
+      (is_global_asked a) a.micro).spent false) asked
 
   listing_sends : (now : MasterState) → (listing now 0).effects.sends ≡ (list_effects now 0).sends
   unfolding listing
@@ -216,9 +217,10 @@ module _ (c : Course) (s : MasterState) (asked : s.asked ≡ none_asked) where
           (ends Closes _
           (ap (noted_by s (run_of c)) (first ∙ ap is_gcp is)
           ∙ ended_is (ended_as.Micro c.epoch) (ap (ended_by c.epoch) (sym is))) refl)
+      by Lcp is = absurd (true≢false (sym c.closes ∙ ap closes_epoch is))
   completes first Saves global =
       inl (enters Saves Copies _ refl (λ later. inl refl) (λ saves. global refl))
   completes first Copies global =
-      let step : Ends c Copies s (ended s (run_of c) (ended_as.Global c.epoch false)) =
-      ends Copies _ (ended_is (ended_as.Global c.epoch false) (ap (ended_by c.epoch) (sym (global refl)))) refl in
+      let step : Ends c Copies s (ended s (run_of c) (ended_as.Global c.epoch false false)) =
+      ends Copies _ (ended_is (ended_as.Global c.epoch false false) (ap (ended_by c.epoch) (sym (global refl)))) refl in
       inr (record { state = step.state; sends = step.sends; later = step.later })

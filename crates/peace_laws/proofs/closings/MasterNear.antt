@@ -1,6 +1,6 @@
 -- What a master does at something of a closing, while no copying waits for one: it tells the blocks that take something
 -- of closings, and none waits then.
-use Rattle.std.proofs.Common.{◌≡◌, ◌&&◌, ◌||◌, ℕ, Bool, true, false, not, List, ◌∙◌, refl, ap}
+use Rattle.std.proofs.Common.{◌≡◌, ◌&&◌, ℕ, Bool, true, false, not, List, ◌∙◌, refl, ap}
 use Rattle.std.proofs.lemmas.Bool.{false≢true}
 use Rattle.std.specs.Prelude.{◌==◌, is_some, Option, None, Some}
 use Rattle.gcp_master.specs.declared.orders.Ended.{Ended}
@@ -12,16 +12,17 @@ use Rattle.gcp_master.specs.declared.phase.Phase.{Phase}
 use Rattle.gcp_master.specs.declared.phase.Phase.TheVariants as phase
 use Rattle.gcp_master.specs.declared.phase.Run.{Run}
 use Rattle.gcp_master.specs.declared.voices.Voice.{Voice}
-use Rattle.gcp_master.specs.Begin.{begin_global, begin_if, begin_micro, begins, begins_if, begun}
+use Rattle.gcp_master.specs.Begin.{begin_global, begin_if, begin_micro, begins, begins_if, begun, is_global_asked}
 use Rattle.gcp_master.specs.Closing.{close_if_all, closed_if, copied_if, copy_by, copy_if, copy_row, ended, finish_by}
 use Rattle.gcp_master.specs.Closing.{finish_if, finish_row, note_by, note_if, note_row, noted_by, noted_if, prepare_by}
 use Rattle.gcp_master.specs.Closing.{prepare_if, prepare_row, prepared_if, save_by, save_if, save_row, saved_if}
+use Rattle.gcp_master.specs.Closing.{switching}
 use Rattle.gcp_master.specs.Master.{epoch_table, master_row, master_table}
 use Rattle.gcp_master.specs.Numbers.{is_first, next_global, next_micro}
 use Rattle.gcp_master.specs.Orders.{order_body}
 use Rattle.gcp_master.specs.Requests.{asked_by, asked_row, global_asked, micro_asked}
 use Rattle.gcp_master.specs.Sends.{entering, front_sends, go_on_if, go_on_row, list_effects, listing, master_sends}
-use Rattle.gcp_master.specs.Sends.{order_at, orders_at, phase_sends, to_both, to_copying, to_each, told_if}
+use Rattle.gcp_master.specs.Sends.{order_at, orders_at, phase_sends, to_both, to_copying, to_each, to_switch, told_if}
 use Rattle.gcp_master.specs.State.{MasterState, all_in, at_phase, counted, counts}
 use Rattle.run_theory.specs.Lists.{Each}
 use Rattle.run_theory.proofs.EachSent.{each_drop, each_mapped, each_take}
@@ -45,7 +46,7 @@ use Rattle.sig_core.specs.declared.view.View.{View}
 use Rattle.sig_core.specs.Place.{checkpoints}
 use Rattle.sig_core.specs.Portion.{portion, rest, rest_if}
 use Rattle.sig_core.specs.Step.{Step, stay}
-use Rattle.peace_laws.specs.Alike.{IsFrontNear, IsMasterNear, IsPhaseNear}
+use Rattle.peace_laws.specs.Alike.{IsForNone, IsFrontNear, IsMasterNear, IsPhaseNear}
 use Rattle.peace_laws.specs.Peace.{is_for_closing, is_order}
 use Rattle.peace_laws.specs.Steps.{asks_master}
 
@@ -76,15 +77,22 @@ copying_told : (node epoch : ℕ) (copy : Bool) → copy ≡ false → Each Told
 copying_told node epoch false is = tt
 copying_told node epoch true is = absurd cc
 
+switching_told : (view : View) (local : Bool) → local ≡ false → Each Told (to_switch view local)
+switching_told view false is = tt
+switching_told view true is = absurd cc
+
 front_told : (node : ℕ) (view : View) (front : Option Ended) → IsFrontNear front
     → Each Told (front_sends node view front)
 unfolding front_sends order_body
 front_told node view None is = tt
 front_told node view (Some (Micro epoch)) is = ((refl, refl), tt)
-front_told node view (Some (Global epoch copy)) is =
+front_told node view (Some (Global epoch copy local)) is =
     each_append Told (to_both (order.Done epoch) view) _
-    (both_told (order.Done epoch) view (λ member. (refl, refl)) (λ member. (refl, refl)))
-    ((refl, refl), copying_told node epoch copy is)
+    (both_told (order.Done epoch) view (λ member. (refl, refl)) (λ member. (refl, refl))) (
+      (refl, refl),
+      each_append Told (to_copying node epoch copy) (to_switch view local) (copying_told node epoch copy is.0)
+          (switching_told view local is.1),
+    )
 
 phase_told : (view : View) (p : Phase) → IsPhaseNear p → Each Told (phase_sends view p)
 unfolding phase_sends order_body
@@ -148,12 +156,12 @@ begun_near s current true micro near = by (next_global current)
   where
     by : (next : Option ℕ) → IsMasterNear (begin_global s current next).state
     by None = near
-    by (Some next) = record { phase = near.asked; front = near.front; asked = refl }
+    by (Some next) = record { phase = near.asked; front = near.front; asked = (refl, refl) }
 begun_near s current false true near = by (next_micro current)
   where
     by : (next : Option ℕ) → IsMasterNear (begin_micro s current next).state
     by None = near
-    by (Some next) = record { phase = refl; front = near.front; asked = near.asked }
+    by (Some next) = record { phase = (refl, refl); front = near.front; asked = near.asked }
 begun_near s current false false near = record { phase = tt; front = near.front; asked = near.asked }
 
 begins_by : (s : MasterState) (spent listed : Bool) → IsMasterNear s → MasterSteps (begins_if s spent listed)
@@ -165,20 +173,25 @@ begins_near : (s : MasterState) (current : ℕ) (listed : Bool) → IsMasterNear
 unfolding begins begun
 begins_near s current listed near =
     begins_by (begun s current).state (begun s current).spent listed
-    (begun_near s current (s.asked.global || s.asked.copy) s.asked.micro near)
+    (begun_near s current (is_global_asked s.asked) s.asked.micro near)
 
 -- one is asked for
 asks_by : (s : MasterState) (p : Phase) → IsMasterNear s → MasterSteps (asked_by s p)
 asks_by s (phase.Resting current) near = begins_near s current (is_some s.front) near
 asks_by s p near = stays s near
 
-asks : (s : MasterState) (asked : Asked) → IsMasterNear s → asked.copy ≡ false → MasterSteps (asked_row s asked)
+asks : (s : MasterState) (asked : Asked) → IsMasterNear s → IsForNone asked.copy asked.local
+    → MasterSteps (asked_row s asked)
 unfolding asked_row
 asks s asked near is =
     asks_by (record s { asked = asked }) s.phase (record { phase = near.phase; front = near.front; asked = is })
 
-global_copy : (asked : Asked) (node : ℕ) → node ≡ 0 → asked.copy ≡ false → (global_asked asked node).copy ≡ false
-global_copy asked node client none = ap (λ n. (global_asked asked n).copy) client ∙ none
+global_none : (asked : Asked) (node : ℕ) → node ≡ 0 → IsForNone asked.copy asked.local
+    → IsForNone (global_asked asked node).copy (global_asked asked node).local
+global_none asked node client none = (
+  ap (λ n. (global_asked asked n).copy) client ∙ none.0,
+  ap (λ n. (global_asked asked n).local) client ∙ none.1,
+)
 
 -- a member confirms
 module _ (s : MasterState) (voice : Voice) (near : IsMasterNear s) where
@@ -216,6 +229,11 @@ module _ (s : MasterState) (voice : Voice) (near : IsMasterNear s) where
   ends run what is =
       begins_near _ run.next false (record { phase = tt; front = is; asked = near.asked })
 
+  ends_global : (run : Run) → IsForNone run.copy run.local
+      → MasterSteps (ended (switching (counted s voice) run) run (Global run.epoch run.copy run.local))
+  ends_global run is =
+      begins_near _ run.next false (record { phase = tt; front = is; asked = near.asked })
+
   notes : (epoch : ℕ) (p : Phase) → IsPhaseNear p → MasterSteps (note_by s voice epoch p)
   notes epoch (phase.Closing run) is = by (run.epoch == epoch && counts s voice)
     where
@@ -249,7 +267,7 @@ module _ (s : MasterState) (voice : Voice) (near : IsMasterNear s) where
     where
       entered : (all : Bool) → MasterSteps (copied_if (counted s voice) run all)
       entered true =
-          let step = ends run (Global run.epoch run.copy) is in
+          let step = ends_global run is in
           record { near = step.near; sends = step.sends; marks = (tt, step.marks) }
       entered false = stays (counted s voice) heard
 
@@ -263,7 +281,7 @@ module _ (s : MasterState) (voice : Voice) (near : IsMasterNear s) where
   unfolding prepare_row finish_row note_row save_row copy_row
   by_signal (epoch.GcpReq by) is client =
       asks s (global_asked s.asked voice.member.node) near
-      (global_copy s.asked voice.member.node (client refl) near.asked)
+      (global_none s.asked voice.member.node (client refl) near.asked)
   by_signal epoch.MicroReq is client = asks s (micro_asked s.asked) near near.asked
   by_signal (epoch.GcpPrepareConf closed) is client = prepares closed s.phase near.phase
   by_signal (epoch.GcpNodeFinish closed) is client = finishes closed s.phase near.phase

@@ -161,6 +161,8 @@ module _ (c : Course) (d : DihState) (member : IsMember c d) (from : ℕ) where
     says = tt;
     sends = refl;
   }
+  moves number order.Walk fits = absurd fits
+  moves number order.Switch fits = absurd fits
 
 -- the rows answer too
 rows_move : (c : Course) (s : ReplicaState) (x : Signal) (order : Order) → IsOrder c order
@@ -173,6 +175,8 @@ rows_move c s x (order.Close epoch) fits = refl
 rows_move c s x (order.Save epoch) fits = refl
 rows_move c s x (order.Copy epoch mask) fits = refl
 rows_move c s x (order.Done epoch) fits = refl
+rows_move c s x order.Walk fits = absurd fits
+rows_move c s x order.Switch fits = absurd fits
 
 -- A member of a closing takes an order of the president's master.
 pub record PartsMove (c : Course) (order : Order) (rows : Bool) (parts : Parts) (t : Step Parts) : Type 0 where

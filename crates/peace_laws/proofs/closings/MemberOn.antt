@@ -56,6 +56,8 @@ rows_say committed (order.Close epoch) = (tt, tt)
 rows_say committed (order.Save epoch) = (tt, tt)
 rows_say committed (order.Copy epoch mask) = tt
 rows_say committed (order.Done epoch) = tt
+rows_say committed order.Walk = tt
+rows_say committed order.Switch = tt
 
 -- what comes of an entry of a list
 record Mapped {A B : Type 0} (P : A → Type 0) (f : A → B) (y : B) : Type 0 where

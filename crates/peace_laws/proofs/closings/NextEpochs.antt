@@ -6,7 +6,7 @@ use Rattle.std.proofs.lemmas.Bool.Decides.{nat_tests}
 use Rattle.std.proofs.lemmas.Bool.{eq-eqb}
 use Rattle.std.specs.Prelude.{◌==◌, None, Some}
 use Rattle.api_views.specs.declared.closings.Closing.{Closing}
-use Rattle.api_views.specs.declared.closings.Closing.TheVariants.{Gcp, Micro}
+use Rattle.api_views.specs.declared.closings.Closing.TheVariants.{Gcp, Micro, Lcp}
 use Rattle.gcp_master.specs.declared.numbers.TheConstants.{MICROS}
 use Rattle.gcp_master.specs.Numbers.{is_first}
 use Rattle.peace_laws.specs.Closing.{next_of}
@@ -39,3 +39,4 @@ next_is Micro epoch next is = by (nat_lt (epoch % MICROS + 1) MICROS) refl is
         let one : epoch + 1 ≡ next = cc in
         ap is_first (sym one) ∙ later_epoch epoch more
     by false none e = absurd cc
+next_is Lcp epoch next is = absurd (cc (is))

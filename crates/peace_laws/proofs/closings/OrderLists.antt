@@ -7,7 +7,7 @@ use Rattle.std.proofs.lemmas.Bool.Decides.{nat_tests}
 use Rattle.std.proofs.lemmas.List.{append-nil, drop-append-le, drop-drop, length-map, take-append-drop}
 use Rattle.std.specs.Prelude.{nat_lt, drop, take, Option, None, Some}
 use Rattle.api_views.specs.declared.closings.Closing.{Closing}
-use Rattle.api_views.specs.declared.closings.Closing.TheVariants.{Gcp, Micro}
+use Rattle.api_views.specs.declared.closings.Closing.TheVariants.{Gcp, Micro, Lcp}
 use Rattle.frag_map.specs.Layout.{members}
 use Rattle.frag_map.specs.Replicas.{first_start}
 use Rattle.frag_map.specs.Shape.{IsShape}
@@ -192,6 +192,9 @@ module _ (start : Start) (c : Course) where
       each_append IsSent (to_both (order.Done c.epoch) (first start)) _ (both_sent (order.Done c.epoch) tt tt)
       (report_sent Gcp is, tt)
   front_sent Micro is = (report_sent Micro is, tt)
+  front_sent Lcp is =
+      each_append IsSent (to_both (order.Done c.epoch) (first start)) _ (both_sent (order.Done c.epoch) tt tt)
+      (report_sent Lcp is, tt)
 
   -- how many there are
   each_many : (rows : Bool) (order : Order)
@@ -258,6 +261,13 @@ module _ (start : Start) (c : Course) where
         both_many (order.Done c.epoch),
       )
   front_many Micro = omega arith
+  front_many Lcp =
+      omega (
+        arith,
+        length-append (to_both (order.Done c.epoch) (first start))
+            (to_place client (Epoch (report_by c.epoch Lcp)) ∷ []),
+        both_many (order.Done c.epoch),
+      )
 
   -- the report of a checkpoint stands behind all else
   pub report_left : c.kind ≡ Gcp → (at : ℕ) → at ≤ start.shape.nodes + start.shape.nodes
@@ -283,6 +293,7 @@ module _ (start : Start) (c : Course) where
           (front_sends 1 (first start) (Some (ended_by c.epoch kind)))
       by Gcp = in_back _ (to_both (order.Done c.epoch) (first start)) _ (inl refl)
       by Micro = inl refl
+      by Lcp = in_back _ (to_both (order.Done c.epoch) (first start)) _ (inl refl)
 
   -- the list of the president's master
   module _ (s : MasterState) (master : IsMaster start s) where

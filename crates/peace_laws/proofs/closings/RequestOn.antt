@@ -4,15 +4,16 @@ use Rattle.std.proofs.Common.{append-nil, subst₂}
 use Rattle.std.proofs.lemmas.Bool.{false≢true}
 use Rattle.std.specs.Prelude.{None, Option, Some}
 use Rattle.api_views.specs.declared.closings.Closing.{Closing}
-use Rattle.api_views.specs.declared.closings.Closing.TheVariants.{Gcp, Micro}
+use Rattle.api_views.specs.declared.closings.Closing.TheVariants.{Gcp, Micro, Lcp}
 use Rattle.api_views.specs.Closings.{ask_of}
 use Rattle.frag_map.specs.Replicas.{first_start}
 use Rattle.frag_map.specs.Shape.{IsShape}
+use Rattle.gcp_master.specs.declared.local.Local.{Local}
 use Rattle.gcp_master.specs.declared.phase.Phase.TheVariants as phase
 use Rattle.gcp_master.specs.declared.voices.Voice.{Voice}
 use Rattle.gcp_master.specs.Begin.{begin_global, begin_micro, begins, begins_if, begun}
 use Rattle.gcp_master.specs.Master.{epoch_table, master_row, master_table}
-use Rattle.gcp_master.specs.Requests.{asked_row, global_asked}
+use Rattle.gcp_master.specs.Requests.{asked_row, global_asked, micro_asked}
 use Rattle.gcp_master.specs.Sends.{list_effects, listing}
 use Rattle.gcp_master.specs.State.{MasterState}
 use Rattle.node_views.specs.Blocks.{in_main, parts_row}
@@ -42,33 +43,35 @@ use Rattle.peace_laws.proofs.closings.StageBegins.{stage_begins}
 use Rattle.peace_laws.proofs.closings.WayOn.{main_apart}
 
 -- a master at rest, by who it is, and what it has heard of the last closing
-abbrev resting : Start → ℕ → List Voice → MasterState
-resting start epoch voices =
+abbrev resting : Start → ℕ → List Voice → Local → MasterState
+resting start epoch voices local =
     record {
       member = first_start 1;
       view = first start;
       phase = phase.Resting epoch;
       front = None;
-      asked = record { global = false; copy = false; micro = false };
+      asked = record { global = false; copy = false; local = false; micro = false };
       owed = false;
       voices = voices;
+      local = local;
     }
 
 -- and one that has begun a closing
-abbrev begun_by : Start → Course → MasterState
-begun_by start c =
+abbrev begun_by : Start → Course → Local → MasterState
+begun_by start c local =
     record {
       member = first_start 1;
       view = first start;
       phase = phase.Preparing (run_of c);
       front = None;
-      asked = record { global = false; copy = false; micro = false };
+      asked = record { global = false; copy = false; local = false; micro = false };
       owed = false;
       voices = [];
+      local = local;
     }
 
 resting_is : (start : Start) (epoch : ℕ) (s : MasterState) → PresidentRests start epoch s
-    → s ≡ resting start epoch s.voices
+    → s ≡ resting start epoch s.voices s.local
 resting_is start epoch s rests = λ i. record {
   member = rests.member i;
   view = rests.view i;
@@ -77,36 +80,42 @@ resting_is start epoch s rests = λ i. record {
   asked = rests.asked i;
   owed = rests.owed i;
   voices = s.voices;
+  local = s.local;
 }
 
 -- the request begins it
-module _ (start : Start) (c : Course) (voices : List Voice) (voice : Voice) (client : voice.member.node ≡ 0) where
+module _ (start : Start) (c : Course) (voices : List Voice) (local : Local) (voice : Voice)
+    (client : voice.member.node ≡ 0) where
   abbrev s : MasterState
-  s = resting start c.epoch voices
+  s = resting start c.epoch voices local
 
-  global_begins : next_of Gcp c.epoch ≡ Some c.next → epoch_table s voice (GcpReq Api) ≡ listing (begun_by start c) 0
+  abbrev begins_so : MasterState
+  begins_so = begun_by start c local
+
+  global_begins : next_of Gcp c.epoch ≡ Some c.next → epoch_table s voice (GcpReq Api) ≡ listing begins_so 0
   unfolding asked_row begins begun
   global_begins next =
       ap (λ n. asked_row s (global_asked s.asked n)) client
       ∙ ap (λ (o : Option ℕ).
       begins_if
-      (begin_global (record s { asked = record { global = true; copy = false; micro = false } }) c.epoch o).state
-      (begin_global (record s { asked = record { global = true; copy = false; micro = false } }) c.epoch o).spent false)
+      (begin_global (record s { asked = global_asked s.asked 0 }) c.epoch o).state
+      (begin_global (record s { asked = global_asked s.asked 0 }) c.epoch o).spent false)
       next
 
-  micro_begins : next_of Micro c.epoch ≡ Some c.next → epoch_table s voice MicroReq ≡ listing (begun_by start c) 0
+  micro_begins : next_of Micro c.epoch ≡ Some c.next → epoch_table s voice MicroReq ≡ listing begins_so 0
   unfolding asked_row begins begun
   micro_begins next =
       ap (λ (o : Option ℕ).
       begins_if
-      (begin_micro (record s { asked = record { global = false; copy = false; micro = true } }) c.epoch o).state
-      (begin_micro (record s { asked = record { global = false; copy = false; micro = true } }) c.epoch o).spent false)
+      (begin_micro (record s { asked = micro_asked s.asked }) c.epoch o).state
+      (begin_micro (record s { asked = micro_asked s.asked }) c.epoch o).spent false)
       next
 
   request_begins : (number : ℕ) (kind : Closing) → next_of kind c.epoch ≡ Some c.next
-      → master_table s voice number (ask_of kind) ≡ listing (begun_by start c) 0
+      → master_table s voice number (ask_of kind) ≡ listing begins_so 0
   request_begins number Gcp next = global_begins next
   request_begins number Micro next = micro_begins next
+  request_begins number Lcp next = absurd (cc (next))
 
 -- a list of one, of which one was taken
 none_left : {A : Type 0} (x y : A) (rest : List A) → x ∷ [] ≡ rest ++ y ∷ [] → rest ≡ []
@@ -153,15 +162,15 @@ module _ (start : Start) (shape : IsShape start.shape) (c : Course) (next : next
     t = master_row p.master step.x
 
     abbrev n : MasterState
-    n = begun_by start c
+    n = begun_by start c p.master.local
 
     t_is : t ≡ listing n 0
     t_is =
         ap (λ (s : MasterState). master_row s step.x) (resting_is start c.epoch p.master rests)
-        ∙ ap (master_table (resting start c.epoch p.master.voices)
+        ∙ ap (master_table (resting start c.epoch p.master.voices p.master.local)
         (record { member = step.x.member; from = step.x.from }) step.x.view.number)
         (step.says.body ∙ ap (λ (o : Outgoing). o.body) sent_is)
-        ∙ request_begins start c p.master.voices (record { member = step.x.member; from = step.x.from })
+        ∙ request_begins start c p.master.voices p.master.local (record { member = step.x.member; from = step.x.from })
         (ap (λ (m : Member). m.node) (step.says.member ∙ ap (member_at (made start)) from)) step.x.view.number c.kind
         next
 

@@ -105,7 +105,7 @@ module _ (start : Start) (shape : IsShape start.shape) (c : Course) (base : ℕ 
   asked_fits asked i h one is =
       let at : (i ≡ 0) × ((h ≡ main) × (one ≡ to_place (checkpoints 1) (ask_of c.kind))) = asked_is asked i h one is in
       fit_at start i h 0 main one (to_place (checkpoints 1) (ask_of c.kind)) at.0 at.1.0 at.1.1
-      (request_fits start shape c c.kind)
+      (request_fits start shape c)
 
   pub fits : IsAskedFor start c (moment start base es links) ⊎ IsUnderWay start c (moment start base es links)
       → (i h : ℕ) (one : Outgoing) → IsIn one (map said (links i h).under) → IsFit start i h one

@@ -1,10 +1,10 @@
 -- A closing goes on where the client's side takes the report of its end: the client is told, unless it was before.
 use Rattle.std.proofs.Common.{◌≡◌, ◌≢◌, ◌⊎◌, ◌∙◌, ◌++◌, inl, inr, ℕ, Bool, true, false, List, [], ◌∷◌, refl, sym, ap}
 use Rattle.std.proofs.Common.{subst, append-nil}
-use Rattle.std.proofs.lemmas.Bool.{true≢false}
+use Rattle.std.proofs.lemmas.Bool.{false≢true, true≢false}
 use Rattle.std.specs.Prelude.{None, Some}
 use Rattle.api_views.specs.declared.closings.Closing.{Closing}
-use Rattle.api_views.specs.declared.closings.Closing.TheVariants.{Gcp, Micro}
+use Rattle.api_views.specs.declared.closings.Closing.TheVariants.{Gcp, Micro, Lcp}
 use Rattle.api_views.specs.Client.{client_row, client_table}
 use Rattle.api_views.specs.Closings.{closed_if, closed_reply, closed_row, is_asked}
 use Rattle.api_views.specs.State.{ClientState}
@@ -26,7 +26,7 @@ use Rattle.sig_core.specs.declared.signal.Signal.{Signal}
 use Rattle.sig_core.specs.Step.{Step, stay}
 use Rattle.world_core.specs.Start.{Start}
 use Rattle.calm_laws.specs.Alike.{first}
-use Rattle.peace_laws.specs.Closing.{Course, HasRows, host_in, main}
+use Rattle.peace_laws.specs.Closing.{Course, HasRows, closes_epoch, host_in, main}
 use Rattle.peace_laws.specs.Moments.{IsTaken, Moment, Takes, behind, told_by}
 use Rattle.peace_laws.specs.UnderWay.{AReport, Commits, CommittedAt, HasCommitted, HasMember, IsAnswered, IsAt}
 use Rattle.peace_laws.specs.UnderWay.{IsClient, IsLeft}
@@ -42,13 +42,14 @@ unfolding closed_row
 report_row s x c view body =
     ap (λ (t : ClientState). client_table t x x.body) (seen s x.view view)
     ∙ ap (client_table s x) body
-    ∙ by c.kind
+    ∙ by c.kind c.closes
   where
-    by : (kind : Closing)
+    by : (kind : Closing) → closes_epoch kind ≡ true
         → client_table s x (Epoch (report_by c.epoch kind))
         ≡ stay (closed_if s kind c.epoch (is_asked kind s.closing))
-    by Gcp = refl
-    by Micro = refl
+    by Gcp closes = refl
+    by Micro closes = refl
+    by Lcp closes = absurd (false≢true closes)
 
 shell_row_is : (p : ShellPart) (x : Signal) → block.Api ≡ x.to.block
     → in_shell (in_client p (client_row p.client x)) ≡ parts_row (Shell p) x
@@ -58,10 +59,12 @@ shell_row_is p x to = ap (λ b. row_at (Shell p) b x) to ∙ row_is (Shell p) x
 own_asked : (kind : Closing) → is_asked kind (Some kind) ≡ true
 own_asked Gcp = refl
 own_asked Micro = refl
+own_asked Lcp = refl
 
 none_asked : (kind : Closing) → is_asked kind None ≡ false
 none_asked Gcp = refl
 none_asked Micro = refl
+none_asked Lcp = refl
 
 -- What the shell's host does at the report.
 record ShellTold (start : Start) (c : Course) (parts : Parts) (before : List ApiReply) (t : Step Parts) : Type 0 where

@@ -2,9 +2,9 @@
 use Rattle.std.proofs.Common.{◌≡◌, ◌∙◌, ℕ, List, ◌∷◌, true, false, ap, sym, subst}
 use Rattle.std.specs.List.{list_any}
 use Rattle.std.specs.Prelude.{is_some, Option, None}
-use Rattle.std.proofs.lemmas.Bool.{true≢false}
+use Rattle.std.proofs.lemmas.Bool.{false≢true, true≢false}
 use Rattle.api_views.specs.declared.closings.Closing.{Closing}
-use Rattle.api_views.specs.declared.closings.Closing.TheVariants.{Gcp, Micro}
+use Rattle.api_views.specs.declared.closings.Closing.TheVariants.{Gcp, Micro, Lcp}
 use Rattle.api_views.specs.Closings.{ask_of}
 use Rattle.frag_map.specs.Shape.{IsShape}
 use Rattle.gcp_master.specs.declared.phase.Asked.{Asked}
@@ -34,7 +34,7 @@ use Rattle.world_core.specs.Steps.{HostStep}
 use Rattle.world_views.specs.Machine.{after, machine}
 use Rattle.world_views.specs.Sending.{is_asked}
 use Rattle.level_laws.specs.Laws.{HostsAreLevel}
-use Rattle.peace_laws.specs.Closing.{Course, IsAskedFor, MainRests, PresidentRests, main, next_of}
+use Rattle.peace_laws.specs.Closing.{Course, IsAskedFor, MainRests, PresidentRests, closes_epoch, main, next_of}
 use Rattle.peace_laws.specs.Laws.{is_spent}
 use Rattle.peace_laws.proofs.closings.Moments as moments
 use Rattle.peace_laws.proofs.closings.Moments.{Links, moment}
@@ -51,39 +51,55 @@ module _ (start : Start) (epoch : ℕ) (s : MasterState) (rests : PresidentRests
       ∙ is
 
   global_spent : next_of Gcp epoch ≡ None
-      → list_any is_spent (asked_row s (record { global = true; copy = false; micro = false })).effects.marks ≡ true
+      → list_any is_spent (asked_row s (record {
+        global = true;
+        copy = false;
+        local = false;
+        micro = false;
+      })).effects.marks ≡ true
   unfolding begins begun
   global_spent none =
-      none_left (record { global = true; copy = false; micro = false })
+      none_left (record { global = true; copy = false; local = false; micro = false })
       (ap (λ (next : Option ℕ).
       list_any is_spent
       (begins_if
-      (begin_global (record s { asked = record { global = true; copy = false; micro = false } }) epoch next).state
-      (begin_global (record s { asked = record { global = true; copy = false; micro = false } }) epoch next).spent
+      (begin_global (record s { asked = record { global = true; copy = false; local = false; micro = false } }) epoch
+      next).state
+      (begin_global (record s { asked = record { global = true; copy = false; local = false; micro = false } }) epoch
+      next).spent
       (is_some s.front)).effects.marks) none)
 
   micro_spent : next_of Micro epoch ≡ None
-      → list_any is_spent (asked_row s (record { global = false; copy = false; micro = true })).effects.marks ≡ true
+      → list_any is_spent (asked_row s (record {
+        global = false;
+        copy = false;
+        local = false;
+        micro = true;
+      })).effects.marks ≡ true
   unfolding begins begun
   micro_spent none =
-      none_left (record { global = false; copy = false; micro = true })
+      none_left (record { global = false; copy = false; local = false; micro = true })
       (ap (λ (next : Option ℕ).
       list_any is_spent
       (begins_if
-      (begin_micro (record s { asked = record { global = false; copy = false; micro = true } }) epoch next).state
-      (begin_micro (record s { asked = record { global = false; copy = false; micro = true } }) epoch next).spent
+      (begin_micro (record s { asked = record { global = false; copy = false; local = false; micro = true } }) epoch
+      next).state
+      (begin_micro (record s { asked = record { global = false; copy = false; local = false; micro = true } }) epoch
+      next).spent
       (is_some s.front)).effects.marks) none)
 
-  spent_by : (kind : Closing) → next_of kind epoch ≡ None → (x : Signal) → x.body ≡ ask_of kind → x.member.node ≡ 0
+  spent_by : (kind : Closing) → closes_epoch kind ≡ true → next_of kind epoch ≡ None → (x : Signal)
+      → x.body ≡ ask_of kind → x.member.node ≡ 0
       → list_any is_spent (master_row s x).effects.marks ≡ true
-  spent_by Gcp none x body node =
+  spent_by Lcp closes none x body node = absurd (false≢true closes)
+  spent_by Gcp closes none x body node =
       ap (λ (said : Body).
       list_any is_spent
       (master_table s (record { member = x.member; from = x.from }) x.view.number said).effects.marks) body
       ∙ ap (λ n. list_any is_spent (asked_row s (global_asked s.asked n)).effects.marks) node
       ∙ ap (λ (asked : Asked). list_any is_spent (asked_row s (global_asked asked 0)).effects.marks) rests.asked
       ∙ global_spent none
-  spent_by Micro none x body node =
+  spent_by Micro closes none x body node =
       ap (λ (said : Body).
       list_any is_spent
       (master_table s (record { member = x.member; from = x.from }) x.view.number said).effects.marks) body
@@ -96,13 +112,14 @@ unfolding main_row
 main_is p x at = ap (λ (to : BlockId). (in_main (main_row p to x)).effects.marks) at
 
 main_spent : (start : Start) (epoch : ℕ) (parts : Parts) → MainRests start epoch parts → (kind : Closing)
-    → next_of kind epoch ≡ None → (x : Signal) → x.body ≡ ask_of kind → x.to.block ≡ block.GcpMaster
+    → closes_epoch kind ≡ true → next_of kind epoch ≡ None → (x : Signal) → x.body ≡ ask_of kind
+    → x.to.block ≡ block.GcpMaster
     → x.member.node ≡ 0 → list_any is_spent (parts_row parts x).effects.marks ≡ true
-main_spent start epoch (Main p) rests kind none x body at node =
-    ap (list_any is_spent) (main_is p x at) ∙ spent_by start epoch p.master rests kind none x body node
-main_spent start epoch (Shell p) rests kind none x body at node = absurd rests
-main_spent start epoch (Tc p) rests kind none x body at node = absurd rests
-main_spent start epoch (Ldm p) rests kind none x body at node = absurd rests
+main_spent start epoch (Main p) rests kind closes none x body at node =
+    ap (list_any is_spent) (main_is p x at) ∙ spent_by start epoch p.master rests kind closes none x body node
+main_spent start epoch (Shell p) rests kind closes none x body at node = absurd rests
+main_spent start epoch (Tc p) rests kind closes none x body at node = absurd rests
+main_spent start epoch (Ldm p) rests kind closes none x body at node = absurd rests
 
 -- So no host takes the request, if none is to stop by that.
 module _ (hosts_level : HostsAreLevel) (start : Start) (shape : IsShape start.shape) (c : Course)
@@ -138,7 +155,8 @@ module _ (hosts_level : HostsAreLevel) (start : Start) (shape : IsShape start.sh
       ∙ main_spent start c.epoch (after start e.host (log_of (machine start) es e.host)).parts
       (subst (λ k. MainRests start c.epoch (after start k (log_of (machine start) es k)).parts) (sym is_the.1.0)
       asked.rest.master)
-      c.kind none x (ap (λ (o : Outgoing). o.body) is_the.1.1) (ap (λ (o : Outgoing). o.to.block) is_the.1.1) node
+      c.kind c.closes none x (ap (λ (o : Outgoing). o.body) is_the.1.1) (ap (λ (o : Outgoing). o.to.block) is_the.1.1)
+      node
 
   pub none_takes : ⊥
   none_takes = true≢false (sym spends_it ∙ unspent)

@@ -6,7 +6,7 @@ use Rattle.std.specs.Prelude.{None, Some, length}
 use Rattle.api_block.specs.Given.{in_given}
 use Rattle.api_block.specs.State.{ApiState, in_view, with_replies}
 use Rattle.api_views.specs.declared.closings.Closing.{Closing}
-use Rattle.api_views.specs.declared.closings.Closing.TheVariants.{Gcp, Micro}
+use Rattle.api_views.specs.declared.closings.Closing.TheVariants.{Gcp, Micro, Lcp}
 use Rattle.api_views.specs.Client.{client_row, client_table}
 use Rattle.api_views.specs.Closings.{closed_if, closed_reply, closed_row, is_asked}
 use Rattle.api_views.specs.Members.{noted}
@@ -63,6 +63,7 @@ use Rattle.calm_laws.specs.Alike.{IsAtEase, first}
 use Rattle.calm_laws.specs.Plain.{is_beating, is_main}
 use Rattle.level_laws.specs.Levels.{host_at}
 use Rattle.peace_laws.specs.Alike.{AreEpochsNear, AreNear, ArePartsNear}
+use Rattle.peace_laws.specs.Closing.{closes_epoch}
 use Rattle.peace_laws.specs.Parts.{plain_replies}
 use Rattle.peace_laws.specs.Peace.{has_closer, is_closer, is_for_closing, is_order}
 use Rattle.peace_laws.specs.Steps.{ClosingsStepNear, ComesForClosing, IsForMaster, IsOfClosing, asks_master}
@@ -70,7 +71,8 @@ use Rattle.peace_laws.proofs.closings.Ease.{closings_for_blocks, has_its_block, 
 use Rattle.peace_laws.proofs.closings.MasterNear.{IsClosingMark, master_steps}
 
 -- a step of a host that is near its plain one behind it, at a signal from a member of this node
-pub record HostNear (start : Start) (h : ℕ) (given : List ApiReply) (from : ℕ) (t : Step host.HostBody) (other : plain.Host)
+pub record HostNear (start : Start) (h : ℕ) (given : List ApiReply) (from : ℕ) (t : Step host.HostBody)
+    (other : plain.Host)
     : Type 0
   where
     inner : plain.Host
@@ -111,19 +113,20 @@ module _ (start : Start) (given : List ApiReply) (standing : Standing) (ease : I
   shell_with c = record { standing = standing; parts = Shell (record { client = c; arbiter = p.arbiter }) }
 
   -- the plain one isn't
-  untold : (closing : Closing) (epoch : ℕ) (replies : List ApiReply) → replies ≡ []
+  untold : (closing : Closing) → closes_epoch closing ≡ true → (epoch : ℕ) (replies : List ApiReply) → replies ≡ []
       → (given ++ plain_replies (replies ++ closed_reply closing epoch ∷ [])) ++ [] ≡ given ++ replies
-  untold Gcp epoch [] is = append-nil (given ++ [])
-  untold Micro epoch [] is = append-nil (given ++ [])
-  untold closing epoch (one ∷ more) is = absurd cc
+  untold Gcp closes epoch [] is = append-nil (given ++ [])
+  untold Micro closes epoch [] is = append-nil (given ++ [])
+  untold Lcp closes epoch [] is = absurd (false≢true closes)
+  untold closing closes epoch (one ∷ more) is = absurd cc
 
   none_told : (replies : List ApiReply) → replies ≡ [] → (given ++ plain_replies replies) ++ [] ≡ given ++ replies
   none_told [] is = append-nil (given ++ [])
   none_told (one ∷ more) is = absurd cc
 
-  closed : (closing : Closing) (epoch : ℕ) (asked : Bool)
+  closed : (closing : Closing) → closes_epoch closing ≡ true → (epoch : ℕ) (asked : Bool)
       → HostNear start 0 given from (stay (shell_with (closed_if p.client closing epoch asked))) (plain_host.Shell a)
-  closed closing epoch true = record {
+  closed closing closes epoch true = record {
     inner =
         plain_host.Shell
         (in_given (given ++ plain_replies (p.client.api.replies ++ closed_reply closing epoch ∷ []))
@@ -137,13 +140,13 @@ module _ (start : Start) (given : List ApiReply) (standing : Standing) (ease : I
     };
     same =
         ap (λ (b : ApiState). host_at start.epoch (plain_host.Shell b))
-        (ap (with_replies p.client.api) (untold closing epoch p.client.api.replies near.1.1.0) ∙ sym near.1.1.1);
+        (ap (with_replies p.client.api) (untold closing closes epoch p.client.api.replies near.1.1.0) ∙ sym near.1.1.1);
     marks = λ beats. refl;
     only = tt;
     sends = tt;
     masters = λ beats some. tt;
   }
-  closed closing epoch false = record {
+  closed closing closes epoch false = record {
     inner =
         plain_host.Shell
         (in_given (given ++ plain_replies p.client.api.replies) (with_replies p.client.api []));
@@ -167,8 +170,9 @@ module _ (start : Start) (given : List ApiReply) (standing : Standing) (ease : I
   client_by : (x : Signal) (body : Body) → is_for_closing block.Api body ≡ true
       → HostNear start 0 given from (of_client (client_table p.client x body)) (plain_host.Shell a)
   unfolding closed_row
-  client_by x (Epoch (epoch.GcpRep closed_epoch)) is = closed Gcp closed_epoch (is_asked Gcp p.client.closing)
-  client_by x (Epoch (epoch.MicroRep closed_epoch)) is = closed Micro closed_epoch (is_asked Micro p.client.closing)
+  client_by x (Epoch (epoch.GcpRep closed_epoch)) is = closed Gcp refl closed_epoch (is_asked Gcp p.client.closing)
+  client_by x (Epoch (epoch.MicroRep closed_epoch)) is =
+      closed Micro refl closed_epoch (is_asked Micro p.client.closing)
   client_by x body is = absurd (false≢true is)
 
   client_near : (x : Signal) → x.view ≡ first start → is_for_closing block.Api x.body ≡ true

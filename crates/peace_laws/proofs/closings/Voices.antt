@@ -20,6 +20,7 @@ use Rattle.sig_core.specs.declared.member.Member.{Member}
 use Rattle.sig_core.specs.declared.view.View.{View}
 use Rattle.world_core.specs.Hosts.{member_at}
 use Rattle.world_core.specs.Start.{Start, made}
+use Rattle.host_laws.proofs.hosts.Sums.{one_most}
 use Rattle.calm_laws.specs.Alike.{first}
 use Rattle.calm_laws.proofs.lives.FirstMembers.{member_first, member_known}
 use Rattle.peace_laws.specs.Closing.{host_in}
@@ -92,14 +93,10 @@ count_more voices place rows unheard (suc n) low = go (count_more voices place r
           count_on voices (voice_of place rows) rows n,
         )
 
-at_most_one : (b : Bool) → one_if b ≤ 1
-at_most_one true = omega arith
-at_most_one false = omega arith
-
 count_few : (voices : List Voice) (rows : Bool) (n : ℕ) → heard_count voices rows n ≤ n
 count_few voices rows zero = omega arith
 count_few voices rows (suc n) =
-    omega (arith, count_few voices rows n, at_most_one (is_heard voices (voice_of n rows)))
+    omega (arith, count_few voices rows n, one_most (is_heard voices (voice_of n rows)))
 
 count_fewer : (voices : List Voice) (place : ℕ) (rows : Bool) → is_heard voices (voice_of place rows) ≡ false
     → (n : ℕ) → place < n → suc (heard_count voices rows n) ≤ n
@@ -198,8 +195,8 @@ split_one : (m a b ha hb : Bool) (f : ℕ) → (a ≡ true → b ≡ true → �
     → one_if ((m && a) || ha) + one_if ((m && b) || hb) ≤ (if m then suc f else f)
 split_one false a b ha hb f apart before = before
 split_one true true true ha hb f apart before = absurd (apart refl refl)
-split_one true true false ha hb f apart before = omega (arith, before, at_most_one ha)
-split_one true false true ha hb f apart before = omega (arith, before, at_most_one hb)
+split_one true true false ha hb f apart before = omega (arith, before, one_most ha)
+split_one true false true ha hb f apart before = omega (arith, before, one_most hb)
 split_one true false false ha hb f apart before = omega (arith, before)
 
 filter_length : (m : Bool) (v : Voice) (f : List Voice)

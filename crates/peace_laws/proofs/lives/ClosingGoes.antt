@@ -50,7 +50,7 @@ use Rattle.peace_laws.specs.Moments.{IsStill, Moment}
 use Rattle.peace_laws.specs.Peace.{ArePeaceful, asks_closing, is_closing, is_closing_request, is_peaceful}
 use Rattle.peace_laws.specs.Rest.{AreAtRestIn}
 use Rattle.peace_laws.proofs.closings.AskedMoment as first
-use Rattle.peace_laws.proofs.closings.AskingSteps.{closing_of}
+use Rattle.peace_laws.proofs.closings.AskingSteps.{closing_of, course_of}
 use Rattle.peace_laws.proofs.closings.Ends.{closings_end}
 use Rattle.peace_laws.proofs.closings.Moments.{Links, moment}
 use Rattle.peace_laws.proofs.closings.Runs.{AreOn, IsOn, each_host, fits, is_on_next}
@@ -80,6 +80,7 @@ later_epoch closing.Micro epoch next is = go (nat_lt (epoch % MICROS + 1) MICROS
         let same : epoch + 1 ≡ next = cc (is) in
         omega (arith, same)
     go false none = absurd (cc (none))
+later_epoch closing.Lcp epoch next is = absurd (cc (is))
 
 -- what the client was told
 told_of : (start : Start) (request : ApiReq) (was now : ℕ → List HostStep) (epoch : ℕ)
@@ -256,7 +257,7 @@ module _ (hosts_level : HostsAreLevel) (start : Start) (shape : IsShape start.sh
 
     asked_for : (next : ℕ)
         → IsAskedFor start
-        (record { epoch = epoch; next = next; kind = kind; before = replies_in start 0 (base 0) })
+        (course_of request epoch next (replies_in start 0 (base 0)))
         (moment start base (e ∷ es) links)
     unfolding links
     asked_for =
@@ -317,8 +318,7 @@ module _ (hosts_level : HostsAreLevel) (start : Start) (shape : IsShape start.sh
         }
 
     first_is_on : (next : ℕ)
-        → IsOn start (record { epoch = epoch; next = next; kind = kind; before = replies_in start 0 (base 0) }) base
-        (e ∷ es)
+        → IsOn start (course_of request epoch next (replies_in start 0 (base 0))) base (e ∷ es)
     first_is_on next =
         record {
           on = first_on;
@@ -386,7 +386,7 @@ module _ (hosts_level : HostsAreLevel) (start : Start) (shape : IsShape start.sh
     on : AreOn start epoch base those
     links : Links start base those
     asked : IsAskedFor start
-        (record { epoch = epoch; next = epoch; kind = kind; before = replies_in start 0 (base 0) })
+        (course_of request epoch epoch (replies_in start 0 (base 0)))
         (moment start base those links)
 
   only_asked : next_of kind epoch ≡ None → (e : HostStep) (newer : List HostStep)
@@ -398,7 +398,7 @@ module _ (hosts_level : HostsAreLevel) (start : Start) (shape : IsShape start.sh
       only_asked none d newer run.0 (before (d ∷ (newer ++ es)) e upto) in
       absurd
       (none_takes hosts_level start shape
-      (record { epoch = epoch; next = epoch; kind = kind; before = replies_in start 0 (base 0) }) none base all
+      (course_of request epoch epoch (replies_in start 0 (base 0))) none base all
       (d ∷ (newer ++ es)) e run (within (e ∷ (d ∷ (newer ++ es))) upto)
       (later_given (d ∷ (newer ++ es)) e upto run was.on.once) (unspent (d ∷ (newer ++ es)) e upto) was.on was.links
       was.asked)
@@ -419,7 +419,7 @@ module _ (hosts_level : HostsAreLevel) (start : Start) (shape : IsShape start.sh
           sym only.asked.request
           ∙ all_still only.on only.links
           (fits start shape
-          (record { epoch = epoch; next = epoch; kind = kind; before = replies_in start 0 (base 0) }) base whole
+          (course_of request epoch epoch (replies_in start 0 (base 0))) base whole
           only.links (inl only.asked))
           again 0 main in
           absurd (cc (none))
@@ -427,7 +427,7 @@ module _ (hosts_level : HostsAreLevel) (start : Start) (shape : IsShape start.sh
   -- Else the closing ends.
   module _ (next : ℕ) (next_is : next_of kind epoch ≡ Some next) where
     abbrev c : Course
-    c = record { epoch = epoch; next = next; kind = kind; before = replies_in start 0 (base 0) }
+    c = course_of request epoch next (replies_in start 0 (base 0))
 
     goes : (e : HostStep) (newer : List HostStep) → Run (machine start) (e ∷ (newer ++ es))
         → Upto (e ∷ (newer ++ es)) → IsOn start c base (e ∷ (newer ++ es))
@@ -502,7 +502,7 @@ module _ (hosts_level : HostsAreLevel) (start : Start) (shape : IsShape start.sh
           closes_on next of
           (subst
           (λ those. IsOn start
-          (record { epoch = epoch; next = next; kind = kind; before = replies_in start 0 (base 0) }) base (those ++ es))
+          (course_of request epoch next (replies_in start 0 (base 0))) base (those ++ es))
           (sym is) (goes next of e newer run upto))
 
 pub closing_goes_on : HostsAreLevel → ClosingGoesOn

@@ -1,9 +1,9 @@
 -- A life in peace, request by request: it stands after each, and rests where nothing is under way. So its plain parts
 -- are what the plain machine does, and each closing is answered, where closings go on from rest to rest.
-use Rattle.std.proofs.Common.{◌<◌, ◌≡◌, ◌⊎◌, ◌≤◌, inl, inr, ℕ, Bool, true, false, List, [], ◌∷◌, ◌++◌, refl, sym, subst}
+use Rattle.std.proofs.Common.{◌<◌, ◌≡◌, ◌⊎◌, ◌≤◌, inl, inr, ℕ, true, List, [], ◌∷◌, ◌++◌, sym, subst}
 use Rattle.std.proofs.Common.{arith}
 use Rattle.std.proofs.Math.Path.{fun_ext}
-use Rattle.std.specs.Prelude.{◌||◌}
+use Rattle.std.proofs.lemmas.Bool.{or_cases}
 use Rattle.frag_map.specs.Shape.{IsShape}
 use Rattle.outcome_laws.proofs.knowledge.CommitsWereDecided.{commits_were_decided}
 use Rattle.outcome_laws.specs.Decided.{IsMarked}
@@ -66,11 +66,6 @@ record IsServed (start : Start) (logs : ℕ → List HostStep) : Type 0 where
   rests : IsQuiet start logs → RestsSome start logs
   asked : plain_requests.AreAskedAtQuiet start (plain_parts start logs)
 
--- a request of a life in peace is calm, or asks for a closing
-either : (a b : Bool) → (a || b) ≡ true → (a ≡ true) ⊎ (b ≡ true)
-either true b is = inl refl
-either false b is = inr is
-
 module _ (hosts_level : HostsAreLevel) (closes : ClosingGoesOn) (start : Start) (shape : IsShape start.shape)
     (rows : start.rows ≡ []) (above : start.start_epoch < start.epoch) where
   none_asked : plain_requests.AreAskedAtQuiet start (plain_parts start (λ h. []))
@@ -131,7 +126,7 @@ module _ (hosts_level : HostsAreLevel) (closes : ClosingGoesOn) (start : Start) 
         }
 
     next : IsServed start more
-    next = next_by (either (is_calm_request request) (is_closing_request request) by.peaceful)
+    next = next_by (or_cases (is_calm_request request) (is_closing_request request) by.peaceful)
 
   serves : (asked : List ApiReq) (logs : ℕ → List HostStep) → AreServedBy start asked logs → IsServed start logs
   serves [] logs none = subst (IsServed start) (fun_ext (λ h. sym (none h))) begins

@@ -66,7 +66,8 @@ same_main : (p q : MainPart) → Main p ≡ Main q → p ≡ q
 same_main p q is = cc is
 
 -- so is it after a calm step
-module _ (start : Start) (h : ℕ) (s : host.HostBody) (other : plain.Host) (x : Signal) (beats : is_beating (suc h) ≡ true)
+module _ (start : Start) (h : ℕ) (s : host.HostBody) (other : plain.Host) (x : Signal)
+    (beats : is_beating (suc h) ≡ true)
     (alike : AreAlike start [] s other) (comes : ComesCalmly start (suc h) x) (main : IsNearMain s.parts) where
   abbrev p : MainPart
   p = main.part

@@ -69,7 +69,7 @@ master_begins : (start : Start) (of : Part) (member : Member) (p : MainPart)
 master_begins start part.Main member p is =
     let phase : IsPhaseNear (first_phase start.epoch (is_president member (first start))) =
     first_near start.epoch (is_president member (first start)) in
-    subst IsNearIn is (record { phase = phase; front = tt; asked = refl })
+    subst IsNearIn is (record { phase = phase; front = tt; asked = (refl, refl) })
 master_begins start part.Tc member p is = absurd cc
 master_begins start part.Ldm member p is = absurd cc
 

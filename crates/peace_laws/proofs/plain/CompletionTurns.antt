@@ -1,8 +1,8 @@
 -- Turn by turn: what a transaction that completes awaits is sent, or still to be sent.
-use Rattle.std.proofs.Common.{◌≡◌, ◌≤◌, ◌<◌, ◌+◌, ◌-◌, ℕ, Bool, true, false, List, length, refl, sym, ap, ◌∙◌, arith}
-use Rattle.std.proofs.lemmas.Bool.{and_parts, false≢true, true≢false}
+use Rattle.std.proofs.Common.{◌≡◌, ◌≤◌, ◌+◌, ◌-◌, ℕ, Bool, true, false, List, length, refl, sym, ap, ◌∙◌, arith}
+use Rattle.std.proofs.lemmas.Bool.{and_parts, false≢true, ltb-true, true≢false}
 use Rattle.std.proofs.lemmas.Bool.Decides.{nat_tests}
-use Rattle.std.specs.Prelude.{◌==◌, ◌&&◌, nat_lt, Some}
+use Rattle.std.specs.Prelude.{◌==◌, ◌&&◌, Some}
 use Rattle.sig_core.specs.declared.member.TxId.{TxId}
 use Rattle.sig_core.specs.declared.outs.Outgoing.{Outgoing}
 use Rattle.sig_core.specs.declared.place.Place.{Place}
@@ -26,11 +26,12 @@ use Rattle.tc_block.specs.Phases.{is_completing}
 use Rattle.tc_block.specs.Sends.{entering, go_on_if, phase_sends}
 use Rattle.tc_block.specs.Touched.{fits}
 use Rattle.tc_block.specs.Turn.{Turn, going}
+use Rattle.host_laws.proofs.hosts.Sums.{one_most}
 use Rattle.run_laws.proofs.hosts.TxTurns.{is_for, turn_each}
 use Rattle.run_laws.proofs.transit.Weighing.{in_sends}
 use Rattle.order_laws.proofs.CompletingTurns.{completions_same}
 use Rattle.order_laws.specs.Awaited.{awaited_in}
-use Rattle.peace_laws.proofs.plain.Completions.{few, is_home, late_stands, list_completions, next_stands, part_stands}
+use Rattle.peace_laws.proofs.plain.Completions.{is_home, late_stands, list_completions, next_stands, part_stands}
 use Rattle.peace_laws.proofs.plain.Completions.{stands}
 
 module _ (node : ℕ) (layout : Layout) (tx : TxId) (home : node ≡ tx.tc) where
@@ -97,9 +98,6 @@ module _ (node : ℕ) (layout : Layout) (tx : TxId) (home : node ≡ tx.tc) wher
         at_least : (n : ℕ) → (n == 0) ≡ false → 1 ≤ n
         at_least n e = grind (arith, nat_tests, e)
 
-    more_is : (awaited : ℕ) → nat_lt 1 awaited ≡ true → 1 < awaited
-    more_is awaited e = grind (arith, nat_tests, e)
-
     completes_forms : TurnFormsAt node layout tx t body R
     unfolding entering
     completes_forms = record {
@@ -133,13 +131,13 @@ module _ (node : ℕ) (layout : Layout) (tx : TxId) (home : node ≡ tx.tc) wher
           goes refl (ap is_completing at)
           (completions_same layout tx epoch (awaited - 1) awaited t.touched
           ∙ sym (ap (λ p. phase_sends layout tx p t.touched) at))
-          (λ some. omega (arith, more_is awaited more))
+          (λ some. omega (arith, ltb-true 1 awaited more))
           (omega (
             arith,
-            more_is awaited more,
+            ltb-true 1 awaited more,
             ap awaited_in at,
             ap (stands tx (list_of t) to) is,
-            few (is_home tx to && same_tx tx tx),
+            one_most (is_home tx to && same_tx tx tx),
           ));
       completed_all = λ key epoch awaited is at last. ends refl;
       rolls_back = λ is off unaborted. record { enters = λ some. elsewhere refl refl; ends = λ none. ends refl };

@@ -54,10 +54,6 @@ stands tx list to (Host (Continue (work.Transaction other) at)) =
     if is_home tx to && same_tx other tx then completions tx (drop at list) else 0
 stands tx list to body = 0
 
-pub few : (b : Bool) → one_if b ≤ 1
-few true = omega arith
-few false = omega arith
-
 module _ (tx : TxId) (list : List Outgoing) where
   one_stands : (to : Place) (body : Body) → one_if (completes tx body) ≤ stands tx list to body
   one_stands to (Chain (Complete other key chain at)) = omega arith

@@ -5,11 +5,10 @@ use Rattle.std.proofs.Common.{refl, sym, ap}
 use Rattle.std.proofs.Common.{◌∙◌, subst, arith, inl, inr}
 use Rattle.std.proofs.lemmas.Bool.{and_parts, cases_eq, eqb-true, false≢true}
 use Rattle.std.specs.Prelude.{◌==◌, ◌&&◌, if◌then◌else◌, Option, None, Some}
-use Rattle.run_theory.proofs.Merging.{logs_merged, merged_run}
+use Rattle.run_theory.proofs.Merging.{logs_merged}
 use Rattle.run_theory.specs.Counts.{one_if}
 use Rattle.run_theory.specs.Lists.{Each}
 use Rattle.run_theory.specs.Orders.{merged}
-use Rattle.run_theory.specs.Runs.{IsWithin}
 use Rattle.sig_core.specs.declared.member.Member.{Member}
 use Rattle.sig_core.specs.declared.member.TxId.{TxId}
 use Rattle.sig_core.specs.declared.outs.Outgoing.{Outgoing}
@@ -44,7 +43,6 @@ use Rattle.node_core.specs.Blocks.{has_lqh, lqh_of, tc_of}
 use Rattle.node_core.specs.declared.host.Host as host
 use Rattle.node_core.specs.Requests.{is_request}
 use Rattle.node_core.specs.Row.{row}
-use Rattle.world_core.proofs.Stamped.{stamped}
 use Rattle.world_core.specs.Hosts.{home, host_for, hosts, tc_host}
 use Rattle.world_core.specs.Machine.{after, machine, signals_of, step_after}
 use Rattle.world_core.specs.Start.{Start}
@@ -70,11 +68,13 @@ use Rattle.run_laws.proofs.hosts.TxTurns as turn
 use Rattle.run_laws.proofs.hosts.TxTurns.{TcTurn, is_for, tc_turn}
 use Rattle.run_laws.proofs.transit.Weighing.{in_sends, in_transit, joins_weigh, takes_weigh}
 use Rattle.answer_laws.specs.Answered.{AreQuiet, IsLiveAs}
+use Rattle.order_laws.proofs.Leads.{tc_block_is}
 use Rattle.order_laws.specs.Awaited.{awaited_in, list_length}
 use Rattle.order_laws.proofs.AwaitedSends.{phase_long}
 use Rattle.order_laws.proofs.CompletingTurns.{written_few}
 use Rattle.order_laws.proofs.Still.{IsZero, home_for, none_weigh, replica_low, still_at_quiet}
 use Rattle.order_laws.specs.Still.{IsStill}
+use Rattle.command_laws.proofs.quiet.NoAbortWaits.{quiet_runs}
 use Rattle.peace_laws.proofs.plain.Completions.{completions, is_home, rows_stand, stands}
 use Rattle.peace_laws.proofs.plain.CompletionTurns.{Completes, begins, elsewhere, ends, goes, turn_completes}
 
@@ -132,10 +132,6 @@ module _ (tx : TxId) (s : host.Host) (x : Signal) (home : IsHome tx (tc_of s)) w
       by t (none_takes step) =
           aside (ap (λ (u : Step host.Host). of_host tx u.state) step.is)
           (λ is. sym (runs_rows s x.to.block is) ∙ step.runs) (λ own is. none_of tx s x.to.block is step.runs)
-
-tc_block_is : (b : BlockId) → is_tc b ≡ true → b ≡ block.Tc
-tc_block_is block.Tc is = refl
-tc_block_is _ is = absurd cc
 
 module _ (start : Start) (tx : TxId) where
   abbrev layout : Layout
@@ -421,15 +417,6 @@ none_completes start logs h tx t quiet low live = by (is_completing t.phase) ref
     same : logs_of start (merged (machine start) (hosts start) logs) ≡ logs
     same = logs_merged (machine start) (hosts start) logs quiet.within quiet.right
 
-    run : IsRun start (merged (machine start) (hosts start) logs)
-    run = record {
-      shape = quiet.shape;
-      run = merged_run (machine start) (stamped start) (hosts start) logs quiet.within quiet.right;
-      within =
-          subst (IsWithin (hosts start)) (sym (logs_merged (machine start) (hosts start) logs quiet.within quiet.right))
-          quiet.within;
-    }
-
     there : of_host tx (after start h (logs h)) ≡ Some t
     there = live_tx start tx h (logs h) t live
 
@@ -443,7 +430,7 @@ none_completes start logs h tx t quiet low live = by (is_completing t.phase) ref
 
     still : (xs : List Addressed) × IsStill start (merged (machine start) (hosts start) logs) xs
     still =
-        still_at_quiet start (merged (machine start) (hosts start) logs) run
+        still_at_quiet start (merged (machine start) (hosts start) logs) (quiet_runs start logs quiet)
         (subst (λ (l : ℕ → List HostStep). AreQuiet start l) (sym same) quiet).quiet
 
     by : (b : Bool) → is_completing t.phase ≡ b → b ≡ false
@@ -451,11 +438,13 @@ none_completes start logs h tx t quiet low live = by (is_completing t.phase) ref
     by true e =
         let w : IsOnWay start tx still.0 t =
         subst (Claim start tx still.0) here
-        (completions_come start tx (merged (machine start) (hosts start) logs) still.0 run still.1.transit) e in
+        (completions_come start tx (merged (machine start) (hosts start) logs) still.0 (quiet_runs start logs quiet)
+        still.1.transit) e in
         absurd (omega (
           arith,
           w.some,
           w.way,
-          none_stands start tx (merged (machine start) (hosts start) logs) still.0 run still.1 (omega (arith, low, at))
+          none_stands start tx (merged (machine start) (hosts start) logs) still.0 (quiet_runs start logs quiet) still.1
+              (omega (arith, low, at))
               (list_at start tx t),
         ))

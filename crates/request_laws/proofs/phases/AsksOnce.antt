@@ -39,7 +39,7 @@ use Rattle.request_laws.proofs.phases.ToldByHosts.{HasTold, IsTold}
 use Rattle.request_laws.proofs.phases.Turns.{Changes, IsDecidedAs, IsStill, is_epoch_asked}
 use Rattle.request_laws.proofs.phases.Turns as turns
 use Rattle.request_laws.proofs.phases.Steps.{left_of}
-use Rattle.request_laws.proofs.phases.OneWay.{WaySays, goes_one_way, is_decided_as, sent_before, sent_behind}
+use Rattle.request_laws.proofs.phases.OneWay.{WaySays, goes_one_way, is_decided_as, sent_within}
 
 -- an epoch is asked for with these operations
 abbrev pub request : TxId → List (Op × Answer) → Body
@@ -146,11 +146,6 @@ module _ (start : Start) (member : Member) (there : IsIn member (made start)) (t
       now_over : turn.over ≡ false → o (e ∷ log) ≡ Some turn.step.state
       now_over on = left ∙ ap (λ b. if b then None else Some turn.step.state) on
 
-      among : (p : Body → Bool) → is_sent p turn.step.effects.sends ≡ true → is_sent p sends ≡ true
-      among p is =
-          ap (is_sent p) all
-          ∙ sent_behind p front (turn.step.effects.sends ++ more) (sent_before p turn.step.effects.sends more is)
-
       goes_forth : (epoch : ℕ) → turns.Forth tx t epoch turn → HasGone start member (e ∷ log) tx
       goes_forth epoch goes = by turn.over refl
         where
@@ -158,7 +153,8 @@ module _ (start : Start) (member : Member) (there : IsIn member (made start)) (t
               → HasGone start member (e ∷ log) tx
           ended (inl was) = absurd (true≢false (sym was ∙ ap is_decided at))
           ended (inr is) =
-              inl (gone_told start member tx is_decided (tells_commit tx) log e (among (tells_commit tx) is))
+              inl (gone_told start member tx is_decided (tells_commit tx) log e
+              (sent_within (tells_commit tx) front turn.step.effects.sends more sends all is))
 
           by : (over : Bool) → turn.over ≡ over → HasGone start member (e ∷ log) tx
           by true over = ended (goes.ends over)
@@ -173,7 +169,8 @@ module _ (start : Start) (member : Member) (there : IsIn member (made start)) (t
               → HasGone start member (e ∷ log) tx
           ended (inl was) = absurd (true≢false (sym was ∙ ap is_aborting at))
           ended (inr is) =
-              inr (gone_told start member tx is_aborting (tells_abort tx) log e (among (tells_abort tx) is))
+              inr (gone_told start member tx is_aborting (tells_abort tx) log e
+              (sent_within (tells_abort tx) front turn.step.effects.sends more sends all is))
 
           by : (over : Bool) → turn.over ≡ over → HasGone start member (e ∷ log) tx
           by true over = ended (goes.ends over)

@@ -23,6 +23,7 @@ use Rattle.tc_block.specs.Live.{turned_if}
 use Rattle.tc_block.specs.State.{TcState}
 use Rattle.tc_block.specs.Turn.{Turn}
 use Rattle.tc_block.proofs.EachTurn.{rows_of}
+use Rattle.tc_views.proofs.Walk.{coordinator_outcomes}
 use Rattle.tc_views.specs.Coordinator.{coordinator_row}
 use Rattle.tc_views.specs.State.{CoordinatorState}
 use Rattle.tc_views.specs.State as coordinators
@@ -37,7 +38,6 @@ use Rattle.outcome_laws.proofs.epochs.Steps.{dih_installs_hold}
 use Rattle.outcome_laws.proofs.takeovers.NoMarks.{takeover_marks_nothing}
 use Rattle.outcome_laws.proofs.coordinators.BeginsAndAsks.{coordinator_of_stays}
 use Rattle.outcome_laws.proofs.coordinators.NoMarks.{coordinator_marks_none}
-use Rattle.outcome_laws.proofs.coordinators.Steps.{coordinator_each}
 use Rattle.request_laws.proofs.phases.HeldByEpochs.{IsGiven, dih_holds}
 use Rattle.request_laws.proofs.phases.HostSteps.{AreNoDecisions, Goes, IsEntered, is_decided_mark, leaves, takes}
 use Rattle.request_laws.proofs.phases.TouchedKeys.{IsKeyed, coordinator_keyed, install_keyed}
@@ -69,7 +69,7 @@ go_on_spared node false = tt
 -- a coordinator gives none
 coordinator_gives_none : (s : CoordinatorState) (x : Signal) → AreSpared is_given (coordinator_row s x).effects.sends
 coordinator_gives_none s x =
-    coordinator_each (λ tx t turn. AreSpared is_given turn.step.effects.sends)
+    coordinator_outcomes (λ tx t turn. AreSpared is_given turn.step.effects.sends)
     (λ step. AreSpared is_given step.effects.sends) s x (record {
       calm = record {
         turns = λ tx t at split.

@@ -26,7 +26,7 @@ use Rattle.tc_views.specs.Coordinator.{coordinator_row}
 use Rattle.tc_views.specs.State.{CoordinatorState, go_on_if, go_on_with}
 use Rattle.frag_map.specs.Layout.{Layout}
 use Rattle.outcome_laws.specs.Counts.{IsCoordinatorOf, is_asking}
-use Rattle.outcome_laws.proofs.coordinators.Steps as walk
+use Rattle.tc_block.proofs.EachResume as walk
 use Rattle.request_laws.specs.Ways.{entry_of, tells_abort, tells_commit}
 use Rattle.request_laws.proofs.phases.TurnSends.{AreSpared}
 use Rattle.request_laws.proofs.phases.Turns.{Changes, IsStill, resume_changes, turn_changes}

@@ -137,7 +137,12 @@ sent_behind p (o ∷ front) xs is = by (p o.body) (sent_behind p front xs is)
     by true rest = refl
     by false rest = rest
 
-commits_untold : (tx : TxId) (sends : List Outgoing) → AreSpared turns.is_commit_told sends
+pub sent_within : (p : Body → Bool) (front xs more sends : List Outgoing) → sends ≡ front ++ (xs ++ more)
+    → is_sent p xs ≡ true → is_sent p sends ≡ true
+sent_within p front xs more sends all is =
+    ap (is_sent p) all ∙ sent_behind p front (xs ++ more) (sent_before p xs more is)
+
+pub commits_untold : (tx : TxId) (sends : List Outgoing) → AreSpared turns.is_commit_told sends
     → AreSpared (tells_commit tx) sends
 commits_untold tx sends all =
     each_map (IsSpared turns.is_commit_told) (IsSpared (tells_commit tx)) sends (λ o is. by o.body is) all
@@ -295,11 +300,6 @@ module _ (start : Start) (member : Member) (there : IsIn member (made start)) (t
       no_abort : AreSpared turns.is_abort_told turn.step.effects.sends → AreSpared (tells_abort tx) sends
       no_abort own = aborts_untold tx sends (spared turns.is_abort_told before.aborts own behind.aborts)
 
-      among : (p : Body → Bool) → is_sent p turn.step.effects.sends ≡ true → is_sent p sends ≡ true
-      among p is =
-          ap (is_sent p) all
-          ∙ sent_behind p front (turn.step.effects.sends ++ more) (sent_before p turn.step.effects.sends more is)
-
       over_none : turn.over ≡ true → o (e ∷ log) ≡ None
       over_none over = left ∙ ap (λ b. if b then None else Some turn.step.state) over
 
@@ -379,7 +379,8 @@ module _ (start : Start) (member : Member) (there : IsIn member (made start)) (t
                   → f (e ∷ log) ≡ true
               forth (inl is) = gone_stays start member tx is_decided (tells_commit tx) log e (forth_was is)
               forth (inr is) =
-                  gone_told start member tx is_decided (tells_commit tx) log e (among (tells_commit tx) is)
+                  gone_told start member tx is_decided (tells_commit tx) log e
+                  (sent_within (tells_commit tx) front turn.step.effects.sends more sends all is)
 
       -- it goes back
       back_way : turns.Back tx t turn → f log ≡ false → (is_aborting t.phase ≡ true → b log ≡ true) → Way (e ∷ log)
@@ -407,7 +408,8 @@ module _ (start : Start) (member : Member) (there : IsIn member (made start)) (t
                   → b (e ∷ log) ≡ true
               back (inl is) = gone_stays start member tx is_aborting (tells_abort tx) log e (back_was is)
               back (inr is) =
-                  gone_told start member tx is_aborting (tells_abort tx) log e (among (tells_abort tx) is)
+                  gone_told start member tx is_aborting (tells_abort tx) log e
+                  (sent_within (tells_abort tx) front turn.step.effects.sends more sends all is)
 
       at_phase : (phase : Phase) → t.phase ≡ phase → WaySays (f log) (b log) phase
       at_phase phase at = subst (WaySays (f log) (b log)) at was

@@ -33,6 +33,7 @@ use Rattle.sig_core.proofs.TxLemmas.{same_tx-is}
 use Rattle.frag_map.specs.Layout.{Layout}
 use Rattle.host_laws.specs.Live.{of_live}
 use Rattle.host_laws.proofs.coordinator.OfLive.{of_between, of_other}
+use Rattle.tc_block.proofs.EachResume.{ResumeForms}
 use Rattle.tc_block.specs.declared.task.Task.{Task}
 use Rattle.tc_block.specs.declared.task.Verdict.{Verdict}
 use Rattle.tc_block.specs.declared.transaction.Transaction.{Transaction}
@@ -52,8 +53,7 @@ use Rattle.tc_views.specs.State.{CoordinatorState, go_on_if, go_on_with, within}
 use Rattle.tc_views.specs.Views as views
 use Rattle.outcome_laws.specs.Counts.{IsCoordinatorOf, coordinator_member, is_unborn}
 use Rattle.outcome_laws.proofs.coordinators.Lists.{keys_once, next_is_other, put_last}
-use Rattle.outcome_laws.proofs.coordinators.Steps.{ResumeForms}
-use Rattle.outcome_laws.proofs.coordinators.Steps as walk
+use Rattle.tc_block.proofs.EachResume as walk
 use Rattle.request_laws.specs.Ways.{entry_of}
 use Rattle.request_laws.proofs.phases.TurnSends.{AreSpared, IsSpared, Spares, resume_spared, turn_spared}
 

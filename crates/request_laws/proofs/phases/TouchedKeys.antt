@@ -15,6 +15,7 @@ use Rattle.sig_core.specs.declared.view.View.{View}
 use Rattle.sig_core.specs.Op.{key_of}
 use Rattle.sig_core.specs.Same.{same_key}
 use Rattle.frag_map.specs.Layout.{Layout}
+use Rattle.tc_block.proofs.EachResume.{ResumeForms}
 use Rattle.tc_block.specs.declared.phase.Asked.{Asked}
 use Rattle.tc_block.specs.declared.phase.Phase.{Phase}
 use Rattle.tc_block.specs.declared.touched.Touched.{Touched}
@@ -30,6 +31,7 @@ use Rattle.tc_block.specs.Turn.{Turn, asking, at_phase}
 use Rattle.tc_block.proofs.EachTurn.{TurnForms, rows_of}
 use Rattle.tc_block.proofs.LiveKeeps.{turn_keeps}
 use Rattle.tc_block.proofs.LiveSplit.{Split, each_inserted}
+use Rattle.tc_views.proofs.Walk.{coordinator_outcomes}
 use Rattle.tc_views.specs.Coordinator.{coordinator_row}
 use Rattle.tc_views.specs.State.{CoordinatorState}
 use Rattle.tc_views.specs.Views.{install_row}
@@ -38,7 +40,6 @@ use Rattle.run_laws.proofs.tokens.TouchedLists.{any_done}
 use Rattle.run_laws.proofs.hosts.Keyed.{AnySend, operated_keyed, turns_keyed}
 use Rattle.outcome_laws.specs.Counts.{IsCoordinatorOf}
 use Rattle.outcome_laws.proofs.coordinators.Lists.{next_is_other}
-use Rattle.outcome_laws.proofs.coordinators.Steps.{ResumeForms, coordinator_each}
 
 abbrev pub IsKeyed : TxId × Transaction → Type 0
 IsKeyed e = IsTouchedRightly e.1
@@ -205,7 +206,7 @@ module _ (member : Member) (s : CoordinatorState) (of : IsCoordinatorOf member s
 
   pub coordinator_keyed : (x : Signal) → Each IsKeyed s.tc.live → Each IsKeyed (coordinator_row s x).state.tc.live
   coordinator_keyed x all =
-      coordinator_each (λ tx t turn. IsTouchedRightly turn.step.state) (λ step. Each IsKeyed step.state.live) s x
+      coordinator_outcomes (λ tx t turn. IsTouchedRightly turn.step.state) (λ step. Each IsKeyed step.state.live) s x
       (record {
         calm = record {
           turns = λ tx t at split.

@@ -15,6 +15,7 @@ use Rattle.sig_core.specs.Op.{key_of}
 use Rattle.sig_core.specs.Step.{sends_only, stay}
 use Rattle.sig_core.proofs.Keys.{same_tx-self}
 use Rattle.frag_map.specs.Layout.{Layout, chain_of}
+use Rattle.tc_block.proofs.EachResume.{ResumeForms}
 use Rattle.tc_block.specs.Abort.{abort_end, aborts_awaited, is_verifying}
 use Rattle.tc_block.specs.Commit.{verify_if}
 use Rattle.tc_block.specs.Complete.{written_count}
@@ -29,7 +30,6 @@ use Rattle.tc_block.specs.declared.phase.Phase.{Phase}
 use Rattle.tc_block.specs.declared.phase.Phase.TheVariants.{Aborting, Committing, Completing, Open, Verifying}
 use Rattle.tc_block.specs.declared.transaction.Transaction.{Transaction}
 use Rattle.tc_block.proofs.EachTurn.{AbortForms, CommittedForms, TurnFormsAt, ready_is}
-use Rattle.outcome_laws.proofs.coordinators.Steps.{ResumeForms}
 use Rattle.request_laws.specs.Ways.{is_sent, tells_abort, tells_commit}
 use Rattle.request_laws.proofs.phases.TurnSends.{AreSpared, Spares, SparesIn, enters_spared, late_spared, on_spared}
 use Rattle.request_laws.proofs.phases.TurnSends.{waits_spared}

@@ -1,16 +1,15 @@
 -- What is so of the rows of a member as they begin, and stays so at each signal and each installation, is so after
 -- every log of their host.
-use Rattle.std.proofs.Common.{◌≡◌, ◌∙◌, ℕ, true, List, [], ◌∷◌, refl, sym, ap, subst}
+use Rattle.std.proofs.Common.{◌≡◌, ◌∙◌, ℕ, List, [], ◌∷◌, refl, sym, ap, subst}
 use Rattle.std.specs.Prelude.{None, Some}
-use Rattle.run_theory.specs.Lists.{Each, IsIn}
+use Rattle.run_theory.specs.Lists.{IsIn}
 use Rattle.sig_core.specs.declared.member.Member.{Member}
 use Rattle.sig_core.specs.declared.outs.Outgoing.{Outgoing}
 use Rattle.sig_core.specs.declared.place.BlockId.{BlockId}
 use Rattle.sig_core.specs.declared.place.BlockId.TheVariants as block
-use Rattle.sig_core.specs.declared.rows.PendingRecord.{PendingRecord}
 use Rattle.sig_core.specs.declared.signal.Signal.{Signal}
 use Rattle.sig_core.specs.declared.view.View.{View}
-use Rattle.sig_core.specs.Rows.{RowsState, no_rows, put_row, with_place}
+use Rattle.sig_core.specs.Rows.{no_rows}
 use Rattle.frag_map.specs.Layout.{first_layout}
 use Rattle.row_locks.proofs.TableLawLemmas.{empty_orderly}
 use Rattle.lqh_block.specs.Fresh.{no_outlet, unused}
@@ -30,9 +29,7 @@ use Rattle.world_views.specs.Machine.{after, step_by, told}
 use Rattle.moment_laws.specs.Places.{ldm_of}
 use Rattle.moment_laws.proofs.MomentHosts.{ldm_started}
 use Rattle.world_views.proofs.StepWalk.{IsTaken, Saying, next_comes}
-use Rattle.row_records.specs.Places.{AreApart, has_place}
-use Rattle.key_laws.specs.Placed.{IsPlaced}
-use Rattle.row_records.proofs.PlaceLemmas.{apart-set_row, apart-with_place}
+use Rattle.host_laws.proofs.rows.Replicas.{put_placed}
 use Rattle.host_laws.specs.ReplicaLaws.{IsWell}
 use Rattle.request_laws.specs.Blocks.{no_replica, rows_after, rows_in}
 use Rattle.request_laws.specs.Waiting.{RowsAreWell}
@@ -105,17 +102,6 @@ module _ (So : ReplicaState → Type 0) (row : (s : ReplicaState) (x : Signal) �
       always log =
           let rows = rows_so log in
           subst (λ (q : Parts). So (rows_in (no_replica start member) q)) (sym rows.is) rows.so
-
--- the rows of the start have their places, and no lock is there
-put_placed : (s : RowsState) (rows : List (List ℕ × List ℕ)) (epoch : ℕ) → AreApart s.places → s.pending ≡ []
-    → IsPlaced (with_rows s rows epoch)
-put_placed s [] epoch apart none = record {
-  apart = apart;
-  placed = subst (Each (λ (r : PendingRecord). has_place s.places r.key ≡ true)) (sym none) tt;
-}
-put_placed s (r ∷ rows) epoch apart none =
-    put_placed (put_row s r.0 r.1 epoch) rows epoch
-    (apart-set_row r.0 (Some r.1) epoch (with_place s.places r.0) (apart-with_place s.places r.0 apart)) none
 
 pub first_well : (start : Start) (member : Member) → IsWell (first_rows start member).lqh
 first_well start member = record {

@@ -39,7 +39,8 @@ use Rattle.request_laws.proofs.routes.Idle.{none_first}
 module _ (start : Start) where
   none_wait : (member : Member) → IsIn member (made start) → (rows_after start member []).lqh.waiting ≡ []
   none_wait member there =
-      ap (λ (s : hosts.HostBody). (rows_in (no_replica start member) s.parts).lqh.waiting) (ldm_started start member there)
+      ap (λ (s : hosts.HostBody). (rows_in (no_replica start member) s.parts).lqh.waiting)
+      (ldm_started start member there)
 
   routed_first : AllRouted start (λ h. [])
   routed_first = record {

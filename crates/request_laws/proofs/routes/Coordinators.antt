@@ -20,6 +20,7 @@ use Rattle.sig_core.specs.declared.view.View.{View}
 use Rattle.sig_core.specs.Same.{same_tx}
 use Rattle.sig_core.specs.Step.{Step, stay}
 use Rattle.frag_map.specs.Layout.{Layout}
+use Rattle.tc_block.proofs.EachResume.{ResumeForms}
 use Rattle.tc_block.specs.Doom.{is_among}
 use Rattle.tc_block.specs.Live.{turned, turned_if, without}
 use Rattle.tc_block.specs.Operate.{fresh}
@@ -31,12 +32,12 @@ use Rattle.tc_block.specs.declared.phase.Phase.TheVariants.{Open, Verifying, Com
 use Rattle.tc_block.specs.declared.transaction.Transaction.{Transaction}
 use Rattle.tc_block.proofs.EachTurn.{RowsAre, rows_at, rows_both}
 use Rattle.tc_block.proofs.LiveSplit.{KeysOnce, Live, Split, once_back, once_front}
+use Rattle.tc_views.proofs.Walk.{coordinator_outcomes, inner}
 use Rattle.tc_views.specs.Coordinator.{coordinator_row, coordinator_table}
 use Rattle.tc_views.specs.State.{CoordinatorState, go_on_if}
 use Rattle.tc_views.specs.Views.{install_row, tasks_at}
 use Rattle.tc_views.specs.Laws.{AreOnce}
 use Rattle.outcome_laws.proofs.coordinators.Lists.{keys_once}
-use Rattle.outcome_laws.proofs.coordinators.Steps.{ResumeForms, coordinator_each, inner}
 use Rattle.request_laws.specs.Drives.{is_commit, is_request}
 use Rattle.request_laws.specs.Routes.{CoordinatorHasRoutes, HasRoutesIn, IsRouted, IsSentRouted}
 use Rattle.request_laws.specs.Ways.{is_sent}
@@ -320,7 +321,7 @@ module _ (A0 D0 G0 A D G : TxId → Type 0) (grows : Grows A0 D0 G0 A D G) (s : 
 
     goes_routed : StepGoes (inner (coordinator_row s x))
     goes_routed =
-        coordinator_each (λ tx t turn. TurnGoes tx turn) (λ step. StepGoes step) s x (record {
+        coordinator_outcomes (λ tx t turn. TurnGoes tx turn) (λ step. StepGoes step) s x (record {
           calm = record {
             turns = turns_go;
             turned = λ tx t at split turn goes. turned_goes tx t at split once all turn goes;

@@ -1,8 +1,8 @@
 -- What an event adds to what transactions were asked for, and driven, in a view: at the host of their coordinator, what
 -- it sends in this view, and elsewhere nothing.
-use Rattle.std.proofs.Common.{◌≡◌, ◌⊎◌, ◌==◌, ◌||◌, ◌&&◌, ℕ, Bool, true, false, List, [], ◌∷◌, inl, inr, refl, sym, ap}
+use Rattle.std.proofs.Common.{◌≡◌, ◌⊎◌, ◌==◌, ◌&&◌, ℕ, Bool, true, false, List, [], ◌∷◌, inl, inr, refl, sym, ap}
 use Rattle.std.proofs.Common.{◌∙◌, subst}
-use Rattle.std.proofs.lemmas.Bool.{eq-eqb, true≢false}
+use Rattle.std.proofs.lemmas.Bool.{eq-eqb, or_cases, or_left, or_right, true≢false}
 use Rattle.run_theory.specs.Lists.{Each, IsIn}
 use Rattle.run_theory.proofs.Pasts.{each_from, each_in}
 use Rattle.run_theory.proofs.Runs.{log_of-own}
@@ -29,15 +29,6 @@ use Rattle.request_laws.proofs.routes.OwnSends.{IsOfMember}
 use Rattle.request_laws.proofs.routes.Sends.{IsMade}
 use Rattle.request_laws.proofs.routes.Turns.{Grows, Renews}
 
-or_right : (a b : Bool) → b ≡ true → (a || b) ≡ true
-or_right true b is = refl
-or_right false b is = is
-
--- one of the two
-either : (a b : Bool) → (a || b) ≡ true → (a ≡ true) ⊎ (b ≡ true)
-either true b is = inl refl
-either false b is = inr is
-
 first_of : (a b : Bool) → (a && b) ≡ true → a ≡ true
 first_of true b is = refl
 first_of false b is = absurd (true≢false (sym is))
@@ -45,10 +36,6 @@ first_of false b is = absurd (true≢false (sym is))
 both : (a b : Bool) → a ≡ true → b ≡ true → (a && b) ≡ true
 both true b one other = other
 both false b one other = absurd (true≢false (sym one))
-
-or_left : (a b : Bool) → a ≡ true → (a || b) ≡ true
-or_left true b is = refl
-or_left false b is = absurd (true≢false (sym is))
 
 -- what passes is among what is sent
 pub sent_among : (p : Body → Bool) (sends : List Outgoing) (o : Outgoing) → IsIn o sends → p o.body ≡ true
@@ -123,7 +110,7 @@ module _ (start : Start) (e : HostStep) (es : List HostStep) where
         → (was_sent_in start one p number (old (tc_of start one)) ≡ true) ⊎ (is_sent p sends ≡ true)
     sent_before one is p number was =
         by
-        (either _ (was_sent_in start one p number (old e.host))
+        (or_cases _ (was_sent_in start one p number (old e.host))
         (subst (λ log. was_sent_in start one p number log ≡ true) (own_log one is) was))
       where
         Now : ℕ → Bool

@@ -1,6 +1,6 @@
 -- What stands of a coordinator says of its transactions which are given up, and which have nothing unanswered.
-use Rattle.std.proofs.Common.{◌≡◌, ◌||◌, Bool, true, false, List, [], ◌∷◌, inl, inr, refl, sym, ap, ◌∙◌, subst, ℕ}
-use Rattle.std.proofs.lemmas.Bool.{true≢false}
+use Rattle.std.proofs.Common.{◌≡◌, true, false, List, [], ◌∷◌, inl, inr, sym, ap, ◌∙◌, subst, ℕ}
+use Rattle.std.proofs.lemmas.Bool.{or_left, true≢false}
 use Rattle.std.specs.Prelude.{if◌then◌else◌, None, Some}
 use Rattle.run_theory.specs.Lists.{Each, IsIn}
 use Rattle.run_theory.proofs.Pasts.{each_from, each_in, each_map}
@@ -43,10 +43,6 @@ found_in (one ∷ live) once e (inr inside) =
     ap (λ b. if b then Some one.1 else of_live e.0 live)
     (each_in (λ (x : TxId × Transaction). same_tx one.0 x.0 ≡ false) e live once.0 inside)
     ∙ found_in live once.1 e inside
-
-or_left : (a b : Bool) → a ≡ true → (a || b) ≡ true
-or_left true b is = refl
-or_left false b is = absurd (true≢false (sym is))
 
 module _ (start : Start) (member : Member) (there : IsIn member (made start)) where
   -- as its life begins a coordinator has nobody

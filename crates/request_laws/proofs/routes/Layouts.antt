@@ -18,6 +18,7 @@ use Rattle.sig_core.specs.declared.view.View.{View}
 use Rattle.frag_map.specs.Layout.{Layout, first_layout, in_view}
 use Rattle.tc_block.specs.Live.{turned_if}
 use Rattle.tc_block.specs.Turn.{Turn}
+use Rattle.tc_views.proofs.Walk.{coordinator_outcomes}
 use Rattle.tc_views.specs.Coordinator.{coordinator_row, fresh_coordinator}
 use Rattle.tc_views.specs.State.{CoordinatorState}
 use Rattle.tc_views.specs.Views.{install_row}
@@ -46,7 +47,6 @@ use Rattle.moment_laws.specs.PartSteps.{LdmDoes, PartEnters, PartTakes, TcDoes, 
 use Rattle.moment_laws.specs.PartSteps.{remains, tc_kind}
 use Rattle.moment_laws.proofs.MomentHosts.{ldm_started, part_some, tc_started}
 use Rattle.moment_laws.proofs.PartKinds.{ldm_after, tc_after}
-use Rattle.outcome_laws.proofs.coordinators.Steps.{coordinator_each}
 use Rattle.request_laws.specs.Blocks.{coordinator_after, coordinator_in, no_replica, rows_after, rows_in}
 use Rattle.request_laws.specs.Blocks.{takeover_after, takeover_in}
 use Rattle.request_laws.specs.Routed.{layout_in}
@@ -55,7 +55,7 @@ use Rattle.request_laws.proofs.replicas.KeyEvents.{epoch_same, go_on_same, repor
 -- no step of a coordinator changes its layout
 pub coordinator_layout : (s : CoordinatorState) (x : Signal) → (coordinator_row s x).state.tc.layout ≡ s.tc.layout
 coordinator_layout s x =
-    coordinator_each (λ tx t turn. Unit {0}) (λ step. step.state.layout ≡ s.tc.layout) s x (record {
+    coordinator_outcomes (λ tx t turn. Unit {0}) (λ step. step.state.layout ≡ s.tc.layout) s x (record {
       calm = record {
         turns = λ tx t at split. record {
           goes_on = λ at is. tt;

@@ -15,16 +15,17 @@ use Rattle.sig_core.specs.Same.{same_tx}
 use Rattle.sig_core.proofs.Keys.{same_tx-self}
 use Rattle.sig_core.proofs.TxLemmas.{same_tx-is, same_tx-swap}
 use Rattle.frag_map.specs.Layout.{Layout}
+use Rattle.tc_block.proofs.EachResume.{ResumeForms}
 use Rattle.tc_block.specs.Live.{turned_if}
 use Rattle.tc_block.specs.State.{TcState}
 use Rattle.tc_block.specs.Turn.{Turn}
 use Rattle.tc_block.specs.declared.transaction.Transaction.{Transaction}
 use Rattle.tc_block.proofs.EachTurn.{RowsAre, rows_of}
 use Rattle.tc_block.proofs.LiveSplit.{Split}
+use Rattle.tc_views.proofs.Walk.{coordinator_outcomes}
 use Rattle.tc_views.specs.Coordinator.{coordinator_row}
 use Rattle.tc_views.specs.State.{CoordinatorState, go_on_if}
 use Rattle.outcome_laws.specs.Counts.{coordinator_member}
-use Rattle.outcome_laws.proofs.coordinators.Steps.{ResumeForms, coordinator_each}
 use Rattle.request_laws.specs.Drives.{is_commit, is_request}
 use Rattle.request_laws.specs.Ways.{is_sent}
 use Rattle.request_laws.proofs.phases.TurnSends.{AreSpared, Spares, resume_spared, turn_spared}
@@ -131,7 +132,7 @@ module _ (member : Member) where
       → Each (λ (e : TxId × Transaction). coordinator_member e.0 ≡ member) s.tc.live
       → AreOfMember member (coordinator_row s x).effects.sends
   sends_of_member s x own =
-      coordinator_each (λ tx t turn. IsOwnTurn tx turn) (λ step. AreOfMember member step.effects.sends) s x (record {
+      coordinator_outcomes (λ tx t turn. IsOwnTurn tx turn) (λ step. AreOfMember member step.effects.sends) s x (record {
         calm = record {
           turns = λ tx t at split. turns_own s.tc.node s.tc.layout tx t x.body;
           turned = λ tx t at split turn goes.

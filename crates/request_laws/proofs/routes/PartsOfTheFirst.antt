@@ -1,7 +1,7 @@
 -- Each view that was installed is a part of the first one, its chains are some, and hosts of members are of theirs.
-use Rattle.std.proofs.Common.{◌≡◌, ◌<◌, ◌≤◌, ◌⊎◌, ◌==◌, ◌||◌, ◌&&◌, ℕ, Bool, true, false, List, [], ◌∷◌, inl, inr, refl}
+use Rattle.std.proofs.Common.{◌≡◌, ◌<◌, ◌≤◌, ◌⊎◌, ◌==◌, ◌&&◌, ℕ, Bool, true, false, List, [], ◌∷◌, inl, inr, refl}
 use Rattle.std.proofs.Common.{sym, ap, subst, arith}
-use Rattle.std.proofs.lemmas.Bool.{cases_lt, eqb-true, true≢false}
+use Rattle.std.proofs.lemmas.Bool.{cases_lt, eqb-true, or_cases, true≢false}
 use Rattle.run_theory.specs.Lists.{IsIn, IsPast}
 use Rattle.run_theory.proofs.Pasts.{past_nil}
 use Rattle.sig_core.specs.declared.member.Member.{Member}
@@ -90,10 +90,6 @@ module _ (start : Start) (all : ℕ → List HostStep) (are : AreOfCluster start
 
 -- what was sent in a view was sent by a host that stands in it or above now
 module _ (start : Start) (member : Member) (p : Body → Bool) (number : ℕ) where
-  either : (a b : Bool) → (a || b) ≡ true → (a ≡ true) ⊎ (b ≡ true)
-  either true b is = inl refl
-  either false b is = inr is
-
   second : (a b : Bool) → (a && b) ≡ true → b ≡ true
   second true b is = is
   second false b is = absurd (true≢false (sym is))
@@ -103,7 +99,7 @@ module _ (start : Start) (member : Member) (p : Body → Bool) (number : ℕ) wh
   sent_low [] was = absurd (true≢false (sym was))
   sent_low (e ∷ log) was =
       by
-      (either (sends_one start member p log e && ((view_after start (tc_of start member) (e ∷ log)).number == number))
+      (or_cases (sends_one start member p log e && ((view_after start (tc_of start member) (e ∷ log)).number == number))
       (was_sent_in start member p number log) was)
       (λ before. sent_low log before)
     where

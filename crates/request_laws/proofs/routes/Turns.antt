@@ -17,6 +17,7 @@ use Rattle.sig_core.specs.declared.signal.epoch.EpochSignal.TheVariants.{DiVerif
 use Rattle.sig_core.specs.Op.{key_of}
 use Rattle.sig_core.specs.Step.{stay}
 use Rattle.frag_map.specs.Layout.{Layout, chain_of}
+use Rattle.tc_block.proofs.EachResume.{ResumeForms}
 use Rattle.tc_block.specs.Abort.{abort_end, is_verifying}
 use Rattle.tc_block.specs.Complete.{written_count}
 use Rattle.tc_block.specs.Doom.{is_among, is_undecided}
@@ -33,7 +34,6 @@ use Rattle.tc_block.specs.declared.touched.Touched.{Touched}
 use Rattle.tc_block.specs.declared.transaction.Transaction.{Transaction}
 use Rattle.tc_block.proofs.EachTurn.{AbortForms, CommittedForms, TurnFormsAt, may_ask, ready_is}
 use Rattle.tc_views.specs.State.{CoordinatorState}
-use Rattle.outcome_laws.proofs.coordinators.Steps.{ResumeForms}
 use Rattle.request_laws.specs.Drives.{is_commit, is_request}
 use Rattle.request_laws.specs.Routes.{HasRoutes, HasRoutesIn, IsAskedRouted, IsRouted, IsSentRouted, IsTouchedRouted}
 use Rattle.request_laws.specs.Ways.{is_sent}

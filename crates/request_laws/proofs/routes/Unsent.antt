@@ -1,7 +1,7 @@
 -- What is so of the transactions of which requests and commits are sent, and of none of which they aren't.
 use Rattle.std.proofs.Common.{◌≡◌, ◌⊎◌, ◌||◌, ◌++◌, ◌∙◌, Bool, true, false, List, [], ◌∷◌, inl, inr, refl, sym, ap}
 use Rattle.std.proofs.Common.{subst}
-use Rattle.std.proofs.lemmas.Bool.{true≢false}
+use Rattle.std.proofs.lemmas.Bool.{or_cases, true≢false}
 use Rattle.std.proofs.lemmas.List.Folds.{list_any-append}
 use Rattle.run_theory.specs.Lists.{Each}
 use Rattle.run_theory.proofs.Pasts.{each_map}
@@ -20,10 +20,6 @@ use Rattle.request_laws.specs.Ways.{is_sent}
 use Rattle.request_laws.proofs.routes.OwnSends.{IsOfMember, IsUnsent}
 use Rattle.request_laws.proofs.routes.Sends.{IsMade, Nobody}
 
-either : (a b : Bool) → (a || b) ≡ true → (a ≡ true) ⊎ (b ≡ true)
-either true b is = inl refl
-either false b is = inr is
-
 -- of whom a request is sent is asked for, and of whom a commit is, is driven
 module _ (A D : TxId → Type 0) (tx : TxId) where
   abbrev AreMade : List Outgoing → Type 0
@@ -40,7 +36,7 @@ module _ (A D : TxId → Type 0) (tx : TxId) where
   pub asked_of : (sends : List Outgoing) → AreMade sends → is_sent (is_request tx) sends ≡ true → A tx
   asked_of [] made is = absurd (true≢false (sym is))
   asked_of (sent ∷ sends) made is =
-      by (either (is_request tx sent.body) (is_sent (is_request tx) sends) is) (asked_of sends made.1)
+      by (or_cases (is_request tx sent.body) (is_sent (is_request tx) sends) is) (asked_of sends made.1)
     where
       by : (is_request tx sent.body ≡ true) ⊎ (is_sent (is_request tx) sends ≡ true)
           → (is_sent (is_request tx) sends ≡ true → A tx) → A tx
@@ -50,7 +46,7 @@ module _ (A D : TxId → Type 0) (tx : TxId) where
   pub driven_of : (sends : List Outgoing) → AreMade sends → is_sent (is_commit tx) sends ≡ true → D tx
   driven_of [] made is = absurd (true≢false (sym is))
   driven_of (sent ∷ sends) made is =
-      by (either (is_commit tx sent.body) (is_sent (is_commit tx) sends) is) (driven_of sends made.1)
+      by (or_cases (is_commit tx sent.body) (is_sent (is_commit tx) sends) is) (driven_of sends made.1)
     where
       by : (is_commit tx sent.body ≡ true) ⊎ (is_sent (is_commit tx) sends ≡ true)
           → (is_sent (is_commit tx) sends ≡ true → D tx) → D tx

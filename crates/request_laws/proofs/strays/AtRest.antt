@@ -14,6 +14,7 @@ use Rattle.sig_core.specs.declared.signal.Body.TheVariants.{Chain}
 use Rattle.sig_core.specs.declared.signal.chain.ChainSignal.TheVariants.{LqhKeyConf}
 use Rattle.sig_core.specs.declared.signal.Signal.{Signal}
 use Rattle.sig_core.specs.Same.{same_tx}
+use Rattle.tc_block.proofs.EachResume.{ResumeForms}
 use Rattle.tc_block.specs.declared.phase.Phase.{Phase}
 use Rattle.tc_block.specs.declared.transaction.Transaction.{Transaction}
 use Rattle.tc_block.specs.Doom.{is_undecided}
@@ -26,9 +27,9 @@ use Rattle.tc_block.specs.Tc.{next_tx}
 use Rattle.tc_block.specs.Turn.{Turn, asking}
 use Rattle.tc_block.proofs.EachTurn.{AbortForms, CommittedForms, TurnForms, ready_is, rows_of}
 use Rattle.tc_block.proofs.LiveSplit.{Live, Split}
+use Rattle.tc_views.proofs.Walk.{coordinator_outcomes}
 use Rattle.tc_views.specs.Coordinator.{coordinator_row}
 use Rattle.tc_views.specs.State.{CoordinatorState}
-use Rattle.outcome_laws.proofs.coordinators.Steps.{ResumeForms, coordinator_each}
 
 -- undecided, with no operation unanswered
 abbrev pub IsAtRest : Transaction → Type 0
@@ -159,7 +160,7 @@ begun_rested old (e ∷ es) tx all = by (same_tx tx e.0) (begun_rested old es tx
 pub row_rested : (s : CoordinatorState) (x : Signal) → IsNoAnswer x.body
     → Each (HasRested s.tc.live) (coordinator_row s x).state.tc.live
 row_rested s x none =
-    coordinator_each (λ tx t turn. Leaves t turn) (λ step. Rested s.tc step.state) s x (record {
+    coordinator_outcomes (λ tx t turn. Leaves t turn) (λ step. Rested s.tc step.state) s x (record {
       calm = record {
         turns = λ tx t at split.
             rows_of s.tc.node s.tc.layout tx t x.body (λ turn. Leaves t turn)

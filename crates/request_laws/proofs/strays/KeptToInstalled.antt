@@ -3,7 +3,7 @@
 -- part of it.
 use Rattle.std.proofs.Common.{◌≡◌, ◌⊎◌, ◌≤◌, ◌<◌, ◌∙◌, ◌||◌, ℕ, Bool, true, false, List, [], ◌∷◌, refl, sym, ap, subst}
 use Rattle.std.proofs.Common.{arith, inl, inr}
-use Rattle.std.proofs.lemmas.Bool.{cases_lt}
+use Rattle.std.proofs.lemmas.Bool.{cases_lt, or_right}
 use Rattle.std.specs.List.{list_any}
 use Rattle.std.specs.Prelude.{not}
 use Rattle.frag_map.specs.Layout.{first_view}
@@ -56,11 +56,7 @@ some_of {A} p (x ∷ xs) ys among some = by (p x) refl some (some_of p xs ys amo
     there : (zs : List A) → IsIn x zs → p x ≡ true → list_any p zs ≡ true
     there [] is one = absurd is
     there (z ∷ zs) (inl same) one = ap (λ b. b || list_any p zs) (ap p (sym same) ∙ one)
-    there (z ∷ zs) (inr behind) one = or_true (p z) (list_any p zs) (there zs behind one)
-      where
-        or_true : (a b : Bool) → b ≡ true → (a || b) ≡ true
-        or_true true b is = refl
-        or_true false b is = is
+    there (z ∷ zs) (inr behind) one = or_right (p z) (list_any p zs) (there zs behind one)
 
     own : IsIn x ys ⊎ ⊥ → p x ≡ true → list_any p ys ≡ true
     own (inl is) one = there ys is one

@@ -12,6 +12,7 @@ use Rattle.world_core.specs.Steps.{HostStep}
 use Rattle.view_laws.specs.Order.{sound_machine}
 use Rattle.moment_laws.specs.Moments.{logs_of}
 use Rattle.moment_laws.proofs.MomentViews.{moment_less}
+use Rattle.outcome_laws.proofs.coordinators.Lists.{one_few}
 use Rattle.outcome_laws.specs.Counts.{one_if}
 use Rattle.request_laws.specs.Tokens.{QuietUnlessAsked, TakenIsAlone, WaitingIsAlone, all_sent, all_taken, all_waiting}
 use Rattle.request_laws.specs.Tokens.{is_token, is_token_in, may_go, number_now, total_of, waiting_at}
@@ -19,11 +20,6 @@ use Rattle.request_laws.proofs.tokens.Moments.{before_now, have_one}
 use Rattle.request_laws.proofs.routes.BesideRows.{is_of_rows}
 use Rattle.request_laws.proofs.tokens.SumsOverHosts.{takes_before, takes_few, token_of_rows}
 use Rattle.request_laws.proofs.tokens.FirstInView.{all_taken_more}
-
--- one where a test passes is no more than one, and it passes where it is one
-one_few : (b : Bool) → one_if b ≤ 1
-one_few true = omega arith
-one_few false = omega arith
 
 one_is : (b : Bool) → 1 ≤ one_if b → b ≡ true
 one_is true some = refl

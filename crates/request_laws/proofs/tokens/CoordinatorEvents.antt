@@ -264,7 +264,8 @@ module _ (start : Start) (member : Member) (there : IsIn member (made start)) (t
         state_told : (q : TcPart) → (step_after start h log e).state.parts ≡ Tc q
             → (after start h (e ∷ log)).parts ≡ Tc q
         state_told q is =
-            ap (λ (s : hosts.HostBody). s.parts) (told_some h (part_some start kind.Tc member) (step_after start h log e))
+            ap (λ (s : hosts.HostBody). s.parts)
+            (told_some h (part_some start kind.Tc member) (step_after start h log e))
             ∙ is
 
         -- what no other step than this tells

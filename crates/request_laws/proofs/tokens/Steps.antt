@@ -17,6 +17,7 @@ use Rattle.sig_core.specs.declared.signal.client.ClientSignal.TheVariants.{TcRol
 use Rattle.sig_core.specs.Step.{Step}
 use Rattle.host_laws.proofs.coordinator.OfLive.{each_found}
 use Rattle.host_laws.proofs.coordinator.Operations.{is_right}
+use Rattle.tc_block.proofs.EachResume.{ResumeForms}
 use Rattle.tc_block.specs.declared.phase.Asked.{Asked}
 use Rattle.tc_block.specs.declared.phase.Phase.{Phase}
 use Rattle.tc_block.specs.declared.phase.Phase.TheVariants.{Aborting, Open}
@@ -31,8 +32,7 @@ use Rattle.tc_views.specs.Coordinator.{coordinator_row}
 use Rattle.tc_views.specs.State.{CoordinatorState, go_on_if, go_on_with}
 use Rattle.outcome_laws.specs.Counts.{IsCoordinatorOf, coordinator_member, count_sent, is_unborn}
 use Rattle.outcome_laws.proofs.coordinators.Lists.{count_both, none_counted}
-use Rattle.outcome_laws.proofs.coordinators.Steps as walk
-use Rattle.outcome_laws.proofs.coordinators.Steps.{ResumeForms}
+use Rattle.tc_block.proofs.EachResume as walk
 use Rattle.request_laws.specs.Drives.{is_request}
 use Rattle.request_laws.specs.Tokens.{has_asked, is_token}
 use Rattle.request_laws.specs.Ways.{entry_of, is_at, is_sent, tells_abort}

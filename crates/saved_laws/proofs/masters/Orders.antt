@@ -20,7 +20,8 @@ use Rattle.gcp_master.specs.Master.{master_row}
 use Rattle.gcp_master.specs.Orders.{mask_of}
 use Rattle.gcp_master.specs.Sends.{listing}
 use Rattle.gcp_master.specs.State.{MasterState}
-use Rattle.gcp_master.proofs.Walk.{listing_does, listing_state, master_steps}
+use Rattle.gcp_master.proofs.Outcomes.{walking}
+use Rattle.gcp_master.proofs.Walk.{listing_does, listing_state, master_steps, walking_does}
 use Rattle.node_views.specs.declared.main_part.MainPart.{MainPart}
 use Rattle.node_views.specs.declared.parts.Parts.{Parts}
 use Rattle.node_views.specs.declared.parts.Parts.TheVariants as part
@@ -97,9 +98,10 @@ lists s at = listing_state s at (λ t. MayOrderAll t (listing s at).effects.send
           saves = λ run member is there. subst (Saves run.epoch) (sym is) refl;
           copies = λ run member is there. (subst (Copies run.epoch) (sym is) refl, refl);
           tells_micro = λ epoch is. tt;
-          tells_global = λ epoch copy is. tt;
-          tells_members = λ epoch copy to member is one there. tt;
-          tells_copying = λ epoch is. tt;
+          tells_global = λ epoch copy local is. tt;
+          tells_members = λ epoch copy local to member is one there. tt;
+          tells_copying = λ epoch local is. tt;
+          switches = λ epoch copy member is there. tt;
           goes_on = λ left. tt;
         })).0
 
@@ -112,6 +114,10 @@ master_orders s x =
       lists = λ t at member view. lists t at;
       closes = λ run t member view at is. lists t 0;
       makes_durable = λ run step is at on all orders. orders;
+      walks = λ is at first.
+          (walking_does s (λ (sent : Outgoing). MayOrder (walking s).state sent.body) (λ (mark : Mark). Unit {0})
+          (λ member there. tt)).0;
+      tells_local = λ epoch is at. (tt, tt);
     })
 
 -- a membership orders none

@@ -15,7 +15,7 @@ use Rattle.sig_core.specs.declared.view.View.{View}
 use Rattle.sig_core.specs.Step.{Step}
 use Rattle.gcp_master.specs.declared.known.Known.{Known}
 use Rattle.gcp_master.specs.declared.known.Told.{Told}
-use Rattle.gcp_master.specs.declared.orders.Ended.TheVariants.{Micro, Global}
+use Rattle.gcp_master.specs.declared.orders.Ended.TheVariants.{Micro}
 use Rattle.gcp_master.specs.declared.phase.Asked.{Asked}
 use Rattle.gcp_master.specs.declared.phase.Phase.{Phase}
 use Rattle.gcp_master.specs.declared.phase.Phase.TheVariants.{Gathering, Preparing, Committing, Closing}
@@ -28,9 +28,9 @@ use Rattle.gcp_master.specs.Resume.{knowing, learned_if}
 use Rattle.gcp_master.specs.Sends.{list_effects, listing, marking}
 use Rattle.gcp_master.specs.State.{MasterState, all_in, at_phase, counts}
 use Rattle.gcp_master.specs.Voices.{is_among, is_heard, is_in, voices_of}
-use Rattle.gcp_master.proofs.Outcomes.{BeginOutcomes, Begins, Resumes, a_global, a_micro, at_end, beginning, heard_one}
-use Rattle.gcp_master.proofs.Outcomes.{known_with, master_outcomes, not_owing, nothing_asked, state_body}
-use Rattle.gcp_master.proofs.Outcomes.{to_commit, to_copy, to_prepare, voice_of}
+use Rattle.gcp_master.proofs.Outcomes.{BeginOutcomes, Begins, Resumes, a_global, a_micro, at_durable, at_end, beginning}
+use Rattle.gcp_master.proofs.Outcomes.{have_walked, heard_one, known_with, master_outcomes, not_owing, nothing_asked}
+use Rattle.gcp_master.proofs.Outcomes.{state_body, to_commit, to_copy, to_prepare, voice_of}
 use Rattle.gcp_master.proofs.Walk.{all_heard, listing_state}
 use Rattle.world_core.specs.Start.{Start}
 use Rattle.world_core.specs.Steps.{HostStep}
@@ -275,7 +275,14 @@ module _ (start : Start) (logs : ℕ → List HostStep) where
           copies = λ run is at on some.
               (still (Copying run) at ((at_it (Copying run) at).0, noted_more run is at), tt);
           ends_global = λ run is at on all.
-              ends_durable run (at_end (heard_one s x) run (Global run.epoch run.copy)) tt
+              ends_durable run (at_durable (heard_one s x) run) tt
               (each_by_one (HasNoted run.epoch) (heard_one s x).voices s.view.full
               (all_heard 1 (heard_one s x) all) (noted_more run is at));
+          walks = λ is at first. (was, tt);
+          hears_walk = λ epoch is at on some. (was, tt);
+          asks_walked = λ epoch is at on all. (was, tt);
+          asks_walked_resting = λ epoch current is at on all rests.
+              begins (have_walked s) current (is_some s.front) was;
+          hears_switch = λ epoch is at on some. (was, tt);
+          ends_local = λ epoch is at on all. (was, tt);
         })

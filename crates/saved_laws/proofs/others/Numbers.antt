@@ -8,7 +8,7 @@ use Rattle.sig_core.specs.Step.{Step}
 use Rattle.gcp_master.specs.declared.known.Known.{Known}
 use Rattle.gcp_master.specs.declared.known.Told.{Told}
 use Rattle.gcp_master.specs.declared.numbers.TheConstants.{MICROS}
-use Rattle.gcp_master.specs.declared.orders.Ended.TheVariants.{Micro, Global}
+use Rattle.gcp_master.specs.declared.orders.Ended.TheVariants.{Micro}
 use Rattle.gcp_master.specs.declared.phase.Asked.{Asked}
 use Rattle.gcp_master.specs.declared.phase.Phase.{Phase}
 use Rattle.gcp_master.specs.declared.phase.Phase.TheVariants.{Unordered, Gathering, Resting, Preparing, Committing}
@@ -19,9 +19,9 @@ use Rattle.gcp_master.specs.Numbers.{next_global, next_micro}
 use Rattle.gcp_master.specs.Resume.{knowing}
 use Rattle.gcp_master.specs.Sends.{listing}
 use Rattle.gcp_master.specs.State.{MasterState, at_phase}
-use Rattle.gcp_master.proofs.Outcomes.{BeginOutcomes, Begins, Resumes, a_global, a_micro, at_end, beginning, heard_one}
-use Rattle.gcp_master.proofs.Outcomes.{known_with, master_outcomes, not_owing, nothing_asked, state_body}
-use Rattle.gcp_master.proofs.Outcomes.{to_commit, to_copy, to_prepare, voice_of}
+use Rattle.gcp_master.proofs.Outcomes.{BeginOutcomes, Begins, Resumes, a_global, a_micro, at_durable, at_end, beginning}
+use Rattle.gcp_master.proofs.Outcomes.{have_walked, heard_one, known_with, master_outcomes, not_owing, nothing_asked}
+use Rattle.gcp_master.proofs.Outcomes.{state_body, to_commit, to_copy, to_prepare, voice_of}
 use Rattle.gcp_master.proofs.Walk.{listing_state}
 
 -- the greatest number of an epoch
@@ -134,6 +134,12 @@ module _ (s : MasterState) (was : IsLow s.phase) (x : Signal) (learns : LearnsLo
             lists (at_phase (heard_one s x) (Copying run)) 0 (at_it (Saving run) at);
         copies = λ run is at on some. was;
         ends_global = λ run is at on all.
-            begins (at_end (heard_one s x) run (Global run.epoch run.copy)) run.next false (at_it (Copying run) at)
-            (at_it (Copying run) at);
+            begins (at_durable (heard_one s x) run) run.next false (at_it (Copying run) at) (at_it (Copying run) at);
+        walks = λ is at first. was;
+        hears_walk = λ epoch is at on some. was;
+        asks_walked = λ epoch is at on all. was;
+        asks_walked_resting = λ epoch current is at on all rests.
+            begins (have_walked s) current (is_some s.front) was (at_it (Resting current) rests);
+        hears_switch = λ epoch is at on some. was;
+        ends_local = λ epoch is at on all. was;
       })

@@ -43,7 +43,8 @@ module _ (mine : BlockId → Bool) where
       (subst (λ parts. PassesAs mine parts x (passed_events mine inside x)) (entered_parts s x.view)
       (passes_as mine inside x))
 
-  headed_if_arrives : (s : hosts.HostBody) (x : Signal) (newer : Bool) → nat_lt s.standing.view.number x.view.number ≡ newer
+  headed_if_arrives : (s : hosts.HostBody) (x : Signal) (newer : Bool)
+      → nat_lt s.standing.view.number x.view.number ≡ newer
       → Goes (headed_if s x newer)
       → ArrivesBy s x
       (if newer

@@ -32,7 +32,8 @@ entered_marks : (s : hosts.HostBody) (view : View) → (entered s view).effects.
 unfolding entered
 entered_marks s view = entered_bare s.parts view
 
-entered_keeps : (s : hosts.HostBody) (view : View) → has_coordinator (entered s view).state.parts ≡ has_coordinator s.parts
+entered_keeps : (s : hosts.HostBody) (view : View)
+    → has_coordinator (entered s view).state.parts ≡ has_coordinator s.parts
 unfolding entered
 entered_keeps s view = entered_has s.parts view
 
@@ -41,7 +42,8 @@ unfolding entered
 entered_view s view = refl
 
 -- a host without a coordinator decides nothing
-pub step_none : (h : ℕ) (s : hosts.HostBody) (x : Signal) → has_coordinator s.parts ≡ false → DecidesNone (step_by h s x)
+pub step_none : (h : ℕ) (s : hosts.HostBody) (x : Signal) → has_coordinator s.parts ≡ false
+    → DecidesNone (step_by h s x)
 step_none h s x lacks =
     (step_words (λ body. Unit {0}) IsUndecided h s x (λ body is. tt) (host_undecided s.parts lacks)).1
 

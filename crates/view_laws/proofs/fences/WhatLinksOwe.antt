@@ -87,7 +87,7 @@ FencesAreThere =
     (start : Start) (me : Member) → IsIn me (made start) → (at : BlockId) → IsFenced at → (log : List HostStep)
     → IsThere (fence_seen at (after start (host_of (made start) (part_of at) me) log))
 
-not_below : (number view : ℕ) (fence : Option ℕ) → IsThere fence → IsFencedAt number fence
+pub not_below : (number view : ℕ) (fence : Option ℕ) → IsThere fence → IsFencedAt number fence
     → number ≤ fence_or fence view
 not_below number view None there low = absurd there
 not_below number view (Some fence) there low = low

@@ -28,7 +28,8 @@ pub data StepsAs (mine : BlockId → Bool) (parts : Parts) (view : View) (x : Si
   entering : view.number < x.view.number → (later : List Event) → events ≡ later ++ installs x.view ∷ []
       → PassesAs mine (parts_entered parts x.view).state x later → StepsAs mine parts view x events
 
-pub entered_parts : (s : hosts.HostBody) (view : View) → (entered s view).state.parts ≡ (parts_entered s.parts view).state
+pub entered_parts : (s : hosts.HostBody) (view : View)
+    → (entered s view).state.parts ≡ (parts_entered s.parts view).state
 unfolding entered
 entered_parts s view = refl
 

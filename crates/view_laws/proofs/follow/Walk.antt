@@ -123,7 +123,8 @@ module _ {A : Type 0} (mine : BlockId → Bool) (seen : hosts.HostBody → A) (s
       let counted = standing_at s (killed_after s.standing (Some (suc left))) in
       headed_goes counted x ∙ ap (λ a. along step a (headed_events mine counted x)) (is.stands s counted.standing refl)
 
-  taken_goes : (s : hosts.HostBody) (x : Signal) (sound : Bool) → Goes s (taken_if s x sound) (sound_events mine s x sound)
+  taken_goes : (s : hosts.HostBody) (x : Signal) (sound : Bool)
+      → Goes s (taken_if s x sound) (sound_events mine s x sound)
   taken_goes s x true = counted_goes s x s.standing.left
   taken_goes s x false = refl
 

@@ -1,7 +1,8 @@
 -- What the client's side sends, by kinds.
 use Rattle.std.proofs.Common.{Bool, true, false}
 use Rattle.sig_core.specs.declared.signal.Body.{Body}
-use Rattle.sig_core.specs.declared.signal.Body.TheVariants.{Client, Epoch, Host}
+use Rattle.sig_core.specs.declared.signal.Body.TheVariants.{Client, Epoch, Checkpoint, Host}
+use Rattle.sig_core.specs.declared.signal.checkpoint.CheckpointSignal.TheVariants.{LcpReq}
 use Rattle.sig_core.specs.declared.signal.client.ClientSignal.TheVariants.{DumpReq, TcBeginReq, TcCommitAck}
 use Rattle.sig_core.specs.declared.signal.client.ClientSignal.TheVariants.{TcCommitReq, TcKeyReq, TcRollbackReq}
 use Rattle.sig_core.specs.declared.signal.client.ClientSignal.TheVariants.{TcWaitReq}
@@ -18,5 +19,6 @@ is_of_client (Client (TcWaitReq tx)) = true
 is_of_client (Client (DumpReq at)) = true
 is_of_client (Epoch (GcpReq by)) = true
 is_of_client (Epoch MicroReq) = true
+is_of_client (Checkpoint LcpReq) = true
 is_of_client (Host signal) = true
 is_of_client body = false

@@ -1,0 +1,3 @@
+pub mod RedoLemmas
+pub mod StepLemmas
+pub mod Walk

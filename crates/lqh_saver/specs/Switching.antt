@@ -1,0 +1,62 @@
+-- A local checkpoint takes the place of the one before, and redo is given up.
+use Rattle.std.specs.Prelude.{ℕ, ◌-◌, ◌&&◌, Bool, true, false, nat_le, drop}
+use Rattle.sig_core.specs.declared.signal.Body.TheVariants.{Checkpoint}
+use Rattle.sig_core.specs.declared.signal.checkpoint.CheckpointSignal.TheVariants.{LcpSwitchConf}
+use Rattle.sig_core.specs.declared.walk.Finished.{Finished}
+use Rattle.sig_core.specs.Journal.{OutletState, end_of, used_from}
+use Rattle.sig_core.specs.Place.{checkpoints}
+use Rattle.sig_core.specs.Step.{Step, sending, stay}
+use Rattle.lqh_block.specs.State.{with_journal}
+use Rattle.lqh_views.specs.State.{ReplicaState, with_lqh}
+use Rattle.lqh_saver.specs.declared.stage.Stage.{Stage}
+use Rattle.lqh_saver.specs.declared.stage.Stage.TheVariants.{Resting, Walked}
+use Rattle.lqh_saver.specs.declared.stage.Todo.TheVariants.{Name}
+use Rattle.lqh_saver.specs.State.{SaverState, SavingState, saving}
+
+-- what stands from a position on is all that there is to give out
+abbrev pub outlet_from : OutletState → ℕ → OutletState
+outlet_from o at =
+    record { keeps = o.keeps; parity = o.parity; flushed = at; left = drop (at - o.flushed) o.left }
+
+-- the journal gives up what stands before a position, and what is used counts from there
+abbrev pub given_up : ReplicaState → ℕ → ReplicaState
+given_up s at =
+    with_lqh s
+    (with_journal s.lqh (used_from s.lqh.journal s.lqh.outlet at) (outlet_from s.lqh.outlet at))
+
+-- the journal still has the position
+abbrev pub has_position : OutletState → ℕ → Bool
+has_position o at = nat_le o.flushed at && nat_le at (end_of o)
+
+-- The checkpoint is good for what is saved: the rows were saved behind its end, and a restart comes to no epoch before
+-- that of its rows.
+abbrev pub is_usable : SaverState → Finished → ℕ → Bool
+is_usable v finished end =
+    nat_le finished.from v.saved_end && nat_le end v.saved_end && nat_le finished.epoch v.durable
+
+-- no commit that is given up is of a later epoch than the checkpoint, and nothing is under way
+abbrev pub switched : SaverState → Finished → SaverState
+switched v finished =
+    record {
+      durable = v.durable;
+      floor = finished.epoch;
+      saved_end = v.saved_end;
+      stage = Resting;
+      todo = Name finished;
+    }
+
+abbrev pub switch_if : SavingState → ℕ → Finished → Bool → Step SavingState
+switch_if s from finished true =
+    sending (saving (given_up s.replica finished.from) (switched s.saver finished)) (checkpoints from)
+    (Checkpoint LcpSwitchConf)
+switch_if s from finished false = stay s
+
+abbrev pub switch_by : SavingState → ℕ → Stage → Step SavingState
+switch_by s from (Walked finished end) =
+    switch_if s from finished
+    (has_position s.replica.lqh.outlet finished.from && is_usable s.saver finished end)
+switch_by s from _ = stay s
+
+-- the checkpoint that was written is to be named, if it is usable
+abbrev pub switch_row : SavingState → ℕ → Step SavingState
+switch_row s from = switch_by s from s.saver.stage
