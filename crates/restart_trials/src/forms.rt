@@ -1,14 +1,16 @@
 //! Forms of disks: empty ones, other shapes, old versions, nodes that aren't listed, sizes at the limits.
 ghost use Rattle.frag_map.specs.Shape.{IsShape};
 
-use crate::layout::{Layout, PAIR, checkpoint, first_checkpoint};
-use crate::pair::{ROWS, disk_of, has_rows, have_rows, restore_pair, value_in};
+use crate::layout::{Layout, PAIR, checkpoint, first_checkpoint, redo};
+use crate::long_rows::{has_long_rows, long_rows};
+use crate::pair::{LOG, ROWS, disk_of, has_rows, have_rows, restore_pair, value_in};
 use crate::stops::laid_out;
 use crate::trouble::Trouble;
 use frag_map::holds;
 use host_io::{Disk, MemDisk};
+use lcp_store::put_row;
 use row_map::RowMap;
-use sig_core::{ControlSlot, Key, Own, ReadFault, RestartFault, Seq, Shape, Value};
+use sig_core::{ControlSlot, Key, LOG_FILE_BYTES, Own, ReadFault, RestartFault, Seq, Shape, Value};
 use std::alloc::Global;
 use sys_restart::{Restored, prepare_life, read_rows, restore, restore_own};
 use sysfile_core::read_control;
@@ -30,7 +32,9 @@ pub fn try_all(alloc: Global) -> Result<u64, Trouble> {
     the_later_slots(alloc, 0, 4_096)?;
     the_later_slots(alloc, 4_096, 0)?;
     disks_that_disagree(alloc)?;
-    Ok(12)
+    redo_round_the_ring(alloc)?;
+    the_longest_words_of_the_first_version(alloc)?;
+    Ok(14)
 }
 
 fn refused_as(answer: Result<Restored, RestartFault>, fault: RestartFault) -> Result<(), Trouble> {
@@ -59,7 +63,7 @@ fn empty_disks(alloc: Global) -> Result<(), Trouble> {
 
 fn another_shape(alloc: Global) -> Result<(), Trouble> {
     let none = Layout::new(alloc);
-    let mut disks = [laid_out(&none)?, laid_out(&disk_of(alloc, 2)?)?];
+    let mut disks = [laid_out(&none)?, laid_out(&disk_of(alloc, 2, false)?)?];
     let asked = Shape {
         fragments: 5,
         ..PAIR
@@ -121,6 +125,73 @@ fn the_later_slots(alloc: Global, earlier: u64, later: u64) -> Result<(), Troubl
     have_rows(restored.groups.as_slice(), &[(b'a', b'2')])
 }
 
+// Redo that begins at the end of the last file of the ring, amid a record, goes on at the beginning of the first.
+fn redo_round_the_ring(alloc: Global) -> Result<(), Trouble> {
+    let mut layout = Layout::new(alloc);
+    lay_round_the_ring(alloc, &mut layout)?;
+    have_rows_laid_out(alloc, &layout, &[(b'a', b'9'), (b'd', b'4')])
+}
+
+fn lay_round_the_ring(alloc: Global, layout: &mut Layout) -> Result<(), Trouble> {
+    let log = redo(alloc, &LOG)?;
+    let (front, behind) = log.split_at(log.len().min(30));
+    layout.put(7, LOG_FILE_BYTES.saturating_sub(30), front)?;
+    layout.put(4, 0, behind)?;
+    let start = LOG_FILE_BYTES.saturating_mul(8).saturating_sub(30);
+    let slot = ControlSlot {
+        ckpt_file: 3,
+        parity: 0,
+        generation: 1,
+        serial: 9,
+        saved: 5,
+        redo_start: start,
+        redo_end: start.saturating_add(log.len() as u64),
+        ckpt_size: 0,
+    };
+    layout.control(4_096, &slot)?;
+    layout.system(0, 1, 5, 3)
+}
+
+// Two disks that are laid out the same give these rows.
+fn have_rows_laid_out(alloc: Global, layout: &Layout, rows: &[(u8, u8)]) -> Result<(), Trouble> {
+    let mut disks = [laid_out(layout)?, laid_out(layout)?];
+    let restored = restore(alloc, &mut disks, PAIR)?;
+    have_rows(restored.groups.as_slice(), rows)
+}
+
+// Keys and values of version 1 may be as long as those of version 2; a value may be empty.
+fn the_longest_words_of_the_first_version(alloc: Global) -> Result<(), Trouble> {
+    let mut bytes = Vec::new(alloc);
+    put_long_words(alloc, &mut bytes)?;
+    read_long_words(alloc, &bytes)
+}
+
+fn put_long_words(alloc: Global, bytes: &mut Vec<u8>) -> Result<(), Trouble> {
+    for (key, value) in &long_rows(alloc)?.to_rows(alloc)? {
+        put_row(bytes, key, value)?;
+    }
+    put_row(bytes, &Key::new(b"a")?, &Value::new(b"")?)?;
+    Ok(())
+}
+
+fn read_long_words(alloc: Global, bytes: &[u8]) -> Result<(), Trouble> {
+    let mut layout = Layout::new(alloc);
+    layout.put(3, 0, bytes)?;
+    let mut disk = laid_out(&layout)?;
+    match read_rows(alloc, &mut disk, 3, bytes.len() as u64, 0) {
+        Ok(rows) => has_long_words(&rows),
+        Err(ReadFault::NoMemory) => Err(Trouble::NoMemory),
+        _ => Err(Trouble::Other),
+    }
+}
+
+fn has_long_words(rows: &RowMap) -> Result<(), Trouble> {
+    if rows.get(&Key::new(b"a")?) != Some(Value::new(b"")?) {
+        return Err(Trouble::Other);
+    }
+    has_long_rows(rows)
+}
+
 // A slot that names a checkpoint of one row of version 2, and no redo.
 fn one_row(file: u8, generation: u64, serial: u64, saved: u64) -> ControlSlot {
     ControlSlot {
@@ -155,7 +226,7 @@ fn disks_that_disagree(alloc: Global) -> Result<(), Trouble> {
 
 // What a node has that isn't listed isn't read, and is no harm.
 fn an_unlisted_node(alloc: Global) -> Result<(), Trouble> {
-    let mut first = disk_of(alloc, 1)?;
+    let mut first = disk_of(alloc, 1, false)?;
     let mut second = Layout::new(alloc);
     second.put(1, 0, &[0x4e; 56])?;
     second.put(2, 0, &[0xff; 100])?;
@@ -183,20 +254,20 @@ fn a_group_without_a_slot(alloc: Global) -> Result<(), Trouble> {
 }
 
 fn own_rows(alloc: Global) -> Result<(), Trouble> {
-    let mut disk = laid_out(&disk_of(alloc, 1)?)?;
+    let mut disk = laid_out(&disk_of(alloc, 1, false)?)?;
     match restore_own(alloc, &mut disk, PAIR, 1) {
         Ok(Some(own)) if own.epoch == 5 => own_are(&own, &ROWS)?,
         Err(ReadFault::NoMemory) => return Err(Trouble::NoMemory),
         _ => return Err(Trouble::Other),
     }
     // node 2 has saved epoch 5, and its system slot says 4
-    let mut disk = laid_out(&disk_of(alloc, 2)?)?;
+    let mut disk = laid_out(&disk_of(alloc, 2, false)?)?;
     match restore_own(alloc, &mut disk, PAIR, 2) {
         Ok(None) => {}
         Err(ReadFault::NoMemory) => return Err(Trouble::NoMemory),
         _ => return Err(Trouble::Other),
     }
-    let mut disk = laid_out(&disk_of(alloc, 1)?)?;
+    let mut disk = laid_out(&disk_of(alloc, 1, false)?)?;
     match restore_own(alloc, &mut disk, PAIR, 3) {
         Ok(None) => Ok(()),
         _ => Err(Trouble::Other),
@@ -315,33 +386,14 @@ fn the_greatest_numbers(alloc: Global) -> Result<(), Trouble> {
 
 // One group with keys and values as long as they may be.
 fn longest_words(alloc: Global) -> Result<Seq<RowMap>, Trouble> {
-    let mut rows = RowMap::new(alloc);
-    for letter in b'a'..=b'z' {
-        for digit in b'0'..=b'9' {
-            rows.insert(longest_key(letter, digit)?, Value::new(&[digit; 200])?)?;
-        }
-    }
     let mut groups = Seq::new(alloc);
-    groups.push(rows)?;
+    groups.push(long_rows(alloc)?)?;
     Ok(groups)
-}
-
-fn longest_key(letter: u8, digit: u8) -> Result<Key, Trouble> {
-    let mut key = [letter; 32];
-    key[31] = digit;
-    Ok(Key::new(&key)?)
 }
 
 fn have_longest_words(found: &Restored) -> Result<(), Trouble> {
     for group in found.groups.as_slice() {
-        for letter in b'a'..=b'z' {
-            for digit in b'0'..=b'9' {
-                let wanted = Some(Value::new(&[digit; 200])?);
-                if group.get(&longest_key(letter, digit)?) != wanted {
-                    return Err(Trouble::Other);
-                }
-            }
-        }
+        has_long_rows(group)?;
     }
     Ok(())
 }

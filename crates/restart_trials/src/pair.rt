@@ -1,8 +1,10 @@
 //! Two nodes that were stopped in their first life: epoch 5 is durable, and something of epoch 6 is
 //! logged.
 use crate::layout::{Layout, Logged, PAIR, checkpoint, redo};
+use crate::long_rows::long_rows;
 use crate::trouble::Trouble;
 use host_io::MemDisk;
+use lcp_store::put_row2;
 use row_map::RowMap;
 use sig_core::{ControlSlot, Key, Value};
 use std::alloc::Global;
@@ -11,7 +13,8 @@ use sys_restart::{Restored, restore};
 /// The rows that are restored, in the order of their keys.
 pub const ROWS: [(u8, u8); 3] = [(b'a', b'9'), (b'c', b'3'), (b'd', b'4')];
 
-const LOG: [Logged; 6] = [
+/// What is logged of their life.
+pub const LOG: [Logged; 6] = [
     Logged {
         key: b'd',
         value: Some(b'4'),
@@ -44,40 +47,71 @@ const LOG: [Logged; 6] = [
     },
 ];
 
-/// The disk of a node. Of node 1 the system slot of epoch 5 is in use, of node 2 that of epoch 4.
-pub fn disk_of(alloc: Global, node: u8) -> Result<Layout, Trouble> {
+/// The rows of their checkpoint, with their epochs.
+pub const FIRST_ROWS: [(u8, u8, u64); 3] = [(b'a', b'1', 1), (b'b', b'2', 2), (b'c', b'3', 3)];
+
+/// The disk of a node. Of node 1 the system slot of epoch 5 is in use, of node 2 that of epoch 4. With `long` the
+/// checkpoint has long rows too, which take several pieces.
+pub fn disk_of(alloc: Global, node: u8, long: bool) -> Result<Layout, Trouble> {
     let mut layout = Layout::new(alloc);
-    let rows = checkpoint(alloc, &[(b'a', b'1', 1), (b'b', b'2', 2), (b'c', b'3', 3)])?;
-    let log = redo(alloc, &LOG)?;
-    layout.put(2, 0, &rows)?;
-    layout.put(4, 0, &log)?;
-    let older = ControlSlot {
-        ckpt_file: 3,
-        parity: 0,
-        generation: 1,
-        serial: 2,
-        saved: 4,
-        redo_start: 0,
-        redo_end: 0,
-        ckpt_size: 0,
-    };
-    let newer = ControlSlot {
-        ckpt_file: 2,
-        parity: 0,
-        generation: 1,
-        serial: 3,
-        saved: 5,
-        redo_start: 0,
-        redo_end: log.len() as u64,
-        ckpt_size: rows.len() as u64,
-    };
-    layout.control(0, &newer)?;
-    layout.control(4_096, &older)?;
+    lay_files(alloc, &mut layout, node, long)?;
+    Ok(layout)
+}
+
+fn lay_files(alloc: Global, layout: &mut Layout, node: u8, long: bool) -> Result<(), Trouble> {
+    let (first, _) = LOG.split_at(1);
+    let before = size_of_redo(alloc, first)?;
+    let size = lay_rows(alloc, layout, long)?;
+    let end = lay_redo(alloc, layout)?;
+    layout.control(0, &slot_of(3, 5, end, size))?;
+    layout.control(4_096, &slot_of(2, 4, before, size))?;
     layout.system(0, 1, 4, 3)?;
     if node == 1 {
         layout.system(4_096, 1, 5, 3)?;
     }
-    Ok(layout)
+    Ok(())
+}
+
+// A slot that names the checkpoint, and the redo up to a position.
+fn slot_of(serial: u64, saved: u64, redo_end: u64, ckpt_size: u64) -> ControlSlot {
+    ControlSlot {
+        ckpt_file: 2,
+        parity: 0,
+        generation: 1,
+        serial,
+        saved,
+        redo_start: 0,
+        redo_end,
+        ckpt_size,
+    }
+}
+
+// Lays out the checkpoint, and answers its size.
+fn lay_rows(alloc: Global, layout: &mut Layout, long: bool) -> Result<u64, Trouble> {
+    let mut rows = checkpoint(alloc, &FIRST_ROWS)?;
+    if long {
+        put_long_rows(alloc, &mut rows)?;
+    }
+    layout.put(2, 0, &rows)?;
+    Ok(rows.len() as u64)
+}
+
+// Lays out the redo, and answers its size.
+fn lay_redo(alloc: Global, layout: &mut Layout) -> Result<u64, Trouble> {
+    let log = redo(alloc, &LOG)?;
+    layout.put(4, 0, &log)?;
+    Ok(log.len() as u64)
+}
+
+fn size_of_redo(alloc: Global, logged: &[Logged]) -> Result<u64, Trouble> {
+    Ok(redo(alloc, logged)?.len() as u64)
+}
+
+fn put_long_rows(alloc: Global, bytes: &mut Vec<u8>) -> Result<(), Trouble> {
+    for (key, value) in &long_rows(alloc)?.to_rows(alloc)? {
+        put_row2(bytes, key, 1, value)?;
+    }
+    Ok(())
 }
 
 /// What is restored is of one of these generations, and has the epoch and the rows of the pair.
