@@ -1,0 +1,5 @@
+pub mod AllLemmas
+pub mod AnswerLemmas
+pub mod CompareLemmas
+pub mod LabelLemmas
+pub mod StepLemmas

@@ -1,0 +1,4 @@
+pub mod Answer
+pub mod Labels
+pub mod Playing
+pub mod RightLife
