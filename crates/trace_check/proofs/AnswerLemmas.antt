@@ -53,12 +53,12 @@ told_life told found is right =
 pub other_hosts : (told : List ℕ) (shape : Shape) (life : Life) (labelled : Bool) → IsTold told shape life
     → ((start : Start) → start.shape ≡ shape → labelled ≡ false → AreLabelled start life.logs → ⊥)
     → labelled ≡ false → IsBecause told NotHosts
-other_hosts told shape life labelled is others no =
+other_hosts told shape life labelled is others unlabelled =
     record {
       shape = shape;
       life = life;
       told = is.is;
-      others = others (start_of shape life) refl no;
+      others = others (start_of shape life) refl unlabelled;
     }
 
 -- ---- the life that is made

@@ -31,11 +31,11 @@ tells_same told made place one other false in_told in_made decides = λ same.
 -- one of them has none
 pub not_told : (told made : List HostLog) (place : RunStep) → step_in told place ≡ None
     → TellsSame told made place false
-not_told told made place none = λ same. let no : None ≡ Some same.one = sym none ∙ same.in_told in absurd cc
+not_told told made place none = λ same. let clash : None ≡ Some same.one = sym none ∙ same.in_told in absurd cc
 
 pub not_made : (told made : List HostLog) (place : RunStep) → step_in made place ≡ None
     → TellsSame told made place false
-not_made told made place none = λ same. let no : None ≡ Some same.other = sym none ∙ same.in_made in absurd cc
+not_made told made place none = λ same. let clash : None ≡ Some same.other = sym none ∙ same.in_made in absurd cc
 
 -- ---- one place after the other
 
