@@ -7,8 +7,8 @@ use Rattle.world_views.proofs.WorldLemmas.{begun_world}
 use Rattle.trace_check.proofs.AnswerLemmas.{begun, made_so}
 use Rattle.trace_check.proofs.checking.made.Goals as goal
 
-pub play_all-why-requires : goal.play_all-why-requires
-play_all-why-requires c =
+pub play_all-requires : goal.play_all-requires
+play_all-requires c =
     begun_world (whole_of c.in_ok-world.world) (start_of c.args.shape c.args.life.now)
     (begun c.args.shape c.args.life.now c.first_epoch-epoch.result (whole_of c.in_ok-world.world)
     c.first_epoch-epoch.ensures c.in_ok-world.ensures)
@@ -16,7 +16,7 @@ play_all-why-requires c =
 pub returns : goal.returns
 returns c =
     made_so (start_of c.args.shape c.args.life.now) c.args.life.now.logs c.args.run.now (whole_of c.in_ok-world.world)
-    (whole_of c.play_all-why.new.world) _ c.in_ok-why.why
+    (whole_of c.play_all.new.world) _ c.in_ok-why.why
     (begun c.args.shape c.args.life.now c.first_epoch-epoch.result (whole_of c.in_ok-world.world)
     c.first_epoch-epoch.ensures c.in_ok-world.ensures) c.in_ok-why.ensures
     (ap (λ (life : Life). life.logs) c.end_life.ensures)
