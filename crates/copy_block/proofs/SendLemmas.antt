@@ -1,5 +1,6 @@
 -- A walk over the members of a view, or over the fragments, goes on to the next one.
-use Rattle.std.proofs.Common.{◌≡◌, ◌<◌, ◌∙◌, ℕ, suc, ◌+◌, ◌-◌, ◌++◌, Bool, List, ap, arith, drop, get_or, length, refl, sym}
+use Rattle.std.proofs.Common.{◌≡◌, ◌<◌, ◌∙◌, ℕ, suc, ◌+◌, ◌-◌, ◌++◌, Bool, List, ap, arith, drop, get_or, length}
+use Rattle.std.proofs.Common.{refl, sym}
 use Rattle.std.specs.List.{flat_map}
 use Rattle.std.proofs.lemmas.List.{drop_more, length-append}
 use Rattle.sig_core.specs.declared.outs.Outgoing.{Outgoing}
@@ -34,7 +35,8 @@ pub flat-next : {A : Type 0} (f : A → List Outgoing) (items : List A) (i : ℕ
     → flat_map f (drop i items) ≡ f (get_or items i d) ++ flat_map f (drop (i + 1) items)
 flat-next f items i d inside = rw (drop_more items i d inside) refl
 
--- the place from which a list goes on is behind the portion, if an event that went through the list left something of it
+-- the place from which a list goes on is behind the portion, if an event that went through the list left something of
+-- it
 pub left_is : (at : ℕ) (e out : Effects) (p : Portion) (xs : List Outgoing) {left : Bool}
     → so_far p out ≡ all_offered (offered_from at e) xs → p.more ≡ left → left_if at left ≡ left_after xs at
 left_is at e out p xs is more =

@@ -5,17 +5,16 @@ use Rattle.std.specs.Prelude.{Option, None, Some, slice_get}
 use Rattle.run_theory.specs.Lists.{Each}
 use Rattle.run_theory.proofs.Pasts.{each_append}
 use Rattle.sig_core.specs.declared.member.Member.{Member}
-use Rattle.sig_core.specs.declared.outs.Outgoing.{Outgoing}
 use Rattle.sig_core.specs.declared.signal.Body.{Body}
 use Rattle.sig_core.specs.declared.signal.Body.TheVariants.{Copying, Epoch, Host, Joining}
-use Rattle.sig_core.specs.declared.signal.Signal.{Signal}
 use Rattle.sig_core.specs.declared.signal.copying.CopyingSignal.TheVariants.{CopyFragConf, CopyFragReq, CopyKeyConf}
 use Rattle.sig_core.specs.declared.signal.copying.CopyingSignal.TheVariants.{CopyKeyRef, CopyRowConf, LqhScanConf}
 use Rattle.sig_core.specs.declared.signal.epoch.EpochSignal.TheVariants.{GcpRep}
 use Rattle.sig_core.specs.declared.signal.host.HostSignal.TheVariants.{Continue}
 use Rattle.sig_core.specs.declared.signal.host.Work.TheVariants.{Members}
 use Rattle.sig_core.specs.declared.signal.host.Work.TheVariants as work
-use Rattle.sig_core.specs.declared.signal.joining.JoiningSignal.TheVariants.{CopyOrd, CopySaveConf, DrainConf, DrainWait}
+use Rattle.sig_core.specs.declared.signal.joining.JoiningSignal.TheVariants.{CopyOrd, CopySaveConf, DrainConf}
+use Rattle.sig_core.specs.declared.signal.joining.JoiningSignal.TheVariants.{DrainWait}
 use Rattle.sig_core.specs.Place.{copying}
 use Rattle.sig_core.specs.Step.{Step, sends_only}
 use Rattle.step_forms.specs.Does.{IsWord, Speaks}
@@ -28,9 +27,9 @@ use Rattle.copy_block.specs.declared.stage.Feed.TheVariants.{Idle, Scanning, Nam
 use Rattle.copy_block.specs.declared.stage.Joiner.{Joiner}
 use Rattle.copy_block.specs.declared.stage.Stage.{Stage}
 use Rattle.copy_block.specs.declared.stage.Stage.TheVariants.{Resting, FirstCheckpoint, Draining, Fragments, Saving}
-use Rattle.copy_block.specs.declared.stage.Stage.TheVariants.{LastCheckpoint, Promoting}
+use Rattle.copy_block.specs.declared.stage.Stage.TheVariants.{LastCheckpoint}
 use Rattle.copy_block.specs.declared.stage.Task.{Task}
-use Rattle.copy_block.specs.Copying.{copy_row, copy_table}
+use Rattle.copy_block.specs.Copying.{copy_table}
 use Rattle.copy_block.specs.Feeding.{ending, fragment_by, fragment_row, going, going_by, hands_by, hands_if, has_own}
 use Rattle.copy_block.specs.Feeding.{named_by, named_row, next_by, passing, refused_by, refused_row, scan_by, scan_row}
 use Rattle.copy_block.specs.Feeding.{after, taken_by, taken_row, told_copied}

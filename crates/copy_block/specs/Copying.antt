@@ -10,7 +10,8 @@ use Rattle.sig_core.specs.declared.signal.epoch.EpochSignal.TheVariants.{GcpRep}
 use Rattle.sig_core.specs.declared.signal.host.HostSignal.TheVariants.{Continue}
 use Rattle.sig_core.specs.declared.signal.host.Work.TheVariants.{Members}
 use Rattle.sig_core.specs.declared.signal.joining.JoiningSignal.{JoiningSignal}
-use Rattle.sig_core.specs.declared.signal.joining.JoiningSignal.TheVariants.{CopyOrd, CopySaveConf, DrainConf, DrainWait}
+use Rattle.sig_core.specs.declared.signal.joining.JoiningSignal.TheVariants.{CopyOrd, CopySaveConf, DrainConf}
+use Rattle.sig_core.specs.declared.signal.joining.JoiningSignal.TheVariants.{DrainWait}
 use Rattle.sig_core.specs.declared.view.View.{View}
 use Rattle.sig_core.specs.Step.{Step, stay}
 use Rattle.copy_block.specs.Feeding.{fragment_row, named_row, refused_row, scan_row, taken_row}

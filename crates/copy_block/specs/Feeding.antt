@@ -1,7 +1,6 @@
 -- A primary copies fragments, row by row and under a shared lock of each, signal by signal.
 use Rattle.std.specs.Prelude.{ℕ, Bool, true, false, nat_le, List, [], ◌∷◌, ◌++◌, remove, slice_get, Option, None}
 use Rattle.std.specs.Prelude.{Some}
-use Rattle.sig_core.specs.declared.member.Member.{Member}
 use Rattle.sig_core.specs.declared.outs.Outgoing.{Outgoing}
 use Rattle.sig_core.specs.declared.signal.Body.TheVariants.{Copying}
 use Rattle.sig_core.specs.declared.signal.copying.CopyingSignal.TheVariants.{CopyFragConf, CopyKeyReq, CopyRowReq}
@@ -78,8 +77,8 @@ abbrev pub scan_by : CopyState → Option (List ℕ × List ℕ) → ℕ → Opt
 scan_by s row epoch next (Scanning task) = hands_by s task row epoch next
 scan_by s row epoch next _ = stay s
 
--- A row is locked. It is named where the member has rows of its own up to its epoch, and else sent whole; where there is
--- none, what is behind it is gone on with.
+-- A row is locked. It is named where the member has rows of its own up to its epoch, and else sent whole; where there
+-- is none, what is behind it is gone on with.
 unfoldable pub scan_row : CopyState → Option (List ℕ × List ℕ) → ℕ → Option ℕ → Step CopyState
 scan_row s row epoch next = scan_by s row epoch next s.feed
 

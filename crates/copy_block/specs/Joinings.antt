@@ -1,5 +1,5 @@
--- A joining is driven, signal by signal: a global checkpoint, the end of what was under way in the group, the copying of
--- the fragments, the first save of the member, another global checkpoint, and its promotion.
+-- A joining is driven, signal by signal: a global checkpoint, the end of what was under way in the group, the copying
+-- of the fragments, the first save of the member, another global checkpoint, and its promotion.
 use Rattle.std.specs.Prelude.{ℕ, ◌-◌, ◌==◌, ◌&&◌, Bool, true, false, nat_lt, length, Option}
 use Rattle.sig_core.specs.declared.member.Member.{Member}
 use Rattle.sig_core.specs.declared.member.TxId.{TxId}

@@ -9,7 +9,8 @@ use Rattle.sig_core.specs.declared.signal.copying.CopyingSignal.TheVariants.{Cop
 use Rattle.sig_core.specs.declared.signal.epoch.EpochSignal.TheVariants.{GcpReq}
 use Rattle.sig_core.specs.declared.signal.host.HostSignal.TheVariants.{Continue}
 use Rattle.sig_core.specs.declared.signal.host.Work.TheVariants.{Members}
-use Rattle.sig_core.specs.declared.signal.joining.JoiningSignal.TheVariants.{CopySaveReq, DrainReq, DrainWait, PromoteReq}
+use Rattle.sig_core.specs.declared.signal.joining.JoiningSignal.TheVariants.{CopySaveReq, DrainReq, DrainWait}
+use Rattle.sig_core.specs.declared.signal.joining.JoiningSignal.TheVariants.{PromoteReq}
 use Rattle.sig_core.specs.declared.view.View.{View}
 use Rattle.step_forms.specs.Does.{Speaks}
 use Rattle.copy_block.specs.Copying.{copy_installed, copy_row}
