@@ -45,7 +45,8 @@ const OTHERS: [(&str, &str); 43] = [
     ("resume", "restart"),
     ("partition", "cut"),
     ("split", "cut"),
-    ("checkpoint", "gcp"),
+    ("checkpoint", "lcp"),
+    ("durable", "gcp"),
     ("status", "view"),
     ("nodes", "view"),
 ];
