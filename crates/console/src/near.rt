@@ -4,7 +4,7 @@ use std::alloc::{AllocError, Global};
 use strsim::osa_distance;
 
 /// Words for what commands do, and the commands.
-const OTHERS: [(&str, &str); 43] = [
+const OTHERS: [(&str, &str); 44] = [
     ("fetch", "get"),
     ("read", "get"),
     ("select", "get"),
