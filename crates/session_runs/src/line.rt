@@ -67,7 +67,7 @@ pub fn parse<'a>(line: &'a str) -> Option<Line<'a>> {
         "again" if rest.is_empty() => Some(Line::Again),
         "logs" if rest.is_empty() => Some(Line::Logs),
         "no" => failure(rest),
-        "lay" => laid(rest),
+        "lay" => disk_write(rest),
         _ => number(first, rest),
     }
 }
@@ -93,7 +93,7 @@ fn disk_failure<'a>(rest: &'a str) -> Option<Line<'a>> {
 }
 
 // The line of bytes that are written to a disk.
-fn laid<'a>(rest: &'a str) -> Option<Line<'a>> {
+fn disk_write<'a>(rest: &'a str) -> Option<Line<'a>> {
     let (node, rest) = cut_word(rest);
     let (file, rest) = cut_word(rest);
     let (at, bytes) = cut_word(rest);
