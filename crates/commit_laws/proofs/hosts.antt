@@ -14,6 +14,7 @@ pub mod PartEach
 pub mod ReportsOfShell
 pub mod RowsGo
 pub mod RowsTurn
+pub mod SaverGoes
 pub mod ShellGoes
 pub mod ShellSees
 pub mod ShellViews

@@ -23,8 +23,8 @@ is_order word =
 abbrev pub is_operator : List ℕ → Bool
 is_operator word =
     bytes_eq word (codes "kill") || bytes_eq word (codes "cut") || bytes_eq word (codes "micro")
-    || bytes_eq word (codes "gcp") || bytes_eq word (codes "view") || bytes_eq word (codes "crash")
-    || bytes_eq word (codes "restart")
+    || bytes_eq word (codes "gcp") || bytes_eq word (codes "lcp") || bytes_eq word (codes "view")
+    || bytes_eq word (codes "crash") || bytes_eq word (codes "restart")
 
 -- a command that the session serves
 abbrev pub is_form : List ℕ → Bool
@@ -47,6 +47,7 @@ is_served (command.Cut one other) = true
 is_served (command.Tick rounds) = true
 is_served command.Micro = true
 is_served command.Gcp = true
+is_served command.Lcp = true
 is_served command.View = true
 is_served command.Crash = true
 is_served command.Restart = true

@@ -33,13 +33,14 @@ pub enum Form {
     Cut,
     Micro,
     Gcp,
+    Lcp,
     View,
     Crash,
     Restart,
 }
 
 /// All of them, in the order of the manual.
-pub const FORMS: [Form; 20] = [
+pub const FORMS: [Form; 21] = [
     Form::Get,
     Form::GetX,
     Form::Put,
@@ -53,6 +54,7 @@ pub const FORMS: [Form; 20] = [
     Form::Kill,
     Form::Cut,
     Form::Gcp,
+    Form::Lcp,
     Form::Micro,
     Form::View,
     Form::Crash,
@@ -131,6 +133,8 @@ fn operator_of(word: &[u8]) -> Option<Form>
         Some(Form::Micro)
     } else if word == b"gcp".as_slice() {
         Some(Form::Gcp)
+    } else if word == b"lcp".as_slice() {
+        Some(Form::Lcp)
     } else if word == b"view".as_slice() {
         Some(Form::View)
     } else if word == b"crash".as_slice() {
@@ -163,6 +167,7 @@ impl Form {
             Form::Cut => "cut",
             Form::Micro => "micro",
             Form::Gcp => "gcp",
+            Form::Lcp => "lcp",
             Form::View => "view",
             Form::Crash => "crash",
             Form::Restart => "restart",
@@ -189,6 +194,7 @@ impl Form {
             Form::Cut => "cut A B",
             Form::Micro => "micro",
             Form::Gcp => "gcp",
+            Form::Lcp => "lcp",
             Form::View => "view",
             Form::Crash => "crash",
             Form::Restart => "restart",
@@ -205,7 +211,13 @@ impl Form {
             Form::Tick => &[Kind::Rounds],
             Form::Kill | Form::Rows | Form::Digest => &[Kind::Node],
             Form::Cut => &[Kind::Node, Kind::Node],
-            Form::Quit | Form::Micro | Form::Gcp | Form::View | Form::Crash | Form::Restart => &[],
+            Form::Quit
+            | Form::Micro
+            | Form::Gcp
+            | Form::Lcp
+            | Form::View
+            | Form::Crash
+            | Form::Restart => &[],
         }
     }
 

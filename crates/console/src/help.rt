@@ -40,7 +40,7 @@ pub const ALL: &str = "\
 rows           get K   getx K   put K V   ins K V   upd K V   del K
 transactions   begin T   @T OP   commit T   abort T   (OP: one of the above)
 nodes          view   kill N   cut A B   rows N   digest N
-epochs, time   gcp   micro   tick C   crash   restart
+epochs, time   gcp   lcp   micro   tick C   crash   restart
 this session   help WORD   quit
 K is a key, V a value or nothing, T a transaction's number; N, A and B are
 nodes, C rounds. An operation without `@T` is a transaction of its own: behind
@@ -90,6 +90,10 @@ noticed in the fourth round: `tick 4`.
         Form::Gcp => "\
 gcp: closes the current epoch, and makes it durable: `durable E`. What was
 committed up to then outlasts a crash.
+",
+        Form::Lcp => "\
+lcp: writes the rows of each node's disk anew, up to an epoch that is durable:
+`checkpoint E`. The journal has its room again, and a restart is short.
 ",
         Form::Crash => "crash: all nodes stop at once, as by a loss of power.\n",
         Form::Restart => "\

@@ -4,7 +4,7 @@ use std::alloc::{AllocError, Global};
 use strsim::osa_distance;
 
 /// Words for what commands do, and the commands.
-const OTHERS: [(&str, &str); 43] = [
+const OTHERS: [(&str, &str); 44] = [
     ("fetch", "get"),
     ("read", "get"),
     ("select", "get"),
@@ -45,7 +45,8 @@ const OTHERS: [(&str, &str); 43] = [
     ("resume", "restart"),
     ("partition", "cut"),
     ("split", "cut"),
-    ("checkpoint", "gcp"),
+    ("checkpoint", "lcp"),
+    ("durable", "gcp"),
     ("status", "view"),
     ("nodes", "view"),
 ];

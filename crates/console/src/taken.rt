@@ -50,6 +50,7 @@ fn is_served(command: &Command) -> bool
         | Command::Tick { .. }
         | Command::Micro
         | Command::Gcp
+        | Command::Lcp
         | Command::View
         | Command::Crash
         | Command::Restart

@@ -107,6 +107,7 @@ row_sends (part.Main p) x =
       takeover = λ q is to. absurd cc;
       dih = λ q is to. absurd cc;
       replica = λ q is to. absurd cc;
+      saver = λ q is to. absurd cc;
     })
 
 installation_sends : (parts : Parts) (view : View) → Does IsForEpochs AnyMark (parts_entered parts view)

@@ -76,13 +76,18 @@ module _ (start : Start) (w t : Whole) (old new : Disks) (counts : List ℕ) (so
   sound_still =
       record { given = sound.given; right = (gone.driven start sound).right sound.given sound.right }
 
-  -- A host that keeps nothing went on; or one that runs, and the disk of its node kept what it was to keep of it, or
-  -- failed.
+  -- it made a step
+  abbrev pub IsStepped : HostStep → Type 0
+  IsStepped e = now ≡ e ∷ logs_at w.logs h
+
+  -- A host that keeps nothing went on; or one that runs made a step, and the disk of its node kept what it was to keep
+  -- of it, or failed.
   pub data Comes : Type 0 where
-    as_was : t ≡ stepped → new ≡ old → (1 ≤ h → has_stopped_in stepped h ≡ true) → Comes
-    keeps : 1 ≤ h → h < hosts start → has_stopped now ≡ false → t ≡ stepped
+    as_was : t ≡ stepped → new ≡ old → ((e : HostStep) → IsStepped e → 1 ≤ h → has_stopped_in stepped h ≡ true) → Comes
+    keeps : 1 ≤ h → h < hosts start → has_stopped now ≡ false → (e : HostStep) → IsStepped e → t ≡ stepped
         → HasKept (kept_behind start h now) (place_of start h) old new true → Comes
-    fails : 1 ≤ h → h < hosts start → has_stopped now ≡ false → (count : ℕ) → t ≡ stopped stepped h (Disk count) 1
+    fails : 1 ≤ h → h < hosts start → has_stopped now ≡ false → (e : HostStep) → IsStepped e → (count : ℕ)
+        → t ≡ stopped stepped h (Disk count) 1
         → HasKept (kept_behind start h now) (place_of start h) old new false → Comes
 
   module _ (some : 1 ≤ h) (runs : has_stopped_in stepped h ≡ false) where
@@ -123,32 +128,39 @@ module _ (start : Start) (w t : Whole) (old new : Disks) (counts : List ℕ) (so
         kept_as (kept_in stepped h) (kept_behind start h now) (node_of stepped h - 1) (place_of start h) old old new new
         ok has kept_is (ap (λ (node : ℕ). node - 1) node_is) refl refl
 
-    kept_comes : HasKeptStep stepped h old new counts t → Comes
-    kept_comes step = by step.ok step.kept step.goes
+    kept_comes : (e : HostStep) → IsStepped e → HasKeptStep stepped h old new counts t → Comes
+    kept_comes e more step = by step.ok step.kept step.goes
       where
         by : (ok : Bool) → HasKept (kept_in stepped h) (node_of stepped h - 1) old new ok
             → GoesOn ok stepped h (count_of counts (node_of stepped h)) t → Comes
-        by true has same = keeps some low ran same (kept_so true has)
-        by false has same = fails some low ran (count_of counts (node_of stepped h)) same (kept_so false has)
+        by true has same = keeps some low ran e more same (kept_so true has)
+        by false has same = fails some low ran e more (count_of counts (node_of stepped h)) same (kept_so false has)
 
   pub comes : start.shape.nodes ≤ length old.told → start.shape.nodes ≤ length old.slots → Comes
-  comes told slots = by h refl (has_stopped_in stepped h) refl
+  comes told slots = by h refl (has_stopped_in stepped h) refl gone.alone.own
     where
-      by : (k : ℕ) → h ≡ k → (b : Bool) → has_stopped_in stepped h ≡ b → Comes
-      by k is true e = let none = gone.nothing (inr e) in as_was none.0 none.1 (λ some. e)
-      by zero is false e =
-          let none = gone.nothing (inl is) in as_was none.0 none.1 (λ some. absurd (omega (arith, some, is)))
-      by (suc k) is false e =
+      by : (k : ℕ) → h ≡ k → (b : Bool) → has_stopped_in stepped h ≡ b → HasAtMostOneMore (logs_at w.logs h) now → Comes
+      by k is true e own = let none = gone.nothing (inr (inr e)) in as_was none.0 none.1 (λ step more some. e)
+      by zero is false e own =
+          let none = gone.nothing (inl is) in as_was none.0 none.1 (λ step more some. absurd (omega (arith, some, is)))
+      by (suc k) is false e (inl same) =
+          let none = gone.nothing (inr (inl same)) in
+          as_was none.0 none.1
+          (λ step more some.
+          let size : length (logs_at w.logs h) ≡ suc (length (logs_at w.logs h)) = ap length (sym same ∙ more) in
+          absurd (omega (arith, size)))
+      by (suc k) is false e (inr (step, more)) =
           let some : 1 ≤ h = omega (arith, is) in
-          kept_comes some e (gone.kept (record { part = some; runs = e; has = has_disk some e told slots }))
+          kept_comes some e step more
+          (gone.kept step more (record { part = some; runs = e; has = has_disk some e told slots }))
 
   -- the logs of the world behind it
   pub logs_same : t ≡ stepped → (g : ℕ) → logs_at t.logs g ≡ logs_at stepped.logs g
   logs_same same g = ap (λ (v : Whole). logs_at v.logs g) same
 
   -- A host that keeps nothing went on: its log is as it was, or has a step more, by which it stopped.
-  pub stopped_or : t ≡ stepped → (1 ≤ h → has_stopped_in stepped h ≡ true) → (g : ℕ) → 1 ≤ g → g < hosts start
-      → IsSameOrStopped start w t g
+  pub stopped_or : t ≡ stepped → ((e : HostStep) → IsStepped e → 1 ≤ h → has_stopped_in stepped h ≡ true) → (g : ℕ)
+      → 1 ≤ g → g < hosts start → IsSameOrStopped start w t g
   stopped_or same stops g some low = by (g == h) refl
     where
       own : g ≡ h → HasAtMostOneMore (logs_at w.logs h) now → IsSameOrStopped start w t h
@@ -161,7 +173,7 @@ module _ (start : Start) (w t : Whole) (old new : Disks) (counts : List ℕ) (so
           inr (record {
             e = e;
             is = logs_same same h ∙ more;
-            stops = ap has_stopped (sym more) ∙ sym (sound_still.right.stopped h below) ∙ stops here;
+            stops = ap has_stopped (sym more) ∙ sym (sound_still.right.stopped h below) ∙ stops e more here;
             step = local.0;
           })
 

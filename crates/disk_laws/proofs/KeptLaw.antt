@@ -42,7 +42,7 @@ module _ (start : Start) (member : Member) (before : Rows) (first : SystemSlot) 
   rows_found : IsIn member (made start)
       → KeepsRows start member before first log s calls
       → HasSavedRows start member before first.generation log image
-  rows_found there (inl has) = all_found start member before first log s calls image there has left
+  rows_found there (inl has) = all_found start member before first log s calls image there has.last left
   rows_found there (inr leaves) = leaves.leaves image (λ file low apart. left file low)
 
   noted_found : KeepsNoted start member before first log s calls

@@ -7,7 +7,7 @@ use Rattle.world_core.specs.Start.{Start}
 use Rattle.world_core.specs.Steps.{HostStep}
 use Rattle.disk_laws.specs.Noted.{WasNoted, is_disk_stop, kept_if, kept_part, without_newest}
 
-without_is_past : (log : List HostStep) → IsPast (without_newest log) log
+pub without_is_past : (log : List HostStep) → IsPast (without_newest log) log
 without_is_past [] = past_self []
 without_is_past (e ∷ log) = past_more e (past_self log)
 

@@ -1,7 +1,7 @@
 -- On the disk of a member's node: a step of the host that coordinates for it, of which the disk keeps the epoch that it
 -- was told is durable.
 use Rattle.std.proofs.Common.{◌≡◌, ◌≢◌, ◌∙◌, ℕ, ◌-◌, ◌≤◌, ◌<◌, ◌^◌, Bool, true, false, nat_le, List, [], ◌∷◌, refl}
-use Rattle.std.proofs.Common.{ap, sym, subst, inl, inr, drop, if◌then◌else◌}
+use Rattle.std.proofs.Common.{ap, sym, subst, inl, inr, drop, if◌then◌else◌, arith}
 use Rattle.std.specs.List.{list_any}
 use Rattle.std.specs.Prelude.{Option, Some}
 use Rattle.std.proofs.lemmas.Bool.{le-leb, true≢false}
@@ -20,7 +20,8 @@ use Rattle.sysfile_core.specs.Runs.{Runs}
 use Rattle.sysfile_core.specs.Slots.{system_bytes}
 use Rattle.sysfile_core.specs.Writing.{slot_calls}
 use Rattle.sys_restart.specs.Files.{Files}
-use Rattle.node_disk.specs.Saving.{noted_system, system_calls, system_saved}
+use Rattle.sys_restart.proofs.NextLemmas.{next_file_is}
+use Rattle.node_disk.specs.Saving.{free_file, noted_system, system_calls, system_saved}
 use Rattle.node_disk.specs.Slots.{SlotsInUse}
 use Rattle.node_disk.proofs.LawLemmas.{system_leaves}
 use Rattle.node_restart.specs.Rows.{HasRows}
@@ -31,8 +32,7 @@ use Rattle.world_views.specs.Disks.{HasAtMostOneMore}
 use Rattle.world_views.specs.Machine.{has_stopped, stops_by}
 use Rattle.moment_laws.specs.Places.{tc_of}
 use Rattle.disk_world.specs.Keeping.{DurableAt, Kept, NothingNew, calls_of, slots_after}
-use Rattle.journal_laws.specs.Events.{records_behind}
-use Rattle.journal_laws.specs.Journal.{first_rows}
+use Rattle.journal_laws.specs.Saver.{saver_after}
 use Rattle.disk_laws.specs.Found.{HasLatest}
 use Rattle.disk_laws.specs.Laws.{AreNotable}
 use Rattle.disk_laws.specs.Noted.{WasNoted, is_disk_stop}
@@ -43,8 +43,15 @@ use Rattle.disk_laws.proofs.KeptParts.{failed_part}
 use Rattle.disk_laws.proofs.NotedSignals.{IsNoRows, durable, noted, noted_mask, noted_no_rows, nothing}
 use Rattle.disk_laws.proofs.NotedSignals.{was_noted}
 use Rattle.disk_laws.proofs.RecordLemmas.{TellsRecord, runs_tell}
-use Rattle.disk_laws.proofs.RowSteps.{AreOnDisk, one_more_past}
+use Rattle.disk_laws.proofs.PiecesWritten.{walked_at, walked_still}
+use Rattle.disk_laws.proofs.RowKept.{AreOnDisk}
+use Rattle.disk_laws.proofs.RowsSaved.{last_with}
 use Rattle.disk_laws.proofs.SystemSaved.{AreNoted, latest_found, noted_go, still_noted}
+
+-- an older part is all but at most the newest step
+one_more_past : (log now : List HostStep) → HasAtMostOneMore log now → IsPast log now
+one_more_past log now (inl same) = subst (IsPast log) (sym same) (past_self log)
+one_more_past log now (inr (e, more)) = subst (IsPast log) (sym more) (past_more e (past_self log))
 
 module _ (start : Start) (member : Member) (before : Rows) (first : SystemSlot) (there : IsIn member (made start)) where
   abbrev h : ℕ
@@ -70,38 +77,19 @@ module _ (start : Start) (member : Member) (before : Rows) (first : SystemSlot) 
   noted_there log s calls ran (inr leaves) = absurd (true≢false (sym leaves.stopped ∙ ran))
 
   -- the rows don't depend on the system slot
-  rows_beside : (log : List HostStep) (s : SlotsInUse) (system : SystemSlot) (at : ℕ) (none : Bool)
-      (calls after : List Call) (has : HasAllRows start member before first log s calls)
-      → HasRows (if none then s else record s { system = system; system_at = at }) before
-      (records_behind (first_rows start member) has.events) after
-      → HasAllRows start member before first log (if none then s else record s { system = system; system_at = at })
-      after
-  rows_beside log s system at true calls after has rows = record {
-    generation_is = has.generation_is;
-    begins = has.begins;
-    serial = has.serial;
-    older = has.older;
-    past = has.past;
-    saved = has.saved;
-    latest = has.latest;
-    events = has.events;
-    events_of = has.events_of;
-    outlet = has.outlet;
-    rows = rows;
-  }
-  rows_beside log s system at false calls after has rows = record {
-    generation_is = has.generation_is;
-    begins = has.begins;
-    serial = has.serial;
-    older = has.older;
-    past = has.past;
-    saved = has.saved;
-    latest = has.latest;
-    events = has.events;
-    events_of = has.events_of;
-    outlet = has.outlet;
-    rows = rows;
-  }
+  rows_beside : (log : List HostStep) (s : SlotsInUse) (system : SystemSlot) (at : ℕ) (calls after : List Call)
+      (has : HasAllRows start member before first log s calls)
+      → HasRows (record s { system = system; system_at = at }) has.last.base has.last.redo after
+      → state_of after (free_file s) ≡ state_of calls (free_file s)
+      → HasAllRows start member before first log (record s { system = system; system_at = at }) after
+  rows_beside log s system at calls after has rows same =
+      let stage = (saver_after start member log).stage in
+      record {
+        last = last_with start member before first log s calls after system at has.last rows;
+        walked = λ runs.
+            walked_at start member before first log s (record s { system = system; system_at = at }) after stage refl
+            (walked_still start member before first log s calls after stage same (has.walked runs));
+      }
 
   -- A host that runs has a step more, or none, and the disk is asked to keep what it was told is durable.
   module _ (rows_log log now : List HostStep) (grows : HasAtMostOneMore log now) (ran : has_stopped log ≡ false)
@@ -219,20 +207,33 @@ module _ (start : Start) (member : Member) (before : Rows) (first : SystemSlot) 
           leaves = λ image left. leaves.leaves image (others_same calls tells.calls image others left);
         }
 
+        same_free : state_of tells.calls (free_file s) ≡ state_of calls (free_file s)
+        same_free =
+            others (free_file s) (λ at. absurd (omega (arith, at, (next_file_is (Some s.control)).0)))
+
         rows_then : KeepsRows start member before first rows_log s calls
             → KeepsRows start member before first rows_log (system_saved s epoch mask) tells.calls
         rows_then (inl rows) =
-            inl (rows_beside rows_log s next (1 - s.system_at) (nat_le epoch s.system.epoch) calls tells.calls rows
-            (system_keeps s epoch mask before (records_behind (first_rows start member) rows.events) calls tells.calls
-            ok rows.rows made_so).1)
+            inl (by (nat_le epoch s.system.epoch)
+            (system_keeps s epoch mask rows.last.base rows.last.redo calls tells.calls ok rows.last.rows made_so).1)
+          where
+            by : (none : Bool)
+                → HasRows (if none then s else record s { system = next; system_at = 1 - s.system_at }) rows.last.base
+                rows.last.redo tells.calls
+                → HasAllRows start member before first rows_log
+                (if none then s else record s { system = next; system_at = 1 - s.system_at }) tells.calls
+            by true has_rows =
+                rows_beside rows_log s s.system s.system_at calls tells.calls rows has_rows same_free
+            by false has_rows =
+                rows_beside rows_log s next (1 - s.system_at) calls tells.calls rows has_rows same_free
         rows_then (inr leaves) = inr (still_left leaves)
 
         rows_still : KeepsRows start member before first rows_log s calls
             → KeepsRows start member before first rows_log s tells.calls
         rows_still (inl rows) =
-            inl (rows_beside rows_log s next (1 - s.system_at) true calls tells.calls rows
-            ((system_keeps s epoch mask before (records_behind (first_rows start member) rows.events) calls tells.calls
-            ok rows.rows made_so).0 [] tells.calls refl tells.grows))
+            inl (rows_beside rows_log s s.system s.system_at calls tells.calls rows
+            ((system_keeps s epoch mask rows.last.base rows.last.redo calls tells.calls ok rows.last.rows made_so).0 []
+            tells.calls refl tells.grows) same_free)
         rows_still (inr leaves) = inr (still_left leaves)
 
         -- it failed, and the host stops

@@ -12,8 +12,10 @@ use Rattle.sig_core.specs.declared.view.Shape.{Shape}
 use Rattle.sig_core.specs.Journal.{OutletState}
 use Rattle.node_views.specs.declared.host_body.HostBody.{HostBody}
 use Rattle.node_views.specs.Row.{is_barred}
-use Rattle.node_views.specs.Saving.{outlet_of}
+use Rattle.node_views.specs.Saving.{outlet_of, saved_by}
 use Rattle.node_views.specs.WellFormed.{is_body_sound, is_mask, is_sender, is_view, is_well_formed}
+use Rattle.lqh_saver.specs.declared.stage.Todo.{Todo}
+use Rattle.lqh_saver.specs.declared.stage.Todo.TheVariants as todo
 use Rattle.moment_laws.specs.Places.{tc_of}
 use Rattle.request_laws.proofs.routes.Layouts.{runs_tc}
 use Rattle.view_laws.proofs.eras.Shapes.{shape_stays}
@@ -22,7 +24,7 @@ use Rattle.world_core.specs.Steps.{HostStep}
 use Rattle.world_views.specs.Disks.{newest_taken}
 use Rattle.world_views.specs.Machine.{after, has_stopped}
 use Rattle.disk_world.specs.Keeping.{DurableAt, Kept, NothingNew, durable_by, durable_if, durable_in}
-use Rattle.disk_world.specs.Keeping.{kept_beside, kept_of}
+use Rattle.disk_world.specs.Keeping.{kept_beside, kept_of, kept_unless, todo_in}
 use Rattle.disk_laws.specs.Noted.{WasNoted}
 use Rattle.disk_laws.proofs.GoneLemmas.{kept_behind}
 
@@ -52,6 +54,14 @@ mask_sound shape x epoch mask sound is =
     subst (λ body. is_body_sound shape body ≡ true) is
     (and_parts (is_sender shape x.member && is_view shape x.view) (is_body_sound shape x.body) sound).1
 
+-- what a disk keeps of a host with rows is no epoch that is durable
+no_durable : (saved : ℕ) (redo : OutletState) (it : Todo) (epoch mask : ℕ)
+    → kept_unless saved redo it ≡ DurableAt epoch mask → ⊥
+no_durable saved redo todo.Nothing epoch mask is = cc
+no_durable saved redo (todo.Write piece) epoch mask is = cc
+no_durable saved redo todo.Sync epoch mask is = cc
+no_durable saved redo (todo.Name finished) epoch mask is = cc
+
 -- one that a disk keeps was well formed
 pub kept_says : (s : HostBody) (x : Signal) (epoch mask : ℕ) → kept_of s (Some x) ≡ DurableAt epoch mask
     → SaysDurable s.standing.shape x epoch mask
@@ -67,7 +77,7 @@ kept_says s x epoch mask is = by (outlet_of s.parts) is
 
     by : (o : Option OutletState) → kept_beside o s (Some x) ≡ DurableAt epoch mask
         → SaysDurable s.standing.shape x epoch mask
-    by (Some redo) so = absurd cc
+    by (Some redo) so = absurd (no_durable (saved_by s.parts) redo (todo_in s (Some x)) epoch mask so)
     by None so = passed (is_well_formed s.standing.shape x) (not (is_barred s x)) refl so
 
 -- a host without rows keeps nothing, or an epoch

@@ -1,20 +1,23 @@
 -- A disk that is ready for a life has what there is to keep of hosts that did nothing yet.
-use Rattle.std.proofs.Common.{◌≡◌, ◌∙◌, ℕ, ◌+◌, ◌==◌, Bool, true, false, nat_lt, List, [], refl, ap, sym, subst, inl}
-use Rattle.std.proofs.Common.{arith}
+use Rattle.std.proofs.Common.{◌≡◌, ◌∙◌, ℕ, ◌+◌, ◌==◌, Bool, true, false, nat_lt, List, [], drop}
+use Rattle.std.proofs.Common.{refl, ap, sym, subst, inl, arith}
 use Rattle.std.proofs.Common.{if◌then◌else◌}
 use Rattle.std.specs.Prelude.{Option, None, Some, Ok}
 use Rattle.std.proofs.lemmas.Bool.{eqb-true}
 use Rattle.host_io.specs.Call.{Call}
+use Rattle.redo_log.specs.Replaying.{log_bytes}
 use Rattle.redo_log.specs.Stored.{files_of}
 use Rattle.run_theory.specs.Lists.{IsIn}
 use Rattle.run_theory.proofs.Pasts.{past_self}
 use Rattle.sig_core.specs.declared.member.Member.{Member}
 use Rattle.sig_core.specs.declared.slots.ControlSlot.{ControlSlot}
 use Rattle.sig_core.specs.declared.slots.SystemSlot.{SystemSlot}
+use Rattle.sig_core.specs.Journal.{OutletState, end_of}
+use Rattle.sig_core.specs.Table.{Rows}
 use Rattle.sysfile_core.specs.declared.place.TheConstants.{CONTROL_FILE}
 use Rattle.sysfile_core.specs.Reading.{control_of_file, later_control, of_generation}
 use Rattle.sys_restart.specs.declared.restored.Restored.{Restored}
-use Rattle.sys_restart.specs.Calls.{next_system}
+use Rattle.sys_restart.specs.Calls.{next_system, rows_of_node}
 use Rattle.sys_restart.specs.Prepared.{HasSlot}
 use Rattle.sys_restart.proofs.AlikeLemmas.{not_none, same_answer, same_some}
 use Rattle.sys_restart.proofs.ControlLemmas.{both_read}
@@ -23,12 +26,18 @@ use Rattle.node_disk.specs.Slots.{SlotsInUse}
 use Rattle.node_disk.proofs.StartLaw.{are_in_use, ready_has}
 use Rattle.node_restart.proofs.StartLaw.{ready_rows}
 use Rattle.node_views.specs.declared.host_body.HostBody as hosts
-use Rattle.lqh_views.specs.State.{ReplicaState}
+use Rattle.lqh_saver.specs.Saver.{fresh_saver}
+use Rattle.lqh_saver.specs.State.{SaverState}
 use Rattle.moment_laws.proofs.MomentHosts.{ldm_started}
-use Rattle.request_laws.specs.Blocks.{no_replica, rows_after, rows_in}
+use Rattle.request_laws.specs.Blocks.{rows_after}
 use Rattle.world_core.specs.Start.{Start, made}
 use Rattle.journal_laws.specs.Journal.{lqh_after, outlet_with}
+use Rattle.journal_laws.specs.Saver.{saver_after, saver_in}
+use Rattle.saved_laws.specs.Checkpoints.{StandFor}
 use Rattle.disk_laws.specs.Laws.{ReadyDisksKeepUp}
+use Rattle.disk_laws.specs.OnDisk.{HasLastRows, HasWalked}
+use Rattle.disk_laws.proofs.JournalLemmas.{first_outlet}
+use Rattle.disk_laws.proofs.SavedLemmas.{first_saved}
 
 -- the control slot in use of a generation is of that
 of_own : (generation : ℕ) (one : Option ControlSlot) (slot : ControlSlot) → of_generation generation one ≡ Some slot
@@ -60,16 +69,11 @@ generation_is generation bytes slot is =
         pick true so = of_own generation other slot (f ∙ so)
         pick false so = of_own generation one slot (e ∙ so)
 
--- a member's rows as a life begins
+-- the saver of a member's rows as a life begins
 module _ (start : Start) (member : Member) (there : IsIn member (made start)) where
-  abbrev of_host : hosts.HostBody → ReplicaState
-  of_host s = rows_in (no_replica start member) s.parts
-
-  first_saved : (rows_after start member []).saved ≡ start.start_epoch
-  first_saved = ap (λ (s : hosts.HostBody). (of_host s).saved) (ldm_started start member there)
-
-  first_outlet : (lqh_after start member []).outlet ≡ outlet_with []
-  first_outlet = ap (λ (s : hosts.HostBody). (of_host s).lqh.outlet) (ldm_started start member there)
+  first_saver : saver_after start member [] ≡ fresh_saver start.start_epoch 0
+  first_saver =
+      ap (λ (s : hosts.HostBody). saver_in (fresh_saver start.start_epoch 0) s.parts) (ldm_started start member there)
 
 -- the slots name the life behind what was restored
 abbrev AreNamed : Start → Member → Restored → List Call → SlotsInUse → Type 0
@@ -78,19 +82,7 @@ AreNamed start member r calls s =
 
 pub ready_keep_up : ReadyDisksKeepUp
 ready_keep_up start member r calls s kept from there ready is = record {
-  rows = inl (record {
-    generation_is = generation_is (r.generation + 1) (files_of calls CONTROL_FILE) s.control has.in_use;
-    begins = has.start;
-    serial = omega (arith, has.serial);
-    older = [];
-    past = past_self [];
-    saved = saved;
-    latest = sym saved;
-    events = [];
-    events_of = refl;
-    outlet = first_outlet start member there;
-    rows = ready_rows start.shape member.node r calls s kept ready is;
-  });
+  rows = inl (record { last = last; walked = λ runs. walked });
   noted = inl (record {
     slot = (are_in_use (r.generation + 1) calls s kept ready.0.0 is).1;
     shape = refl;
@@ -118,3 +110,50 @@ ready_keep_up start member r calls s kept from there ready is = record {
 
     saved : s.control.saved ≡ (rows_after start member []).saved
     saved = has.saved ∙ sym from ∙ sym (first_saved start member there)
+
+    before : Rows
+    before = rows_of_node start.shape member.node r
+
+    own_saver : saver_after start member [] ≡ fresh_saver start.start_epoch 0
+    own_saver = first_saver start member there
+
+    outlet : (lqh_after start member []).outlet ≡ outlet_with []
+    outlet = first_outlet start member there
+
+    stands : StandFor start member before before start.start_epoch s.control.redo_start [] []
+    stands = record {
+      are = tt;
+      bytes = sym (ap (λ (at : ℕ). drop at (log_bytes [])) has.start);
+      most = omega (arith, has.start);
+      same = λ epoch up. refl;
+    }
+
+    last : HasLastRows start member before (next_system start.shape r) [] s calls
+    last = record {
+      generation_is = generation_is (r.generation + 1) (files_of calls CONTROL_FILE) s.control has.in_use;
+      begins = has.start ∙ sym (ap (λ (o : OutletState). o.flushed) outlet);
+      low = omega (arith, has.start);
+      ends = has.end ∙ sym (ap (λ (v : SaverState). v.saved_end) own_saver);
+      serial = inl (omega (arith, has.serial));
+      few = omega (arith, ap (λ (v : SaverState). v.named) own_saver);
+      older = [];
+      past = past_self [];
+      saved = saved;
+      latest = sym saved;
+      events = [];
+      events_of = refl;
+      end_is = has.end ∙ sym (ap end_of outlet);
+      base = before;
+      redo = [];
+      least = start.start_epoch;
+      stands = stands;
+      until_now = record { now = []; events_of = refl; are = tt; newer = []; is = refl; stand = stands };
+      told = omega arith;
+      rows = ready_rows start.shape member.node r calls s kept ready is;
+    }
+
+    walked : HasWalked start member before (next_system start.shape r) (saver_after start member []).stage [] s calls
+    walked =
+        subst
+        (λ (v : SaverState). HasWalked start member before (next_system start.shape r) v.stage [] s calls)
+        (sym own_saver) tt

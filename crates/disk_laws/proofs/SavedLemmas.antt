@@ -10,6 +10,8 @@ use Rattle.sig_core.specs.declared.signal.Signal.{Signal}
 use Rattle.sig_core.specs.declared.view.Shape.{Shape}
 use Rattle.sig_core.specs.declared.view.View.{View}
 use Rattle.sig_core.specs.Step.{Step}
+use Rattle.lqh_saver.specs.State.{saving}
+use Rattle.lqh_saver.proofs.StepLemmas.{saver_rows}
 use Rattle.lqh_views.specs.Replica.{replica_row}
 use Rattle.lqh_views.specs.State.{ReplicaState}
 use Rattle.lqh_views.proofs.Walk.{replica_outcomes}
@@ -20,8 +22,8 @@ use Rattle.node_views.specs.Saving.{saved_by}
 use Rattle.view_laws.proofs.fences.AboveViews.{greater_first}
 use Rattle.moment_laws.specs.PartSteps.{PartEnters, PartTakes, handles, ignores, installs, ldm_kind, remains}
 use Rattle.moment_laws.specs.Places.{ldm_of}
-use Rattle.moment_laws.proofs.MomentHosts.{part_some}
-use Rattle.request_laws.specs.Blocks.{rows_after}
+use Rattle.moment_laws.proofs.MomentHosts.{ldm_started, part_some}
+use Rattle.request_laws.specs.Blocks.{no_replica, rows_after, rows_in}
 use Rattle.request_laws.proofs.routes.Layouts.{runs_ldm}
 use Rattle.request_laws.proofs.routes.PartSteps.{own_ldm, rows_are}
 use Rattle.world_core.specs.Start.{Start, made}
@@ -48,7 +50,9 @@ replica_rises s x =
 
 ldm_rises : (p : LdmPart) (x : Signal) (to : BlockId) → p.replica.saved ≤ (ldm_row p to x).state.replica.saved
 unfolding ldm_row
-ldm_rises p x block.Lqh = replica_rises p.replica x
+ldm_rises p x block.Lqh =
+    saver_rows (saving p.replica p.saver) x (λ r. p.replica.saved ≤ r.saved) (omega arith) (replica_rises p.replica x)
+    (λ at has. omega arith)
 ldm_rises p x _ = omega arith
 
 enters_same : (p : LdmPart) (view : View) (x : Signal) (between : LdmPart) (stood : View) (front : List Outgoing)
@@ -81,6 +85,11 @@ module _ (start : Start) (member : Member) (there : IsIn member (made start)) wh
       let at = runs_ldm start member there log in
       ap saved_by at.runs
       ∙ sym (ap (λ (r : ReplicaState). r.saved) (rows_are start member h log refl at.own at.runs))
+
+  -- at first it is the epoch from which the life started
+  pub first_saved : saved_after [] ≡ start.start_epoch
+  first_saved =
+      ap (λ (s : hosts.HostBody). (rows_in (no_replica start member) s.parts).saved) (ldm_started start member there)
 
   saved_rises : (log : List HostStep) (e : HostStep) → saved_after log ≤ saved_after (e ∷ log)
   saved_rises log e =

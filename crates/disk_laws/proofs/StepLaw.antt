@@ -1,13 +1,14 @@
 -- A host goes on, and the disk of its node has what it was to keep of it.
-use Rattle.std.proofs.Common.{◌≡◌, ◌≢◌, ◌⊎◌, ◌∙◌, ℕ, ◌-◌, ◌≤◌, ◌<◌, ◌==◌, Bool, true, false, List, [], ◌∷◌, get_or}
-use Rattle.std.proofs.Common.{refl, ap, sym, subst, inl, inr, arith}
+use Rattle.std.proofs.Common.{◌≡◌, ◌≢◌, ◌⊎◌, ◌∙◌, ℕ, ◌-◌, ◌^◌, ◌≤◌, ◌<◌, ◌==◌, Bool, true, false, List, [], ◌∷◌}
+use Rattle.std.proofs.Common.{get_or, refl, ap, sym, subst, inl, inr, arith}
 use Rattle.std.specs.List.{list_any}
 use Rattle.std.specs.Prelude.{Option, None}
 use Rattle.std.proofs.lemmas.Bool.{eq-eqb, eqb-true, true≢false}
 use Rattle.host_io.specs.Call.{Call}
 use Rattle.redo_log.specs.Stored.{files_of}
 use Rattle.run_theory.specs.Lists.{IsIn, IsPast}
-use Rattle.run_theory.proofs.Pasts.{past_more, past_self}
+use Rattle.run_theory.specs.Logs.{IsLog}
+use Rattle.run_theory.proofs.Pasts.{past_more, past_self, past_trans}
 use Rattle.sig_core.specs.declared.mark.Mark.TheVariants.{Stopped}
 use Rattle.sig_core.specs.declared.member.Member.{Member}
 use Rattle.sig_core.specs.declared.outcome.StopCause.TheVariants.{Disk}
@@ -22,16 +23,14 @@ use Rattle.world_core.specs.Steps.{HostStep}
 use Rattle.world_core.specs.World.{logs_at}
 use Rattle.world_views.specs.Disks.{HasAtMostOneMore}
 use Rattle.world_views.specs.Driven.{IsSound}
-use Rattle.world_views.specs.Machine.{has_stopped, stops_by}
+use Rattle.world_views.specs.Machine.{has_stopped, machine, stops_by}
 use Rattle.world_views.specs.World.{Whole, has_stopped_in, stopped}
 use Rattle.moment_laws.specs.Places.{ldm_of, tc_of}
 use Rattle.moment_laws.proofs.MomentHosts.{ldm_member, ldm_number, part_some, tc_apart, tc_low, tc_member}
-use Rattle.request_laws.specs.Blocks.{rows_after}
 use Rattle.view_laws.proofs.runs.FirstMembers.{node_low, node_some}
 use Rattle.disk_world.specs.Disks.{Disks, HasGoneOn, HasKept, slots_if}
-use Rattle.disk_world.specs.Keeping.{Kept, NothingNew, RowsUpTo, calls_of, slots_after}
+use Rattle.disk_world.specs.Keeping.{Kept, NothingNew, calls_of, slots_after}
 use Rattle.disk_world.proofs.KeptLemmas.{kept_as}
-use Rattle.journal_laws.specs.Journal.{lqh_after}
 use Rattle.disk_laws.specs.Laws.{AreNotable, AreSavable, StepsAreKept}
 use Rattle.disk_laws.specs.Noted.{WasNoted, is_disk_stop}
 use Rattle.disk_laws.specs.OnDisk.{IsOnDisk, KeepsNoted, KeepsRows, KeepsUp}
@@ -40,7 +39,8 @@ use Rattle.disk_laws.proofs.GoneLemmas.{fails, keeps, kept_behind, logs_same, pl
 use Rattle.disk_laws.proofs.GoneLemmas.{stopped_or}
 use Rattle.disk_laws.proofs.NoteSteps.{AreKept, noted_kept, noted_stop}
 use Rattle.disk_laws.proofs.OtherHosts.{others_keep_nothing}
-use Rattle.disk_laws.proofs.RowSteps.{AreOnDisk, rows_done, rows_fail, rows_kept_are, rows_stop}
+use Rattle.disk_laws.proofs.RowKept.{AreOnDisk, RowsAreKept}
+use Rattle.disk_laws.proofs.RowSteps.{rows_kept, rows_stop}
 
 -- a disk stop is one
 disk_stop : (stop : HostStep) (count : ℕ) → stop.step.marks ≡ Stopped (Disk count) ∷ []
@@ -103,24 +103,32 @@ module _ (start : Start) (member : Member) (before : Rows) (first : SystemSlot) 
 
   -- A host went on that runs, and its disk kept what it was to keep of it, or failed.
   record Moves (g : ℕ) (ok : Bool) : Type 0 where
-    grows : HasAtMostOneMore (logs_at w.logs g) (logs_at stepped.logs g)
+    step : HostStep
+    more : logs_at stepped.logs g ≡ step ∷ logs_at w.logs g
+    local : IsLog (machine start) g (logs_at stepped.logs g)
     runs : has_stopped (logs_at stepped.logs g) ≡ false
     ran : has_stopped (logs_at w.logs g) ≡ false
     kept : HasKept (kept_behind start g (logs_at stepped.logs g)) (place_of start g) old new ok
     others : (k : ℕ) → k ≢ g → logs_at stepped.logs k ≡ logs_at w.logs k
 
   own_moves : (ok : Bool) → gone.host < hosts start → has_stopped (logs_at stepped.logs gone.host) ≡ false
+      → (e : HostStep) → logs_at stepped.logs gone.host ≡ e ∷ logs_at w.logs gone.host
       → HasKept (kept_behind start gone.host (logs_at stepped.logs gone.host)) (place_of start gone.host) old new ok
       → Moves gone.host ok
-  own_moves ok low runs has = record {
-    grows = gone.alone.own;
+  own_moves ok low runs e more has = record {
+    step = e;
+    more = more;
+    local = local;
     runs = runs;
     ran =
-        ran_before start gone.host (logs_at w.logs gone.host) (logs_at stepped.logs gone.host) gone.alone.own
-        ((sound_still start w t old new counts sound gone).right.local gone.host low) runs;
+        ran_before start gone.host (logs_at w.logs gone.host) (logs_at stepped.logs gone.host) (inr (e, more)) local
+        runs;
     kept = has;
     others = gone.alone.others;
   }
+    where
+      local : IsLog (machine start) gone.host (logs_at stepped.logs gone.host)
+      local = (sound_still start w t old new counts sound gone).right.local gone.host low
 
   moves_at : (g : ℕ) (ok : Bool) → gone.host ≡ g → Moves gone.host ok → Moves g ok
   moves_at g ok is = subst (λ (k : ℕ). Moves k ok) is
@@ -141,7 +149,8 @@ module _ (start : Start) (member : Member) (before : Rows) (first : SystemSlot) 
   place_is : (g : ℕ) → member_at (made start) g ≡ member → place_of start g ≡ d
   place_is g is = ap (λ (m : Member). m.node - 1) is
 
-  module _ (savable : (log : List HostStep) → IsPast log (logs_at t.logs ldm) → AreSavable start member log)
+  module _ (late : 2 ^ 32 ≤ start.epoch)
+      (savable : (log : List HostStep) → IsPast log (logs_at t.logs ldm) → AreSavable start member before log)
       (notable : AreNotable start member (logs_at t.logs tc)) where
     apart : tc ≢ ldm
     apart = tc_apart start member there
@@ -152,36 +161,40 @@ module _ (start : Start) (member : Member) (before : Rows) (first : SystemSlot) 
       now = logs_at stepped.logs ldm
 
       abbrev kept_rows : Kept
-      kept_rows = RowsUpTo (rows_after start member now).saved (lqh_after start member now).outlet
+      kept_rows = kept_behind start ldm now
 
       rows_has : HasKept kept_rows d old new ok
       rows_has =
-          kept_as (kept_behind start ldm now) kept_rows (place_of start ldm) d old old new new ok moves.kept
-          (rows_kept_are start member before first there now) (place_is ldm (ldm_member start member there)) refl refl
+          kept_as kept_rows kept_rows (place_of start ldm) d old old new new ok moves.kept refl
+          (place_is ldm (ldm_member start member there)) refl refl
 
       noted_same : logs_at stepped.logs tc ≡ logs_at w.logs tc
       noted_same = moves.others tc apart
+
+      -- what a disk may be asked to keep then
+      module _ (past : IsPast now (logs_at t.logs ldm)) where
+        kept_now : RowsAreKept start member before first now (logs_at w.logs tc) up.slots told_now ok kept_rows
+        kept_now =
+            rows_kept start member before first there late (logs_at w.logs tc) up.slots up.calls told_now ok moves.step
+            (logs_at w.logs ldm) now moves.more moves.ran moves.runs moves.local
+            (λ log older. savable log (past_trans older past)) up.is (own_runs kept_rows ok rows_has)
 
       rows_keep : ok ≡ true → t ≡ stepped → KeepsUp start member before first t new
       rows_keep so same =
           let rows = logs_same start w t old new counts sound gone same ldm in
           let noted = logs_same start w t old new counts sound gone same tc in
-          let can = savable now (subst (IsPast now) (sym rows) (past_self now)) in
           then_up now (logs_at w.logs tc) (slots_after up.slots kept_rows) rows (noted ∙ noted_same)
           (λ other. own_used kept_rows ok rows_has other
           ∙ ap (λ (b : Bool). slots_if b up.slots kept_rows) so)
-          (rows_done start member before first there (logs_at w.logs ldm) now (logs_at w.logs tc) moves.grows moves.ran
-          can up.slots up.calls up.is told_now ok (own_runs kept_rows ok rows_has) so)
+          ((kept_now (subst (IsPast now) (sym rows) (past_self now))).done so)
 
       rows_stop_behind : (count : ℕ) → ok ≡ false → Fails ldm count → KeepsUp start member before first t new
       rows_stop_behind count not_so failed =
-          let can = savable now (subst (IsPast now) (sym failed.own) (past_more failed.stop (past_self now))) in
           then_up (failed.stop ∷ now) (logs_at w.logs tc) up.slots failed.own (failed.others tc apart ∙ noted_same)
           (λ other. own_used kept_rows ok rows_has other
           ∙ ap (λ (b : Bool). slots_if b up.slots kept_rows) not_so)
-          (rows_fail start member before first there (logs_at w.logs ldm) now (logs_at w.logs tc) moves.grows moves.ran
-          can up.slots up.calls up.is told_now ok (own_runs kept_rows ok rows_has) not_so failed.stop
-          (disk_stop failed.stop count failed.marks) (stops_so failed.stop count failed.marks))
+          ((kept_now (subst (IsPast now) (sym failed.own) (past_more failed.stop (past_self now)))).failed not_so
+          failed.stop (disk_stop failed.stop count failed.marks) (stops_so failed.stop count failed.marks))
 
     -- and the one that coordinates
     module _ (ok : Bool) (moves : Moves tc ok) where
@@ -196,14 +209,17 @@ module _ (start : Start) (member : Member) (before : Rows) (first : SystemSlot) 
           kept_as kept_noted kept_noted (place_of start tc) d old old new new ok moves.kept refl
           (place_is tc (tc_member start member there)) refl refl
 
+      grown : HasAtMostOneMore (logs_at w.logs tc) now_noted
+      grown = inr (moves.step, moves.more)
+
       rows_same : logs_at stepped.logs ldm ≡ logs_at w.logs ldm
       rows_same = moves.others ldm (λ is. apart (sym is))
 
       module _ (low : AreNotable start member now_noted) where
-        kept_so : AreKept start member before first there (logs_at w.logs ldm) (logs_at w.logs tc) now_noted moves.grows
+        kept_so : AreKept start member before first there (logs_at w.logs ldm) (logs_at w.logs tc) now_noted grown
             moves.ran moves.runs low up.slots up.calls up.is told_now ok kept_noted
         kept_so =
-            noted_kept start member before first there (logs_at w.logs ldm) (logs_at w.logs tc) now_noted moves.grows
+            noted_kept start member before first there (logs_at w.logs ldm) (logs_at w.logs tc) now_noted grown
             moves.ran moves.runs low up.slots up.calls up.is told_now ok (own_runs kept_noted ok noted_has)
 
       noted_keep : ok ≡ true → t ≡ stepped → KeepsUp start member before first t new
@@ -276,7 +292,9 @@ module _ (start : Start) (member : Member) (before : Rows) (first : SystemSlot) 
             (λ is. true≢false (sym (eq-eqb d (place_of start gone.host) is) ∙ e))
 
     -- a host that keeps nothing
-    same_moves : t ≡ stepped → new ≡ old → (1 ≤ gone.host → has_stopped_in stepped gone.host ≡ true)
+    same_moves : t ≡ stepped → new ≡ old
+        → ((e : HostStep) → logs_at stepped.logs gone.host ≡ e ∷ logs_at w.logs gone.host → 1 ≤ gone.host
+        → has_stopped_in stepped gone.host ≡ true)
         → KeepsUp start member before first t new
     same_moves same_world same_disks stops =
         then_up (logs_at t.logs ldm) (logs_at t.logs tc) up.slots refl refl
@@ -292,13 +310,18 @@ module _ (start : Start) (member : Member) (before : Rows) (first : SystemSlot) 
           };
         })
       where
+        local : IsLog (machine start) ldm (logs_at t.logs ldm)
+        local =
+            subst (IsLog (machine start) ldm) (sym (logs_same start w t old new counts sound gone same_world ldm))
+            ((sound_still start w t old new counts sound gone).right.local ldm (ldm_low start member there))
+
         rows_by : IsSameOrStopped start w t ldm
             → KeepsRows start member before first (logs_at t.logs ldm) up.slots up.calls
         rows_by (inl same) =
             subst (λ log. KeepsRows start member before first log up.slots up.calls) (sym same) up.is.rows
         rows_by (inr stopped_so) =
-            rows_stop start member before first there (logs_at w.logs ldm) (logs_at t.logs ldm) up.slots up.calls
-            stopped_so up.is.rows
+            rows_stop start member before first there (logs_at w.logs ldm) (logs_at t.logs ldm) up.slots up.calls local
+            savable stopped_so up.is.rows
 
         noted_by : IsSameOrStopped start w t tc
             → KeepsNoted start member before first (logs_at t.logs tc) up.slots up.calls
@@ -338,12 +361,12 @@ module _ (start : Start) (member : Member) (before : Rows) (first : SystemSlot) 
 
     pub by_host : Comes start w t old new counts sound gone → KeepsUp start member before first t new
     by_host (as_was same_world same_disks stops) = same_moves same_world same_disks stops
-    by_host (keeps some low runs same has) =
-        keep_by some low same (own_moves true low runs has) (is_it ldm) (is_it tc)
-    by_host (fails some low runs count same has) =
-        fail_by some low count (own_fails count low same) (own_moves false low runs has) (is_it ldm) (is_it tc)
+    by_host (keeps some low runs e more same has) =
+        keep_by some low same (own_moves true low runs e more has) (is_it ldm) (is_it tc)
+    by_host (fails some low runs e more count same has) =
+        fail_by some low count (own_fails count low same) (own_moves false low runs e more has) (is_it ldm) (is_it tc)
 
 pub steps_kept : StepsAreKept
-steps_kept start member before first w t old new counts sound there told slots gone savable notable up =
-    by_host start member before first w t old new counts sound there gone up savable notable
+steps_kept start member before first w t old new counts sound there told slots gone late savable notable up =
+    by_host start member before first w t old new counts sound there gone up late savable notable
     (comes start w t old new counts sound gone told slots)

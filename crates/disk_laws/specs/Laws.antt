@@ -1,5 +1,5 @@
 -- The disks of nodes keep up with their hosts.
-use Rattle.std.specs.Prelude.{◌≡◌, ◌≤◌, ◌<◌, ℕ, ◌+◌, ◌-◌, ◌^◌, List, [], length, Some, Ok}
+use Rattle.std.specs.Prelude.{◌≡◌, ◌⊎◌, ◌≤◌, ◌<◌, ℕ, ◌+◌, ◌-◌, ◌^◌, List, [], length, Some, Ok}
 use Rattle.host_io.specs.Call.{Call}
 use Rattle.host_io.specs.Image.{IsLeft, IsRecord}
 use Rattle.redo_log.specs.Stored.{files_of}
@@ -10,6 +10,7 @@ use Rattle.sig_core.specs.declared.journal.TheConstants.{JOURNAL_BYTES}
 use Rattle.sig_core.specs.declared.member.Member.{Member}
 use Rattle.sig_core.specs.declared.request.ApiReq.{ApiReq}
 use Rattle.sig_core.specs.declared.slots.SystemSlot.{SystemSlot}
+use Rattle.sig_core.specs.declared.walk.Finished.{Finished}
 use Rattle.sig_core.specs.Table.{Rows}
 use Rattle.node_disk.specs.Found.{slots_in}
 use Rattle.node_disk.specs.Slots.{SlotsInUse}
@@ -24,7 +25,11 @@ use Rattle.world_views.specs.Driven.{HasAsked, IsSound}
 use Rattle.world_views.specs.World.{Whole}
 use Rattle.moment_laws.specs.Places.{ldm_of, tc_of}
 use Rattle.disk_world.specs.Disks.{Disks, HasGoneOn}
+use Rattle.lqh_saver.specs.declared.stage.Stage.TheVariants.{Walked}
 use Rattle.journal_laws.specs.Journal.{HasRecords, lqh_after}
+use Rattle.journal_laws.specs.Saver.{saver_after}
+use Rattle.journal_laws.specs.Walks.{IsFollowed}
+use Rattle.saved_laws.specs.Checkpoints.{IsCheckpoint}
 use Rattle.disk_laws.specs.Found.{HasLatest, HasSavedRows}
 use Rattle.disk_laws.specs.Noted.{WasNoted}
 use Rattle.disk_laws.specs.OnDisk.{IsOnDisk, KeepsUp}
@@ -37,13 +42,20 @@ ReadyDisksKeepUp =
     → slots_in (r.generation + 1) (files_of calls) ≡ Ok (Some s)
     → IsOnDisk start member (rows_of_node start.shape member.node r) (next_system start.shape r) [] [] s calls
 
--- What the laws of runs say of a member's rows behind a log: the journal has the records of its events, all of them fit
--- in the ring, and there is an epoch behind the one that was noted as saved.
-pub record AreSavable (start : Start) (member : Member) (log : List HostStep) : Type 0 where
+-- What the laws of runs say of a member's rows behind a log, where the rows before were these: the journal has the
+-- records of its events, all of them fit in the ring, and there is an epoch behind the one that was noted as saved,
+-- which is none of before the life; and a checkpoint that was written stands for all that was before it.
+pub record AreSavable (start : Start) (member : Member) (before : Rows) (log : List HostStep) : Type 0 where
   pub events : List Event
   pub records : HasRecords start member log events
+  pub followed : IsFollowed start member log events
   pub room : length (lqh_after start member log).outlet.left ≤ JOURNAL_BYTES
   pub saved : (rows_after start member log).saved < 2 ^ 64 - 1
+  pub first :
+      ((rows_after start member log).saved ≡ start.start_epoch)
+      ⊎ (start.epoch ≤ (rows_after start member log).saved)
+  pub stands : (finished : Finished) (end : ℕ) → (saver_after start member log).stage ≡ Walked finished end
+      → IsCheckpoint start member before log finished end
 
 -- and of each epoch that its node's disk was told is durable: a slot has room for it
 abbrev pub AreNotable : Start → Member → List HostStep → Type 0
@@ -56,7 +68,8 @@ StepsAreKept =
     (start : Start) (member : Member) (before : Rows) (first : SystemSlot) (w t : Whole) (old new : Disks)
     (counts : List ℕ) → IsSound start w → IsIn member (made start) → start.shape.nodes ≤ length old.told
     → start.shape.nodes ≤ length old.slots → HasGoneOn w old new counts t
-    → ((log : List HostStep) → IsPast log (logs_at t.logs (ldm_of start member)) → AreSavable start member log)
+    → 2 ^ 32 ≤ start.epoch
+    → ((log : List HostStep) → IsPast log (logs_at t.logs (ldm_of start member)) → AreSavable start member before log)
     → AreNotable start member (logs_at t.logs (tc_of start member))
     → KeepsUp start member before first w old
     → KeepsUp start member before first t new

@@ -1,14 +1,23 @@
 -- What a node's disk has of its member's hosts at each moment of a life.
-use Rattle.std.specs.Prelude.{◌≡◌, ◌≢◌, ◌⊎◌, ◌≤◌, ◌<◌, ℕ, ◌+◌, ◌-◌, true, List, get_or, None, Some}
+use Rattle.std.specs.Prelude.{◌≡◌, ◌≢◌, ◌⊎◌, ◌≤◌, ◌<◌, ℕ, ◌+◌, ◌-◌, true, false, List, ◌++◌, get_or, length, take, None}
+use Rattle.std.specs.Prelude.{Some}
 use Rattle.host_io.specs.Call.{Call}
 use Rattle.host_io.specs.DiskState.{state_of}
 use Rattle.host_io.specs.Image.{IsImage, IsRecord}
 use Rattle.host_io.specs.declared.limits.TheConstants.{FILES}
 use Rattle.run_theory.specs.Lists.{IsIn, IsPast}
 use Rattle.sig_core.specs.declared.member.Member.{Member}
+use Rattle.sig_core.specs.declared.redo.Redo.{Redo}
 use Rattle.sig_core.specs.declared.slots.SystemSlot.{SystemSlot}
+use Rattle.sig_core.specs.Journal.{end_of}
 use Rattle.sig_core.specs.Table.{Rows}
 use Rattle.local_ckpt.specs.Events.{Event}
+use Rattle.local_ckpt.specs.Laws.{pieces_bytes}
+use Rattle.lqh_saver.specs.declared.stage.Stage.{Stage}
+use Rattle.lqh_saver.specs.declared.stage.Stage.TheVariants.{Resting, Walked, Walking}
+use Rattle.lqh_saver.specs.declared.switching.TheConstants.{CHECKPOINTS, POSITIONS}
+use Rattle.redo_log.specs.Replaying.{AreRecords}
+use Rattle.redo_log.specs.Stored.{files_of}
 use Rattle.request_laws.specs.Blocks.{rows_after}
 use Rattle.sys_restart.specs.Files.{Files}
 use Rattle.sysfile_core.specs.declared.place.TheConstants.{SYSTEM_FILE}
@@ -18,30 +27,78 @@ use Rattle.world_core.specs.World.{logs_at}
 use Rattle.world_views.specs.World.{Whole}
 use Rattle.world_views.specs.Machine.{has_stopped}
 use Rattle.moment_laws.specs.Places.{ldm_of, tc_of}
-use Rattle.node_disk.specs.Laws.{HasSystem}
+use Rattle.node_disk.specs.Laws.{HasSystem, IsSettledAt}
+use Rattle.node_disk.specs.Saving.{free_file}
 use Rattle.node_disk.specs.Slots.{SlotsInUse}
 use Rattle.node_restart.specs.Rows.{HasRows}
 use Rattle.disk_world.specs.Disks.{Disks}
 use Rattle.journal_laws.specs.Events.{records_behind}
-use Rattle.journal_laws.specs.Journal.{AreEventsOf, first_rows, lqh_after, outlet_with}
+use Rattle.journal_laws.specs.Journal.{AreEventsOf, first_rows, lqh_after}
+use Rattle.journal_laws.specs.Saver.{IsToldDone, saver_after, written}
+use Rattle.journal_laws.specs.Walks.{pieces_if}
+use Rattle.saved_laws.specs.Checkpoints.{StandFor}
 use Rattle.disk_laws.specs.Found.{HasLatest, HasSavedRows}
 use Rattle.disk_laws.specs.Noted.{IsFirstOrNoted, WasNoted}
 
 module _ (start : Start) (member : Member) (before : Rows) (first : SystemSlot) where
-  -- The disk has the rows that were saved last, and nothing of them is dirty.
-  pub record HasAllRows (log : List HostStep) (s : SlotsInUse) (calls : List Call) : Type 0 where
+  -- What a disk was told to write of the newest checkpoint stands at the front of the file that isn't in use.
+  abbrev pub HasWritten : ℕ → List HostStep → SlotsInUse → List Call → Type 0
+  HasWritten size log s calls =
+      let bytes = pieces_bytes (pieces_if size (written start member log)) in
+      take (length bytes) (files_of calls (free_file s)) ≡ bytes
+
+  -- and once a walk has passed all rows, nothing of it is dirty
+  abbrev pub HasWalked : Stage → List HostStep → SlotsInUse → List Call → Type 0
+  HasWalked Resting log s calls = Unit {0}
+  HasWalked (Walking walk to) log s calls = HasWritten walk.size log s calls
+  HasWalked (Walked finished end) log s calls =
+      HasWritten finished.size log s calls × IsSettledAt calls (free_file s)
+
+  -- The serial numbers of control slots suffice: as many were used as epochs were saved, and checkpoints named.
+  abbrev pub HaveSerials : ℕ → SlotsInUse → Type 0
+  HaveSerials named s =
+      (s.control.serial ≤ 1 + named)
+      ⊎ ((start.epoch ≤ s.control.saved) × (s.control.serial + start.epoch ≤ 2 + s.control.saved + named))
+
+  -- What these rows and records stand for has gone on: with the newer records they stand for all that was until now.
+  pub record StandUntilNow (log : List HostStep) (base : Rows) (least position : ℕ) (events : List Event)
+      (redo : List Redo) : Type 0 where
+    pub now : List Event
+    pub events_of : AreEventsOf start member log now
+    pub are : AreRecords (records_behind (first_rows start member) now)
+    pub newer : List Redo
+    pub is : records_behind (first_rows start member) now ≡ newer ++ records_behind (first_rows start member) events
+    pub stand : StandFor start member before base least position now (newer ++ redo)
+
+  -- The disk has the rows that were saved last, and nothing of them is dirty: a checkpoint, which may be of the first
+  -- rows or a later one, and the records from its position on.
+  pub record HasLastRows (log : List HostStep) (s : SlotsInUse) (calls : List Call) : Type 0 where
     pub generation_is : s.control.generation ≡ first.generation
-    pub begins : s.control.redo_start ≡ 0
-    pub serial : s.control.serial ≤ 1 + s.control.saved
+    pub begins : s.control.redo_start ≡ (lqh_after start member log).outlet.flushed
+    pub low : s.control.redo_start < POSITIONS
+    pub ends : s.control.redo_end ≡ (saver_after start member log).saved_end
+    pub serial : HaveSerials (saver_after start member log).named s
+    pub few : (saver_after start member log).named ≤ CHECKPOINTS
     pub older : List HostStep
     pub past : IsPast older log
     pub saved : s.control.saved ≡ (rows_after start member older).saved
     pub latest : (rows_after start member log).saved ≡ s.control.saved
     pub events : List Event
     pub events_of : AreEventsOf start member older events
-    -- the journal had just these records then
-    pub outlet : (lqh_after start member older).outlet ≡ outlet_with (records_behind (first_rows start member) events)
-    pub rows : HasRows s before (records_behind (first_rows start member) events) calls
+    -- all that the journal had then is saved
+    pub end_is : s.control.redo_end ≡ end_of (lqh_after start member older).outlet
+    pub base : Rows
+    pub redo : List Redo
+    pub least : ℕ
+    pub stands : StandFor start member before base least s.control.redo_start events redo
+    pub until_now : StandUntilNow log base least s.control.redo_start events redo
+    pub told : IsToldDone start member log least
+    pub rows : HasRows s base redo calls
+
+  -- and what was written of the next one, as long as their host runs
+  pub record HasAllRows (log : List HostStep) (s : SlotsInUse) (calls : List Call) : Type 0 where
+    pub last : HasLastRows log s calls
+    pub walked : has_stopped log ≡ false → HasWalked (saver_after start member log).stage log s calls
 
   -- A call for the rows failed, and their host has stopped: whatever a crash leaves of the other files, what was saved
   -- is found.

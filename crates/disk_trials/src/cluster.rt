@@ -54,16 +54,20 @@ pub fn settle<W: Wait>(
     Ok(())
 }
 
-/// Gives the shell all replies.
-pub fn hear(world: &mut DiskWorld<MemDisk>)
+/// Gives the shell all replies, and tells how many of them are local checkpoints.
+pub fn hear(world: &mut DiskWorld<MemDisk>) -> u64
     requires { IsWorld (whole_of world.old.world) }
     ensures { IsWorld (whole_of world.new.world) }
 {
+    let mut checkpoints = 0u64;
     for _ in 0..u64::MAX {
-        if next_reply(world).is_none() {
-            return;
+        match next_reply(world) {
+            Some(ApiReply::Checkpoint { epoch: _ }) => checkpoints = checkpoints.saturating_add(1),
+            Some(_) => (),
+            None => return checkpoints,
         }
     }
+    checkpoints
 }
 
 // The next reply, in order.

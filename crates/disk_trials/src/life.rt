@@ -25,7 +25,8 @@ const FAILING: u64 = 30;
 /// How many times fewer signals are taken after every other request, so that many are under way at once.
 const HASTE: u64 = 16;
 
-/// The requests of a life, with signals taken between them. It ends amid them.
+/// The requests of a life, with signals taken between them. It ends amid them. Tells how many local checkpoints
+/// were reported.
 ///
 /// # Errors
 /// `NoMemory`.
@@ -36,12 +37,13 @@ pub fn live<W: Wait>(
     world: &mut DiskWorld<MemDisk>,
     shape: &Shape,
     fails: u64,
-) -> Result<(), RunFault>
+) -> Result<u64, RunFault>
     requires world { IsWorld (whole_of world.old.world) }
     requires shape { IsShape shape.now }
     ensures { OnOk result (IsWorld (whole_of world.new.world)) }
 {
     let mut unrest = 0u64;
+    let mut checkpoints = 0u64;
     for count in 0..10 + dice.roll(REQUESTS) {
         if dice.roll(100) < fails {
             unrest = 1 + dice.roll(UNREST);
@@ -54,12 +56,13 @@ pub fn live<W: Wait>(
         if dice.roll(4) == 0 {
             settle(rt, alloc, world)?;
         }
-        hear(world);
+        checkpoints = checkpoints.saturating_add(hear(world));
     }
-    go_on(alloc, dice, world, shape, 0)
+    go_on(alloc, dice, world, shape, 0)?;
+    Ok(checkpoints)
 }
 
-// A request, often one that an epoch be made durable.
+// A request, often one that an epoch be made durable, or for a local checkpoint.
 fn draw(
     alloc: Global,
     dice: &mut Dice,
@@ -71,6 +74,9 @@ fn draw(
 {
     if dice.roll(8) == 0 {
         return Ok(ApiReq::Gcp);
+    }
+    if dice.roll(6) == 0 {
+        return Ok(ApiReq::Lcp);
     }
     Ok(draw_request(alloc, dice, shape, count, fails)?)
 }

@@ -54,8 +54,11 @@ fn tell_run(rt: &HostRuntime, seed: u64, told: &Told) -> Result<(), Fail> {
         nodes,
         epochs,
         rows,
+        checkpoints,
     } = told;
-    println!(rt; "run {seed}: {nodes} nodes, restored {epochs:?} with rows {rows:?}")?;
+    println!(rt;
+        "run {seed}: {nodes} nodes, {checkpoints} local checkpoints, restored {epochs:?} with rows {rows:?}"
+    )?;
     Ok(())
 }
 

@@ -21,12 +21,21 @@ const LIVES: usize = 5;
 /// How often it is tried to begin a life, where calls of disks fail.
 const TRIES: u32 = 200;
 
-/// What a run came to: with which epochs its lives began, as checkpoint numbers, and with how many rows.
+/// What a run came to: with which epochs its lives began, as checkpoint numbers, and with how many rows; and how
+/// many local checkpoints were reported.
 #[derive(Clone, Copy)]
 pub struct Told {
     pub nodes: u8,
     pub epochs: [u64; LIVES],
     pub rows: [usize; LIVES],
+    pub checkpoints: u64,
+}
+
+/// What a life came to, and how many local checkpoints it reported.
+#[derive(Drop)]
+struct Lived {
+    ended: Ended<MemDisk>,
+    checkpoints: u64,
 }
 
 /// What all lives of a run have in common.
@@ -73,12 +82,15 @@ fn live_all<W: Wait>(
         nodes: trial.shape.nodes,
         epochs: [0; LIVES],
         rows: [0; LIVES],
+        checkpoints: 0,
     };
-    let mut ended = first_life(rt, alloc, dice, trial)?;
+    let mut lived = first_life(rt, alloc, dice, trial)?;
+    told.checkpoints = lived.checkpoints;
     for at in 1..LIVES {
-        ended = next_life(rt, alloc, dice, trial, ended)?;
-        told.epochs[at] = ended.life.start_epoch >> 32;
-        told.rows[at] = ended.life.start_rows.as_slice().len();
+        lived = next_life(rt, alloc, dice, trial, lived.ended)?;
+        told.epochs[at] = lived.ended.life.start_epoch >> 32;
+        told.rows[at] = lived.ended.life.start_rows.as_slice().len();
+        told.checkpoints = told.checkpoints.saturating_add(lived.checkpoints);
     }
     Ok(told)
 }
@@ -88,7 +100,7 @@ fn first_life<W: Wait>(
     alloc: Global,
     dice: &mut Dice,
     trial: &Trial,
-) -> Result<Ended<MemDisk>, RunFault>
+) -> Result<Lived, RunFault>
     requires { IsShape trial.now.shape }
 {
     let disks = fresh_disks(alloc, dice, trial.shape.nodes)?;
@@ -103,7 +115,7 @@ fn next_life<W: Wait>(
     dice: &mut Dice,
     trial: &Trial,
     before: Ended<MemDisk>,
-) -> Result<Ended<MemDisk>, RunFault>
+) -> Result<Lived, RunFault>
     requires { IsShape trial.now.shape }
 {
     let Ended { life, disks } = before;
@@ -166,18 +178,18 @@ fn live_in<W: Wait>(
     dice: &mut Dice,
     trial: &Trial,
     world: DiskWorld<MemDisk>,
-) -> Result<Ended<MemDisk>, RunFault>
+) -> Result<Lived, RunFault>
     requires shape { IsShape trial.now.shape }
     requires world { IsWorld (whole_of world.world) }
 {
     let mut world = world;
-    live(rt, alloc, dice, &mut world, &trial.shape, trial.fails)?;
+    let checkpoints = live(rt, alloc, dice, &mut world, &trial.shape, trial.fails)?;
     let mut ended = world.end(alloc);
     if dice.roll(4) > 0 {
         cut_all(&mut ended.disks);
     }
     judge_life(alloc, dice, trial, &ended.life)?;
-    Ok(ended)
+    Ok(Lived { ended, checkpoints })
 }
 
 fn judge_life(alloc: Global, dice: &mut Dice, trial: &Trial, life: &Life) -> Result<(), RunFault>

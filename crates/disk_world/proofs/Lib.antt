@@ -4,5 +4,6 @@ pub mod OpenLemmas
 pub mod PickLemmas
 pub mod RowLemmas
 pub mod TakenLemmas
+pub mod TodoLemmas
 pub mod Stays
 pub mod WayLemmas

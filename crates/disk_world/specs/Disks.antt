@@ -1,5 +1,6 @@
 -- What the disks of a cluster keep of a step of a host.
-use Rattle.std.specs.Prelude.{◌≡◌, ◌≤◌, ◌⊎◌, ℕ, zero, suc, ◌-◌, Bool, true, false, List, length, get_or, Option, None, Some}
+use Rattle.std.specs.Prelude.{◌≡◌, ◌≤◌, ◌⊎◌, ℕ, zero, suc, ◌-◌, Bool, true, false, List, ◌∷◌, length, get_or, Option}
+use Rattle.std.specs.Prelude.{None, Some}
 use Rattle.host_io.specs.Call.{Call}
 use Rattle.host_io.specs.Fault.{Rose}
 use Rattle.node_disk.specs.Slots.{SlotsInUse}
@@ -8,6 +9,8 @@ use Rattle.sig_core.specs.declared.outcome.StopCause.TheVariants.{Disk}
 use Rattle.sys_restart.specs.Answers.{count_of}
 use Rattle.sysfile_core.specs.Runs.{Runs}
 use Rattle.world_core.specs.Start.{Start}
+use Rattle.world_core.specs.Steps.{HostStep}
+use Rattle.world_core.specs.World.{logs_at}
 use Rattle.world_views.specs.Disks.{GoesAlone, last_taken}
 use Rattle.world_views.specs.Driven.{IsDriven, IsSound}
 use Rattle.world_views.specs.World.{body_at, has_stopped_in, stopped, Whole}
@@ -71,20 +74,26 @@ pub record KeepsStep (w : Whole) (h : ℕ) (disks : Disks) : Type 0 where
   pub runs : has_stopped_in w h ≡ false
   pub has : HasDisk (node_of w h) (length disks.told) (length disks.slots)
 
--- the shell's host keeps nothing, nor does one that has stopped
-abbrev pub KeepsNothing : Whole → ℕ → Type 0
-KeepsNothing w h = (h ≡ 0) ⊎ (has_stopped_in w h ≡ true)
+-- the shell's host keeps nothing, nor does one that handled no signal, or has stopped
+abbrev pub IsNotKept : Bool → Whole → ℕ → Type 0
+IsNotKept handled w h = (h ≡ 0) ⊎ ((handled ≡ false) ⊎ (has_stopped_in w h ≡ true))
 
--- A host went on, and then the disk of its node kept what it was to keep of its last step. Where it keeps nothing, all
--- is as it was.
+-- nor does one that made no step
+abbrev pub KeepsNothing : Whole → Whole → ℕ → Type 0
+KeepsNothing w t h = (h ≡ 0) ⊎ ((logs_at t.logs h ≡ logs_at w.logs h) ⊎ (has_stopped_in t h ≡ true))
+
+-- A host went on, and then the disk of its node kept what it was to keep of the step that it made. Where it keeps
+-- nothing, all is as it was.
 pub record HasGoneOn (w : Whole) (old new : Disks) (counts : List ℕ) (t : Whole) : Type 0 where
   pub host : ℕ
   pub stepped : Whole
   pub alone : GoesAlone w host stepped
   pub driven : (start : Start) → IsSound start w → IsDriven start w stepped
   pub goes : (start : Start) → IsSound start w → IsDriven start w t
-  pub kept : KeepsStep stepped host old → HasKeptStep stepped host old new counts t
-  pub nothing : KeepsNothing stepped host → (t ≡ stepped) × (new ≡ old)
+  pub kept :
+      (e : HostStep) → logs_at stepped.logs host ≡ e ∷ logs_at w.logs host → KeepsStep stepped host old
+      → HasKeptStep stepped host old new counts t
+  pub nothing : KeepsNothing w stepped host → (t ≡ stepped) × (new ≡ old)
 
 -- so many steps of hosts, each with what a disk kept of it, led from a world and its disks to others
 abbrev pub HaveGoneOn : ℕ → Whole → Disks → Whole → Disks → Type 0

@@ -1,4 +1,5 @@
 pub mod Disks
 pub mod Keeping
+pub mod Laws
 pub mod Picking
 pub mod Starting

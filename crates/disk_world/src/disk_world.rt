@@ -16,11 +16,11 @@ ghost use Rattle.world_views.specs.Driven.{HasAsked, HaveGrown, IsDriven, IsSoun
 ghost use Rattle.world_views.specs.Unscheduled.{AreUnscheduled};
 ghost use Rattle.world_views.specs.World.{IsIdle, has_stopped_in, is_down, is_left_open, new_world};
 ghost use Rattle.world_views.specs.WorldOf.{whole_of};
-ghost use Rattle.disk_world.specs.Disks.{HasDisk, HasFailed, HasGoneOn, HasKept, HasKeptStep, KeepsNothing, KeepsStep, WayOn, disks_with, kept_in, node_of};
+ghost use Rattle.disk_world.specs.Disks.{HasDisk, HasFailed, HasGoneOn, HasKept, HasKeptStep, IsNotKept, KeepsStep, WayOn, disks_with, kept_in, node_of};
 ghost use Rattle.life_start.specs.Records.{AllTellMore, HaveMore};
 ghost use Rattle.life_start.specs.Refusals.{IsRefusedFor};
 ghost use Rattle.life_start.specs.Shapes.{HaveShape};
-ghost use Rattle.disk_world.specs.Picking.{LeavesWorld};
+ghost use Rattle.disk_world.specs.Picking.{LeavesWorld, steps_before};
 ghost use Rattle.disk_world.specs.Starting.{epoch_behind, start_from};
 
 use crate::ended::{Ended, Unopened};
@@ -206,7 +206,7 @@ impl<D: Disk> DiskWorld<D> {
         ensures life { (self.new.generation ≡ self.old.generation) × (self.new.start ≡ self.old.start) × (self.new.rows ≡ self.old.rows) }
     {
         match self.world.step(alloc) {
-            Ok(Some(host)) => match self.keep(alloc, host) {
+            Ok(Some(taken)) => match self.keep(alloc, taken.host, taken.handled) {
                 Ok(()) => Ok(true),
                 Err(NoMemory) => Err(NoMemory),
             },
@@ -215,20 +215,22 @@ impl<D: Disk> DiskWorld<D> {
         }
     }
 
-    // The disk of a host's node keeps what it is to keep of its last step. Where it fails, the host stops.
-    fn keep(&mut self, alloc: Global, host: HostId) -> Result<(), NoMemory>
+    // The disk of a host's node keeps what it is to keep of the step in which the host handled a signal. Where it
+    // fails, the host stops. Of a signal that was discarded it keeps nothing: the host's last step is one before,
+    // which was kept.
+    fn keep(&mut self, alloc: Global, host: HostId, handled: bool) -> Result<(), NoMemory>
         requires { IsWorld (whole_of self.old.world) }
         ensures ok { (start : Start) → IsSound start (whole_of self.old.world) → OnOk result (IsDriven start (whole_of self.old.world) (whole_of self.new.world)) }
         ensures err { (start : Start) → IsSound start (whole_of self.old.world) → OnErr result (HaveGrown start (logs_at (whole_of self.old.world).logs) (logs_at (whole_of self.new.world).logs)) }
         ensures same { OnErr result ((whole_of self.new.world).logs ≡ (whole_of self.old.world).logs) }
         ensures unscheduled { (start : Start) → IsSound start (whole_of self.old.world) → AreUnscheduled true start (logs_at (whole_of self.old.world).logs) → AreUnscheduled true start (logs_at (whole_of self.new.world).logs) }
-        ensures nothing { KeepsNothing (whole_of self.old.world) host.0 → OnOk result ((whole_of self.new.world ≡ whole_of self.old.world) × (disks_with (map D.told self.new.disks.items) self.new.slots.items ≡ disks_with (map D.told self.old.disks.items) self.old.slots.items)) }
-        ensures kept { KeepsStep (whole_of self.old.world) host.0 (disks_with (map D.told self.old.disks.items) self.old.slots.items) → OnOk result (HasKeptStep (whole_of self.old.world) host.0 (disks_with (map D.told self.old.disks.items) self.old.slots.items) (disks_with (map D.told self.new.disks.items) self.new.slots.items) (map D.faults self.new.disks.items) (whole_of self.new.world)) }
+        ensures nothing { IsNotKept handled (whole_of self.old.world) host.0 → OnOk result ((whole_of self.new.world ≡ whole_of self.old.world) × (disks_with (map D.told self.new.disks.items) self.new.slots.items ≡ disks_with (map D.told self.old.disks.items) self.old.slots.items)) }
+        ensures kept { handled ≡ true → KeepsStep (whole_of self.old.world) host.0 (disks_with (map D.told self.old.disks.items) self.old.slots.items) → OnOk result (HasKeptStep (whole_of self.old.world) host.0 (disks_with (map D.told self.old.disks.items) self.old.slots.items) (disks_with (map D.told self.new.disks.items) self.new.slots.items) (map D.faults self.new.disks.items) (whole_of self.new.world)) }
         ensures more { HaveMore (map D.told self.old.disks.items) (map D.told self.new.disks.items) }
         ensures steady { AreSteady (map D.faults self.old.disks.items) (map D.faults self.new.disks.items) }
         ensures life { (self.new.generation ≡ self.old.generation) × (self.new.start ≡ self.old.start) × (self.new.rows ≡ self.old.rows) }
     {
-        if host.0 == 0 || !self.world.runs(host) {
+        if host.0 == 0 || !handled || !self.world.runs(host) {
             return Ok(());
         }
         match self.keep_on_disk(host) {
@@ -273,14 +275,25 @@ impl<D: Disk> DiskWorld<D> {
         ensures steady { AreSteady (map D.faults self.old.disks.items) (map D.faults self.new.disks.items) }
         ensures life { (self.new.generation ≡ self.old.generation) × (self.new.start ≡ self.old.start) × (self.new.rows ≡ self.old.rows) }
     {
+        let steps = self.steps_before(&pick);
         match self.world.schedule(alloc, &[pick]) {
-            Ok(()) => self.keep_pick(alloc, &pick),
+            Ok(()) => self.keep_pick(alloc, &pick, steps),
             Err(fault) => Err(fault),
         }
     }
 
-    // A disk keeps what it is to keep of a pick that was done.
-    fn keep_pick(&mut self, alloc: Global, pick: &Pick) -> Result<(), ScheduleFault>
+    // How many steps the host has made that is to take a signal.
+    fn steps_before(&self, pick: &Pick) -> usize
+        ensures { result ≡ steps_before (whole_of self.now.world) pick.now }
+    {
+        match pick {
+            Pick::Take { host, from: _ } => self.world.steps(*host),
+            _ => 0,
+        }
+    }
+
+    // A disk keeps what it is to keep of a pick that was done, whose host had made so many steps before.
+    fn keep_pick(&mut self, alloc: Global, pick: &Pick, steps: usize) -> Result<(), ScheduleFault>
         requires { IsWorld (whole_of self.old.world) }
         ensures is { LeavesWorld (whole_of self.new.world) result }
         ensures more { HaveMore (map D.told self.old.disks.items) (map D.told self.new.disks.items) }
@@ -288,10 +301,13 @@ impl<D: Disk> DiskWorld<D> {
         ensures life { (self.new.generation ≡ self.old.generation) × (self.new.start ≡ self.old.start) × (self.new.rows ≡ self.old.rows) }
     {
         match pick {
-            Pick::Take { host, from: _ } => match self.keep(alloc, *host) {
-                Ok(()) => Ok(()),
-                Err(NoMemory) => Err(ScheduleFault::NoMemory),
-            },
+            Pick::Take { host, from: _ } => {
+                let handled = self.world.steps(*host) != steps;
+                match self.keep(alloc, *host, handled) {
+                    Ok(()) => Ok(()),
+                    Err(NoMemory) => Err(ScheduleFault::NoMemory),
+                }
+            }
             _ => Ok(()),
         }
     }

@@ -14,6 +14,8 @@ use Rattle.sig_core.specs.declared.signal.Signal.{Signal}
 use Rattle.sig_core.specs.declared.view.View.{View}
 use Rattle.dih_node.specs.Orders as dih
 use Rattle.dih_node.specs.State.{DihState}
+use Rattle.lqh_saver.specs.State.{saving}
+use Rattle.lqh_saver.proofs.StepLemmas.{saver_sends}
 use Rattle.node_views.specs.Blocks.{parts_entered}
 use Rattle.node_views.specs.Parts.{ldm_row}
 use Rattle.node_views.specs.declared.host_body.HostBody as hosts
@@ -75,7 +77,12 @@ shell_sends_none h s x p is =
 -- a host of rows
 ldm_rows : (p : LdmPart) (b : BlockId) (x : Signal) → SendsOfRows (ldm_row p b x)
 unfolding ldm_row
-ldm_rows p block.Lqh x = replica_tell p.replica x
+ldm_rows p block.Lqh x =
+    saver_sends (saving p.replica p.saver) x (Each IsOfRows) (replica_tell p.replica x) tt (record {
+      goes_on = λ own. (refl, tt);
+      reports = λ walk to own walking. (refl, tt);
+      confirms = λ finished end ordered walked usable. (refl, tt);
+    })
 ldm_rows p _ x = tt
 
 ldm_sent : (p : LdmPart) (x : Signal) → IsSent IsOfRows x (Ldm p)

@@ -4,6 +4,7 @@ use Rattle.std.proofs.Common.{◌≡◌, ◌≤◌, ◌&&◌, ℕ, true, List, [
 use Rattle.std.proofs.lemmas.Bool.{and_parts, leb-true}
 use Rattle.std.specs.Prelude.{nat_le}
 use Rattle.frag_map.specs.Shape.{IsShape}
+use Rattle.run_theory.proofs.Links.{log_past}
 use Rattle.run_theory.proofs.Pasts.{each_past}
 use Rattle.run_theory.specs.Lists.{Each}
 use Rattle.sig_core.specs.declared.member.TxId.{TxId}
@@ -16,6 +17,7 @@ use Rattle.redo_format.specs.Records.{IsTransaction}
 use Rattle.node_views.specs.WellFormed.{is_body_sound, is_chain, is_sender, is_tx, is_view, is_well_formed}
 use Rattle.world_core.specs.Start.{Start}
 use Rattle.world_core.specs.Steps.{HostStep}
+use Rattle.world_views.specs.Machine.{machine}
 use Rattle.moment_laws.specs.Moments.{logs_of}
 use Rattle.moment_laws.specs.Places.{ldm_of}
 use Rattle.journal_laws.specs.Laws.{JournalsHaveRecords}
@@ -62,6 +64,7 @@ journals start all es low moment words member there =
     let h : ℕ = ldm_of start member in
     let log : List HostStep = logs_of start es h in
     has_records start member there moment.cluster.shape log
+    (log_past (machine start) h (moment.inside h) (moment.cluster.right.local h))
     (takes_writable start moment.cluster.shape low all log
     (each_past (λ (e : HostStep). IsWellAsked e.step.taken.body) (moment.inside h)
     (all_ask start all moment.cluster words h))

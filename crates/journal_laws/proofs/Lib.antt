@@ -3,6 +3,7 @@ pub mod Telling
 pub mod asked
 pub mod epochs
 pub mod events
+pub mod follow
 pub mod replays
 pub mod room
 pub mod walks

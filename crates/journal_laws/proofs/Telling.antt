@@ -40,9 +40,9 @@ module _ (start : Start) (G : (ℕ → List HostStep) → Type 0) (IsWell : Body
     abbrev pub TakesWell : HostStep → Type 0
     TakesWell e = IsWell e.step.taken.body
 
-    -- So it is of hosts as they begin, and where they have told their replies. In a step they stay so and send only such
-    -- signals. So it is of closings, and of what a host asks itself, where this is so of the logs, which it is of shorter
-    -- ones as well.
+    -- So it is of hosts as they begin, and where they have told their replies. In a step they stay so and send only
+    -- such signals. So it is of closings, and of what a host asks itself, where this is so of the logs, which it is of
+    -- shorter ones as well.
     pub record TellWell : Type 0 where
       pub begins : (h : ℕ) → PartsWell (started start h).parts
       pub gives : (parts : Parts) → PartsWell parts → PartsWell (giving parts [])

@@ -1,5 +1,5 @@
 -- What a signal does to the rows of a node and to their journal.
-use Rattle.std.specs.Prelude.{◌≡◌, ◌≤◌, ℕ, List, [], ◌∷◌, Option, None, Some}
+use Rattle.std.specs.Prelude.{◌≡◌, ◌≤◌, ℕ, true, List, [], ◌∷◌, Option, None, Some, is_some}
 use Rattle.sig_core.specs.declared.member.Member.{Member}
 use Rattle.sig_core.specs.declared.redo.Redo.{Redo}
 use Rattle.sig_core.specs.declared.signal.Body.{Body}
@@ -9,6 +9,7 @@ use Rattle.sig_core.specs.Journal.{OutletState, behind}
 use Rattle.sig_core.specs.Rows.{RowsState}
 use Rattle.sig_core.specs.Table.{Rows}
 use Rattle.local_ckpt.specs.Events.{Commit, Event, changed, left_by, logged}
+use Rattle.local_ckpt.specs.Orderly.{image_in}
 use Rattle.lqh_block.specs.State.{LqhState}
 
 -- records are appended, of which the newest comes first
@@ -31,11 +32,17 @@ IsOrdered (Some (Commit tx key epoch)) body =
     (members : List Member) × ((at : ℕ) × (body ≡ Chain (chain.Commit tx key epoch members at)))
 IsOrdered event body = Unit {0}
 
+-- and of what is prepared
+abbrev pub IsOfPrepared : Option Event → RowsState → Type 0
+IsOfPrepared (Some (Commit tx key epoch)) s = is_some (image_in s tx key) ≡ true
+IsOfPrepared event s = Unit {0}
+
 -- By this event, or by none, the rows of a node went from one state to another at a signal that says this.
 pub record IsMadeBy (s t : LqhState) (body : Body) (event : Option Event) : Type 0 where
   pub rows : t.rows ≡ changed_if event s.rows
   pub outlet : t.outlet ≡ behind_all (records_if event s.rows) s.outlet
   pub ordered : IsOrdered event body
+  pub prepared : IsOfPrepared event s.rows
 
 -- the rows behind events, of which the newest comes first
 abbrev pub rows_behind : RowsState → List Event → RowsState

@@ -10,7 +10,8 @@ use Rattle.lqh_block.specs.State.{LqhState}
 use Rattle.request_laws.specs.Blocks.{rows_after}
 use Rattle.world_core.specs.Start.{Start}
 use Rattle.world_core.specs.Steps.{HostStep}
-use Rattle.journal_laws.specs.Events.{IsMadeBy, records_behind}
+use Rattle.journal_laws.specs.Events.{records_behind}
+use Rattle.journal_laws.specs.Saver.{IsRestOf, IsStepBy, saving_after, todo_at}
 
 -- a journal that has given out nothing, and has the bytes of these records, the newest first
 abbrev pub outlet_with : List Redo → OutletState
@@ -30,10 +31,11 @@ module _ (start : Start) (member : Member) where
   AreEventsOf (e ∷ log) events =
       (event : Option Event) × ((older : List Event) × ((events ≡ option_to_list event ++ older)
       × AreEventsOf log older
-      × IsMadeBy (lqh_after log) (lqh_after (e ∷ log)) e.step.taken.body event))
+      × IsStepBy (saving_after start member log) (saving_after start member (e ∷ log)) e.step.taken.body
+      (todo_at start member e log) event))
 
-  -- its journal has the records of these events, each of which has bytes
+  -- its journal has the records of these events, each of which has bytes, from a position on
   pub record HasRecords (log : List HostStep) (events : List Event) : Type 0 where
     pub events_of : AreEventsOf log events
     pub records : AreRecords (records_behind first_rows events)
-    pub outlet : (lqh_after log).outlet ≡ outlet_with (records_behind first_rows events)
+    pub outlet : IsRestOf (lqh_after log).outlet (outlet_with (records_behind first_rows events))

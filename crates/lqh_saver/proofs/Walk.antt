@@ -67,7 +67,7 @@ pub record SaverOutcomes (s : SavingState) (x : Signal) (R : Step SavingState �
   -- a checkpoint that is usable is to be named
   pub switches : (finished : Finished) (end : ℕ) → x.body ≡ Checkpoint LcpSwitch
       → s.saver.stage ≡ Walked finished end → has_position s.replica.lqh.outlet finished.from ≡ true
-      → is_usable s.saver finished end ≡ true → R (switch_if (idling s) x.member.node finished true)
+      → is_usable s.saver s.replica.saved finished end ≡ true → R (switch_if (idling s) x.member.node finished true)
   -- nothing comes of it
   pub idles : is_savers x.body ≡ true → R (stay (idling s))
 
@@ -95,7 +95,7 @@ module _ (s : SavingState) (x : Signal) (R : Step SavingState → Type 0) (forms
     where
       by : (finished : Finished) (end : ℕ) → s.saver.stage ≡ Walked finished end
           → (has : Bool) → has_position s.replica.lqh.outlet finished.from ≡ has
-          → (usable : Bool) → is_usable s.saver finished end ≡ usable
+          → (usable : Bool) → is_usable s.saver s.replica.saved finished end ≡ usable
           → R (switch_if (idling s) x.member.node finished (has && usable))
       by finished end walked true has true usable = forms.switches finished end is walked has usable
       by finished end walked true has false usable = forms.idles (ap is_savers is)
@@ -105,7 +105,7 @@ module _ (s : SavingState) (x : Signal) (R : Step SavingState → Type 0) (forms
       at_stage : (stage : Stage) → s.saver.stage ≡ stage → R (switch_by (idling s) x.member.node stage)
       at_stage (Walked finished end) walked =
           by finished end walked (has_position s.replica.lqh.outlet finished.from) refl
-          (is_usable s.saver finished end) refl
+          (is_usable s.saver s.replica.saved finished end) refl
       at_stage Resting resting = forms.idles (ap is_savers is)
       at_stage (Walking walk to) walking = forms.idles (ap is_savers is)
 
@@ -126,7 +126,7 @@ pub record SaverSends (s : SavingState) (x : Signal) (P : Outgoing → Type 0) :
   pub reports : (walk : WalkState) (to : ℕ) → is_savers x.body ≡ true → s.saver.stage ≡ Walking walk to
       → P (to_place (checkpoints to) (Checkpoint (LcpFragRep (noted s.saver.floor s.replica.lqh.outlet))))
   pub confirms : (finished : Finished) (end : ℕ) → x.body ≡ Checkpoint LcpSwitch
-      → s.saver.stage ≡ Walked finished end → is_usable s.saver finished end ≡ true
+      → s.saver.stage ≡ Walked finished end → is_usable s.saver s.replica.saved finished end ≡ true
       → P (to_place (checkpoints x.member.node) (Checkpoint LcpSwitchConf))
 
 -- what is so of what the rows do with the signal, and of what their saver sends, is so of the step

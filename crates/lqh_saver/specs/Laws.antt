@@ -32,7 +32,7 @@ pub record GivesUp (s : SavingState) (x : Signal) (t : Step SavingState) : Type 
   pub ordered : x.body ≡ Checkpoint LcpSwitch
   pub walked : s.saver.stage ≡ Walked finished end
   pub has : has_position s.replica.lqh.outlet finished.from ≡ true
-  pub usable : is_usable s.saver finished end ≡ true
+  pub usable : is_usable s.saver s.replica.saved finished end ≡ true
   pub rows : t.state.replica ≡ given_up s.replica finished.from
   pub floor : t.state.saver.floor ≡ finished.epoch
   pub todo : t.state.saver.todo ≡ Name finished

@@ -21,7 +21,7 @@ use Rattle.lqh_saver.specs.Walking.{order_row, walk_if}
 -- a saver before the first signal, in a life that starts from an epoch, and with a journal that ends here
 abbrev pub fresh_saver : ℕ → ℕ → SaverState
 fresh_saver start end =
-    record { durable = start; floor = start; saved_end = end; stage = Resting; todo = Nothing }
+    record { durable = start; floor = start; saved_end = end; named = 0; stage = Resting; todo = Nothing }
 
 -- the rows may have noted a later epoch as saved than before: then all of the journal is
 abbrev pub noticing : SaverState → ℕ → ReplicaState → SaverState

@@ -6,12 +6,13 @@ use Rattle.lqh_saver.specs.declared.stage.Todo.{Todo}
 use Rattle.lqh_saver.specs.declared.stage.Todo.TheVariants.{Nothing}
 
 -- The greatest epoch that it was told is durable; one above which no commit is whose redo was given up; where the
--- journal ended when the rows were saved last; how far a local checkpoint has come; and what a disk is to do of the
--- last step.
+-- journal ended when the rows were saved last; how many checkpoints were named; how far a local checkpoint has come;
+-- and what a disk is to do of the last step.
 pub record SaverState : Type 0 where
   pub durable : ℕ
   pub floor : ℕ
   pub saved_end : ℕ
+  pub named : ℕ
   pub stage : Stage
   pub todo : Todo
 
@@ -29,7 +30,7 @@ greater one other = if nat_lt one other then other else one
 
 abbrev pub with_todo : SaverState → Todo → SaverState
 with_todo v todo =
-    record { durable = v.durable; floor = v.floor; saved_end = v.saved_end; stage = v.stage; todo = todo }
+    record v { todo = todo }
 
 -- a disk is to do nothing
 abbrev pub idle : SaverState → SaverState
@@ -37,20 +38,14 @@ idle v = with_todo v Nothing
 
 abbrev pub with_stage : SaverState → Stage → Todo → SaverState
 with_stage v stage todo =
-    record { durable = v.durable; floor = v.floor; saved_end = v.saved_end; stage = stage; todo = todo }
+    record v { stage = stage; todo = todo }
 
 -- an epoch is durable
 abbrev pub told_durable : SaverState → ℕ → SaverState
 told_durable v epoch =
-    record {
-      durable = greater v.durable epoch;
-      floor = v.floor;
-      saved_end = v.saved_end;
-      stage = v.stage;
-      todo = v.todo;
-    }
+    record v { durable = greater v.durable epoch }
 
 -- the rows were saved, and the journal ended there
 abbrev pub with_saved_end : SaverState → ℕ → SaverState
 with_saved_end v end =
-    record { durable = v.durable; floor = v.floor; saved_end = end; stage = v.stage; todo = v.todo }
+    record v { saved_end = end }

@@ -1,5 +1,5 @@
 -- A local checkpoint takes the place of the one before, and redo is given up.
-use Rattle.std.specs.Prelude.{ℕ, ◌-◌, ◌&&◌, Bool, true, false, nat_le, drop}
+use Rattle.std.specs.Prelude.{ℕ, ◌+◌, ◌-◌, ◌&&◌, Bool, true, false, nat_le, nat_lt, drop}
 use Rattle.sig_core.specs.declared.signal.Body.TheVariants.{Checkpoint}
 use Rattle.sig_core.specs.declared.signal.checkpoint.CheckpointSignal.TheVariants.{LcpSwitchConf}
 use Rattle.sig_core.specs.declared.walk.Finished.{Finished}
@@ -11,6 +11,7 @@ use Rattle.lqh_views.specs.State.{ReplicaState, with_lqh}
 use Rattle.lqh_saver.specs.declared.stage.Stage.{Stage}
 use Rattle.lqh_saver.specs.declared.stage.Stage.TheVariants.{Resting, Walked}
 use Rattle.lqh_saver.specs.declared.stage.Todo.TheVariants.{Name}
+use Rattle.lqh_saver.specs.declared.switching.TheConstants.{CHECKPOINTS, POSITIONS}
 use Rattle.lqh_saver.specs.State.{SaverState, SavingState, saving}
 
 -- what stands from a position on is all that there is to give out
@@ -28,22 +29,22 @@ given_up s at =
 abbrev pub has_position : OutletState → ℕ → Bool
 has_position o at = nat_le o.flushed at && nat_le at (end_of o)
 
--- The checkpoint is good for what is saved: the rows were saved behind its end, and a restart comes to no epoch before
--- that of its rows.
-abbrev pub is_usable : SaverState → Finished → ℕ → Bool
-is_usable v finished end =
+-- there are numbers left for the slot that names it
+abbrev pub has_numbers : SaverState → Finished → Bool
+has_numbers v finished =
+    nat_lt finished.from POSITIONS && nat_lt finished.size POSITIONS && nat_lt v.named CHECKPOINTS
+
+-- The checkpoint is good for what is saved, which is up to this epoch: the rows were saved behind its end, and a
+-- restart comes to no epoch before that of its rows.
+abbrev pub is_usable : SaverState → ℕ → Finished → ℕ → Bool
+is_usable v saved finished end =
     nat_le finished.from v.saved_end && nat_le end v.saved_end && nat_le finished.epoch v.durable
+    && nat_le finished.epoch saved && has_numbers v finished
 
 -- no commit that is given up is of a later epoch than the checkpoint, and nothing is under way
 abbrev pub switched : SaverState → Finished → SaverState
 switched v finished =
-    record {
-      durable = v.durable;
-      floor = finished.epoch;
-      saved_end = v.saved_end;
-      stage = Resting;
-      todo = Name finished;
-    }
+    record v { floor = finished.epoch; named = v.named + 1; stage = Resting; todo = Name finished }
 
 abbrev pub switch_if : SavingState → ℕ → Finished → Bool → Step SavingState
 switch_if s from finished true =
@@ -54,7 +55,7 @@ switch_if s from finished false = stay s
 abbrev pub switch_by : SavingState → ℕ → Stage → Step SavingState
 switch_by s from (Walked finished end) =
     switch_if s from finished
-    (has_position s.replica.lqh.outlet finished.from && is_usable s.saver finished end)
+    (has_position s.replica.lqh.outlet finished.from && is_usable s.saver s.replica.saved finished end)
 switch_by s from _ = stay s
 
 -- the checkpoint that was written is to be named, if it is usable

@@ -11,3 +11,4 @@ mod walking;
 pub use laws::{keeps_to_its_words, steps_are_of_rows};
 pub use saver::Saver;
 pub use stage::{Stage, Todo};
+pub use switching::{CHECKPOINTS, POSITIONS};

@@ -25,6 +25,8 @@ pub struct Saver {
     pub(crate) floor: u64,
     /// Where the journal ended when the rows were saved last.
     pub(crate) saved_end: u64,
+    /// How many checkpoints were named.
+    pub(crate) named: u64,
     pub(crate) stage: Stage,
     pub(crate) todo: Todo,
 }
@@ -34,7 +36,7 @@ impl Model for Saver {
 
     ghost Value = { SaverState };
 
-    ghost view = { λ s. record { durable = s.durable; floor = s.floor; saved_end = s.saved_end; stage = s.stage; todo = s.todo } };
+    ghost view = { λ s. record { durable = s.durable; floor = s.floor; saved_end = s.saved_end; named = s.named; stage = s.stage; todo = s.todo } };
 }
 
 impl Saver {
@@ -46,6 +48,7 @@ impl Saver {
             durable: start,
             floor: start,
             saved_end: end,
+            named: 0,
             stage: Stage::Resting,
             todo: Todo::Nothing,
         }

@@ -89,7 +89,7 @@ begins_one (Some word) e =
     (bytes_eq word (codes "rows")) (bytes_eq word (codes "digest")) (bytes_eq word (codes "crash"))
     (bytes_eq word (codes "restart")) (bytes_eq word (codes "quit"))
     (bytes_eq word (codes "kill") || bytes_eq word (codes "cut") || bytes_eq word (codes "micro")
-    || bytes_eq word (codes "gcp") || bytes_eq word (codes "view")) e
+    || bytes_eq word (codes "gcp") || bytes_eq word (codes "lcp") || bytes_eq word (codes "view")) e
   where
     last_one : (last : Bool) → ((last || false) || false) ≡ true → last ≡ true
     last_one true e = refl
@@ -129,6 +129,7 @@ goes_on line (Ok (Some (command.Cut one other))) rest e none = none
 goes_on line (Ok (Some (command.Tick rounds))) rest e none = none
 goes_on line (Ok (Some command.Micro)) rest e none = none
 goes_on line (Ok (Some command.Gcp)) rest e none = none
+goes_on line (Ok (Some command.Lcp)) rest e none = none
 goes_on line (Ok (Some command.View)) rest e none = none
 goes_on line (Ok (Some command.Crash)) rest e none = none
 goes_on line (Ok (Some command.Restart)) rest e none = none

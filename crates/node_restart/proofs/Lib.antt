@@ -1,6 +1,7 @@
 pub mod CheckpointLemmas
 pub mod MomentLemmas
 pub mod NamedLemmas
+pub mod NamingLemmas
 pub mod ReplayLaw
 pub mod RestoredLaw
 pub mod SaveLaw

@@ -25,11 +25,11 @@ use Rattle.node_restart.specs.Rows.{HasRows}
 use Rattle.node_restart.proofs.NamedLemmas.{kept_same, named_still}
 
 -- a record that keeps to the model, and is as long as another, or longer
-abbrev GoesOn : List Call → List Call → Type 0
+abbrev pub GoesOn : List Call → List Call → Type 0
 GoesOn calls after = IsRecord after × (length calls ≤ length after)
 
 -- calls make such a record of another, whatever they come to
-goes_on : (asks calls after : List Call) (ok : Bool) → IsRecord calls → Runs asks calls (Some after) ok
+pub goes_on : (asks calls after : List Call) (ok : Bool) → IsRecord calls → Runs asks calls (Some after) ok
     → GoesOn calls after
 goes_on [] calls after ok kept runs =
     subst (GoesOn calls) (sym (same_record after calls runs.0)) (kept, omega arith)
@@ -46,12 +46,12 @@ goes_on (ask ∷ asks) calls after ok kept (inr (may, runs)) =
     let rest = goes_on asks (ask ∷ calls) after ok (may, kept) runs in (rest.0, omega (arith, rest.1))
 
 -- it kept to the model at each moment before
-older_kept : (newer older : List Call) → IsRecord (newer ++ older) → IsRecord older
+pub older_kept : (newer older : List Call) → IsRecord (newer ++ older) → IsRecord older
 older_kept [] older kept = kept
 older_kept (call ∷ newer) older kept = older_kept newer older kept.1
 
 -- the control slot stands where its file is as it was
-control_still : (s : SlotsInUse) (calls moment : List Call) → IsRecord moment
+pub control_still : (s : SlotsInUse) (calls moment : List Call) → IsRecord moment
     → state_of moment CONTROL_FILE ≡ state_of calls CONTROL_FILE → HasControl s calls → HasControl s moment
 control_still s calls moment kept same has = record {
   kept = kept;

@@ -1,6 +1,7 @@
 //! The rows that the control slot in use names, at each moment of a node's life.
 ghost use Rattle.node_restart.specs.Laws.{ReadyDisksHaveRows, ReplaysStopAtEpochs, RestoredRowsAreStorable};
 ghost use Rattle.node_restart.specs.Laws.{RowsAreRestored, SavesKeepRows, SystemSavesKeepRows};
+ghost use Rattle.node_restart.specs.Naming.{NamesKeepRows, WalksKeepRows};
 
 /// Whatever a crash leaves of a disk that has a node's rows, the control slot in use restores them, up to
 /// any epoch.
@@ -18,6 +19,17 @@ pub fn saves_keep_rows()
 /// restores the rows of before.
 pub fn system_saves_keep_rows()
     ensures { SystemSavesKeepRows }
+{}
+
+/// While a local checkpoint is written, and synced, the rows of the one in use stay.
+pub fn walks_keep_rows()
+    ensures { WalksKeepRows }
+{}
+
+/// Whatever a crash leaves at any moment while a local checkpoint is brought into use, the control slot in use
+/// restores the rows of before, or those of the checkpoint; behind it the latter.
+pub fn names_keep_rows()
+    ensures { NamesKeepRows }
 {}
 
 /// A disk that is made ready for a life has the rows that the node has of what was restored.

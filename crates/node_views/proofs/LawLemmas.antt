@@ -7,7 +7,7 @@ use Rattle.sig_core.specs.declared.signal.Body.TheVariants.{Host}
 use Rattle.sig_core.specs.declared.signal.Signal.{Signal}
 use Rattle.sig_core.specs.declared.signal.host.HostSignal.TheVariants.{Kill, Cut, Closed}
 use Rattle.node_views.specs.Laws.{CalmHostsLeaveItToBlocks, IsCalm, MalformedSignalsChangeNothing}
-use Rattle.node_views.specs.Laws.{StoppingHostsAreSilent, is_own}
+use Rattle.node_views.specs.Laws.{InstalledViewsGiveWalksUp, StoppingHostsAreSilent, is_own}
 use Rattle.node_views.specs.Row.{blocks_row, counted_row, headed_if, headed_row, host_row, host_table, hushed, is_stop}
 use Rattle.node_views.specs.Row.{passed_if, passed_row, taken_if, unless_stopped}
 use Rattle.node_views.specs.WellFormed.{is_well_formed}
@@ -48,3 +48,6 @@ stopping_hosts_are_silent s x stops = silent_if s x (is_well_formed s.standing.s
 pub malformed_signals_change_nothing : MalformedSignalsChangeNothing
 unfolding host_row
 malformed_signals_change_nothing s x is = ap (taken_if s x) is
+
+pub installed_views_give_walks_up : InstalledViewsGiveWalksUp
+installed_views_give_walks_up p view = (refl, refl)

@@ -15,6 +15,9 @@ use Rattle.arbiter_block.specs.Arbiter.{arbiter_row}
 use Rattle.dih_node.specs.Dih.{dih_row}
 use Rattle.dih_node.specs.Orders as dih
 use Rattle.gcp_master.specs.Master.{master_row}
+use Rattle.lqh_saver.specs.Saver.{saver_row}
+use Rattle.lqh_saver.specs.State.{saving}
+use Rattle.lqh_saver.proofs.Walk.{SaverSends, saver_each}
 use Rattle.lqh_views.specs.Replica.{replica_row}
 use Rattle.qmgr_block.specs.Qmgr.{qmgr_installed, qmgr_row}
 use Rattle.takeover_block.specs.Takeover.{takeover_row}
@@ -27,7 +30,7 @@ use Rattle.node_views.specs.declared.parts.Parts.{Parts}
 use Rattle.node_views.specs.declared.parts.Parts.TheVariants.{Shell, Main, Tc, Ldm}
 use Rattle.node_views.specs.declared.shell_part.ShellPart.{ShellPart}
 use Rattle.node_views.specs.declared.tc_part.TcPart.{TcPart}
-use Rattle.node_views.specs.Parts.{in_arbiter, in_client, in_coordinator, in_dih, in_master, in_qmgr, in_replica}
+use Rattle.node_views.specs.Parts.{in_arbiter, in_client, in_coordinator, in_dih, in_master, in_qmgr, in_saving}
 use Rattle.node_views.specs.Parts.{in_takeover, ldm_row, main_row, shell_row, tc_row}
 
 -- R is of each step that the blocks may take at the signal: none, or that of the block that it is for
@@ -46,7 +49,7 @@ pub record PartsOutcomes (parts : Parts) (x : Signal) (R : Step Parts → Type 0
       → R (in_tc (in_takeover p (takeover_row p.takeover x)))
   pub dih : (p : TcPart) → parts ≡ Tc p → x.to.block ≡ block.Dih → R (in_tc (in_dih p (dih_row p.dih x)))
   pub replica : (p : LdmPart) → parts ≡ Ldm p → x.to.block ≡ block.Lqh
-      → R (in_ldm (in_replica p x.body (replica_row p.replica x)))
+      → R (in_ldm (in_saving p x.body (saver_row (saving p.replica p.saver) x)))
 
 pub parts_outcomes : (parts : Parts) (x : Signal) (R : Step Parts → Type 0) → PartsOutcomes parts x R
     → R (parts_row parts x)
@@ -94,6 +97,7 @@ module _ (P : Outgoing → Type 0) (M : Mark → Type 0) where
     pub takeover : (p : TcPart) → parts ≡ Tc p → x.to.block ≡ block.Takeover → Does P M (takeover_row p.takeover x)
     pub dih : (p : TcPart) → parts ≡ Tc p → x.to.block ≡ block.Dih → Does P M (dih_row p.dih x)
     pub replica : (p : LdmPart) → parts ≡ Ldm p → x.to.block ≡ block.Lqh → Does P M (replica_row p.replica x)
+    pub saver : (p : LdmPart) → parts ≡ Ldm p → x.to.block ≡ block.Lqh → SaverSends (saving p.replica p.saver) x P
 
   pub parts_each : (parts : Parts) (x : Signal) → PartsForms parts x → Does P M (parts_row parts x)
   parts_each parts x forms =
@@ -106,7 +110,8 @@ module _ (P : Outgoing → Type 0) (M : Mark → Type 0) where
         coordinator = forms.coordinator;
         takeover = forms.takeover;
         dih = forms.dih;
-        replica = forms.replica;
+        replica = λ p is to.
+            saver_each (saving p.replica p.saver) x P M (forms.replica p is to) (forms.saver p is to);
       })
 
   -- so of what they do as a view is installed: the membership, a coordinator and the epochs alone may send something

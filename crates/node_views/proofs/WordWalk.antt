@@ -1,5 +1,5 @@
 -- The blocks of a host keep to their words, and so does the host.
-use Rattle.std.proofs.Common.{◌≡◌, ◌||◌, ◌∙◌, Bool, refl, subst, sym}
+use Rattle.std.proofs.Common.{◌≡◌, ◌||◌, ◌∙◌, Bool, true, refl, subst, sym}
 use Rattle.std.proofs.lemmas.Bool.{or_left, or_right}
 use Rattle.sig_core.specs.declared.mark.Mark.{Mark}
 use Rattle.sig_core.specs.declared.place.BlockId.{BlockId}
@@ -23,8 +23,9 @@ use Rattle.dih_node.specs.Words.{is_dih_mark, is_dih_word}
 use Rattle.gcp_master.specs.Master.{master_row}
 use Rattle.gcp_master.proofs.Walk.{master_words}
 use Rattle.gcp_master.specs.Words.{is_master_mark, is_master_word}
+use Rattle.lqh_saver.proofs.Walk.{rows_words}
+use Rattle.lqh_saver.specs.Words.{is_saver_word}
 use Rattle.lqh_views.specs.Replica.{replica_row}
-use Rattle.lqh_views.proofs.Walk.{replica_words}
 use Rattle.qmgr_block.specs.Qmgr.{qmgr_installed, qmgr_row}
 use Rattle.qmgr_block.proofs.Walk.{qmgr_words}
 use Rattle.qmgr_block.specs.Words.{is_qmgr_mark, is_qmgr_word}
@@ -37,6 +38,7 @@ use Rattle.tc_views.proofs.Walk.{coordinator_words}
 use Rattle.tc_views.specs.Words.{is_coordinator_mark, is_coordinator_word}
 use Rattle.node_views.specs.Blocks.{parts_entered, parts_row}
 use Rattle.node_views.specs.declared.host_body.HostBody as hosts
+use Rattle.node_views.specs.declared.ldm_part.LdmPart.{LdmPart}
 use Rattle.node_views.specs.declared.parts.Parts.{Parts}
 use Rattle.node_views.specs.declared.parts.Parts.TheVariants.{Shell, Main, Tc, Ldm}
 use Rattle.node_views.specs.Row.{host_row}
@@ -120,8 +122,18 @@ module _ (parts : Parts) where
             (of_takeover (takeover_row p.takeover x) (takeover_words.takes p.takeover x));
         dih = λ p is to.
             of_parts (Tc p) is (dih_row p.dih x) (of_dih (dih_row p.dih x) (dih_words.0 p.dih x));
-        replica = λ p is to. of_parts (Ldm p) is (replica_row p.replica x) (replica_words.takes p.replica x);
+        replica = λ p is to. of_parts (Ldm p) is (replica_row p.replica x) (rows_words p.replica x);
+        saver = λ p is to.
+            record {
+              goes_on = λ own. of_saver p is _ refl;
+              reports = λ walk to own walking. of_saver p is _ refl;
+              confirms = λ finished end ordered walked usable. of_saver p is _ refl;
+            };
       })
+    where
+      of_saver : (p : LdmPart) → parts ≡ Ldm p → (body : Body) → is_saver_word body ≡ true
+          → parts_words parts body ≡ true
+      of_saver p is body = subst (λ q. parts_words q body ≡ true) (sym is)
 
   pub parts_speak_installed : (view : View) → Speaks (parts_words parts) (parts_marks parts) (parts_entered parts view)
   parts_speak_installed view =
@@ -152,9 +164,19 @@ module _ (parts : Parts) where
         takeover = λ p is to.
             of_block block.Takeover to (takeover_row p.takeover x) (takeover_words.takes p.takeover x);
         dih = λ p is to. of_block block.Dih to (dih_row p.dih x) (dih_words.0 p.dih x);
-        replica = λ p is to. of_block block.Lqh to (replica_row p.replica x) (replica_words.takes p.replica x);
+        replica = λ p is to. of_block block.Lqh to (replica_row p.replica x) (rows_words p.replica x);
+        saver = λ p is to.
+            record {
+              goes_on = λ own. of_saver to _ refl;
+              reports = λ walk node own walking. of_saver to _ refl;
+              confirms = λ finished end ordered walked usable. of_saver to _ refl;
+            };
       })
     where
+      of_saver : x.to.block ≡ block.Lqh → (body : Body) → is_saver_word body ≡ true
+          → block_words x.to.block body ≡ true
+      of_saver to body = subst (λ at. block_words at body ≡ true) (sym to)
+
       of_block : {S : Type 0} (at : BlockId) → x.to.block ≡ at → (step : Step S)
           → Speaks (block_words at) (block_marks at) step
           → Speaks (block_words x.to.block) (block_marks x.to.block) step

@@ -10,6 +10,7 @@ use Rattle.arbiter_block.specs.Arbiter.{fresh_arbiter}
 use Rattle.dih_node.specs.Dih.{fresh_dih}
 use Rattle.gcp_master.specs.Master.{fresh_master}
 use Rattle.lqh_block.specs.Fresh.{no_outlet, unused}
+use Rattle.lqh_saver.specs.Saver.{fresh_saver}
 use Rattle.lqh_views.specs.Replica.{fresh_replica}
 use Rattle.qmgr_block.specs.State.{fresh_qmgr}
 use Rattle.takeover_block.specs.State.{resting}
@@ -68,6 +69,7 @@ fresh_ldm member layout rows start =
       standing = standing_in member layout;
       parts = Ldm (record {
         replica = fresh_replica member.node layout rows unused no_outlet start;
+        saver = fresh_saver start 0;
         fence = layout.view.number;
       });
     }

@@ -6,10 +6,15 @@ use Rattle.sig_core.specs.declared.signal.Body.{Body}
 use Rattle.sig_core.specs.declared.signal.Body.TheVariants.{Host}
 use Rattle.sig_core.specs.declared.signal.Signal.{Signal}
 use Rattle.sig_core.specs.declared.signal.host.HostSignal.TheVariants.{Kill, Cut, Closed}
+use Rattle.sig_core.specs.declared.view.View.{View}
 use Rattle.sig_core.specs.Step.{stay}
+use Rattle.lqh_saver.specs.declared.stage.Stage.TheVariants.{Resting}
+use Rattle.lqh_saver.specs.declared.stage.Todo.TheVariants.{Nothing}
+use Rattle.node_views.specs.Parts.{ldm_entered}
 use Rattle.node_views.specs.Row.{blocks_row, host_row, hushed, is_barred, is_cut, is_stop}
 use Rattle.node_views.specs.WellFormed.{is_well_formed}
 use Rattle.node_views.specs.declared.host_body.HostBody as hosts
+use Rattle.node_views.specs.declared.ldm_part.LdmPart.{LdmPart}
 
 -- signals that hosts handle themselves
 abbrev pub is_own : Body → Bool
@@ -46,3 +51,9 @@ abbrev pub CutHostsStayCut : Type 0
 CutHostsStayCut =
     (s : hosts.HostBody) (x : Signal) (host : HostId) → is_cut s.standing host ≡ true
     → is_cut (host_row s x).state.standing host ≡ true
+
+-- where a view is installed a local checkpoint is given up, and a disk has nothing to do of it
+abbrev pub InstalledViewsGiveWalksUp : Type 0
+InstalledViewsGiveWalksUp =
+    (p : LdmPart) (view : View)
+    → ((ldm_entered p view).state.saver.stage ≡ Resting) × ((ldm_entered p view).state.saver.todo ≡ Nothing)

@@ -18,8 +18,8 @@ use Rattle.dih_node.specs.State.{DihState}
 use Rattle.gcp_master.specs.Master.{master_row}
 use Rattle.gcp_master.specs.Resume as master
 use Rattle.gcp_master.specs.State.{MasterState}
-use Rattle.lqh_views.specs.Replica as replica
-use Rattle.lqh_views.specs.State.{ReplicaState}
+use Rattle.lqh_saver.specs.Saver.{saver_installed, saver_row}
+use Rattle.lqh_saver.specs.State.{SavingState, saving}
 use Rattle.qmgr_block.specs.Qmgr.{qmgr_installed, qmgr_row}
 use Rattle.qmgr_block.specs.Settle.{qmgr_settles}
 use Rattle.qmgr_block.specs.State.{QmgrState}
@@ -91,11 +91,15 @@ abbrev pub raised : ℕ → Body → ℕ
 raised fence (Membership (FenceReq proposal)) = greater fence proposal.number
 raised fence _ = fence
 
-abbrev pub in_replica : LdmPart → Body → Step ReplicaState → Step LdmPart
-in_replica p body t = record { state = record { replica = t.state; fence = raised p.fence body }; effects = t.effects }
+-- the rows with their saver, and the fence
+abbrev pub ldm_with : SavingState → ℕ → LdmPart
+ldm_with s fence = record { replica = s.replica; saver = s.saver; fence = fence }
+
+abbrev pub in_saving : LdmPart → Body → Step SavingState → Step LdmPart
+in_saving p body t = record { state = ldm_with t.state (raised p.fence body); effects = t.effects }
 
 unfoldable pub ldm_row : LdmPart → BlockId → Signal → Step LdmPart
-ldm_row p block.Lqh x = in_replica p x.body (replica.replica_row p.replica x)
+ldm_row p block.Lqh x = in_saving p x.body (saver_row (saving p.replica p.saver) x)
 ldm_row p _ x = stay p
 
 -- A view is installed in each block of a part.
@@ -121,5 +125,4 @@ tc_entered p view =
     }
 
 abbrev pub ldm_entered : LdmPart → View → Step LdmPart
-ldm_entered p view =
-    stay (record { replica = replica.installed p.replica view; fence = greater p.fence view.number })
+ldm_entered p view = stay (ldm_with (saver_installed (saving p.replica p.saver) view) (greater p.fence view.number))

@@ -12,7 +12,8 @@ use Rattle.api_views.specs.Words.{is_client_mark, is_client_word}
 use Rattle.arbiter_block.specs.Words.{is_arbiter_mark, is_arbiter_word}
 use Rattle.dih_node.specs.Words.{is_dih_mark, is_dih_word}
 use Rattle.gcp_master.specs.Words.{is_master_mark, is_master_word}
-use Rattle.lqh_views.specs.Words.{is_replica_mark, is_replica_word}
+use Rattle.lqh_saver.specs.Words.{is_saver_word}
+use Rattle.lqh_views.specs.Words.{is_replica_mark}
 use Rattle.qmgr_block.specs.Words.{is_qmgr_mark, is_qmgr_word}
 use Rattle.takeover_block.specs.Words.{is_takeover_mark, is_takeover_word}
 use Rattle.tc_views.specs.Words.{is_coordinator_mark, is_coordinator_word}
@@ -31,7 +32,7 @@ block_words block.GcpMaster body = is_master_word body
 block_words block.Tc body = is_coordinator_word body
 block_words block.Takeover body = is_takeover_word body
 block_words block.Dih body = is_dih_word body
-block_words block.Lqh body = is_replica_word body
+block_words block.Lqh body = is_saver_word body
 block_words _ body = false
 
 abbrev pub block_marks : BlockId → Mark → Bool
@@ -50,7 +51,7 @@ abbrev pub parts_words : Parts → Body → Bool
 parts_words (Shell p) body = is_client_word body || is_arbiter_word body
 parts_words (Main p) body = is_qmgr_word body || is_master_word body
 parts_words (Tc p) body = is_coordinator_word body || (is_takeover_word body || is_dih_word body)
-parts_words (Ldm p) body = is_replica_word body
+parts_words (Ldm p) body = is_saver_word body
 
 abbrev pub parts_marks : Parts → Mark → Bool
 parts_marks (Shell p) mark = is_client_mark mark || is_arbiter_mark mark

@@ -1,6 +1,6 @@
 //! What is true of the steps of a host, whatever comes.
 ghost use Rattle.node_views.specs.Laws.{CalmHostsLeaveItToBlocks, CutHostsStayCut, MalformedSignalsChangeNothing};
-ghost use Rattle.node_views.specs.Laws.{StoppingHostsAreSilent};
+ghost use Rattle.node_views.specs.Laws.{InstalledViewsGiveWalksUp, StoppingHostsAreSilent};
 ghost use Rattle.node_views.specs.Words.{HostsKeepToTheirWords};
 
 /// Where a host isn't to be killed, a signal from no greater view, which no fence stops and which isn't
@@ -26,6 +26,13 @@ pub fn malformed_signals_change_nothing()
 #[tactic(auto, using(crate::proofs::CutLemmas::cut_hosts_stay_cut))]
 pub fn cut_hosts_stay_cut()
     ensures { CutHostsStayCut }
+{}
+
+/// Where a view is installed in a host with rows, a local checkpoint that is under way, or waits for its
+/// switch, is given up, and a disk has nothing to do of it.
+#[tactic(auto, using(crate::proofs::LawLemmas::installed_views_give_walks_up))]
+pub fn installed_views_give_walks_up()
+    ensures { InstalledViewsGiveWalksUp }
 {}
 
 /// Whatever comes, a host sends and marks only what the blocks of its part may, beside the marks that

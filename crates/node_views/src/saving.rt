@@ -1,13 +1,15 @@
 //! What the disk of a node has to keep of a host.
-ghost use Rattle.std.specs.Prelude.{◌≡◌, ◌&&◌, IfNone, IfSome, None, Some, not};
+ghost use Rattle.std.specs.Prelude.{◌≡◌, ◌&&◌, IfNone, IfSome, MatchOption, None, Some, not};
 ghost use Rattle.redo_log.specs.LogState.{outlet_in};
 ghost use Rattle.node_views.specs.Row.{is_barred};
-ghost use Rattle.node_views.specs.Saving.{outlet_of, saved_by};
+ghost use Rattle.lqh_saver.specs.declared.stage.Todo.TheVariants as todo;
+ghost use Rattle.node_views.specs.Saving.{outlet_of, saved_by, todo_of};
 ghost use Rattle.node_views.specs.WellFormed.{is_well_formed};
 
 use crate::host_body::HostBody;
 use crate::parts::Parts;
 use crate::well_formed::is_well_formed;
+use lqh_saver::Todo;
 use redo_log::Log;
 use sig_core::Signal;
 
@@ -30,6 +32,16 @@ impl HostBody {
         match &self.parts {
             Parts::Ldm(part) => part.replica.saved(),
             _ => 0,
+        }
+    }
+
+    /// What a disk is to do of the last step of the rows' saver, where the host has rows.
+    pub fn todo(&self) -> Option<&Todo>
+        ensures { MatchOption result (todo_of self.now.parts ≡ todo.Nothing) (λ todo. todo_of self.now.parts ≡ todo.now) }
+    {
+        match &self.parts {
+            Parts::Ldm(part) => Some(part.saver.todo()),
+            _ => None,
         }
     }
 

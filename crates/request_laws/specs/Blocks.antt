@@ -6,6 +6,8 @@ use Rattle.sig_core.specs.Rows.{no_rows}
 use Rattle.lqh_block.specs.Fresh.{no_outlet, unused}
 use Rattle.lqh_views.specs.Replica.{fresh_replica}
 use Rattle.lqh_views.specs.State.{ReplicaState}
+use Rattle.lqh_saver.specs.Saver.{fresh_saver}
+use Rattle.lqh_saver.specs.State.{SaverState, SavingState, saving}
 use Rattle.tc_views.specs.Coordinator.{fresh_coordinator}
 use Rattle.tc_views.specs.State.{CoordinatorState}
 use Rattle.takeover_block.specs.State.{TakeoverState, resting}
@@ -30,6 +32,11 @@ abbrev pub rows_in : ReplicaState → Parts → ReplicaState
 rows_in other (part.Ldm p) = p.replica
 rows_in other parts = other
 
+-- and their saver
+abbrev pub saver_in : SaverState → Parts → SaverState
+saver_in other (part.Ldm p) = p.saver
+saver_in other parts = other
+
 -- rows of the member, of which there are none
 abbrev pub no_replica : Start → Member → ReplicaState
 no_replica start member =
@@ -49,3 +56,10 @@ module _ (start : Start) (member : Member) where
   -- the rows of a member behind a log of their host
   abbrev pub rows_after : List HostStep → ReplicaState
   rows_after log = rows_in (no_replica start member) (after start (ldm_of start member) log).parts
+
+  -- their saver, and both
+  abbrev pub saver_after : List HostStep → SaverState
+  saver_after log = saver_in (fresh_saver start.start_epoch 0) (after start (ldm_of start member) log).parts
+
+  abbrev pub saving_after : List HostStep → SavingState
+  saving_after log = saving (rows_after log) (saver_after log)

@@ -19,7 +19,7 @@ use Rattle.sys_restart.specs.declared.restored.Restored.{Restored}
 use Rattle.sys_restart.specs.Calls.{next_system, rows_of_node}
 use Rattle.sys_restart.specs.Files as files
 use Rattle.sys_restart.specs.LifeCalls.{told_by}
-use Rattle.sys_restart.specs.Prepared.{IsReady}
+use Rattle.sys_restart.specs.Prepared.{AreStorable, IsReady}
 use Rattle.sys_restart.specs.ReadyDisks.{AreReady, AreToPrepare}
 use Rattle.sys_restart.specs.Restored.{restored_of}
 use Rattle.sysfile_core.specs.declared.place.TheConstants.{SYSTEM_FILE}
@@ -57,6 +57,8 @@ pub record IsReadyFor (shape : Shape) (r : Restored) (disks : Disks) (node : ℕ
   pub slots_are : (other : SlotsInUse) → get_or disks.slots (node - 1) other ≡ slots
   pub found : slots_in (r.generation + 1) (files_of calls) ≡ Ok (Some slots)
   pub shapes : AreOfShape shape (files_of calls SYSTEM_FILE)
+  -- the rows with which it begins can be written
+  pub storable : AreStorable (rows_of_node shape node r)
 
 pub record AreReadyFor (shape : Shape) (r : Restored) (disks : Disks) : Type 0 where
   pub told : length disks.told ≡ shape.nodes
@@ -83,6 +85,8 @@ pub record IsLivedAt (start : Start) (r : Restored) (member : Member) (w : Whole
       KeepsUp start member (rows_of_node start.shape member.node r) (next_system start.shape r) w disks
   pub tells : TellsWhatIsKept start member w
   pub shape : KeepsShape start.shape member.node disks
+  -- the rows with which it began can be written
+  pub storable : AreStorable (rows_of_node start.shape member.node r)
 
 -- A life that began behind what was restored has come to this world and these disks.
 pub record IsLived (r : Restored) (w : Whole) (disks : Disks) (start : Start) : Type 0 where

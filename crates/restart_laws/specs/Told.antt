@@ -5,8 +5,6 @@ use Rattle.run_theory.specs.Lists.{Each, IsIn}
 use Rattle.sig_core.specs.declared.member.Member.{Member}
 use Rattle.sig_core.specs.declared.signal.Body.{Body}
 use Rattle.sig_core.specs.declared.signal.Signal.{Signal}
-use Rattle.sig_core.specs.declared.slots.SystemSlot.{SystemSlot}
-use Rattle.sig_core.specs.Table.{Rows}
 use Rattle.request_laws.specs.Blocks.{rows_after}
 use Rattle.world_core.specs.Hosts.{hosts}
 use Rattle.world_core.specs.Start.{Start, made}
@@ -21,7 +19,6 @@ use Rattle.moment_laws.specs.Places.{ldm_of, tc_of}
 use Rattle.disk_world.specs.Disks.{Disks, HasGoneOn}
 use Rattle.saved_laws.specs.Copied.{TellsDurable, TellsSaved}
 use Rattle.disk_laws.specs.Noted.{WasNoted, kept_part}
-use Rattle.disk_laws.specs.OnDisk.{KeepsUp}
 
 -- a signal tells of no later epoch than this as saved
 abbrev pub TellsUpTo : ℕ → Body → Type 0
@@ -63,7 +60,6 @@ pub record TellsWhatIsKept (start : Start) (member : Member) (w : Whole) : Type 
 -- a host goes on, and its node's disk keeps what it is to keep of it, before anybody is told
 abbrev pub StepsTellWhatIsKept : Type 0
 StepsTellWhatIsKept =
-    (start : Start) (member : Member) (before : Rows) (first : SystemSlot) (w t : Whole) (old new : Disks)
-    (counts : List ℕ) → IsSound start w → IsIn member (made start) → start.shape.nodes ≤ length old.told
-    → start.shape.nodes ≤ length old.slots → HasGoneOn w old new counts t → KeepsUp start member before first w old
-    → TellsWhatIsKept start member w → TellsWhatIsKept start member t
+    (start : Start) (member : Member) (w t : Whole) (old new : Disks) (counts : List ℕ) → IsSound start w
+    → IsIn member (made start) → start.shape.nodes ≤ length old.told → start.shape.nodes ≤ length old.slots
+    → HasGoneOn w old new counts t → TellsWhatIsKept start member w → TellsWhatIsKept start member t

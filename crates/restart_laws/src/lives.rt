@@ -2,6 +2,8 @@
 ghost use Rattle.restart_laws.specs.Lived.{LivesAsk, LivesBegin, LivesGoOn, LivesHear, LivesRestart};
 ghost use Rattle.restart_laws.specs.Lived.{OpenedAreReady, RowsBegin};
 
+use saved_laws::walked_checkpoints_stand;
+
 /// A life begins on disks that are ready for it, as those are that it was opened on.
 pub fn lives_begin()
     ensures begins { LivesBegin }
@@ -12,7 +14,9 @@ pub fn lives_begin()
 /// It goes on where hosts do, each with what the disk of its node keeps of it.
 pub fn lives_go_on()
     ensures { LivesGoOn }
-{}
+{
+    walked_checkpoints_stand();
+}
 
 /// Where the shell asks for something, it goes on with the same disks; and where it is given replies.
 pub fn lives_ask_and_hear()

@@ -1,7 +1,6 @@
-//! Numbers that follow from a seed.
-ghost use Rattle.std.specs.Prelude.{◌<◌};
+//! Bytes that follow from a seed.
 
-/// Numbers that follow from a seed.
+/// Bytes that follow from a seed.
 #[derive(Drop)]
 pub struct Dice(u64);
 
@@ -11,15 +10,12 @@ impl Dice {
         Dice(seed)
     }
 
-    /// A number below `sides`.
-    pub fn roll(&mut self, sides: u64) -> u64
-        requires { 0 < sides }
-        ensures { result < sides }
-    {
+    /// The next byte.
+    pub fn byte(&mut self) -> u8 {
         self.0 = self
             .0
             .wrapping_mul(6364136223846793005)
             .wrapping_add(1442695040888963407);
-        (self.0 >> 33) % sides
+        ((self.0 >> 33) % 256) as u8
     }
 }

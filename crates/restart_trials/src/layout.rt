@@ -1,11 +1,9 @@
 //! Disks that are laid out by hand: what a life of a cluster left on them.
 use crate::trouble::Trouble;
-use host_io::{Disk, MemDisk};
-use lcp_store::{put_head, put_row, put_row2};
-use redo_format::encode;
-use sig_core::{ControlSlot, Key, Redo, Shape, SystemSlot, TxId, Value};
+use host_io::{Disk, FILES, MemDisk};
+use sig_core::{ControlSlot, Shape, SystemSlot};
 use std::alloc::Global;
-use sysfile_core::{control_bytes, system_bytes};
+use sysfile_core::{CONTROL_FILE, SYSTEM_FILE, control_bytes, system_bytes};
 
 /// Two nodes with the same rows.
 pub const PAIR: Shape = Shape {
@@ -22,6 +20,16 @@ pub struct Piece {
     pub bytes: Vec<u8>,
 }
 
+/// Which calls on a disk fail, counted from 0 behind those of its laying out.
+#[derive(Clone, Copy)]
+pub enum Trip {
+    Never,
+    /// All from this one on, until power is cut.
+    From(u64),
+    /// This one alone.
+    At(u64),
+}
+
 /// What stands on a disk, all of it synced.
 #[derive(Drop)]
 pub struct Layout {
@@ -30,6 +38,7 @@ pub struct Layout {
 }
 
 impl Layout {
+    /// A disk that was never written.
     pub fn new(alloc: Global) -> Layout {
         Layout {
             alloc,
@@ -37,54 +46,59 @@ impl Layout {
         }
     }
 
+    /// Bytes stand at a place of a file, too.
+    ///
+    /// # Errors
+    /// Want of memory, as of all that follow.
     pub fn put(&mut self, file: u8, at: u64, bytes: &[u8]) -> Result<(), Trouble> {
         let bytes = bytes.to_vec(self.alloc)?;
         self.pieces.push(Piece { file, at, bytes })?;
         Ok(())
     }
 
-    /// A system slot of the pair, which lists these nodes.
-    pub fn system(
-        &mut self,
-        at: u64,
-        generation: u64,
-        epoch: u64,
-        mask: u8,
-    ) -> Result<(), Trouble> {
-        let slot = SystemSlot {
-            shape: PAIR,
-            mask,
-            generation,
-            epoch,
-        };
-        self.put(0, at, &system_bytes(&slot))
+    /// A system slot stands at a place, too.
+    pub fn system(&mut self, at: u64, slot: &SystemSlot) -> Result<(), Trouble> {
+        self.put(SYSTEM_FILE, at, &system_bytes(slot))
     }
 
+    /// A control slot stands at a place, too.
     pub fn control(&mut self, at: u64, slot: &ControlSlot) -> Result<(), Trouble> {
-        self.put(1, at, &control_bytes(slot))
+        self.put(CONTROL_FILE, at, &control_bytes(slot))
     }
 
-    /// Lays it out on a disk whose calls from a number on, behind those of the laying out, fail until
-    /// power is cut; `None` where none fails.
-    pub fn on_disk(&self, pass: Option<u64>, picks: &[u8]) -> Result<MemDisk, Trouble> {
+    /// A disk with all of it, no call on which is to fail.
+    pub fn disk(&self) -> Result<MemDisk, Trouble> {
+        self.tripping(Trip::Never, &[])
+    }
+
+    /// A disk with all of it. `picks` say what a crash leaves.
+    ///
+    /// # Errors
+    /// `Layout` where a call of the laying out fails; want of memory.
+    pub fn tripping(&self, trip: Trip, picks: &[u8]) -> Result<MemDisk, Trouble> {
+        let mut disk = self.blank(trip, picks)?;
+        match self.lay(&mut disk) {
+            Ok(()) => Ok(disk),
+            Err(trouble) => Err(trouble),
+        }
+    }
+
+    fn blank(&self, trip: Trip, picks: &[u8]) -> Result<MemDisk, Trouble> {
         let picks = picks.to_vec(self.alloc)?;
-        let calls = 16u64.saturating_add(self.pieces.len() as u64);
-        let mut disk = match pass {
-            Some(pass) => MemDisk::fused(self.alloc, calls.saturating_add(pass), picks)?,
-            None => MemDisk::new(self.alloc, Vec::new(self.alloc), picks)?,
-        };
-        self.lay(&mut disk)?;
-        Ok(disk)
+        match trip {
+            Trip::Never => Ok(MemDisk::new(self.alloc, Vec::new(self.alloc), picks)?),
+            Trip::From(call) => Ok(MemDisk::fused(self.alloc, self.behind(call), picks)?),
+            Trip::At(call) => {
+                let fails = Vec::from_array(self.alloc, [self.behind(call)])?;
+                Ok(MemDisk::new(self.alloc, fails, picks)?)
+            }
+        }
     }
 
-    /// The same, but of the calls behind those of the laying out this one alone fails.
-    pub fn failing_at(&self, call: u64) -> Result<MemDisk, Trouble> {
-        let calls = 16u64.saturating_add(self.pieces.len() as u64);
-        let mut fails = Vec::new(self.alloc);
-        fails.push(calls.saturating_add(call))?;
-        let mut disk = MemDisk::new(self.alloc, fails, Vec::new(self.alloc))?;
-        self.lay(&mut disk)?;
-        Ok(disk)
+    // The number of a call behind the laying out: each piece is a write, and each file synced once.
+    fn behind(&self, call: u64) -> u64 {
+        call.saturating_add(FILES as u64)
+            .saturating_add(self.pieces.len() as u64)
     }
 
     fn lay(&self, disk: &mut MemDisk) -> Result<(), Trouble> {
@@ -93,75 +107,50 @@ impl Layout {
                 return Err(Trouble::Layout);
             }
         }
-        for file in 0..16 {
-            if disk.sync(file).is_err() {
-                return Err(Trouble::Layout);
-            }
-        }
-        Ok(())
+        sync_all(disk)
     }
 }
 
-/// A checkpoint of version 2 of these rows, which are words of one letter and their epochs.
-pub fn checkpoint(alloc: Global, rows: &[(u8, u8, u64)]) -> Result<Vec<u8>, Trouble> {
-    let mut bytes = Vec::new(alloc);
-    put_head(&mut bytes)?;
-    for (key, value, epoch) in rows {
-        put_row2(
-            &mut bytes,
-            &Key::new(&[*key])?,
-            *epoch,
-            &Value::new(&[*value])?,
-        )?;
-    }
-    Ok(bytes)
-}
-
-/// A checkpoint of version 1.
-pub fn first_checkpoint(alloc: Global, rows: &[(u8, u8)]) -> Result<Vec<u8>, Trouble> {
-    let mut bytes = Vec::new(alloc);
-    for (key, value) in rows {
-        put_row(&mut bytes, &Key::new(&[*key])?, &Value::new(&[*value])?)?;
-    }
-    Ok(bytes)
-}
-
-/// A transaction that was logged: its key, what it made of the row, and its epoch; none where it was
-/// given up.
-#[derive(Clone, Copy)]
-pub struct Logged {
-    pub key: u8,
-    pub value: Option<u8>,
-    pub epoch: Option<u64>,
-}
-
-/// The redo of transactions.
-pub fn redo(alloc: Global, logged: &[Logged]) -> Result<Vec<u8>, Trouble> {
-    let mut bytes = Vec::new(alloc);
-    let mut seq = 0u64;
-    for one in logged {
-        seq = seq.saturating_add(1);
-        let tx = TxId {
-            tc: 1,
-            start: 0,
-            seq,
-        };
-        let key = Key::new(&[one.key])?;
-        let image = match one.value {
-            Some(value) => Some(Value::new(&[value])?),
-            None => None,
-        };
-        let prepare = Redo::Prepare {
-            tx,
-            fragment: 0,
-            key,
-            image,
-        };
-        encode(&prepare, &mut bytes)?;
-        match one.epoch {
-            Some(epoch) => encode(&Redo::Commit { tx, epoch, key }, &mut bytes)?,
-            None => encode(&Redo::Abort { tx, key }, &mut bytes)?,
+fn sync_all(disk: &mut MemDisk) -> Result<(), Trouble> {
+    for file in 0..FILES {
+        if disk.sync(file).is_err() {
+            return Err(Trouble::Layout);
         }
     }
-    Ok(bytes)
+    Ok(())
+}
+
+/// Two disks as they are laid out, no call on which is to fail.
+pub fn disks_of(one: &Layout, other: &Layout) -> Result<[MemDisk; 2], Trouble> {
+    Ok([one.disk()?, other.disk()?])
+}
+
+/// A system slot of the pair, which lists these nodes.
+pub fn system_of(generation: u64, epoch: u64, mask: u8) -> SystemSlot {
+    SystemSlot {
+        shape: PAIR,
+        mask,
+        generation,
+        epoch,
+    }
+}
+
+/// A control slot of parity 0 that names a checkpoint of so many bytes, and no redo.
+pub fn slot_without_redo(
+    ckpt_file: u8,
+    generation: u64,
+    serial: u64,
+    saved: u64,
+    ckpt_size: u64,
+) -> ControlSlot {
+    ControlSlot {
+        ckpt_file,
+        parity: 0,
+        generation,
+        serial,
+        saved,
+        redo_start: 0,
+        redo_end: 0,
+        ckpt_size,
+    }
 }

@@ -1,134 +1,61 @@
-//! Stops and failing calls while the next life of the pair is prepared.
-use crate::dice::Dice;
-use crate::layout::{Layout, PAIR};
-use crate::pair::{disk_of, restore_pair};
+//! Stops while the next life of the pair is prepared.
+use crate::layout::Trip;
+use crate::pair::Pair;
+use crate::picks::{KINDS, picks_of};
 use crate::trouble::Trouble;
 use host_io::{Disk, MemDisk};
 use sig_core::RestartFault;
 use std::alloc::Global;
-use sys_restart::prepare_life;
 
 /// More calls than a preparation makes on one disk.
-const MANY: u64 = 60;
+pub const MANY: u64 = 60;
 
-/// What decides what a crash leaves, for many places.
-const PICKS: usize = 400;
-
-/// Power is cut at each call of a preparation in turn, on each of the disks, and leaves what picks say:
-/// nothing, all, every other byte, open gates, and at random. Answers how many stops there were.
+/// Power is cut at each call of a preparation in turn, on each of the disks, and leaves what picks of each
+/// kind say. With `long` there are long rows too. Answers how many stops there were.
 ///
 /// # Errors
 /// What is wrong with a restart behind one.
-pub fn stop_everywhere(alloc: Global) -> Result<u64, Trouble> {
-    let first = disk_of(alloc, 1)?;
-    let second = disk_of(alloc, 2)?;
+pub fn stop_everywhere(alloc: Global, long: bool) -> Result<u64, Trouble> {
+    let pair = Pair::new(alloc, long)?;
     let mut stops = 0u64;
-    for kind in 0..12u64 {
-        let picks = picks_of(alloc, kind)?;
-        for pass in 0..MANY {
-            let one = [
-                first.on_disk(Some(pass), &picks)?,
-                second.on_disk(None, &picks)?,
-            ];
-            stops = stops.saturating_add(stop_once(alloc, one)?);
-            let other = [
-                first.on_disk(None, &picks)?,
-                second.on_disk(Some(pass), &picks)?,
-            ];
-            stops = stops.saturating_add(stop_once(alloc, other)?);
+    for kind in 0..KINDS {
+        stops = stops.saturating_add(stop_by_kind(alloc, &pair, kind)?);
+    }
+    Ok(stops)
+}
+
+fn stop_by_kind(alloc: Global, pair: &Pair, kind: u64) -> Result<u64, Trouble> {
+    let picks = picks_of(alloc, kind)?;
+    Ok(stop_on(pair, 1, &picks)?.saturating_add(stop_on(pair, 2, &picks)?))
+}
+
+// Stops at each call on the disk of a node.
+fn stop_on(pair: &Pair, node: u8, picks: &[u8]) -> Result<u64, Trouble> {
+    let mut stops = 0u64;
+    for call in 0..MANY {
+        let mut disks = pair.tripping(node, Trip::From(call), picks)?;
+        if stop_once(pair, &mut disks)? {
+            stops = stops.saturating_add(1);
         }
     }
     Ok(stops)
 }
 
-fn picks_of(alloc: Global, kind: u64) -> Result<Vec<u8>, Trouble> {
-    let mut dice = Dice::new(kind);
-    let mut picks = Vec::new(alloc);
-    for at in 0..PICKS {
-        let pick = match kind {
-            0 => 0,
-            1 => 255,
-            2 if at % 2 == 0 => 255,
-            2 => 0,
-            3 => 0x4e,
-            4 if at % 2 == 0 => 0x4e,
-            4 => 255,
-            _ => dice.roll(256) as u8,
-        };
-        picks.push(pick)?;
-    }
-    Ok(picks)
-}
-
-// Restores and prepares, until a call fails; cuts power; restores, prepares and restores again. Answers
-// 1 where a call failed.
-fn stop_once(alloc: Global, disks: [MemDisk; 2]) -> Result<u64, Trouble> {
-    let mut disks = disks;
-    let stopped = match restore_pair(alloc, &mut disks, 1, 1) {
-        Ok(restored) => match prepare_life(alloc, &mut disks, PAIR, &restored) {
-            Ok(()) => 0,
-            Err(RestartFault::DiskFault { .. }) => 1,
-            Err(fault) => return Err(Trouble::from(fault)),
-        },
-        Err(Trouble::Fault(RestartFault::DiskFault { .. })) => 1,
-        Err(trouble) => return Err(trouble),
-    };
-    for disk in &mut disks {
+// Restores and prepares, until a call fails; cuts power; restores, prepares and restores again. Whether a
+// call failed.
+fn stop_once(pair: &Pair, disks: &mut [MemDisk; 2]) -> Result<bool, Trouble> {
+    let stopped = begin(pair, disks)?;
+    for disk in &mut *disks {
         disk.cut_power();
     }
-    go_on(alloc, &mut disks, if stopped == 0 { 2 } else { 1 })?;
+    pair.go_on(disks, if stopped { 1 } else { 2 })?;
     Ok(stopped)
 }
 
-// Restores and prepares, and restores what was prepared.
-fn go_on(alloc: Global, disks: &mut [MemDisk; 2], least: u64) -> Result<(), Trouble> {
-    let restored = restore_pair(alloc, disks, least, 2)?;
-    prepare_life(alloc, disks, PAIR, &restored)?;
-    let next = restored.generation.saturating_add(1);
-    restore_pair(alloc, disks, next, next)?;
-    Ok(())
-}
-
-/// Each call fails in turn, on each of the disks, and none behind it. Answers how many failed.
-///
-/// # Errors
-/// What is wrong with a restart behind one.
-pub fn fail_everywhere(alloc: Global) -> Result<u64, Trouble> {
-    let first = disk_of(alloc, 1)?;
-    let second = disk_of(alloc, 2)?;
-    let mut failed = 0u64;
-    for call in 0..MANY {
-        let one = [first.failing_at(call)?, second.on_disk(None, &[])?];
-        failed = failed.saturating_add(fail_once(alloc, one, 1)?);
-        let other = [first.on_disk(None, &[])?, second.failing_at(call)?];
-        failed = failed.saturating_add(fail_once(alloc, other, 2)?);
+fn begin(pair: &Pair, disks: &mut [MemDisk; 2]) -> Result<bool, Trouble> {
+    match pair.begin(disks) {
+        Ok(()) => Ok(false),
+        Err(Trouble::Fault(RestartFault::DiskFault { .. })) => Ok(true),
+        Err(trouble) => Err(trouble),
     }
-    Ok(failed)
-}
-
-// Restores and prepares; where a call fails the disk that failed is named with its count, and all goes
-// well from then on.
-fn fail_once(alloc: Global, disks: [MemDisk; 2], of: u8) -> Result<u64, Trouble> {
-    let mut disks = disks;
-    let answer = match restore_pair(alloc, &mut disks, 1, 1) {
-        Ok(restored) => prepare_life(alloc, &mut disks, PAIR, &restored),
-        Err(Trouble::Fault(fault)) => Err(fault),
-        Err(trouble) => return Err(trouble),
-    };
-    match answer {
-        Ok(()) => Ok(0),
-        Err(RestartFault::DiskFault { node, count }) => {
-            if node != of || count != 1 {
-                return Err(Trouble::Other);
-            }
-            go_on(alloc, &mut disks, 1)?;
-            Ok(1)
-        }
-        Err(fault) => Err(Trouble::from(fault)),
-    }
-}
-
-/// The disk of a node of the pair, as it is laid out.
-pub fn laid_out(layout: &Layout) -> Result<MemDisk, Trouble> {
-    layout.on_disk(None, &[])
 }

@@ -1,14 +1,16 @@
 //! Why a trial fails.
-use sig_core::{NoMemory, RestartFault, WordFault};
+use sig_core::{NoMemory, ReadFault, RestartFault, WordFault};
 use std::alloc::{AllocError, AllocFailed};
 
 /// Why a trial fails.
-#[derive(Clone, Copy, Debug, PartialEq, Eq)]
+#[derive(Clone, Copy, Debug)]
 pub enum Trouble {
     /// A restart gives another generation, epoch or rows than it should.
     Other,
     /// A restart or a preparation answers a fault.
     Fault(RestartFault),
+    /// Reading a checkpoint, or a node's own rows, answers a fault.
+    Read(ReadFault),
     /// One that should be refused isn't.
     NotRefused,
     /// A disk refuses what is laid out on it.
@@ -23,6 +25,15 @@ impl From<RestartFault> for Trouble {
         match fault {
             RestartFault::NoMemory => Trouble::NoMemory,
             fault => Trouble::Fault(fault),
+        }
+    }
+}
+
+impl From<ReadFault> for Trouble {
+    fn from(fault: ReadFault) -> Trouble {
+        match fault {
+            ReadFault::NoMemory => Trouble::NoMemory,
+            fault => Trouble::Read(fault),
         }
     }
 }

@@ -1,6 +1,8 @@
 //! Rows by their keys.
 ghost use Rattle.std.specs.Prelude.{◌≡◌, IfOk, OnOk, OnErr};
+ghost use Rattle.std.specs.Prelude.{map as each};
 ghost use Rattle.std.specs.FinMap as map;
+ghost use Rattle.std.specs.Map.Iter.{deref_pair};
 
 use sig_core::{Key, NoMemory, Value};
 use std::alloc::Global;
@@ -64,6 +66,21 @@ impl RowMap {
         ensures { self.new ≡ map.remove self.old key.now }
     {
         self.rows.remove(key);
+    }
+
+    /// The rows, in byte order of the keys, as they lie here: for who only reads them.
+    ///
+    /// # Errors
+    /// `NoMemory`.
+    #[tactic(auto, using(crate::proofs::ListingLemmas::listing))]
+    pub fn lend_rows(&self, alloc: Global) -> Result<Vec<(&Key, &Value)>, NoMemory>
+        ensures { IfOk result (λ rows. each deref_pair rows.items ≡ map.entries self.now) }
+    {
+        let mut rows = Vec::with_capacity(alloc, self.rows.len())?;
+        for (key, value) in self.rows.iter() {
+            rows.push((key, value))?;
+        }
+        Ok(rows)
     }
 
     /// The rows, in byte order of the keys.

@@ -3,3 +3,4 @@ pub mod masters
 pub mod others
 pub mod rows
 pub mod settled
+pub mod standing

@@ -3,6 +3,7 @@
 -- member are led to the history so far. It stands on closings, and on what keys are led to in commit_laws.
 pub mod All
 pub mod Along
+pub mod ByStep
 pub mod Cells
 pub mod Decisions
 pub mod Front

@@ -7,8 +7,8 @@ use Rattle.sig_core.specs.declared.mark.Mark.TheVariants.{Durable}
 use Rattle.sig_core.specs.declared.member.Member.{Member}
 use Rattle.sig_core.specs.declared.signal.Body.{Body}
 use Rattle.sig_core.specs.declared.signal.Body.TheVariants.{Epoch}
-use Rattle.sig_core.specs.declared.signal.epoch.EpochSignal.TheVariants.{CopyGciConf, CopyGciReq, GcpSaveConf}
-use Rattle.sig_core.specs.declared.signal.epoch.EpochSignal.TheVariants.{GcpStateConf}
+use Rattle.sig_core.specs.declared.signal.epoch.EpochSignal.TheVariants.{CopyGciConf, CopyGciReq, GcpDone}
+use Rattle.sig_core.specs.declared.signal.epoch.EpochSignal.TheVariants.{GcpSaveConf, GcpStateConf}
 use Rattle.sig_core.specs.declared.view.View.{View}
 use Rattle.world_core.specs.Hosts.{hosts}
 use Rattle.world_core.specs.Start.{Start}
@@ -67,3 +67,12 @@ DurableWereNoted =
     (start : Start) (all : ℕ → List HostStep) (es : List HostStep) → start.start_epoch < start.epoch
     → IsMoment start all es → (h epoch : ℕ) → h < hosts start → IsMarked (Durable epoch) (logs_of start es h)
     → IsOfDurable start (logs_of start es) epoch
+
+-- who tells that an epoch is durable has marked so
+abbrev pub DoneWereMarked : Type 0
+DoneWereMarked =
+    (start : Start) (all : ℕ → List HostStep) (es : List HostStep) → start.start_epoch < start.epoch
+    → IsMoment start all es → (i j : ℕ) → Each
+    (λ (y : Addressed). (epoch : ℕ) → y.signal.body ≡ Epoch (GcpDone epoch)
+    → IsMarked (Durable epoch) (logs_of start es i))
+    (sent (sound_machine start) i j (logs_of start es i))

@@ -13,7 +13,7 @@ use Rattle.life_start.specs.Begun.{AreSlotsOf, rows_of}
 use Rattle.life_start.specs.Records.{AllTellMore}
 use Rattle.life_start.specs.Shapes.{HaveShape}
 use Rattle.node_disk.specs.Slots.{SlotsInUse}
-use Rattle.restart_laws.specs.Lived.{AreReadyFor, IsLived, start_behind}
+use Rattle.restart_laws.specs.Lived.{AreReadyFor, IsLived, LivesGoOn, start_behind}
 use Rattle.restart_laws.specs.Restart.{IsOfLife}
 use Rattle.sig_core.specs.declared.no_memory.NoMemory.{NoMemory}
 use Rattle.sig_core.specs.declared.request.ApiReq.{ApiReq}
@@ -25,7 +25,6 @@ use Rattle.shell_top.specs.Seen.{Seen, seen, seen_on}
 use Rattle.restart_laws.proofs.lived.Asks.{lives_ask, lives_hear}
 use Rattle.restart_laws.proofs.lived.Begins.{lives_begin}
 use Rattle.restart_laws.proofs.lived.Ends.{lives_restart}
-use Rattle.restart_laws.proofs.lived.Goes.{lives_go_on}
 use Rattle.restart_laws.proofs.lived.Opened.{opened_are_ready}
 use Rattle.sys_restart.proofs.AlikeLemmas.{same_answer}
 use Rattle.sys_restart.proofs.DisksLemmas.{mapped}
@@ -98,15 +97,15 @@ same_disks told w t same =
 
 module _ {D : Type 0} (start : Start) (told : D → Option (List Call)) where
   -- something is asked for, and the world is driven to quiet
-  pub asked_lives : (request : ApiReq) → IsOfRequest request
+  pub asked_lives : LivesGoOn → (request : ApiReq) → IsOfRequest request
       → (result : Result (Unit {0}) NoMemory) (w u t : DiskWorld D)
       → HasAsked start request (whole_of w.world) (whole_of u.world)
       → (u.disks ≡ w.disks) × (u.slots ≡ w.slots)
       → OnOk result (WayOn (whole_of u.world) (disks_told told u) (whole_of t.world) (disks_told told t))
       → OnOk result (LivesOn start told w t)
-  asked_lives request words (Err fault) w u t asked same way = tt
-  asked_lives request words (Ok done) w u t asked same way = λ r was.
-      lives_go_on start r (whole_of u.world) (whole_of t.world) (disks_told told u) (disks_told told t) way
+  asked_lives go_on request words (Err fault) w u t asked same way = tt
+  asked_lives go_on request words (Ok done) w u t asked same way = λ r was.
+      go_on start r (whole_of u.world) (whole_of t.world) (disks_told told u) (disks_told told t) way
       (lives_ask start r request (whole_of w.world) (whole_of u.world) (disks_told told u) asked words
       (subst (λ disks. IsLived r (whole_of w.world) disks start) (sym (same_disks told w u same)) was))
 

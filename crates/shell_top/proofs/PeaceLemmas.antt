@@ -87,6 +87,7 @@ command_peaceful (command.Kill at) e = cc
 command_peaceful (command.Cut one other) e = cc
 command_peaceful command.Crash e = cc
 command_peaceful command.Restart e = cc
+command_peaceful command.Lcp e = cc
 command_peaceful command.Micro e = refl
 command_peaceful command.Gcp e = refl
 command_peaceful (command.Begin name at) e = refl

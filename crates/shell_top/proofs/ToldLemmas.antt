@@ -200,6 +200,8 @@ has_first command.Micro e =
     record { first = request.Micro; rest = []; are = refl; begins_it = refl; subject = refl; none = refl }
 has_first command.Gcp e =
     record { first = request.Gcp; rest = []; are = refl; begins_it = refl; subject = refl; none = refl }
+has_first command.Lcp e =
+    record { first = request.Lcp; rest = []; are = refl; begins_it = refl; subject = refl; none = refl }
 has_first command.View e =
     record { first = request.View; rest = []; are = refl; begins_it = refl; subject = refl; none = refl }
 has_first (command.Tick rounds) e =

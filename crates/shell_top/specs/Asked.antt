@@ -28,6 +28,7 @@ requests_of (command.Kill at) = request.Kill at ∷ []
 requests_of (command.Cut one other) = request.Cut one other ∷ []
 requests_of command.Micro = request.Micro ∷ []
 requests_of command.Gcp = request.Gcp ∷ []
+requests_of command.Lcp = request.Lcp ∷ []
 requests_of command.View = request.View ∷ []
 requests_of (command.Tick rounds) = request.Tick 1 rounds ∷ rounds_behind rounds (rounds - 1)
 requests_of (command.Rows at) = request.Rows at ∷ []
@@ -46,6 +47,7 @@ is_served (command.Cut one other) = true
 is_served (command.Tick rounds) = true
 is_served command.Micro = true
 is_served command.Gcp = true
+is_served command.Lcp = true
 is_served command.View = true
 is_served (command.Rows at) = true
 is_served (command.Digest at) = true
@@ -57,12 +59,13 @@ abbrev pub is_asked_for : Command → Bool
 is_asked_for command.Crash = true
 is_asked_for command = is_served command
 
--- the command stops nobody, cuts nobody off, and is none of the cluster's lives
+-- the command stops nobody, cuts nobody off, asks for no local checkpoint, and is none of the cluster's lives
 abbrev pub is_peaceful_command : Command → Bool
 is_peaceful_command (command.Kill at) = false
 is_peaceful_command (command.Cut one other) = false
 is_peaceful_command command.Crash = false
 is_peaceful_command command.Restart = false
+is_peaceful_command command.Lcp = false
 is_peaceful_command _ = true
 
 abbrev pub are_peaceful : List Command → Bool

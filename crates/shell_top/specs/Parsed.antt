@@ -31,7 +31,7 @@ is_order word =
 abbrev pub is_operator : List ℕ → Bool
 is_operator word =
     bytes_eq word (codes "kill") || bytes_eq word (codes "cut") || bytes_eq word (codes "micro")
-    || bytes_eq word (codes "gcp") || bytes_eq word (codes "view")
+    || bytes_eq word (codes "gcp") || bytes_eq word (codes "lcp") || bytes_eq word (codes "view")
 
 -- the words that may begin a line by now
 abbrev pub is_available : List ℕ → Bool
@@ -53,6 +53,7 @@ asked (command.Cut one other) = Ask (command.Cut one other)
 asked (command.Tick rounds) = Ask (command.Tick rounds)
 asked command.Micro = Ask command.Micro
 asked command.Gcp = Ask command.Gcp
+asked command.Lcp = Ask command.Lcp
 asked command.View = Ask command.View
 asked (command.Rows at) = Ask (command.Rows at)
 asked (command.Digest at) = Ask (command.Digest at)

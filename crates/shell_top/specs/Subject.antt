@@ -26,6 +26,7 @@ subject_in (command.Abort name) = Named name
 subject_in (command.Kill node) = Stop node
 subject_in command.Gcp = Closing
 subject_in command.Micro = Closing
+subject_in command.Lcp = Closing
 subject_in _ = Other
 
 -- and what the request is about that heads its requests
@@ -37,6 +38,7 @@ subject_of (request.Abort name) = Named name
 subject_of (request.Kill node) = Stop node
 subject_of request.Gcp = Closing
 subject_of request.Micro = Closing
+subject_of request.Lcp = Closing
 subject_of _ = Other
 
 -- a reply with this name may be a command's own: one with a name only where that is asked for

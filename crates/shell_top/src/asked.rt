@@ -14,6 +14,7 @@ ghost use Rattle.world_views.specs.WorldOf.{whole_of};
 
 use disk_world::DiskWorld;
 use host_io::Disk;
+use restart_laws::lives_go_on;
 use script_lang::Command;
 use sig_core::{ApiReq, HeldOp, NoMemory};
 use std::alloc::Global;
@@ -38,6 +39,7 @@ fn ask<R: Wait, D: Disk>(
     ensures grown { HasGrown (seen_on D.told D.faults world.old.disks.items) (seen_on D.told D.faults world.new.disks.items) }
     ensures lived { OnOk result (LivesOn start D.told world.old world.new) }
 {
+    lives_go_on();
     world.ask(alloc, request)?;
     world.drive(rt, alloc)
 }
@@ -142,6 +144,7 @@ pub fn ask_own<R: Wait, D: Disk>(
         }
         Command::Micro => ask(rt, alloc, world, ApiReq::Micro),
         Command::Gcp => ask(rt, alloc, world, ApiReq::Gcp),
+        Command::Lcp => ask(rt, alloc, world, ApiReq::Lcp),
         Command::View => ask(rt, alloc, world, ApiReq::View),
         Command::Rows { node } => ask(rt, alloc, world, ApiReq::Rows { node: *node }),
         Command::Digest { node } => ask(rt, alloc, world, ApiReq::Digest { node: *node }),

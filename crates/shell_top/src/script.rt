@@ -85,6 +85,7 @@ fn is_operator(word: &[u8]) -> bool
         || word == b"cut".as_slice()
         || word == b"micro".as_slice()
         || word == b"gcp".as_slice()
+        || word == b"lcp".as_slice()
         || word == b"view".as_slice()
 }
 
@@ -113,6 +114,7 @@ fn asked(command: &Command) -> Parsed
         | Command::Tick { .. }
         | Command::Micro
         | Command::Gcp
+        | Command::Lcp
         | Command::View
         | Command::Rows { .. }
         | Command::Digest { .. }

@@ -14,7 +14,7 @@ pub enum Subject {
     Alone,
     /// The stop of that node.
     Stop(u8),
-    /// The closing of an epoch.
+    /// The closing of an epoch, or a local checkpoint.
     Closing,
     /// The cluster, or rows.
     Other,
@@ -33,7 +33,7 @@ pub fn subject_of(command: &Command) -> Subject
         } => Subject::Named(*name),
         Command::Operate { name: None, op: _ } => Subject::Alone,
         Command::Kill { node } => Subject::Stop(*node),
-        Command::Gcp | Command::Micro => Subject::Closing,
+        Command::Gcp | Command::Micro | Command::Lcp => Subject::Closing,
         _ => Subject::Other,
     }
 }

@@ -2,7 +2,7 @@
 use Rattle.std.proofs.Common.{◌≡◌, ◌≢◌, inl, inr, ℕ, ◌<◌, ◌&&◌, List, [], ◌∷◌, length, Bool, true, false, refl, sym, ap, subst}
 use Rattle.std.proofs.Common.{◌∙◌, arith, if◌then◌else◌}
 use Rattle.std.proofs.lemmas.Bool.{eq-eqb, true≢false}
-use Rattle.std.specs.Prelude.{None, Some}
+use Rattle.std.specs.Prelude.{None, Some, not}
 use Rattle.run_theory.specs.Lists.{Each, IsIn}
 use Rattle.sig_core.specs.declared.log.HostLog.{HostLog}
 use Rattle.sig_core.specs.declared.log.LogStep.{LogStep}
@@ -17,7 +17,7 @@ use Rattle.world_core.specs.Start.{Start}
 use Rattle.world_core.specs.Steps.{Addressed, HostStep}
 use Rattle.world_core.specs.World.{logs_at, next_stamp, of_host, with_step}
 use Rattle.world_core.proofs.LogIndex.{logs_at_other, logs_at_own}
-use Rattle.world_views.specs.Disks.{GoesAlone}
+use Rattle.world_views.specs.Disks.{GoesAlone, HasMoreIf, HasOneMore}
 use Rattle.world_views.specs.Driven.{IsSound, IsWorld}
 use Rattle.world_views.specs.Links.{Arrival, LinkState, link, take_first}
 use Rattle.world_views.specs.Machine.{own_stop, step_by}
@@ -25,7 +25,7 @@ use Rattle.world_views.specs.Schedule.{HasTaken, is_discarded, left_of, taken_if
 use Rattle.world_views.specs.Sending.{is_asked}
 use Rattle.world_views.specs.World.{HasFailed, Whole, body_at, entered, halting, handled_by, is_stamp, step_made}
 use Rattle.world_views.specs.World.{with_body}
-use Rattle.world_views.proofs.AloneSteps.{logs_of_entered, none_more, one_more}
+use Rattle.world_views.proofs.AloneSteps.{logs_of_entered, makes_one, none_more, one_more}
 use Rattle.world_views.proofs.AloneLinks.{entered_other, left_was_there}
 use Rattle.world_views.proofs.Entered.{entered_by}
 use Rattle.world_views.proofs.TakeFacts.{IsTakenFrom, taken_first}
@@ -101,6 +101,29 @@ module _ (start : Start) (w : Whole) (t : Arrival) (sound : IsSound start w)
     taken_alone false u given handled =
         handled_alone (is_stamp (next_stamp v.stamps x.to x.signal.stamp)) u (given refl) handled
 
+    -- whether its host made a step
+    failed_more : (u : Whole) (cause : StopCause) → HasFailed v x.to cause u
+        → HasOneMore (logs_at w.logs x.to) (logs_at u.logs x.to)
+    failed_more u cause failed =
+        let a : Whole = with_body v x.to failed.left in
+        let wish : Addressed = halting a x.to (body_at v.bodies x.to).standing.view cause in
+        let by : Step HostBody = stopping (body_at a.bodies x.to) cause in
+        makes_one w u x.to (step_made a wish by) there
+        (ap (λ (b : Whole). b.logs) failed.is ∙ logs_of_entered a 0 wish by)
+
+    handled_more : (b : Bool) (u : Whole) → handled_by b v x u
+        → HasOneMore (logs_at w.logs x.to) (logs_at u.logs x.to)
+    handled_more true u (inl is) =
+        let by : Step HostBody = step_by x.to (body_at w.bodies x.to) x.signal in
+        makes_one w u x.to (step_made v x by) there (ap (λ (a : Whole). a.logs) is ∙ logs_of_entered v 0 x by)
+    handled_more true u (inr (some, failed)) = failed_more u Memory failed
+    handled_more false u (some, failed) = failed_more u Clock failed
+
+    taken_more : (b : Bool) (u : Whole) → taken_if b v x u
+        → HasMoreIf (not b) (logs_at w.logs x.to) (logs_at u.logs x.to)
+    taken_more true u is = ap (λ (a : Whole). logs_at a.logs x.to) is
+    taken_more false u handled = handled_more (is_stamp (next_stamp v.stamps x.to x.signal.stamp)) u handled
+
 -- the first signal of the first link that has one was taken
 pub step_alone : (w u : Whole) (t : Arrival) → IsWorld w → take_first w.links ≡ Some t
     → HasTaken (left_of w t) t.taken u → GoesAlone w t.taken.to u
@@ -108,3 +131,15 @@ step_alone w u t is first taken =
     taken_alone is.start w t is.sound
     (taken_first (hosts is.start) w.links t is.sound.right.sizes.links first)
     (is_discarded (left_of w t) t.taken) u (first_given w t is first) taken
+
+-- and its host made a step, unless it was discarded, as a test of the signal that was read says
+pub step_more : (w u : Whole) (t : Arrival) (discarded : Bool) (read : Signal) → IsWorld w
+    → take_first w.links ≡ Some t → HasTaken (left_of w t) t.taken u → read ≡ t.taken.signal
+    → discarded ≡ is_discarded (left_of w t) (record { to = t.taken.to; signal = read })
+    → HasMoreIf (not discarded) (logs_at w.logs t.taken.to) (logs_at u.logs t.taken.to)
+step_more w u t discarded read is first taken same tests =
+    subst (λ (b : Bool). HasMoreIf (not b) (logs_at w.logs t.taken.to) (logs_at u.logs t.taken.to))
+    (sym (tests ∙ ap (λ (x : Signal). is_discarded (left_of w t) (record { to = t.taken.to; signal = x })) same))
+    (taken_more is.start w t is.sound
+    (taken_first (hosts is.start) w.links t is.sound.right.sizes.links first)
+    (is_discarded (left_of w t) t.taken) u taken)

@@ -11,7 +11,7 @@ use Rattle.node_views.specs.declared.host_body.HostBody.{HostBody}
 use Rattle.world_core.specs.Steps.{Addressed, HostStep}
 use Rattle.world_core.specs.World.{logs_at, of_host, with_step}
 use Rattle.world_core.proofs.LogIndex.{logs_at_other, logs_at_own}
-use Rattle.world_views.specs.Disks.{GoesAlone}
+use Rattle.world_views.specs.Disks.{GoesAlone, HasOneMore}
 use Rattle.world_views.specs.Links.{link}
 use Rattle.world_views.specs.Machine.{own_stop}
 use Rattle.world_views.specs.Sending.{is_asked}
@@ -19,10 +19,16 @@ use Rattle.world_views.specs.World.{Whole, entered, step_made}
 use Rattle.world_views.proofs.Entered.{entered_by}
 
 -- no list is one longer than itself
-longer : {A : Type 0} (x : A) (xs ys : List A) → ys ≡ xs → ys ≡ x ∷ xs → ⊥
+pub longer : {A : Type 0} (x : A) (xs ys : List A) → ys ≡ xs → ys ≡ x ∷ xs → ⊥
 longer x xs ys same more = omega (arith, ap length same, ap length more)
 
--- a step of a host that is there
+-- a host that is there makes a step
+pub makes_one : (w t : Whole) (h : ℕ) (e : LogStep) → h < length w.logs → t.logs ≡ with_step w.logs h e
+    → HasOneMore (logs_at w.logs h) (logs_at t.logs h)
+makes_one w t h e there is =
+    (of_host h e, ap (λ (logs : List HostLog). logs_at logs h) is ∙ logs_at_own w.logs h e there)
+
+-- and nothing else
 pub one_more : (w t : Whole) (h : ℕ) (e : LogStep) → h < length w.logs → t.logs ≡ with_step w.logs h e
     → ((i j : ℕ) (x : Signal) → i ≢ h → IsIn x (link t.links i j).signals → IsIn x (link w.links i j).signals)
     → (is_asked h e.taken ≡ false → IsIn e.taken (link w.links e.taken.from.0 h).signals)

@@ -1,5 +1,5 @@
 -- What a world tells who keeps the disks of its nodes.
-use Rattle.std.specs.Prelude.{◌≡◌, ◌⊎◌, ℕ, false, List, [], ◌∷◌, Option, None, Some}
+use Rattle.std.specs.Prelude.{◌≡◌, ◌⊎◌, ℕ, Bool, true, false, List, [], ◌∷◌, Option, None, Some}
 use Rattle.run_theory.specs.Lists.{IsIn}
 use Rattle.sig_core.specs.declared.outcome.StopCause.TheVariants.{Disk}
 use Rattle.sig_core.specs.declared.signal.Signal.{Signal}
@@ -19,9 +19,17 @@ newest_taken (e ∷ log) = Some e.step.taken
 abbrev pub last_taken : Whole → ℕ → Option Signal
 last_taken w h = newest_taken (logs_at w.logs h)
 
--- a log has at most one step more
+-- a log has one step more, or at most one
+abbrev pub HasOneMore : List HostStep → List HostStep → Type 0
+HasOneMore old new = (e : HostStep) × (new ≡ e ∷ old)
+
 abbrev pub HasAtMostOneMore : List HostStep → List HostStep → Type 0
-HasAtMostOneMore old new = (new ≡ old) ⊎ ((e : HostStep) × (new ≡ e ∷ old))
+HasAtMostOneMore old new = (new ≡ old) ⊎ HasOneMore old new
+
+-- the log of a host that handled a signal, and of one that discarded it
+abbrev pub HasMoreIf : Bool → List HostStep → List HostStep → Type 0
+HasMoreIf true old new = HasOneMore old new
+HasMoreIf false old new = new ≡ old
 
 -- Of all hosts only this one went on, by one step, or its signal was discarded and it made none. Nothing came onto links
 -- from hosts that made no step; what the host took, unless it asked itself for it, stood on its link; and it didn't stop

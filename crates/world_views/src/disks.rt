@@ -1,5 +1,5 @@
 //! What a world tells who keeps the disks of its nodes, and is told of them.
-ghost use Rattle.std.specs.Prelude.{◌≡◌, ◌≤◌, false, IfNone, IfSome, None, OnErr, OnOk, Some, true};
+ghost use Rattle.std.specs.Prelude.{◌≡◌, ◌≤◌, false, IfNone, IfSome, None, OnErr, OnOk, Some, length, true};
 ghost use Rattle.sig_core.specs.declared.outcome.StopCause.TheVariants.{Disk};
 ghost use Rattle.world_views.specs.World.{body_at};
 
@@ -10,7 +10,7 @@ use std::alloc::Global;
 
 impl World {
     ghost use Rattle.world_core.specs.Start.{Start};
-    ghost use Rattle.world_core.specs.World.{logs_at};
+    ghost use Rattle.world_core.specs.World.{logs_at, steps_of};
     ghost use Rattle.world_views.specs.Disks.{last_taken};
     ghost use Rattle.world_views.specs.Driven.{HaveGrown, IsDriven, IsSound, IsWorld};
     ghost use Rattle.world_views.specs.Unscheduled.{AreUnscheduled};
@@ -34,6 +34,13 @@ impl World {
         ensures none { IfNone result (last_taken (whole_of self.now) host.0 ≡ None) }
     {
         self.logs.last(host.0)
+    }
+
+    /// How many steps a host has made.
+    pub fn steps(&self, host: HostId) -> usize
+        ensures { result ≡ length (steps_of self.now.logs host.0) }
+    {
+        self.logs.count(host.0)
     }
 
     /// The disk of a node failed in what it was to keep of a host's last step, and has failed so many times

@@ -17,4 +17,4 @@ mod world;
 
 pub use hosts::PARTS;
 pub use schedule::{Pick, ScheduleFault};
-pub use world::World;
+pub use world::{Taken, World};

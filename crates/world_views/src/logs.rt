@@ -1,6 +1,6 @@
 //! The logs of all hosts.
 ghost use Rattle.std.specs.Prelude.{◌≡◌, ◌<◌, length, IfNone, IfOk, IfSome, None, OnErr, OnOk, Some};
-ghost use Rattle.world_core.specs.World.{for_each, logs_at, no_steps, with_step};
+ghost use Rattle.world_core.specs.World.{for_each, logs_at, no_steps, steps_of, with_step};
 ghost use Rattle.world_views.specs.Disks.{newest_taken};
 
 use sig_core::{HostId, HostLog, LogStep, NoMemory, Seq, Signal};
@@ -59,6 +59,16 @@ impl Logs {
         match self.hosts[host as usize].steps.as_slice().last() {
             Some(step) => Some(step.taken.get()),
             None => None,
+        }
+    }
+
+    /// How many steps a host has made.
+    pub fn count(&self, host: u32) -> usize
+        ensures { result ≡ length (steps_of self.now host) }
+    {
+        match self.hosts.get(host as usize) {
+            Some(log) => log.steps.len(),
+            None => 0,
         }
     }
 

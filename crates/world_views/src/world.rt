@@ -27,6 +27,14 @@ use std::sync::Wait;
 /// A step whose stamp would be this, or more, stops its host.
 const STAMPS_END: u64 = 1 << 48;
 
+/// A signal that was taken from a link: the host that it was for, and whether that handled it. One that has
+/// stopped or has cut off its sender discards it, and makes no step.
+#[derive(Clone, Copy)]
+pub struct Taken {
+    pub host: HostId,
+    pub handled: bool,
+}
+
 /// All hosts, the links between them, and the log of each.
 #[derive(Drop)]
 pub struct World {
@@ -51,7 +59,7 @@ impl World {
     ghost use Rattle.world_core.specs.Lives.{fresh_life};
     ghost use Rattle.world_core.specs.Start.{Start};
     ghost use Rattle.world_core.specs.World.{logs_at, next_stamp};
-    ghost use Rattle.world_views.specs.Disks.{GoesAlone};
+    ghost use Rattle.world_views.specs.Disks.{GoesAlone, HasMoreIf};
     ghost use Rattle.world_views.specs.Driven.{HasAsked, HaveGrown, IsDriven, IsSound, IsStepped, IsWorld};
     ghost use Rattle.world_views.specs.Machine.{own_signal};
     ghost use Rattle.world_views.specs.Schedule.{HasTaken, is_discarded};
@@ -140,15 +148,16 @@ impl World {
         unreachable!()
     }
 
-    /// Takes the first signal of the first link that has one. Says whose link it was; none where nothing is
+    /// Takes the first signal of the first link that has one. Says what became of it; none where nothing is
     /// under way.
     ///
     /// # Errors
     /// `NoMemory`, and then the world is of use for its logs alone.
-    pub fn step(&mut self, alloc: Global) -> Result<Option<HostId>, NoMemory>
+    pub fn step(&mut self, alloc: Global) -> Result<Option<Taken>, NoMemory>
         requires { IsWorld (whole_of self.old) }
         ensures ok { (start : Start) → IsSound start (whole_of self.old) → IfOk result (λ at. IsStepped start (whole_of self.old) (whole_of self.new) (is_some at)) }
-        ensures alone { IfOk result (λ at. IfSome at (λ host. GoesAlone (whole_of self.old) host.0 (whole_of self.new))) }
+        ensures alone { IfOk result (λ at. IfSome at (λ taken. GoesAlone (whole_of self.old) taken.host.0 (whole_of self.new))) }
+        ensures made { IfOk result (λ at. IfSome at (λ taken. HasMoreIf taken.handled (logs_at self.old.logs taken.host.0) (logs_at self.new.logs taken.host.0))) }
         ensures err { OnErr result (self.new.logs ≡ self.old.logs) }
         ensures unscheduled { (disks : Bool) (start : Start) → IsSound start (whole_of self.old) → AreUnscheduled disks start (logs_at self.old.logs) → AreUnscheduled disks start (logs_at self.new.logs) }
     {
@@ -156,8 +165,9 @@ impl World {
             return Ok(None);
         };
         let host = HostId(arrived.host);
+        let handled = !self.is_discarded(arrived.host, arrived.signal.get().from);
         self.take(alloc, arrived.host, arrived.signal)?;
-        Ok(Some(host))
+        Ok(Some(Taken { host, handled }))
     }
 
     // A signal that was taken from its link is discarded where its host has stopped or has cut off its

@@ -10,6 +10,8 @@ use Rattle.lqh_block.specs.State.{LqhState}
 use Rattle.lqh_block.specs.Views.{is_coordinated, was_begun_by}
 use Rattle.lqh_block.specs.declared.request.Request.{Request}
 use Rattle.lqh_block.proofs.EachLqh.{RequestSends, RowsMark, RowsSend, lqh_marks_each, lqh_sends_each}
+use Rattle.lqh_saver.specs.Saver.{idling, passed, saver_by, saver_row}
+use Rattle.lqh_saver.specs.State.{SavingState, saving}
 use Rattle.lqh_views.specs.Laws.{IsCalm, beside, is_of_rows_by}
 use Rattle.lqh_views.specs.Replica.{replica_row}
 use Rattle.lqh_views.specs.State.{ReplicaState}
@@ -18,7 +20,7 @@ use Rattle.lqh_views.proofs.ListsKept.{lists_kept}
 use Rattle.node_core.specs.declared.host.Host.TheVariants as plain_host
 use Rattle.node_core.specs.Row as plain_row
 use Rattle.node_views.specs.Blocks.{in_ldm}
-use Rattle.node_views.specs.Parts.{in_replica, raised}
+use Rattle.node_views.specs.Parts.{in_saving, raised}
 use Rattle.node_views.specs.Row.{is_stop}
 use Rattle.node_views.specs.declared.ldm_part.LdmPart.{LdmPart}
 use Rattle.node_views.specs.declared.parts.Parts.TheVariants.{Ldm}
@@ -26,10 +28,11 @@ use Rattle.run_theory.specs.Lists.{Each}
 use Rattle.sig_core.specs.declared.mark.Mark.{Mark}
 use Rattle.sig_core.specs.declared.member.TxId.{TxId}
 use Rattle.sig_core.specs.declared.signal.Body.{Body}
-use Rattle.sig_core.specs.declared.signal.Body.TheVariants.{Host, Chain, Epoch, Membership, Takeover}
+use Rattle.sig_core.specs.declared.signal.Body.TheVariants.{Host, Chain, Checkpoint, Epoch, Membership, Takeover}
 use Rattle.sig_core.specs.declared.signal.Signal.{Signal}
 use Rattle.sig_core.specs.declared.signal.chain.ChainSignal.TheVariants.{Abort, Commit, Complete}
-use Rattle.sig_core.specs.declared.signal.epoch.EpochSignal.TheVariants.{GcpClosed, GcpSaveReq, GcpStateReq}
+use Rattle.sig_core.specs.declared.signal.checkpoint.CheckpointSignal.TheVariants.{LcpFragOrd, LcpSwitch}
+use Rattle.sig_core.specs.declared.signal.epoch.EpochSignal.TheVariants.{GcpClosed, GcpDone, GcpSaveReq, GcpStateReq}
 use Rattle.sig_core.specs.declared.signal.host.HostSignal.TheVariants.{Continue}
 use Rattle.sig_core.specs.declared.signal.host.Work.TheVariants as work
 use Rattle.sig_core.specs.declared.signal.membership.MembershipSignal.TheVariants.{FenceReq}
@@ -155,6 +158,14 @@ of_rows s x view own (Epoch (GcpSaveReq epoch)) is = absurd (false≢true is)
 of_rows s x view own (Epoch GcpStateReq) is = absurd (false≢true is)
 of_rows s x view own body is = refl
 
+-- nor of a local checkpoint, and tells of no durable epoch: the rows take it themselves
+of_saver : (s : SavingState) (x : Signal) (body : Body) → is_for_rows body ≡ true → saver_by s x body ≡ passed s x
+of_saver s x (Checkpoint LcpFragOrd) is = absurd (false≢true is)
+of_saver s x (Checkpoint LcpSwitch) is = absurd (false≢true is)
+of_saver s x (Host (Continue work.Walk at)) is = absurd (false≢true is)
+of_saver s x (Epoch (GcpDone epoch)) is = absurd (false≢true is)
+of_saver s x body is = refl
+
 not_raised : (fence : ℕ) (body : Body) → is_for_rows body ≡ true → raised fence body ≡ fence
 not_raised fence (Membership (FenceReq proposal)) is = absurd (false≢true is)
 not_raised fence body is = refl
@@ -167,6 +178,9 @@ same_view : (s : LqhState) (body : Body) → (lqh_table s body).state.layout.vie
 same_view s body = ap (λ (layout : Layout). layout.view) (lists_kept some_tx [] s body).2
 
 module _ (start : Start) (h : ℕ) (p : LdmPart) (x : Signal) where
+  abbrev saved : Step SavingState
+  saved = saver_row (saving p.replica p.saver) x
+
   rows_alone : p.replica.lqh.layout.view ≡ first start → x.view.number ≡ first_number
       → Each (IsOfFirst start) (txs_in x.body) → is_for_rows x.body ≡ true
       → replica_row p.replica x ≡ beside p.replica (lqh_row p.replica.lqh x)
@@ -176,9 +190,10 @@ module _ (start : Start) (h : ℕ) (p : LdmPart) (x : Signal) where
       (lqh_sends_each (IsCalm p.replica.lqh.layout.view) p.replica.lqh x.body
       (rows_calm start p.replica.lqh.layout.view own x.body known p.replica.lqh))
 
+  -- with whatever their saver notices
   rows_step : p.replica.lqh.layout.view ≡ first start → p.fence ≡ first_number → x.view.number ≡ first_number
       → Each (IsOfFirst start) (txs_in x.body) → is_for_rows x.body ≡ true
-      → PartsAlike start h (in_ldm (in_replica p x.body (replica_row p.replica x)))
+      → PartsAlike start h (in_ldm (in_saving p x.body (passed (idling (saving p.replica p.saver)) x)))
       (plain_row.in_ldm (lqh_row p.replica.lqh x))
   rows_step own fence view known is = record {
     marks = ap (λ (step : Step ReplicaState). step.effects.marks) same;
@@ -197,8 +212,12 @@ module _ (start : Start) (h : ℕ) (p : LdmPart) (x : Signal) where
 
   pub row_step : (s : LqhState) → ArePartsAlike start [] (Ldm p) (plain_host.Ldm s) → x.view.number ≡ first_number
       → Each (IsOfFirst start) (txs_in x.body) → is_for_rows x.body ≡ true
-      → PartsAlike start h (in_ldm (in_replica p x.body (replica_row p.replica x))) (plain_row.in_ldm (lqh_row s x))
+      → PartsAlike start h (in_ldm (in_saving p x.body saved)) (plain_row.in_ldm (lqh_row s x))
   row_step s alike view known is =
-      subst (λ (s : LqhState). PartsAlike start h (in_ldm (in_replica p x.body (replica_row p.replica x)))
+      subst (λ (t : Step SavingState). PartsAlike start h (in_ldm (in_saving p x.body t))
+      (plain_row.in_ldm (lqh_row s x)))
+      (sym (of_saver (idling (saving p.replica p.saver)) x x.body is))
+      (subst (λ (s : LqhState).
+      PartsAlike start h (in_ldm (in_saving p x.body (passed (idling (saving p.replica p.saver)) x)))
       (plain_row.in_ldm (lqh_row s x))) alike.0
-      (rows_step (ap (λ (l : LqhState). l.layout.view) alike.0 ∙ alike.1.0) alike.1.1 view known is)
+      (rows_step (ap (λ (l : LqhState). l.layout.view) alike.0 ∙ alike.1.0) alike.1.1 view known is))

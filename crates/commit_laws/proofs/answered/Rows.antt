@@ -30,6 +30,7 @@ use Rattle.commit_laws.proofs.gathering.EndsTold.{IsEnd, beside_ends}
 use Rattle.commit_laws.proofs.forth.All.{forth_is_known}
 use Rattle.commit_laws.proofs.commits.RowsEnd.{IsRowsWord, rows_words}
 use Rattle.commit_laws.proofs.hosts.RowsTurn.{IsTakenAt, rows_each}
+use Rattle.commit_laws.proofs.hosts.SaverGoes.{of_saver}
 use Rattle.commit_laws.proofs.links.TakenChains.{chain_told}
 
 module _ (start : Start) (all : ℕ → List HostStep) (e : HostStep) (es : List HostStep)
@@ -83,6 +84,9 @@ module _ (start : Start) (all : ℕ → List HostStep) (e : HostStep) (es : List
         → AreAnswered (step_after start (ldm_of start member) (old (ldm_of start member)) e).effects.sends
     own_answered member there =
         rows_each start all e es moment member there (λ (o : Outgoing). IsAnswered start new number o.body)
+        (λ o own.
+        of_saver (IsAnswered start new number) (record { reports = λ epoch. tt; confirms = tt; goes_on = λ at. tt })
+        o.body own)
         (λ s between taken.
         each_map (λ (o : Outgoing). IsRowsWord x.body o.body) (λ (o : Outgoing). IsAnswered start new number o.body)
         (replica_row s x).effects.sends (λ o word. word_answered member there s taken o.body word) (rows_words s x))

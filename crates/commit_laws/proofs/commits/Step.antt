@@ -73,6 +73,7 @@ use Rattle.commit_laws.proofs.commits.Owners.{IsAtCommit, IsOwnersWord, OwnersSa
 use Rattle.commit_laws.proofs.commits.OwnersTakeover.{IsBusy}
 use Rattle.commit_laws.proofs.commits.RowsEnd.{IsRowsWord, rows_words}
 use Rattle.commit_laws.proofs.hosts.RowsTurn.{IsBetween, IsTakenAt, rows_each}
+use Rattle.commit_laws.proofs.hosts.SaverGoes.{of_saver}
 use Rattle.commit_laws.proofs.links.TakenChains.{chain_told}
 use Rattle.commit_laws.proofs.markers.Traces.{alone_now, complete_done, written_now}
 
@@ -275,6 +276,7 @@ module _ (forth : ForthIsKnownAlways) (remembered : CommitsAreRemembered) (ackno
         → AreNew (sends_at (ldm_of start me))
     rows_sent me there =
         rows_each start all e es moment me there (λ (o : Outgoing). NewWord o.body)
+        (λ o own. of_saver NewWord (record { reports = λ epoch. tt; confirms = tt; goes_on = λ at. tt }) o.body own)
         (λ s between taken. taken_new me there s between taken)
 
     -- of coordinators and takeovers

@@ -41,6 +41,7 @@ use Rattle.commit_laws.proofs.forth.DecidedStay.{forth_decided, written_before}
 use Rattle.commit_laws.proofs.forth.All.{forth_is_known}
 use Rattle.commit_laws.proofs.commits.RowsEnd.{IsRowsWord, PassesOn, rows_words}
 use Rattle.commit_laws.proofs.hosts.RowsTurn.{IsTakenAt, rows_each}
+use Rattle.commit_laws.proofs.hosts.SaverGoes.{is_of_saver}
 use Rattle.commit_laws.proofs.links.TakenChains.{chain_told}
 use Rattle.commit_laws.proofs.commits.WholeHosts.{owner_whole}
 
@@ -138,6 +139,8 @@ module _ (start : Start) (all : ℕ → List HostStep) (e : HostStep) (es : List
         rows_whole member there at inside =
             each_in (λ (one : Outgoing). one ≡ o → Whole) o _
             (rows_each start all e es moment member there (λ (one : Outgoing). one ≡ o → Whole)
+            (λ one own is.
+            absurd (true≢false (sym own ∙ ap is_of_saver (ap (λ (u : Outgoing). u.body) is ∙ about))))
             (λ s between taken.
             each_map (λ (one : Outgoing). IsRowsWord x.body one.body) (λ (one : Outgoing). one ≡ o → Whole)
             (replica_row s x).effects.sends

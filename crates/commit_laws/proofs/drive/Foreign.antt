@@ -20,6 +20,7 @@ use Rattle.sig_core.specs.declared.view.View.{View}
 use Rattle.lqh_block.specs.Views.{is_coordinated}
 use Rattle.tc_views.specs.State.{CoordinatorState}
 use Rattle.tc_views.specs.Views.{install_row}
+use Rattle.lqh_saver.specs.State.{saving}
 use Rattle.node_views.specs.declared.tc_part.TcPart.{TcPart}
 use Rattle.node_views.specs.Parts.{ldm_row, tc_row}
 use Rattle.world_core.specs.Start.{Start, made}
@@ -290,7 +291,8 @@ module _ (start : Start) (all : ℕ → List HostStep) (tx : TxId) (number : ℕ
 
         of_block : (b : BlockId)
             → count_sent (onward tx place) (ldm_row row.does.between b e.step.taken).effects.sends ≡ 0
-        of_block block.Lqh = rows_stay tx place row.does.between.replica e.step.taken
+        of_block block.Lqh =
+            rows_stay tx place (saving row.does.between.replica row.does.between.saver) e.step.taken
         of_block _ = refl
 
         rest_none : PartTakes ldm_kind start.shape row.does.between (view_after start e.host (e ∷ log)) e.step.taken

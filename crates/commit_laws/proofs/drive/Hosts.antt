@@ -23,6 +23,7 @@ use Rattle.dih_node.specs.Orders as dih
 use Rattle.takeover_block.specs.Takeover.{takeover_row}
 use Rattle.tc_views.specs.Coordinator.{coordinator_row}
 use Rattle.tc_views.specs.Views as coordinator
+use Rattle.lqh_saver.specs.State.{saving}
 use Rattle.node_views.specs.declared.parts.Parts.TheVariants.{Ldm}
 use Rattle.node_views.specs.declared.tc_part.TcPart.{TcPart}
 use Rattle.node_views.specs.Fence.{is_body_fenced}
@@ -57,7 +58,7 @@ use Rattle.request_laws.proofs.tokens.RowHosts.{sent_few, test_taken}
 use Rattle.request_laws.proofs.tokens.FirstInView.{sent_now, taken_now}
 use Rattle.commit_laws.proofs.drive.Kinds.{Drive, Keys, comes, committing, completing, either, either_aside, goes}
 use Rattle.commit_laws.proofs.drive.Kinds.{numbered}
-use Rattle.commit_laws.proofs.drive.Rows.{rows_pass}
+use Rattle.commit_laws.proofs.drive.Rows.{saving_pass}
 
 -- a signal that passes is of a kind that fences stop, and no host asks itself for one
 pub goes_plain : (drive : Drive) (w : Keys) (body : Body) → goes drive w body ≡ true
@@ -210,7 +211,7 @@ module _ (start : Start) (all : ℕ → List HostStep) (e : HostStep) (es : List
             omega (
               arith,
               ap (count_sent (either drive w)) is,
-              rows_pass drive w step.does.between.replica x,
+              saving_pass drive w (saving step.does.between.replica step.does.between.saver) x,
               test_taken start all e es moment (goes drive w) (goes_plain drive w) block.Lqh taken,
             )
         row_few passed _ to rest is = nothing_few rest is

@@ -40,8 +40,11 @@ use Rattle.lqh_views.specs.Report.{go_on_by, report_row, is_orphaned_marker, is_
 use Rattle.lqh_views.specs.Report.{record_by, reporting, telling, told_record_if}
 use Rattle.lqh_views.specs.State.{ReplicaState}
 use Rattle.lqh_views.proofs.AddressLemmas.{same-body}
+use Rattle.lqh_saver.specs.Saver.{saver_row}
+use Rattle.lqh_saver.specs.State.{SavingState}
 use Rattle.outcome_laws.specs.Counts.{count_sent, one_if}
 use Rattle.outcome_laws.proofs.coordinators.Lists.{count_more, none_counted}
+use Rattle.commit_laws.proofs.hosts.SaverGoes.{IsOfSaver, of_saver, saver_lists}
 use Rattle.commit_laws.proofs.drive.Kinds.{Drive, Keys, committing, completing, either, goes}
 
 either_less : (b : Bool) → one_if (b || false) ≤ one_if b
@@ -269,6 +272,23 @@ module _ (drive : Drive) (w : Keys) where
       by_few _ = passed_few
 
 -- whatever rows take
-pub rows_pass : (drive : Drive) (w : Keys) (s : ReplicaState) (x : Signal)
+rows_pass : (drive : Drive) (w : Keys) (s : ReplicaState) (x : Signal)
     → count_sent (either drive w) (replica_row s x).effects.sends ≤ one_if (goes drive w x.body)
 rows_pass drive w s x = by_few drive w s x x.body
+
+-- and with their saver, which sends neither
+pub saving_pass : (drive : Drive) (w : Keys) (s : SavingState) (x : Signal)
+    → count_sent (either drive w) (saver_row s x).effects.sends ≤ one_if (goes drive w x.body)
+saving_pass drive w s x =
+    saver_lists s x (λ sends. count_sent (either drive w) sends ≤ one_if (goes drive w x.body))
+    (rows_pass drive w s.replica x)
+    (λ sends own.
+    none_few drive w x.body sends
+    (plain_none drive w sends
+    (each_map IsOfSaver (λ (o : Outgoing). is_plain drive w o.body ≡ true) sends
+    (λ o is.
+    of_saver (λ body. is_plain drive w body ≡ true) (record {
+      reports = λ epoch. refl;
+      confirms = refl;
+      goes_on = λ at. refl;
+    }) o.body is) own)))

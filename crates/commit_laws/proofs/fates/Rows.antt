@@ -25,6 +25,8 @@ use Rattle.lqh_block.specs.Lqh.{lqh_table}
 use Rattle.lqh_block.specs.State.{LqhState}
 use Rattle.lqh_views.specs.Replica.{passed, replica_by, replica_row}
 use Rattle.lqh_views.specs.State.{ReplicaState}
+use Rattle.lqh_saver.specs.State.{saving}
+use Rattle.lqh_saver.proofs.StepLemmas.{saver_rows}
 use Rattle.node_views.specs.declared.ldm_part.LdmPart.{LdmPart}
 use Rattle.node_views.specs.Parts.{ldm_row}
 use Rattle.world_core.specs.Start.{Start, made}
@@ -217,7 +219,9 @@ module _ (start : Start) (all : ℕ → List HostStep) (e : HostStep) (es : List
   row_by : (p : LdmPart) (to : BlockId) → Untraced p → (IsCommitOf tx e.step.taken.body → ⊥)
       → Untraced (ldm_row p to e.step.taken).state
   unfolding ldm_row
-  row_by p block.Lqh untraced not_own = row_untraced tx p.replica e.step.taken untraced not_own
+  row_by p block.Lqh untraced not_own =
+      saver_rows (saving p.replica p.saver) e.step.taken (λ s. leave_trace tx s ≡ false) untraced
+      (row_untraced tx p.replica e.step.taken untraced not_own) (λ at has. untraced)
   row_by p _ untraced not_own = untraced
 
   -- where it isn't such a commit, what had no trace has none

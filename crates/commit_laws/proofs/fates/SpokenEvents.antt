@@ -15,6 +15,7 @@ use Rattle.sig_core.specs.declared.signal.Body.TheVariants.{Chain}
 use Rattle.sig_core.specs.declared.signal.Signal.{Signal}
 use Rattle.sig_core.specs.declared.view.View.{View}
 use Rattle.takeover_block.specs.declared.gathered.Gathered.{Gathered}
+use Rattle.lqh_saver.specs.State.{saving}
 use Rattle.node_views.specs.Parts.{ldm_row}
 use Rattle.node_views.specs.Fence.{is_fenced}
 use Rattle.world_core.specs.Start.{Start, made}
@@ -40,7 +41,7 @@ use Rattle.commit_laws.specs.Speaks.{AreSpokenTruly, SaysAbort, SaysCommit}
 use Rattle.commit_laws.specs.Together.{FatesMove, Follows}
 use Rattle.commit_laws.proofs.fates.SpokenAside.{beside_speaks}
 use Rattle.commit_laws.proofs.fates.SpokenHost.{TakeoverGoes, tc_speaks}
-use Rattle.commit_laws.proofs.fates.SpokenRows.{Hears, rows_speak}
+use Rattle.commit_laws.proofs.fates.SpokenRows.{Hears, saving_speak}
 use Rattle.commit_laws.proofs.fates.SpokenWords.{AreSpoken, IsSpoken, Speaks, abort_said, aborts_grow, both_said}
 use Rattle.commit_laws.proofs.fates.SpokenWords.{commit_said, commits_grow, speaks_so}
 
@@ -136,7 +137,8 @@ module _ (known : ForthIsKnownAlways) (start : Start) (all : ℕ → List HostSt
       where
         row : (b : BlockId) → IsTakenNow start all e es moment x.to.block
             → AreSpoken A C (ldm_row step.does.between b x).effects.sends
-        row block.Lqh taken = rows_speak A C step.does.between.replica x (heard x.to.block taken)
+        row block.Lqh taken =
+            saving_speak A C (saving step.does.between.replica step.does.between.saver) x (heard x.to.block taken)
         row _ taken = tt
 
     sends_speak : AreSpoken A C sends

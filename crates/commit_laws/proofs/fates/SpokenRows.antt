@@ -9,7 +9,10 @@ use Rattle.lqh_block.proofs.EachLqh.{RequestSends}
 use Rattle.lqh_views.specs.Replica.{replica_row}
 use Rattle.lqh_views.specs.State.{ReplicaState}
 use Rattle.lqh_views.proofs.Walk.{replica_says_each}
+use Rattle.lqh_saver.specs.Saver.{saver_row}
+use Rattle.lqh_saver.specs.State.{SavingState}
 use Rattle.commit_laws.proofs.fates.SpokenWords.{AreSpoken, IsSpoken, Speaks}
+use Rattle.commit_laws.proofs.hosts.SaverGoes.{saver_says}
 
 module _ (A C : TxId → Type 0) where
   -- a request that is performed
@@ -27,7 +30,7 @@ module _ (A C : TxId → Type 0) where
   Hears body = Unit {0}
 
   -- whatever they take
-  pub rows_speak : (s : ReplicaState) (x : Signal) → Hears x.body → AreSpoken A C (replica_row s x).effects.sends
+  rows_speak : (s : ReplicaState) (x : Signal) → Hears x.body → AreSpoken A C (replica_row s x).effects.sends
   rows_speak s x spoken =
       replica_says_each s x (Speaks A C) (λ of_rows. record {
         asked = λ r is. request_speaks r;
@@ -54,3 +57,9 @@ module _ (A C : TxId → Type 0) where
         reports_on = λ r under_way. tt;
         ends = λ r under_way. tt;
       })
+
+  -- with their saver, which speaks of none
+  pub saving_speak : (s : SavingState) (x : Signal) → Hears x.body → AreSpoken A C (saver_row s x).effects.sends
+  saving_speak s x spoken =
+      saver_says s x (Speaks A C) (record { reports = λ epoch. tt; confirms = tt; goes_on = λ at. tt })
+      (rows_speak s.replica x spoken)

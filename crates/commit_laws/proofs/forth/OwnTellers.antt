@@ -47,6 +47,7 @@ use Rattle.commit_laws.proofs.forth.Speaks.{AreSpoken, Speaks}
 use Rattle.commit_laws.proofs.commits.RowsEnd.{IsRowsWord, rows_words}
 use Rattle.commit_laws.proofs.hosts.PartEach.{part_each}
 use Rattle.commit_laws.proofs.hosts.RowsTurn.{rows_each}
+use Rattle.commit_laws.proofs.hosts.SaverGoes.{of_saver}
 
 -- the word of a commit is of a transaction of the member's own
 abbrev pub IsOfOwn : Member → Body → Type 0
@@ -153,6 +154,8 @@ module _ (start : Start) (all : ℕ → List HostStep) (e : HostStep) (es : List
         → AreOfOwn member (sends_at (ldm_of start me))
     rows_own member me there =
         rows_each start all e es moment me there (λ (o : Outgoing). IsOfOwn member o.body)
+        (λ o own.
+        of_saver (IsOfOwn member) (record { reports = λ epoch. tt; confirms = tt; goes_on = λ at. tt }) o.body own)
         (λ s between taken.
         each_map (λ (o : Outgoing). IsRowsWord e.step.taken.body o.body) (λ (o : Outgoing). IsOfOwn member o.body)
         (replica_row s e.step.taken).effects.sends (λ o one. of_rows member e.step.taken.body o.body one)

@@ -16,6 +16,7 @@ use Rattle.api_views.specs.State.{ClientState}
 use Rattle.arbiter_block.specs.Arbiter.{arbiter_row}
 use Rattle.gcp_master.specs.Master.{master_row}
 use Rattle.qmgr_block.specs.Qmgr.{qmgr_installed, qmgr_row}
+use Rattle.lqh_saver.specs.State.{saving}
 use Rattle.node_views.specs.Blocks.{parts_entered, parts_row}
 use Rattle.node_views.specs.declared.host_body.HostBody as hosts
 use Rattle.node_views.specs.declared.ldm_part.LdmPart.{LdmPart}
@@ -37,7 +38,7 @@ use Rattle.outcome_laws.proofs.knowledge.Parts.{arbiter_tells_nothing}
 use Rattle.outcome_laws.proofs.knowledge.HostSteps.{AreKept, IsOfEffects, step_keeps}
 use Rattle.outcome_laws.proofs.rows.KnowDecided.{rows_know_installed}
 use Rattle.commit_laws.proofs.forth.Client.{Answers, IsToldOf, by_coordinator, by_takeover, client_acknowledges}
-use Rattle.commit_laws.proofs.forth.Rows.{rows_learn, rows_speak}
+use Rattle.commit_laws.proofs.forth.Rows.{saving_learn, saving_speak}
 use Rattle.commit_laws.proofs.forth.Speaks.{Anyone, AreSpoken, Of, Speaks, untold_speak}
 
 module _ (F A : TxId → Type 0) where
@@ -104,7 +105,10 @@ module _ (F A : TxId → Type 0) where
     ldm_speaks : (p : LdmPart) (b : BlockId) → RowsKnow (Of F) Anyone p.replica
         → Fits (Ldm (ldm_row p b x).state) × SpeakIn (ldm_row p b x).effects
     unfolding ldm_row
-    ldm_speaks p block.Lqh knows = (rows_learn F A p.replica x knows spoken, rows_speak F A p.replica x knows spoken)
+    ldm_speaks p block.Lqh knows = (
+      saving_learn F A (saving p.replica p.saver) x knows spoken,
+      saving_speak F A (saving p.replica p.saver) x knows spoken,
+    )
     ldm_speaks p _ knows = (knows, tt)
 
     row_speaks : (parts : Parts) → Fits parts → Fits (parts_row parts x).state × SpeakIn (parts_row parts x).effects

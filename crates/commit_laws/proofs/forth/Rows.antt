@@ -13,10 +13,14 @@ use Rattle.lqh_block.proofs.EachLqh.{RequestSends}
 use Rattle.lqh_views.specs.Replica.{replica_by, replica_row}
 use Rattle.lqh_views.specs.State.{ReplicaState}
 use Rattle.lqh_views.proofs.Walk.{replica_says_each}
+use Rattle.lqh_saver.specs.Saver.{saver_row}
+use Rattle.lqh_saver.specs.State.{SavingState}
+use Rattle.lqh_saver.proofs.StepLemmas.{saver_rows}
 use Rattle.outcome_laws.specs.Known.{IsDecidedIf, RowsKnow}
 use Rattle.outcome_laws.proofs.rows.KnowDecided.{rows_know}
 use Rattle.outcome_laws.proofs.rows.RecordsAndMarkers.{IsKnownMarker, IsKnownRecord}
 use Rattle.commit_laws.proofs.forth.Speaks.{Anyone, AreSpoken, Of, Speaks, gives_epoch, hears}
+use Rattle.commit_laws.proofs.hosts.SaverGoes.{saver_says}
 
 module _ (F A : TxId → Type 0) where
   abbrev Fits : Outgoing → Type 0
@@ -37,7 +41,7 @@ module _ (F A : TxId → Type 0) where
   record_speaks one b is known = subst (IsDecidedIf (Of F) Anyone one) is known
 
   -- whatever they take
-  pub rows_speak : (s : ReplicaState) (x : Signal) → RowsKnow (Of F) Anyone s → Speaks F A x.body
+  rows_speak : (s : ReplicaState) (x : Signal) → RowsKnow (Of F) Anyone s → Speaks F A x.body
       → AreSpoken F A (replica_row s x).effects.sends
   rows_speak s x known spoken =
       replica_says_each s x (Speaks F A) (λ of_rows. record {
@@ -70,7 +74,7 @@ module _ (F A : TxId → Type 0) where
       })
 
   -- an epoch that is given is nothing to them
-  pub rows_learn : (s : ReplicaState) (x : Signal) → RowsKnow (Of F) Anyone s → Speaks F A x.body
+  rows_learn : (s : ReplicaState) (x : Signal) → RowsKnow (Of F) Anyone s → Speaks F A x.body
       → RowsKnow (Of F) Anyone (replica_row s x).state
   rows_learn s x known spoken = by (gives_epoch x.body) refl
     where
@@ -83,3 +87,16 @@ module _ (F A : TxId → Type 0) where
       by : (b : Bool) → gives_epoch x.body ≡ b → RowsKnow (Of F) Anyone (replica_row s x).state
       by true is = given x.body refl is
       by false is = rows_know (Of F) Anyone s x known (hears F A x.body is spoken)
+
+  -- with their saver, which tells of no commit, and gives up redo alone
+  pub saving_speak : (s : SavingState) (x : Signal) → RowsKnow (Of F) Anyone s.replica → Speaks F A x.body
+      → AreSpoken F A (saver_row s x).effects.sends
+  saving_speak s x known spoken =
+      saver_says s x (Speaks F A) (record { reports = λ epoch. tt; confirms = tt; goes_on = λ at. tt })
+      (rows_speak s.replica x known spoken)
+
+  pub saving_learn : (s : SavingState) (x : Signal) → RowsKnow (Of F) Anyone s.replica → Speaks F A x.body
+      → RowsKnow (Of F) Anyone (saver_row s x).state.replica
+  saving_learn s x known spoken =
+      saver_rows s x (RowsKnow (Of F) Anyone) known (rows_learn s.replica x known spoken)
+      (λ at has. record { records = known.records; markers = known.markers })

@@ -10,6 +10,7 @@ use Rattle.sig_core.specs.declared.outs.Outgoing.{Outgoing}
 use Rattle.sig_core.specs.declared.place.BlockId.{BlockId}
 use Rattle.sig_core.specs.declared.place.BlockId.TheVariants as block
 use Rattle.lqh_views.specs.WholeReports.{asks}
+use Rattle.lqh_saver.specs.State.{saving}
 use Rattle.node_views.specs.declared.ldm_part.LdmPart.{LdmPart}
 use Rattle.node_views.specs.Parts.{ldm_row}
 use Rattle.world_core.specs.Hosts.{hosts}
@@ -43,7 +44,7 @@ module _ (start : Start) (me : Member) (there : IsIn me (made start)) (h : ℕ) 
 
     of_block : (p : LdmPart) (b : BlockId) → AskNone (ldm_row p b e.step.taken).effects.sends
     unfolding ldm_row
-    of_block p block.Lqh = rows_ask_none p.replica e.step.taken
+    of_block p block.Lqh = rows_ask_none (saving p.replica p.saver) e.step.taken
     of_block p _ = tt
 
     rows_none : AskNone (step_after start h log e).effects.sends

@@ -4,9 +4,10 @@ use Rattle.std.proofs.Common.{eq-eqb, inl, inr, refl, sym, ap, arith, subst}
 use Rattle.std.proofs.lemmas.Bool.{cases_eq, true≢false}
 use Rattle.std.proofs.lemmas.Bool.Decides.{nat_tests}
 use Rattle.std.specs.Prelude.{if◌then◌else◌}
-use Rattle.run_theory.specs.Lists.{IsIn, IsPast}
+use Rattle.run_theory.specs.Lists.{Each, IsIn, IsPast}
 use Rattle.run_theory.proofs.Runs.{log_of-own}
 use Rattle.run_theory.proofs.EventCases.{event_cases}
+use Rattle.run_theory.proofs.Pasts.{each_map}
 use Rattle.sig_core.specs.declared.member.Member.{Member}
 use Rattle.sig_core.specs.declared.outs.Outgoing.{Outgoing}
 use Rattle.sig_core.specs.declared.place.BlockId.TheVariants as block
@@ -42,6 +43,7 @@ use Rattle.moment_laws.proofs.MomentTurns.{other_log}
 use Rattle.moment_laws.proofs.MomentViews.{current_number, moment_less}
 use Rattle.moment_laws.proofs.PartTaken.{IsTakenNow}
 use Rattle.outcome_laws.specs.Counts.{count_sent, one_if}
+use Rattle.outcome_laws.proofs.coordinators.Lists.{none_counted}
 use Rattle.request_laws.specs.Blocks.{no_replica, rows_after, rows_in}
 use Rattle.request_laws.specs.Tokens.{sent_along, taken_along}
 use Rattle.request_laws.proofs.routes.BesideRows.{is_of_rows}
@@ -58,6 +60,7 @@ use Rattle.commit_laws.proofs.gathering.Words.{asked_in}
 use Rattle.commit_laws.proofs.orders.Unseen.{unseen_none}
 use Rattle.commit_laws.proofs.hosts.RowsTurn.{IsBetween, IsTakenAt, RowsTurn, as_was, enter_now, entered, rest_now}
 use Rattle.commit_laws.proofs.hosts.RowsTurn.{rows_turn, take_now}
+use Rattle.commit_laws.proofs.hosts.SaverGoes.{IsOfSaver, of_saver}
 
 plain_ask : (body : Body) → asks body ≡ true
     → (is_own_work body ≡ false) × ((y : Signal) → is_body_fenced y body ≡ true)
@@ -162,9 +165,18 @@ module _ (start : Start) (all : ℕ → List HostStep) (member : Member) (there 
         waits_behind : waits_of (e ∷ es) ≡ waits_in view (under_way (rows_at start new member))
         waits_behind = ap (λ log. waits_in (view_after start h log) (under_way (rows_at start new member))) own
 
-        quiet : sends ≡ [] → waits_in view (under_way (rows_at start new member)) ≤ waits_of es → Few (e ∷ es)
-        quiet nothing less =
-            let none : count_sent ends sends ≡ 0 = ap (count_sent ends) nothing in
+        quiet : Each IsOfSaver sends → waits_in view (under_way (rows_at start new member)) ≤ waits_of es
+            → Few (e ∷ es)
+        quiet own_sends less =
+            let none : count_sent ends sends ≡ 0 =
+            none_counted ends sends
+            (each_map IsOfSaver (λ (o : Outgoing). ends o.body ≡ false) sends
+            (λ o is.
+            of_saver (λ body. ends body ≡ false) (record {
+              reports = λ epoch. refl;
+              confirms = refl;
+              goes_on = λ at. refl;
+            }) o.body is) own_sends) in
             omega (arith, before, sent_more, asked_more, few_ends, none, waits_behind, less)
 
         -- of another view

@@ -25,6 +25,7 @@ use Rattle.dih_node.specs.Orders as dih
 use Rattle.takeover_block.specs.Rule.{is_at_work}
 use Rattle.takeover_block.specs.State.{TakeoverState, resting}
 use Rattle.tc_views.specs.Views.{install_row}
+use Rattle.lqh_saver.specs.State.{saving}
 use Rattle.node_views.specs.declared.host_body.HostBody as hosts
 use Rattle.node_views.specs.declared.tc_part.TcPart.{TcPart}
 use Rattle.node_views.specs.Parts.{ldm_row, tc_row}
@@ -57,7 +58,7 @@ use Rattle.commit_laws.proofs.takeover.Rests.{rests_quiet}
 use Rattle.commit_laws.proofs.fates.SpokenAside.{beside_speaks, epochs_install_speak, epochs_speak}
 use Rattle.commit_laws.proofs.fates.SpokenCoordinator.{coordinator_installs_speak, coordinator_speaks}
 use Rattle.commit_laws.proofs.fates.SpokenEvents.{fenced_keeps}
-use Rattle.commit_laws.proofs.fates.SpokenRows.{Hears, rows_speak}
+use Rattle.commit_laws.proofs.fates.SpokenRows.{Hears, saving_speak}
 use Rattle.commit_laws.proofs.fates.SpokenWords.{AreSpoken, IsSpoken, Speaks}
 
 -- it has a coordinator in the view
@@ -145,7 +146,8 @@ module _ (start : Start) where
         where
           row : (b : BlockId) → IsTakenNow start all e es moment x.to.block
               → AreSpoken N N (ldm_row step.does.between b x).effects.sends
-          row block.Lqh taken = rows_speak N N step.does.between.replica x (heard x.to.block taken)
+          row block.Lqh taken =
+              saving_speak N N (saving step.does.between.replica step.does.between.saver) x (heard x.to.block taken)
           row _ taken = tt
 
       -- a coordinator's host that stands in the current view

@@ -54,6 +54,7 @@ use Rattle.commit_laws.proofs.records.Once.{rows_once}
 use Rattle.commit_laws.proofs.records.Placed.{records_are_at_replicas}
 use Rattle.commit_laws.proofs.records.Replicas.{replica_made}
 use Rattle.commit_laws.proofs.hosts.RowsTurn.{IsBetween, IsTakenAt, as_was, entered, rows_each}
+use Rattle.commit_laws.proofs.hosts.SaverGoes.{of_saver}
 use Rattle.commit_laws.proofs.takeover.Reports.{AreFated, Fated, IsFated, all_aside_fated, tc_enters_fated, tc_fated}
 use Rattle.commit_laws.proofs.takeover.Told.{in_cell, once_found}
 
@@ -165,6 +166,8 @@ module _ (start : Start) (all : ℕ → List HostStep) (e : HostStep) (es : List
       rows_prepared at =
           subst (AreFated If) (sym (ap (λ k. (step_after start k (old k) e).effects.sends) at))
           (rows_each start all e es moment member there (IsFated If)
+          (λ o own.
+          of_saver (Fated If) (record { reports = λ epoch. tt; confirms = tt; goes_on = λ at. tt }) o.body own)
           (λ s between taken.
           each_map (λ (o : Outgoing). TellsTruly s o.body) (IsFated If) (replica_row s x).effects.sends
           (λ o tells. told s between taken o.body tells) (reports_are_true s x)) at)

@@ -28,6 +28,7 @@ use Rattle.lqh_views.specs.WholeReports.{has_record, the_end, whole}
 use Rattle.lqh_views.proofs.Below.{none_past}
 use Rattle.lqh_views.proofs.ReportSteps.{GoesOn, IsLeft, IsNoEnd, MarkerLeft, NoEnd, RecordLeft, Rests, step_kind}
 use Rattle.lqh_views.proofs.ReportSteps.{tells_marker, tells_record}
+use Rattle.commit_laws.proofs.hosts.SaverGoes.{AreAlike}
 
 -- a step of a report goes on with one for the same takeover, or ends it
 pub record GoesBeyond (r : Report) (step : Step ReplicaState) : Type 0 where
@@ -78,6 +79,21 @@ module _ (Left : ReplicaState → Report → Type 0) (IsTold : ℕ → Type 0) (
   abbrev pub IsOpen : Type 0
   IsOpen = (s.report ≡ None) ⊎ IsUnderWay
 
+-- so it is of rows that are the same but for their journal
+pub open_alike : (Left : ReplicaState → Report → Type 0) (IsTold : ℕ → Type 0) (s t : ReplicaState) → AreAlike t s
+    → ((r : Report) → Left s r → Left t r) → IsOpen Left IsTold s → IsOpen Left IsTold t
+open_alike Left IsTold s t alike same (inl none) = inl (ap (λ (r : ReplicaState). r.report) alike ∙ none)
+open_alike Left IsTold s t alike same (inr way) =
+    inr (record {
+      report = way.report;
+      is = ap (λ (r : ReplicaState). r.report) alike ∙ way.is;
+      left = by way.left;
+    })
+  where
+    by : Left s way.report ⊎ IsTold way.report.to → Left t way.report ⊎ IsTold way.report.to
+    by (inl left) = inl (same way.report left)
+    by (inr told) = inr told
+
 -- so it stays where more takeovers were told
 pub open_more : (Left : ReplicaState → Report → Type 0) (One Other : ℕ → Type 0) (s : ReplicaState)
     → ((to : ℕ) → One to → Other to) → IsOpen Left One s → IsOpen Left Other s
@@ -109,6 +125,7 @@ module _ (tx : TxId) (key : List ℕ) (Marked : Type 0) where
     pub tells : (s : ReplicaState) (r : Report) → is_orphaned s.lqh.layout.view.full tx ≡ true → Has s ≡ true
         → Left s r → Tells r.to (reporting s r).effects.sends ⊎ IsLeft tx key Left s r.to (reporting s r)
     pub installs : (s : ReplicaState) (view : View) → Has s ≡ true → Has (installed s view) ≡ true
+    pub alike : (s t : ReplicaState) → AreAlike t s → (r : Report) → Left s r → Left t r
 
   module _ (Has : ReplicaState → Bool) (Left : ReplicaState → Report → Type 0) (entry : IsEntry Has Left)
       (IsTold : ℕ → Type 0) (s : ReplicaState)
@@ -216,6 +233,7 @@ record_entry tx key = record {
   rests = λ s step r rests has left. rests.0.0 has r.records left;
   tells = λ s r orphaned has left. by s r (tells_record tx key s r orphaned has left);
   installs = λ s view has. has;
+  alike = λ s t same r left. subst (λ (q : ReplicaState). RecordLeft tx key q r) (sym same) left;
 }
   where
     told_of : (to : ℕ) (sends : List Outgoing) → IsRecordTold to tx key (before_end sends) → Tells tx key ⊥ to sends
@@ -243,6 +261,7 @@ marker_entry tx key = record {
   rests = λ s step r rests has left. rests.0.1 has r.markers left;
   tells = λ s r orphaned has left. by s r (tells_marker tx key s r orphaned has left);
   installs = λ s view has. has;
+  alike = λ s t same r left. subst (λ (q : ReplicaState). MarkerLeft tx key q r) (sym same) left;
 }
   where
     told_of : (to : ℕ) (sends : List Outgoing) → IsMarkerTold to tx key (before_end sends)

@@ -22,7 +22,7 @@ use Rattle.sig_core.specs.Place.{takeover}
 use Rattle.frag_map.specs.Layout.{Layout}
 use Rattle.lqh_block.specs.Views.{is_coordinated}
 use Rattle.lqh_views.specs.declared.report.Report.{Report}
-use Rattle.lqh_views.specs.Replica.{replica_row}
+use Rattle.lqh_views.specs.Replica.{installed, replica_row}
 use Rattle.lqh_views.specs.Report.{is_orphaned}
 use Rattle.lqh_views.specs.State.{ReplicaState}
 use Rattle.lqh_views.specs.WholeReports.{ends, the_end}
@@ -48,12 +48,13 @@ use Rattle.request_laws.proofs.tokens.HostsApart.{ldm_low}
 use Rattle.commit_laws.specs.Ruling.{NoneRuled}
 use Rattle.commit_laws.specs.Takeovers.{IsOrphan}
 use Rattle.commit_laws.specs.Traces.{rows_at}
-use Rattle.commit_laws.proofs.links.Puts.{quiet_same, stopped_same}
-use Rattle.commit_laws.proofs.links.TakeoverTold.{AreBehind, HasTold, IsShut, stay_behind, told_comes}
-use Rattle.commit_laws.proofs.gathering.ReportTells.{IsEntry, IsOpen, Reports, Tells, open_more, reports_end}
-use Rattle.commit_laws.proofs.gathering.ReportTells.{reports_on, row_reports}
+use Rattle.commit_laws.proofs.links.Puts.{stopped_same}
+use Rattle.commit_laws.proofs.links.TakeoverTold.{AreBehind, HasTold, IsShut, stay_behind, still_behind, told_comes}
+use Rattle.commit_laws.proofs.gathering.ReportTells.{IsEntry, IsOpen, Reports, Tells, open_alike, open_more}
+use Rattle.commit_laws.proofs.gathering.ReportTells.{reports_end, reports_on, row_reports}
 use Rattle.commit_laws.proofs.hosts.RowsTurn.{IsBetween, IsQuiet, IsTakenAt, RowsTurn, as_was, enter_now, entered}
 use Rattle.commit_laws.proofs.hosts.RowsTurn.{rest_now, rows_turn, take_now}
+use Rattle.commit_laws.proofs.hosts.SaverGoes.{AreAlike, IsOfSaver, is_of_saver, unjournaled}
 
 module _ (start : Start) (all : ℕ → List HostStep) (one : Member) (there : IsIn one (made start)) (view : View)
     (tx : TxId) (orphan : IsOrphan view tx) (node_is : is_tx start.shape tx ≡ true) (key : List ℕ) (Marked : Type 0)
@@ -154,6 +155,10 @@ module _ (start : Start) (all : ℕ → List HostStep) (one : Member) (there : I
           rows_are : (s : ReplicaState) → rows_at start new one ≡ s → rows_after start one (e ∷ log) ≡ s
           rows_are s is = ap (rows_after start one) (sym own_log) ∙ is
 
+          rows_alike : (s : ReplicaState) → AreAlike (rows_at start new one) s
+              → AreAlike (rows_after start one (e ∷ log)) s
+          rows_alike s is = ap unjournaled (ap (rows_after start one) (sym own_log)) ∙ is
+
           happens : Happens (sound_machine start) es e
           happens = moment.run.1
 
@@ -169,7 +174,10 @@ module _ (start : Start) (all : ℕ → List HostStep) (one : Member) (there : I
           same_links j same = subst (AreBehind tx key Marked view.number) (sym same) (was.ends_behind j)
 
           quiet_links : IsQuiet start all e es moment one there → EndsBehind (e ∷ log)
-          quiet_links quiet j = same_links j (quiet_same start h j log e quiet.sends)
+          quiet_links quiet j =
+              still_behind tx key Marked start node_is h j log e view.number (was.ends_behind j)
+              (each_map IsOfSaver (λ (o : Outgoing). o.body ≡ Takeover LqhTransEnd → ⊥) sends
+              (λ o own is. true≢false (sym own ∙ ap is_of_saver is)) quiet.sends)
 
           module _ (s : ReplicaState) (between : IsBetween start all e es moment one there s)
               (taken : IsTakenAt start all e es moment one there s)
@@ -286,11 +294,16 @@ module _ (start : Start) (all : ℕ → List HostStep) (one : Member) (there : I
                   → (has_stopped (e ∷ log) ≡ true) ⊎ IsOpen Left (IsTold (e ∷ log)) (rows_after start one (e ∷ log))
               by (inl stopped) = absurd (going stopped)
               by (inr open_on) =
-                  inr (subst (IsOpen Left (IsTold (e ∷ log))) (sym (rows_are (rows_at start old one) is))
+                  inr (open_alike Left (IsTold (e ∷ log)) (rows_at start old one) (rows_after start one (e ∷ log))
+                  (rows_alike (rows_at start old one) is)
+                  (entry.alike (rows_at start old one) (rows_after start one (e ∷ log))
+                  (rows_alike (rows_at start old one) is))
                   (open_more Left (IsTold log) (IsTold (e ∷ log)) (rows_at start old one) told_on open_on))
           own_behind (enter_now is quiet) = record {
             ends_behind = quiet_links (quiet at);
-            stays_open = λ same. inr (inl (ap (λ (t : ReplicaState). t.report) (rows_are _ is)));
+            stays_open = λ same.
+                inr (inl (ap (λ (t : ReplicaState). t.report)
+                (rows_alike (installed (rows_at start old one) (current start new)) is)));
           }
           own_behind (take_now s between which taken) = taken_behind s between taken
 

@@ -39,6 +39,7 @@ use Rattle.commit_laws.specs.Telling.{TellingsAreForTakeovers}
 use Rattle.node_views.specs.Parts.{tc_entered, tc_row}
 use Rattle.commit_laws.proofs.hosts.PartEach.{part_each}
 use Rattle.commit_laws.proofs.hosts.RowsTurn.{rows_each}
+use Rattle.commit_laws.proofs.hosts.SaverGoes.{of_saver}
 use Rattle.commit_laws.proofs.takeover.Reports.{Fated, AreFated, IsFated, all_aside_fated, tc_enters_fated, tc_fated}
 
 -- the body tells of a transaction, and is for a takeover
@@ -155,7 +156,10 @@ module _ (start : Start) (all : ℕ → List HostStep) (e : HostStep) (es : List
     own_placed : (member : Member) → IsIn member (made start) → e.host ≡ ldm_of start member → ArePlaced sends
     own_placed member there at =
         subst ArePlaced (sym (ap (λ k. (step_after start k (old k) e).effects.sends) at))
-        (rows_each start all e es moment member there IsPlaced (λ s between taken. rows_placed s x) at)
+        (rows_each start all e es moment member there IsPlaced
+        (λ o own.
+        of_saver (IsFor o.to) (record { reports = λ epoch. tt; confirms = tt; goes_on = λ at. tt }) o.body own)
+        (λ s between taken. rows_placed s x) at)
 
     sends_placed : ArePlaced sends
     sends_placed = by (part_host start e.host (host_low start all e es moment))

@@ -14,13 +14,13 @@ use Rattle.sig_core.specs.declared.signal.takeover.TakeoverSignal.TheVariants.{L
 use Rattle.sig_core.specs.declared.view.View.{View}
 use Rattle.dih_node.specs.Dih.{dih_row}
 use Rattle.dih_node.specs.Orders as dih
-use Rattle.lqh_views.specs.Replica.{replica_row}
-use Rattle.lqh_views.specs.State.{ReplicaState}
 use Rattle.lqh_views.specs.WholeReports.{asks, ends}
 use Rattle.takeover_block.specs.Takeover.{takeover_row}
 use Rattle.tc_views.specs.Coordinator.{coordinator_row}
 use Rattle.tc_views.specs.State.{CoordinatorState}
 use Rattle.tc_views.specs.Views as coordinator
+use Rattle.lqh_saver.specs.Saver.{saver_row}
+use Rattle.lqh_saver.specs.State.{SavingState}
 use Rattle.node_views.specs.declared.tc_part.TcPart.{TcPart}
 use Rattle.node_views.specs.Parts.{tc_entered, tc_row}
 use Rattle.view_laws.proofs.words.Coordinator.{coordinator_installs_kinds, coordinator_kinds}
@@ -119,9 +119,9 @@ tc_ends_none p x block.Dih =
 tc_ends_none p x _ = tt
 
 -- rows ask for none
-pub rows_ask_none : (s : ReplicaState) (x : Signal) → AskNone (replica_row s x).effects.sends
+pub rows_ask_none : (s : SavingState) (x : Signal) → AskNone (saver_row s x).effects.sends
 rows_ask_none s x =
-    each_map IsNoOrder (λ (o : Outgoing). asks o.body ≡ false) (replica_row s x).effects.sends
+    each_map IsNoOrder (λ (o : Outgoing). asks o.body ≡ false) (saver_row s x).effects.sends
     (λ o is. by o.body is) (rows_order_none s x)
   where
     by : (body : Body) → is_quiet body ≡ true → asks body ≡ false

@@ -1,12 +1,13 @@
--- What becomes of the rows of a member at an event: nothing, or a view is installed, or they take the signal of the
--- event, which then is of the current view, if it is of a kind that fences stop.
+-- What becomes of the rows of a member at an event: nothing but for their journal, or a view is installed, or they take
+-- the signal of the event, which then is of the current view, if it is of a kind that fences stop. What their saver
+-- does is of the first two: their journal may give up what stood before a position, and it sends signals of its own.
 use Rattle.std.proofs.Common.{◌≡◌, ◌≢◌, ◌⊎◌, ◌++◌, ◌∙◌, ℕ, false, List, [], ◌∷◌, refl, sym, ap, subst, inl, inr, arith}
 use Rattle.std.proofs.lemmas.Bool.{true≢false}
 use Rattle.run_theory.specs.Lists.{IsIn, Each}
 use Rattle.run_theory.proofs.Runs.{log_of-other, log_of-own}
 use Rattle.run_theory.specs.Runs.{Happens}
 use Rattle.run_theory.proofs.EventCases.{event_cases}
-use Rattle.run_theory.proofs.Pasts.{each_append}
+use Rattle.run_theory.proofs.Pasts.{each_append, each_map}
 use Rattle.commit_laws.proofs.hosts.OwnTaken.{taken_at}
 use Rattle.sig_core.specs.declared.mark.Mark.{Mark}
 use Rattle.sig_core.specs.declared.member.Member.{Member}
@@ -16,7 +17,9 @@ use Rattle.sig_core.specs.declared.place.BlockId.TheVariants as block
 use Rattle.sig_core.specs.declared.place.Part.TheVariants.{Ldm}
 use Rattle.sig_core.specs.declared.signal.Signal.{Signal}
 use Rattle.sig_core.specs.declared.view.View.{View}
-use Rattle.sig_core.specs.Step.{Step}
+use Rattle.sig_core.specs.Step.{Effects, Step}
+use Rattle.lqh_saver.specs.State.{SavingState, saving}
+use Rattle.lqh_saver.specs.Saver.{saver_row}
 use Rattle.lqh_views.specs.Replica.{installed, replica_row}
 use Rattle.lqh_views.specs.State.{ReplicaState}
 use Rattle.node_views.specs.declared.host_body.HostBody as hosts
@@ -41,6 +44,7 @@ use Rattle.request_laws.proofs.phases.AlongLogs.{told_some}
 use Rattle.request_laws.proofs.routes.PartSteps.{LdmStep, own_ldm, rows_are}
 use Rattle.commit_laws.specs.Traces.{rows_at}
 use Rattle.commit_laws.proofs.hosts.RowsGo.{AreUnapplied, Entering, Goes, StopsSilent, ldm_goes, leaves, takes}
+use Rattle.commit_laws.proofs.hosts.SaverGoes.{AreAlike, IsOfSaver, SaverGoes, saved, saver_goes, took, unjournaled}
 use Rattle.commit_laws.proofs.hosts.RowsGo.{is_row_mark}
 
 module _ (start : Start) (all : ℕ → List HostStep) (e : HostStep) (es : List HostStep)
@@ -81,22 +85,22 @@ module _ (start : Start) (all : ℕ → List HostStep) (e : HostStep) (es : List
       pub unapplied_behind : AreUnapplied back
       pub marks_are : e.step.marks ≡ front ++ ((replica_row s x).effects.marks ++ back)
 
-    -- where the rows take nothing, their host sends nothing, and marks nothing to be applied
+    -- where the rows take nothing, their host sends nothing but what is their saver's, and marks nothing to be applied
     pub record IsQuiet : Type 0 where
-      pub sends : (step_after start h (old h) e).effects.sends ≡ []
+      pub sends : Each IsOfSaver (step_after start h (old h) e).effects.sends
       pub marks : AreUnapplied e.step.marks
 
     pub data RowsGo : Type 0 where
-      rest : rows_at start new member ≡ rows_at start old member → (e.host ≡ h → IsQuiet) → RowsGo
-      enter : (view : View) → rows_at start new member ≡ installed (rows_at start old member) view
+      rest : AreAlike (rows_at start new member) (rows_at start old member) → (e.host ≡ h → IsQuiet) → RowsGo
+      enter : (view : View) → AreAlike (rows_at start new member) (installed (rows_at start old member) view)
           → (e.host ≡ h → IsQuiet) → RowsGo
       take : (s : ReplicaState) → IsBetween s → IsTakenAt s → RowsGo
 
     -- the same, and which view it is: the current one
     pub data RowsTurn : Type 0 where
-      rest_now : rows_at start new member ≡ rows_at start old member → (e.host ≡ h → IsQuiet)
+      rest_now : AreAlike (rows_at start new member) (rows_at start old member) → (e.host ≡ h → IsQuiet)
           → (e.host ≡ h → view_after start h (e ∷ old h) ≡ view_after start h (old h)) → RowsTurn
-      enter_now : rows_at start new member ≡ installed (rows_at start old member) (current start new)
+      enter_now : AreAlike (rows_at start new member) (installed (rows_at start old member) (current start new))
           → (e.host ≡ h → IsQuiet) → RowsTurn
       take_now : (s : ReplicaState) → IsBetween s
           → (s ≡ rows_at start old member) ⊎ (s ≡ installed (rows_at start old member) (current start new))
@@ -171,13 +175,14 @@ module _ (start : Start) (all : ℕ → List HostStep) (e : HostStep) (es : List
 
       -- the rows take nothing
       idle : (between : LdmPart) (seen : View) → Entering p view_was x between seen
-          → step.state.standing.view ≡ seen → rows_at start new member ≡ between.replica → IsQuiet → RowsTurn
+          → step.state.standing.view ≡ seen → AreAlike (rows_at start new member) between.replica → IsQuiet
+          → RowsTurn
       idle between seen (remains same stands none) stood now quiet =
-          rest_now (now ∙ (ap (λ (q : LdmPart). q.replica) same ∙ sym was)) (λ here. quiet)
+          rest_now (now ∙ ap unjournaled (ap (λ (q : LdmPart). q.replica) same ∙ sym was)) (λ here. quiet)
           (λ here. view_is seen stood ∙ stands)
       idle between seen (installs above same stands is) stood now quiet =
           enter_now
-          (now ∙ (ap (λ (q : LdmPart). q.replica) same
+          (now ∙ ap unjournaled (ap (λ (q : LdmPart). q.replica) same
           ∙ (λ i. installed (sym was i) (seen_now (view_is seen stood ∙ stands) i))))
           (λ here. quiet)
 
@@ -201,36 +206,72 @@ module _ (start : Start) (all : ℕ → List HostStep) (e : HostStep) (es : List
               → (front back : List Mark) → AreUnapplied front → AreUnapplied back
               → step.effects.marks ≡ front ++ ((ldm_row between b x).effects.marks ++ back) → RowsTurn
           taking between seen entering passed stood block.Lqh to parts sends front back none none_behind marks =
-              take_now between.replica (between_is between seen entering stood)
-              (which_is between seen entering stood) (record {
-                at = at;
-                now = passed_to between seen entering stood passed to;
-                rows_are = now_is (ldm_row between block.Lqh x).state parts;
-                sent = sent_or sends;
-                goes = λ on. sent_on on sends;
-                front = front;
-                back = back;
-                unapplied = none;
-                unapplied_behind = none_behind;
-                marks_are = marks_of ∙ marks;
-              })
+              by_rows (saver_goes own_saving x)
             where
-              row_sends : List Outgoing
-              row_sends = (replica_row between.replica x).effects.sends
+              own_saving : SavingState
+              own_saving = saving between.replica between.saver
 
-              sent_or : (step.effects.sends ≡ row_sends) ⊎ StopsSilent step.effects
-                  → (step.effects.sends ≡ row_sends) ⊎ (step.effects.sends ≡ [])
-              sent_or (inl is) = inl is
-              sent_or (inr silent) = inr silent.sends
+              now : rows_at start new member ≡ (saver_row own_saving x).state.replica
+              now = now_is (ldm_row between block.Lqh x).state parts
 
-              sent_on : stops_by e.step.marks ≡ false → (step.effects.sends ≡ row_sends) ⊎ StopsSilent step.effects
-                  → step.effects.sends ≡ row_sends
-              sent_on on (inl is) = is
-              sent_on on (inr silent) =
-                  absurd (true≢false (sym (ap stops_by marks_of ∙ silent.stops) ∙ on))
+              sent_or : (list : List Outgoing) → (saver_row own_saving x).effects.sends ≡ list
+                  → (step.effects.sends ≡ list) ⊎ (step.effects.sends ≡ [])
+              sent_or list same = by sends
+                where
+                  by : (step.effects.sends ≡ (saver_row own_saving x).effects.sends) ⊎ StopsSilent step.effects
+                      → (step.effects.sends ≡ list) ⊎ (step.effects.sends ≡ [])
+                  by (inl is) = inl (is ∙ same)
+                  by (inr silent) = inr silent.sends
+
+              sent_on : (list : List Outgoing) → (saver_row own_saving x).effects.sends ≡ list
+                  → stops_by e.step.marks ≡ false → step.effects.sends ≡ list
+              sent_on list same on = by sends
+                where
+                  by : (step.effects.sends ≡ (saver_row own_saving x).effects.sends) ⊎ StopsSilent step.effects
+                      → step.effects.sends ≡ list
+                  by (inl is) = is ∙ same
+                  by (inr silent) = absurd (true≢false (sym (ap stops_by marks_of ∙ silent.stops) ∙ on))
+
+              marked : (list : List Mark) → (saver_row own_saving x).effects.marks ≡ list
+                  → e.step.marks ≡ front ++ (list ++ back)
+              marked list same = marks_of ∙ (marks ∙ ap (λ own_marks. front ++ (own_marks ++ back)) same)
+
+              their_own : Each IsOfSaver (saver_row own_saving x).effects.sends → Each IsOfSaver step.effects.sends
+              their_own all = by (sent_or (saver_row own_saving x).effects.sends refl)
+                where
+                  by : (step.effects.sends ≡ (saver_row own_saving x).effects.sends) ⊎ (step.effects.sends ≡ [])
+                      → Each IsOfSaver step.effects.sends
+                  by (inl is) = subst (Each IsOfSaver) (sym is) all
+                  by (inr is) = subst (Each IsOfSaver) (sym is) tt
+
+              by_rows : SaverGoes own_saving x (saver_row own_saving x) → RowsTurn
+              by_rows (took rows effects) =
+                  take_now between.replica (between_is between seen entering stood)
+                  (which_is between seen entering stood) (record {
+                    at = at;
+                    now = passed_to between seen entering stood passed to;
+                    rows_are = now ∙ rows;
+                    sent = sent_or row.sends (ap (λ (all : Effects). all.sends) effects);
+                    goes = sent_on row.sends (ap (λ (all : Effects). all.sends) effects);
+                    front = front;
+                    back = back;
+                    unapplied = none;
+                    unapplied_behind = none_behind;
+                    marks_are = marked row.marks (ap (λ (all : Effects). all.marks) effects);
+                  })
+                where
+                  row : Effects
+                  row = (replica_row between.replica x).effects
+              by_rows (saved alike own_sends unmarked) =
+                  idle between seen entering stood (ap unjournaled now ∙ alike) (record {
+                    sends = their_own own_sends;
+                    marks =
+                        subst AreUnapplied (sym (marked [] unmarked))
+                        (each_append (λ mark. is_row_mark mark ≡ false) front back none none_behind);
+                  })
           taking between seen entering passed stood _ to parts sends front back none none_behind marks =
-              idle between seen entering stood (now_is between parts) (record {
-                sends = quiet sends;
+              idle between seen entering stood (ap unjournaled (now_is between parts)) (record {
+                sends = subst (Each IsOfSaver) (sym (quiet sends)) tt;
                 marks =
                     subst AreUnapplied (sym (marks_of ∙ marks))
                     (each_append (λ mark. is_row_mark mark ≡ false) front back none none_behind);
@@ -243,8 +284,11 @@ module _ (start : Start) (all : ℕ → List HostStep) (e : HostStep) (es : List
           by : Goes start.shape p view_was x step.state.parts step.state.standing.view step.effects.sends
               step.effects.marks → RowsTurn
           by (leaves between seen entering parts stood sends marks) =
-              idle between seen entering stood (now_is between parts)
-              (record { sends = sends; marks = subst AreUnapplied (sym marks_of) marks })
+              idle between seen entering stood (ap unjournaled (now_is between parts))
+              (record {
+                sends = subst (Each IsOfSaver) (sym sends) tt;
+                marks = subst AreUnapplied (sym marks_of) marks;
+              })
           by (takes between seen entering passed parts stood sends front back none none_behind marks) =
               taking between seen entering passed stood x.to.block refl parts sends front back none none_behind marks
 
@@ -252,23 +296,27 @@ module _ (start : Start) (all : ℕ → List HostStep) (e : HostStep) (es : List
     rows_turn =
         event_cases (machine start) e es h (λ log. RowsTurn) own_turn
         (λ other.
-        rest_now (ap (rows_after start member) (log_of-other (machine start) e es h other))
+        rest_now (ap unjournaled (ap (rows_after start member) (log_of-other (machine start) e es h other)))
         (λ here. absurd (other here))
         (λ here. absurd (other here)))
 
     pub rows_go : RowsGo
     rows_go = forgets rows_turn
 
-    -- what is so of all that its rows send at a signal that they take is so of all that their host sends
-    pub rows_each : (Q : Outgoing → Type 0)
+    -- what is so of all that its rows send at a signal that they take, and of their saver's signals, is so of all that
+    -- their host sends
+    pub rows_each : (Q : Outgoing → Type 0) → ((sent : Outgoing) → IsOfSaver sent → Q sent)
         → ((s : ReplicaState) → IsBetween s → IsTakenAt s → Each Q (replica_row s e.step.taken).effects.sends)
         → e.host ≡ ldm_of start member
         → Each Q (step_after start (ldm_of start member) (logs_of start es (ldm_of start member)) e).effects.sends
-    rows_each Q did at = by rows_go
+    rows_each Q own did at = by rows_go
       where
+        of_saver : IsQuiet → Each Q (step_after start h (old h) e).effects.sends
+        of_saver quiet = each_map IsOfSaver Q (step_after start h (old h) e).effects.sends own quiet.sends
+
         by : RowsGo → Each Q (step_after start h (old h) e).effects.sends
-        by (rest is quiet) = subst (Each Q) (sym (quiet at).sends) tt
-        by (enter view is quiet) = subst (Each Q) (sym (quiet at).sends) tt
+        by (rest is quiet) = of_saver (quiet at)
+        by (enter view is quiet) = of_saver (quiet at)
         by (take s between taken) = sent taken.sent
           where
             sent : ((step_after start h (old h) e).effects.sends ≡ (replica_row s x).effects.sends)

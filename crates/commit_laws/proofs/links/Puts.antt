@@ -122,27 +122,3 @@ module _ (start : Start) (h j : ℕ) (log : List HostStep) (e : HostStep) where
   stopped_same stops =
       ap (λ (xs : List Addressed). put (sound_machine start) j xs before_it)
       (sent_by_stop (sound_machine start) h log e stops)
-
-  -- nor does one that sends nothing
-  pub quiet_same : (step_after start h log e).effects.sends ≡ []
-      → sent (sound_machine start) h j (e ∷ log) ≡ sent (sound_machine start) h j log
-  quiet_same none = by (stops_by e.step.marks) refl
-    where
-      So : List Outgoing → List Addressed → Type 0
-      So left ys = (left ≡ []) × (ys ≡ sent (sound_machine start) h j log)
-
-      some : (o : Outgoing) (left : List Outgoing) → o ∷ left ≡ [] → ⊥
-      some o left is = absurd cc
-
-      goes : GoesOver start h j after_it e.step.stamp So
-      goes = record {
-        kept = λ o left ys out so. absurd (some o left so.0);
-        malformed = λ o left ys number off so. absurd (some o left so.0);
-        elsewhere = λ o left ys away so. absurd (some o left so.0);
-        comes = λ o left ys number out sound at so. absurd (some o left so.0);
-      }
-
-      by : (b : Bool) → stops_by e.step.marks ≡ b
-          → sent (sound_machine start) h j (e ∷ log) ≡ sent (sound_machine start) h j log
-      by true stops = stopped_same stops
-      by false on = (step_over So goes on (none, refl)).1

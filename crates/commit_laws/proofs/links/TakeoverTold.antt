@@ -249,3 +249,28 @@ module _ (tx : TxId) (key : List ℕ) (Marked : Type 0) (start : Start) (node_is
         by : (b : Bool) → stops_by e.step.marks ≡ b → Behind now
         by true stops = subst Behind (sym (stopped_same start h j log e stops)) are
         by false on = (step_over start h j log e Fronted fronted_over on (are, how)).0
+
+    -- where no end is sent at all, those that were are behind, whatever the view
+    module _ (m : ℕ) where
+      abbrev AreUnended : List Outgoing → Type 0
+      AreUnended left = Each (λ (o : Outgoing). o.body ≡ Takeover LqhTransEnd → ⊥) left
+
+      abbrev BehindStill : List Outgoing → List Addressed → Type 0
+      BehindStill left ys = AreBehind tx key Marked m ys × AreUnended left
+
+      still_over : GoesOver start h j (after start h (e ∷ log)).standing e.step.stamp BehindStill
+      still_over = record {
+        kept = λ o left ys out so. (so.0, so.1.1);
+        malformed = λ o left ys n off so. (so.0, so.1.1);
+        elsewhere = λ o left ys away so. (so.0, so.1.1);
+        comes = λ o left ys n out sound at so. ((λ ends same. absurd (so.1.0 ends), so.0), so.1.1);
+      }
+
+      pub still_behind : AreBehind tx key Marked m (sent (sound_machine start) h j log)
+          → AreUnended (step_after start h log e).effects.sends
+          → AreBehind tx key Marked m (sent (sound_machine start) h j (e ∷ log))
+      still_behind are unended = by (stops_by e.step.marks) refl
+        where
+          by : (b : Bool) → stops_by e.step.marks ≡ b → AreBehind tx key Marked m now
+          by true stops = subst (AreBehind tx key Marked m) (sym (stopped_same start h j log e stops)) are
+          by false on = (step_over start h j log e BehindStill still_over on (are, unended)).0

@@ -11,6 +11,9 @@ use Rattle.sig_core.specs.declared.signal.Signal.{Signal}
 use Rattle.sig_core.specs.declared.signal.client.ClientSignal.TheVariants.{TcCommitAck}
 use Rattle.lqh_views.specs.Replica.{replica_row}
 use Rattle.lqh_views.specs.State.{ReplicaState}
+use Rattle.lqh_saver.specs.State.{saving}
+use Rattle.lqh_saver.specs.Switching.{given_up}
+use Rattle.lqh_saver.proofs.StepLemmas.{saver_rows}
 use Rattle.node_views.specs.declared.ldm_part.LdmPart.{LdmPart}
 use Rattle.node_views.specs.Parts.{ldm_row}
 use Rattle.node_views.specs.WellFormed.{is_well_formed}
@@ -33,8 +36,8 @@ module _ (start : Start) (member : Member) (there : IsIn member (made start)) wh
 
   -- a part of rows runs there
   runs : (log : List HostStep)
-      → AreRows So (λ s x so. tt) (λ s view so. tt) (after start (ldm_of start member) log).parts
-  runs = rows_so So (λ s x so. tt) (λ s view so. tt) start member there tt
+      → AreRows So (after start (ldm_of start member) log).parts
+  runs = rows_so So (λ s x so. tt) (λ s view so. tt) (λ s at has so. tt) start member there tt
 
   module _ (log : List HostStep) (e : HostStep) (K : TxId → Bool)
       (acks : is_well_formed start.shape e.step.taken ≡ true → (tx : TxId)
@@ -78,7 +81,12 @@ module _ (start : Start) (member : Member) (there : IsIn member (made start)) wh
           → Kept (ldm_row q b x).state.replica
       unfolding ldm_row
       row_kept sound q alike block.Lqh =
-          alike.1 (replica_row q.replica x).state (rows_kept K q.replica alike.0 x (acks sound))
+          saver_rows (saving q.replica q.saver) x Kept (alike.1 q.replica same)
+          (alike.1 (replica_row q.replica x).state (rows_kept K q.replica alike.0 x (acks sound)))
+          (λ at has. alike.1 (given_up q.replica at) same)
+        where
+          same : AreKept K q.replica.lqh q.replica.lqh
+          same = (all_stay K q.replica.lqh.markers, alike.0)
       row_kept sound q alike _ = alike.1 q.replica (all_stay K q.replica.lqh.markers, alike.0)
 
       own_kept : PartTakes ldm_kind start.shape did.between (view_after start (ldm_of start member) (e ∷ log)) x did.own

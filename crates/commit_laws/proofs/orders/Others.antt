@@ -3,7 +3,8 @@ use Rattle.std.proofs.Common.{◌≡◌, List, refl, sym, subst}
 use Rattle.sig_core.specs.declared.place.BlockId.{BlockId}
 use Rattle.sig_core.specs.declared.place.BlockId.TheVariants as block
 use Rattle.sig_core.specs.declared.signal.Signal.{Signal}
-use Rattle.lqh_views.specs.Replica.{replica_row}
+use Rattle.lqh_saver.specs.Saver.{saver_row}
+use Rattle.lqh_saver.specs.State.{saving}
 use Rattle.node_views.specs.declared.ldm_part.LdmPart.{LdmPart}
 use Rattle.node_views.specs.declared.parts.Parts.{Parts}
 use Rattle.node_views.specs.declared.parts.Parts.TheVariants as part
@@ -24,7 +25,8 @@ use Rattle.commit_laws.proofs.orders.Words.{AreQuiet, IsQuiet, none_quiet}
 
 ldm_quiet : (p : LdmPart) (b : BlockId) (x : Signal) → AreQuiet (ldm_row p b x).effects.sends
 unfolding ldm_row
-ldm_quiet p block.Lqh x = none_quiet (replica_row p.replica x).effects.sends (rows_order_none p.replica x)
+ldm_quiet p block.Lqh x =
+    none_quiet (saver_row (saving p.replica p.saver) x).effects.sends (rows_order_none (saving p.replica p.saver) x)
 ldm_quiet p _ x = tt
 
 client_quiet : (start : Start) (log : List HostStep) (e : HostStep) → AreQuiet (step_after start 0 log e).effects.sends

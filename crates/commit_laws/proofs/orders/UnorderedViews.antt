@@ -4,8 +4,8 @@ use Rattle.std.proofs.Common.{◌≡◌, ◌≢◌, ◌≤◌, ◌⊎◌, ◌∙
 use Rattle.std.proofs.lemmas.Bool.{true≢false}
 use Rattle.std.specs.Prelude.{None}
 use Rattle.outcome_laws.specs.Counts.{one_if}
-use Rattle.run_theory.specs.Lists.{IsIn}
-use Rattle.run_theory.proofs.Pasts.{each_from, each_in}
+use Rattle.run_theory.specs.Lists.{Each, IsIn}
+use Rattle.run_theory.proofs.Pasts.{each_from, each_in, each_map}
 use Rattle.run_theory.proofs.Runs.{log_of-own}
 use Rattle.run_theory.proofs.EventCases.{event_cases}
 use Rattle.commit_laws.proofs.hosts.OwnTaken.{tc_taken}
@@ -59,6 +59,7 @@ use Rattle.commit_laws.proofs.drive.Kinds.{numbered}
 use Rattle.commit_laws.proofs.drive.Ruled.{is_order, plain}
 use Rattle.commit_laws.proofs.hosts.RowsTurn.{IsBetween, RowsTurn, as_was, enter_now, entered, rest_now, rows_turn}
 use Rattle.commit_laws.proofs.hosts.RowsTurn.{take_now}
+use Rattle.commit_laws.proofs.hosts.SaverGoes.{IsOfSaver, of_saver}
 use Rattle.commit_laws.proofs.orders.UnorderedHosts.{AreNoReports, IsNoReport, beside_no_reports}
 use Rattle.commit_laws.proofs.orders.UnorderedHosts.{coordinator_no_reports, enters_no_reports, epochs_no_reports}
 use Rattle.commit_laws.proofs.orders.UnorderedHosts.{is_of_reports}
@@ -225,14 +226,23 @@ module _ (start : Start) (all : ℕ → List HostStep) (e : HostStep) (es : List
             ap (λ (r : ReplicaState). r.report) is ∙ before.reports member there (stood_before stays)
         none_between s (entered _ is) = ap (λ (r : ReplicaState). r.report) is
 
+        of_no_report : Each IsOfSaver (sends_at (ldm_of start member)) → AreNoReports (sends_at (ldm_of start member))
+        of_no_report own =
+            each_map IsOfSaver IsNoReport (sends_at (ldm_of start member))
+            (λ o is.
+            of_saver (λ body. is_of_reports body ≡ false) (record {
+              reports = λ epoch. refl;
+              confirms = refl;
+              goes_on = λ at. refl;
+            }) o.body is) own
+
         own_rows : RowsTurn start all e es moment member there
             → ((rows_at start new member).report ≡ None) × AreNoReports (sends_at (ldm_of start member))
         own_rows (rest_now is quiet stays) = (
           ap (λ (r : ReplicaState). r.report) is ∙ before.reports member there (stood_before (stays at)),
-          subst AreNoReports (sym (quiet at).sends) tt,
+          of_no_report (quiet at).sends,
         )
-        own_rows (enter_now is quiet) =
-            (ap (λ (r : ReplicaState). r.report) is, subst AreNoReports (sym (quiet at).sends) tt)
+        own_rows (enter_now is quiet) = (ap (λ (r : ReplicaState). r.report) is, of_no_report (quiet at).sends)
         own_rows (take_now s between which taken) =
             (ap (λ (r : ReplicaState). r.report) taken.rows_are ∙ tells.report, by taken.sent)
           where

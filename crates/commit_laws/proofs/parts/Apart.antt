@@ -1,6 +1,6 @@
 -- The parts of a transaction's operations behind an event of the rows of a member, in the current view, where the rows
 -- do nothing, install a view, or do what isn't of the transaction.
-use Rattle.std.proofs.Common.{◌≡◌, ◌⊎◌, ◌∙◌, ℕ, true, false, List, [], ◌∷◌, refl, sym, ap, subst, inr}
+use Rattle.std.proofs.Common.{◌≡◌, ◌⊎◌, ◌∙◌, ℕ, true, false, List, ◌∷◌, refl, sym, ap, subst, inr}
 use Rattle.run_theory.proofs.Pasts.{each_map}
 use Rattle.run_theory.proofs.Runs.{log_of-own}
 use Rattle.run_theory.specs.Lists.{Each, IsIn}
@@ -42,6 +42,7 @@ use Rattle.commit_laws.proofs.parts.Request.{each_if}
 use Rattle.commit_laws.proofs.parts.Still.{MemberDoes}
 use Rattle.commit_laws.proofs.parts.Sent.{part_by, sent_parts}
 use Rattle.commit_laws.proofs.hosts.RowsTurn.{IsBetween, IsQuiet, IsTakenAt, as_was, entered}
+use Rattle.commit_laws.proofs.hosts.SaverGoes.{AreAlike, IsOfSaver, of_saver}
 
 module _ (start : Start) (all : ℕ → List HostStep) (e : HostStep) (es : List HostStep)
     (follows : Follows start all e es) (xs left : List Addressed) (transit : AreInTransit start es xs)
@@ -84,19 +85,24 @@ module _ (start : Start) (all : ℕ → List HostStep) (e : HostStep) (es : List
         (sym (ap (λ (v : View). v.number) stays)
         ∙ (ap (λ log. (view_after start h log).number) (sym new_log) ∙ (stands ∙ ap (λ v. v.number) same)))
 
-    -- where the host sends nothing
-    nothing_told : (step_after start h (old h) e).effects.sends ≡ [] → (key : List ℕ)
+    -- where the host sends nothing but what is of its rows' saver
+    nothing_told : Each IsOfSaver (step_after start h (old h) e).effects.sends → (key : List ℕ)
         → Each (λ (y : Addressed). Told start new key tx u (part_of tx key y.signal.body))
         (sent_now start all e es follows xs left transit takes same tx)
-    nothing_told none key =
+    nothing_told own key =
         bodies_sent start e.host (old e.host) e (λ b. Told start new key tx u (part_of tx key b))
         (subst
         (λ k. Each (λ (o : Outgoing). Told start new key tx u (part_of tx key o.body))
         (step_after start k (old k) e).effects.sends) (sym at)
-        (subst (Each (λ (o : Outgoing). Told start new key tx u (part_of tx key o.body))) (sym none) tt))
+        (each_map IsOfSaver (λ (o : Outgoing). Told start new key tx u (part_of tx key o.body))
+        (step_after start h (old h) e).effects.sends
+        (λ o is.
+        of_saver (λ body. Told start new key tx u (part_of tx key body))
+        (record { reports = λ epoch. tt; confirms = tt; goes_on = λ at. tt }) o.body is)
+        own))
 
     -- the rows do nothing
-    pub resting_does : rows_at start (logs_of start (e ∷ es)) me ≡ rows_at start (logs_of start es) me
+    pub resting_does : AreAlike (rows_at start (logs_of start (e ∷ es)) me) (rows_at start (logs_of start es) me)
         → IsQuiet start all e es follows.moment me there
         → view_after start (ldm_of start me) (e ∷ logs_of start es (ldm_of start me))
         ≡ view_after start (ldm_of start me) (logs_of start es (ldm_of start me))
@@ -110,8 +116,8 @@ module _ (start : Start) (all : ℕ → List HostStep) (e : HostStep) (es : List
     }
 
     -- a view is installed in them
-    pub entering_does : rows_at start (logs_of start (e ∷ es)) me
-        ≡ installed (rows_at start (logs_of start es) me) (current start (logs_of start (e ∷ es)))
+    pub entering_does : AreAlike (rows_at start (logs_of start (e ∷ es)) me)
+        (installed (rows_at start (logs_of start es) me) (current start (logs_of start (e ∷ es))))
         → IsQuiet start all e es follows.moment me there
         → MemberDoes start all e es follows xs left transit takes same tx u hale led me there at
     entering_does is quiet = record {

@@ -33,6 +33,7 @@ use Rattle.commit_laws.proofs.records.Moves.{IsIdle, RecordMoves, aborts, commit
 use Rattle.commit_laws.proofs.records.Moves.{stays}
 use Rattle.commit_laws.proofs.records.Once.{rows_once, rows_well}
 use Rattle.commit_laws.proofs.hosts.RowsTurn.{IsBetween, IsTakenAt, RowsGo, as_was, enter, entered, rest, rows_go, take}
+use Rattle.commit_laws.proofs.hosts.SaverGoes.{AreAlike}
 
 module _ (start : Start) (all : ℕ → List HostStep) (e : HostStep) (es : List HostStep)
     (moment : IsMoment start all (e ∷ es)) (member : Member) (there : IsIn member (made start))
@@ -92,7 +93,7 @@ module _ (start : Start) (all : ℕ → List HostStep) (e : HostStep) (es : List
       marker_of s = list_any (is_marker tx key) s.lqh.markers
 
       -- the rows are as they were, for this key
-      same_goes : (s : ReplicaState) → rows_at start new member ≡ s → record_of s ≡ record_was
+      same_goes : (s : ReplicaState) → AreAlike (rows_at start new member) s → record_of s ≡ record_was
           → marker_of s ≡ has_marker_at start old member key tx → KeyGoes
       same_goes s is record_is marker_is = record {
         record_goes = record_stays (ap record_of is ∙ record_is);

@@ -16,6 +16,7 @@ use Rattle.sig_core.specs.Op.{answer_to, image_of, key_of}
 use Rattle.sig_core.specs.Rows.{RowsState, is_on, no_rows, prepared, put_row}
 use Rattle.lqh_views.specs.Replica.{installed, replica_row}
 use Rattle.lqh_views.specs.State.{ReplicaState}
+use Rattle.lqh_saver.specs.Switching.{given_up, has_position}
 use Rattle.node_core.specs.Fresh.{own_rows, with_rows}
 use Rattle.key_laws.specs.Records.{AreOnce, found, seen_by, without_epoch}
 use Rattle.key_laws.specs.Replica.{Cell, Replica, at_key}
@@ -28,7 +29,7 @@ use Rattle.run_laws.proofs.fades.Records.{once_after}
 use Rattle.request_laws.specs.Blocks.{rows_after}
 use Rattle.request_laws.specs.Replicas.{event_under}
 use Rattle.request_laws.proofs.replicas.KeyEvents.{installations_keep_well, signals_are_events, signals_keep_well}
-use Rattle.request_laws.proofs.replicas.AlongLogs.{always, first_rows, first_well}
+use Rattle.request_laws.proofs.replicas.AlongLogs.{always, first_rows, first_well, given_up_well}
 
 once_storing : (c : Cell) (v : TxId) (key : List ℕ) (image : Option (List ℕ)) (b : Bool) → AreOnce c.pending
     → AreOnce (storing c v key image b).pending
@@ -65,6 +66,10 @@ row_so s x so = record {
 install_so : (s : ReplicaState) (view : View) → AreSo s → AreSo (installed s view)
 install_so s view so = record { well = installations_keep_well s view so.well; once = so.once }
 
+give_so : (s : ReplicaState) (at : ℕ) → has_position s.lqh.outlet at ≡ true → AreSo s → AreSo (given_up s at)
+give_so s at has so =
+    record { well = given_up_well s at has so.well; once = so.once }
+
 -- none is there at first
 pub none_put : (s : RowsState) (rows : List (List ℕ × List ℕ)) (epoch : ℕ) → s.pending ≡ []
     → (with_rows s rows epoch).pending ≡ []
@@ -81,7 +86,7 @@ first_so start member = record {
 
 module _ (start : Start) (member : Member) (there : IsIn member (made start)) (log : List HostStep) where
   so : AreSo (rows_after start member log)
-  so = always AreSo row_so install_so start member there (first_so start member) log
+  so = always AreSo row_so install_so give_so start member there (first_so start member) log
 
   pub rows_well : IsWell (rows_after start member log).lqh
   rows_well = so.well

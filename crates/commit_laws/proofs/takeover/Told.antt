@@ -63,6 +63,7 @@ use Rattle.commit_laws.proofs.hosts.SomePasses.{passed}
 use Rattle.commit_laws.proofs.records.Once.{rows_once}
 use Rattle.commit_laws.proofs.records.Replicas.{members_full}
 use Rattle.commit_laws.proofs.hosts.RowsTurn.{IsBetween, IsTakenAt, as_was, entered, rows_each}
+use Rattle.commit_laws.proofs.hosts.SaverGoes.{of_saver}
 use Rattle.commit_laws.proofs.takeover.Reports.{AreFated, Fated, HasTrace, IsFated, TracesIf, all_aside_fated}
 use Rattle.commit_laws.proofs.takeover.Reports.{by_marker, by_record, rows_trace, tc_enters_fated, tc_fated}
 use Rattle.commit_laws.proofs.takeover.Words.{Commits}
@@ -215,6 +216,8 @@ module _ (start : Start) (all : ℕ → List HostStep) (e : HostStep) (es : List
       rows_fated at =
           subst (AreFated If) (sym (ap (λ k. (step_after start k (old k) e).effects.sends) at))
           (rows_each start all e es moment member there (IsFated If)
+          (λ o own.
+          of_saver (Fated If) (record { reports = λ epoch. tt; confirms = tt; goes_on = λ at. tt }) o.body own)
           (λ s between taken.
           each_map (IsFated (TracesIf s)) (IsFated If) (replica_row s x).effects.sends
           (λ o fated. told s between taken o.body fated) (rows_trace s x)) at)

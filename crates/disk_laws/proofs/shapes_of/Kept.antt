@@ -1,7 +1,7 @@
 -- A host goes on, and whatever a crash leaves of the disk of its node, the system slots are of the cluster's shape.
 use Rattle.std.proofs.Common.{◌≡◌, ◌≢◌, ◌∙◌, ◌⊎◌, ◌-◌, ◌≤◌, ◌<◌, ℕ, Bool, true, false, List, [], ◌∷◌, get_or}
 use Rattle.std.proofs.Common.{ap, sym, subst, arith, inl, inr}
-use Rattle.std.specs.Prelude.{None, Option}
+use Rattle.std.specs.Prelude.{None, Option, Some}
 use Rattle.std.proofs.lemmas.Bool.{cases_eq, true≢false}
 use Rattle.host_io.specs.Call.{Call}
 use Rattle.host_io.specs.DiskState.{FileState, state_of}
@@ -13,11 +13,15 @@ use Rattle.sig_core.specs.declared.slots.SystemSlot.{SystemSlot}
 use Rattle.sig_core.specs.Journal.{OutletState}
 use Rattle.sig_core.specs.Table.{Rows}
 use Rattle.sys_restart.proofs.AlikeLemmas.{same_some}
+use Rattle.sys_restart.proofs.NextLemmas.{next_file_is}
 use Rattle.sysfile_core.specs.declared.place.TheConstants.{SYSTEM_FILE}
 use Rattle.sysfile_core.specs.Runs.{Runs}
+use Rattle.lqh_saver.specs.declared.stage.Todo.{Todo}
+use Rattle.lqh_saver.specs.declared.stage.Todo.TheVariants as todo
 use Rattle.node_disk.specs.Laws.{HasSystem}
 use Rattle.node_disk.specs.Slots.{SlotsInUse}
-use Rattle.node_disk.proofs.LawLemmas.{rows_leave}
+use Rattle.node_disk.specs.Saving.{free_file}
+use Rattle.node_disk.proofs.LawLemmas.{checkpoints_leave, rows_leave}
 use Rattle.node_views.specs.WellFormed.{is_mask}
 use Rattle.world_core.specs.Hosts.{hosts, member_at}
 use Rattle.world_core.specs.Start.{Start, made}
@@ -30,7 +34,8 @@ use Rattle.moment_laws.specs.Places.{ldm_of, tc_of}
 use Rattle.moment_laws.proofs.MomentHosts.{ldm_member, tc_member}
 use Rattle.request_laws.specs.Blocks.{rows_after}
 use Rattle.disk_world.specs.Disks.{Disks, HasGoneOn, HasKept}
-use Rattle.disk_world.specs.Keeping.{DurableAt, Kept, NothingNew, RowsUpTo, calls_of, redo_from}
+use Rattle.disk_world.specs.Keeping.{DurableAt, Kept, NothingNew, OfCheckpoint, RowsUpTo, calls_of, kept_unless}
+use Rattle.disk_world.specs.Keeping.{redo_from}
 use Rattle.journal_laws.specs.Journal.{lqh_after}
 use Rattle.disk_laws.specs.OnDisk.{KeepsNoted, KeepsUp}
 use Rattle.disk_laws.specs.Shapes.{KeepsShape, LeavesShape, ShapesAreKept}
@@ -39,8 +44,8 @@ use Rattle.disk_laws.proofs.GoneLemmas.{sound_still}
 use Rattle.disk_laws.proofs.NotedSignals.{IsNoRows, durable, none_noted, noted, noted_mask, noted_no_rows}
 use Rattle.disk_laws.proofs.NotedSignals.{nothing}
 use Rattle.disk_laws.proofs.OtherHosts.{others_keep_nothing}
-use Rattle.disk_laws.proofs.RecordLemmas.{TellsRecord, runs_tell}
-use Rattle.disk_laws.proofs.RowSteps.{rows_kept_are}
+use Rattle.disk_laws.proofs.RecordLemmas.{runs_tell}
+use Rattle.disk_laws.proofs.RowSteps.{rows_kept_are, todo_behind}
 use Rattle.disk_laws.proofs.shapes_of.Written.{written_shaped}
 
 module _ (start : Start) (member : Member) (before : Rows) (first : SystemSlot) (w t : Whole) (old new : Disks)
@@ -87,25 +92,44 @@ module _ (start : Start) (member : Member) (before : Rows) (first : SystemSlot) 
     nothing_shaped : Asked NothingNew → Shaped
     nothing_shaped runs = record { calls = up.calls; told = runs.0; leaves = leaves }
 
-    -- of rows, and wrote other files
-    module _ (epoch : ℕ) (redo : OutletState) (runs : Asked (RowsUpTo epoch redo)) where
-      rows_tell : TellsRecord up.calls told_now
-      rows_tell =
-          runs_tell (calls_of (files_of up.calls) up.slots (RowsUpTo epoch redo)) up.calls told_now ok kept runs
+    -- something that wrote other files
+    other_files : (what : Kept) → Asked what
+        → ((after : List Call) → Runs (calls_of (files_of up.calls) up.slots what) up.calls (Some after) ok
+        → state_of after SYSTEM_FILE ≡ state_of up.calls SYSTEM_FILE)
+        → Shaped
+    other_files what runs same =
+        let asks = calls_of (files_of up.calls) up.slots what in
+        let tells = runs_tell asks up.calls told_now ok kept runs in
+        record {
+          calls = tells.calls;
+          told = tells.is;
+          leaves = λ bytes image.
+              leaves bytes
+              (subst (λ (s : FileState). IsImage s bytes)
+              (same tells.calls (subst (λ o. Runs asks up.calls o ok) tells.is runs)) image);
+        }
 
-      system_same : state_of rows_tell.calls SYSTEM_FILE ≡ state_of up.calls SYSTEM_FILE
-      system_same =
-          rows_leave up.slots epoch (redo_from redo up.slots.control.redo_end) up.calls rows_tell.calls ok SYSTEM_FILE
-          (subst
-          (λ o. Runs (calls_of (files_of up.calls) up.slots (RowsUpTo epoch redo)) up.calls o ok) rows_tell.is runs)
-          (λ same. absurd (omega (arith, same))) (λ position same. absurd (omega (arith, same)))
+    not_free : SYSTEM_FILE ≢ free_file up.slots
+    not_free is = absurd (omega (arith, is, (next_file_is (Some up.slots.control)).0))
 
-      rows_shaped : Shaped
-      rows_shaped = record {
-        calls = rows_tell.calls;
-        told = rows_tell.is;
-        leaves = λ bytes image. leaves bytes (subst (λ (s : FileState). IsImage s bytes) system_same image);
-      }
+    -- as what is kept of the rows, or of a local checkpoint
+    rows_shaped : (epoch : ℕ) (redo : OutletState) (it : Todo) → Asked (kept_unless epoch redo it) → Shaped
+    rows_shaped epoch redo todo.Nothing runs =
+        other_files (RowsUpTo epoch redo) runs
+        (λ after made.
+        rows_leave up.slots epoch (redo_from redo up.slots.control.redo_end) up.calls after ok SYSTEM_FILE made
+        (λ same. absurd (omega (arith, same))) (λ position same. absurd (omega (arith, same))))
+    rows_shaped epoch redo (todo.Write piece) runs =
+        other_files (OfCheckpoint (todo.Write piece)) runs
+        (λ after made. checkpoints_leave.written up.slots piece up.calls after ok SYSTEM_FILE made not_free)
+    rows_shaped epoch redo todo.Sync runs =
+        other_files (OfCheckpoint todo.Sync) runs
+        (λ after made. checkpoints_leave.settled up.slots up.calls after ok SYSTEM_FILE made not_free)
+    rows_shaped epoch redo (todo.Name finished) runs =
+        other_files (OfCheckpoint (todo.Name finished)) runs
+        (λ after made.
+        checkpoints_leave.named up.slots finished up.calls after ok SYSTEM_FILE made
+        (λ same. absurd (omega (arith, same))))
 
     -- that an epoch is durable, and wrote a slot
     durable_shaped : (epoch mask : ℕ) → HasSystem up.slots up.calls → is_mask start.shape mask ≡ true
@@ -145,6 +169,7 @@ module _ (start : Start) (member : Member) (before : Rows) (first : SystemSlot) 
     of_rows : HasAsked ldm → Shaped
     of_rows has =
         rows_shaped (rows_after start member (log_of ldm)).saved (lqh_after start member (log_of ldm)).outlet
+        (todo_behind start member before first there (log_of ldm))
         (asked_of ldm _ (place_is ldm (ldm_member start member there))
         (rows_kept_are start member before first there (log_of ldm)) has)
 
@@ -201,8 +226,8 @@ module _ (start : Start) (member : Member) (before : Rows) (first : SystemSlot) 
 
   by_step : Comes start w t old new counts sound gone → Shaped
   by_step (as_was same_world same_disks stops) = as_before (ap (λ (disks : Disks). get_or disks.told d None) same_disks)
-  by_step (keeps some low runs same has) = went_on true some low runs has
-  by_step (fails some low runs count same has) = went_on false some low runs has
+  by_step (keeps some low runs step more same has) = went_on true some low runs has
+  by_step (fails some low runs step more count same has) = went_on false some low runs has
 
 pub shapes_kept : ShapesAreKept
 shapes_kept start member before first w t old new counts sound there told slots gone of_first up are =

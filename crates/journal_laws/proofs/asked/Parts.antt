@@ -32,6 +32,9 @@ use Rattle.dih_node.proofs.Walk.{dih_words}
 use Rattle.gcp_master.specs.Master.{master_row}
 use Rattle.gcp_master.specs.Words.{is_master_mark, is_master_word}
 use Rattle.gcp_master.proofs.Walk.{master_words}
+use Rattle.lqh_views.specs.State.{ReplicaState}
+use Rattle.lqh_saver.specs.State.{SavingState, saving}
+use Rattle.lqh_saver.proofs.StepLemmas.{saver_rows, saver_sends}
 use Rattle.qmgr_block.specs.Qmgr.{qmgr_installed, qmgr_row}
 use Rattle.qmgr_block.specs.Words.{is_qmgr_mark, is_qmgr_word}
 use Rattle.qmgr_block.proofs.Walk.{qmgr_words}
@@ -125,8 +128,11 @@ module _ (x : Signal) (asked : IsWellAsked x.body) where
     where
       by : (b : BlockId) → PartsWell (Shell (shell_row p b x).state) × AllAsk (shell_row p b x).effects
       by block.Api = client_asks p.client x well asked
-      by block.Arbiter =
-          (well, spoken is_arbiter_word is_arbiter_mark (arbiter_row p.arbiter x) of_arbiter (arbiter_words p.arbiter x))
+      by block.Arbiter = (
+        well,
+        spoken is_arbiter_word is_arbiter_mark (arbiter_row p.arbiter x) of_arbiter
+            (arbiter_words p.arbiter x),
+      )
       by _ = (well, tt)
 
   main_well : (p : MainPart) → StayWell (parts_row (Main p) x)
@@ -134,7 +140,8 @@ module _ (x : Signal) (asked : IsWellAsked x.body) where
   main_well p = by x.to.block
     where
       by : (b : BlockId) → PartsWell (Main (main_row p b x).state) × AllAsk (main_row p b x).effects
-      by block.Qmgr = (tt, spoken is_qmgr_word is_qmgr_mark (qmgr_row p.qmgr x) of_qmgr (qmgr_words.at_signals p.qmgr x))
+      by block.Qmgr =
+          (tt, spoken is_qmgr_word is_qmgr_mark (qmgr_row p.qmgr x) of_qmgr (qmgr_words.at_signals p.qmgr x))
       by block.GcpMaster =
           (tt, spoken is_master_word is_master_mark (master_row p.master x) of_master (master_words p.master x))
       by _ = (tt, tt)
@@ -158,7 +165,16 @@ module _ (x : Signal) (asked : IsWellAsked x.body) where
   ldm_well p well = by x.to.block
     where
       by : (b : BlockId) → PartsWell (Ldm (ldm_row p b x).state) × AllAsk (ldm_row p b x).effects
-      by block.Lqh = rows_ask p.replica x well asked
+      by block.Lqh =
+          let s : SavingState = saving p.replica p.saver in
+          let own = rows_ask p.replica x well asked in (
+            saver_rows s x (λ (r : ReplicaState). RowsWell r.lqh) well own.0 (λ at has. well),
+            saver_sends s x (Each AsksWell) own.1 tt (record {
+              goes_on = λ is. (tt, tt);
+              reports = λ walk to is walking. (tt, tt);
+              confirms = λ finished end is walked usable. (tt, tt);
+            }),
+          )
       by _ = (well, tt)
 
   row_well : (parts : Parts) → PartsWell parts → StayWell (parts_row parts x)
@@ -171,8 +187,11 @@ module _ (x : Signal) (asked : IsWellAsked x.body) where
 entered_well : (parts : Parts) (view : View) → PartsWell parts → StayWell (parts_entered parts view)
 unfolding noted
 entered_well (Shell p) view well = (well, tt)
-entered_well (Main p) view well =
-    (tt, spoken is_qmgr_word is_qmgr_mark (qmgr_installed p.qmgr view) of_qmgr (qmgr_words.at_installations p.qmgr view))
+entered_well (Main p) view well = (
+  tt,
+  spoken is_qmgr_word is_qmgr_mark (qmgr_installed p.qmgr view) of_qmgr
+      (qmgr_words.at_installations p.qmgr view),
+)
 entered_well (Tc p) view well =
     let then = coordinator_installs p.coordinator view well in (
       then.0,

@@ -103,7 +103,8 @@ module _ (start : Start) (low : IsLow start.epoch) where
 
         by : (body : Body) → e.step.taken.body ≡ body → CommitsLow body
         by (Chain (Commit tx key epoch members at)) is =
-            let tells : Tells (IsDecided start (logs_of start es)) (IsBegun start (logs_of start es)) e.step.taken.body =
+            let tells : Tells (IsDecided start (logs_of start es)) (IsBegun start (logs_of start es)) e.step.taken.body
+            =
             taken_told start (TellsTruly start (logs_of start es)) all e es moment
             (moments_know start all es less).signals sound
             (λ own. absurd (subst (IsOwnWork start e.host) is own))

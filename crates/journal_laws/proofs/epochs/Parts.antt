@@ -30,6 +30,8 @@ use Rattle.lqh_views.specs.Replica.{replica_row}
 use Rattle.lqh_views.specs.State.{ReplicaState}
 use Rattle.lqh_views.specs.Words.{is_replica_mark, is_replica_word, is_row_word}
 use Rattle.lqh_views.proofs.Walk.{replica_tells_each, replica_words}
+use Rattle.lqh_saver.specs.State.{saving}
+use Rattle.lqh_saver.proofs.Walk.{saver_each}
 use Rattle.qmgr_block.specs.Qmgr.{qmgr_installed, qmgr_row}
 use Rattle.qmgr_block.specs.Words.{is_qmgr_mark, is_qmgr_word}
 use Rattle.qmgr_block.proofs.Walk.{qmgr_words}
@@ -86,7 +88,8 @@ module _ {S : Type 0} (is_word : Body → Bool) (is_mark : Mark → Bool) (step 
   marks_low : ((mark : Mark) → is_mark mark ≡ true → MarksLow mark) → Each MarksLow step.effects.marks
   marks_low low = each_map (IsAmong is_mark) MarksLow step.effects.marks low speaks.1
 
-  spoken : ((body : Body) → is_word body ≡ true → IsLowTold body) → ((mark : Mark) → is_mark mark ≡ true → MarksLow mark)
+  spoken : ((body : Body) → is_word body ≡ true → IsLowTold body)
+      → ((mark : Mark) → is_mark mark ≡ true → MarksLow mark)
       → AllLow step.effects
   spoken low marks = (
     each_map (IsWord is_word) TellsLow step.effects.sends (λ sent is. low sent.body is) speaks.0,
@@ -238,7 +241,14 @@ module _ (x : Signal) (told : IsLowTold x.body) where
   ldm_low p = by x.to.block
     where
       by : (b : BlockId) → PartsLow (Ldm (ldm_row p b x).state) × AllLow (ldm_row p b x).effects
-      by block.Lqh = (tt, replica_low p.replica x)
+      by block.Lqh = (
+        tt,
+        saver_each (saving p.replica p.saver) x TellsLow MarksLow (replica_low p.replica x) (record {
+          goes_on = λ is. tt;
+          reports = λ walk to is walking. tt;
+          confirms = λ finished end is walked usable. tt;
+        }),
+      )
       by _ = (tt, (tt, tt))
 
   row_low : (parts : Parts) → PartsLow parts → StayLow (parts_row parts x)

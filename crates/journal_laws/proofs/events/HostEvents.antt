@@ -3,39 +3,34 @@ use Rattle.std.proofs.Common.{◌≡◌, List, [], ◌∷◌, ◌++◌, ℕ, tru
 use Rattle.std.specs.Prelude.{Option, None, Some, option_to_list}
 use Rattle.frag_map.specs.Shape.{IsShape}
 use Rattle.run_theory.specs.Lists.{Each, IsIn}
+use Rattle.run_theory.specs.Logs.{IsLog}
 use Rattle.sig_core.specs.declared.member.Member.{Member}
 use Rattle.sig_core.specs.declared.redo.Redo.{Redo}
 use Rattle.sig_core.specs.declared.redo.Redo.TheVariants as redo
+use Rattle.sig_core.specs.declared.signal.Body.{Body}
+use Rattle.sig_core.specs.Journal.{OutletState}
 use Rattle.sig_core.specs.Rows.{RowsState}
 use Rattle.redo_log.specs.Replaying.{AreRecords}
 use Rattle.local_ckpt.specs.Events.{Abort, Commit, Complete, Event, Prepare, Step, changed, log_if, logged}
 use Rattle.local_ckpt.specs.Orderly.{image_in}
+use Rattle.lqh_block.specs.State.{LqhState}
 use Rattle.lqh_views.specs.State.{ReplicaState}
+use Rattle.lqh_saver.specs.declared.stage.Todo.{Todo}
+use Rattle.lqh_saver.specs.State.{SavingState}
 use Rattle.node_views.specs.WellFormed.{is_well_formed}
 use Rattle.world_core.specs.Start.{Start, made}
 use Rattle.world_core.specs.Steps.{HostStep}
+use Rattle.world_views.specs.Machine.{machine}
 use Rattle.moment_laws.specs.Places.{ldm_of}
-use Rattle.request_laws.specs.Blocks.{rows_after}
-use Rattle.request_laws.proofs.routes.PartSteps.{own_ldm, rows_are}
 use Rattle.journal_laws.specs.Events.{behind_all, changed_if, records_behind, records_if, rows_behind}
 use Rattle.journal_laws.specs.Journal.{AreEventsOf, HasRecords, first_rows, lqh_after, outlet_with}
+use Rattle.journal_laws.specs.Saver.{IsRestOf, IsStepBy, LeavesAll, NotesSaves, begins, ends, passes, rows}
+use Rattle.journal_laws.specs.Saver.{saving_after}
+use Rattle.journal_laws.specs.Saver.{switches, todo_at}
 use Rattle.journal_laws.proofs.events.FirstRows.{first_replica, first_writable}
-use Rattle.journal_laws.proofs.events.ReplicaEvents.{HostMakes, entered, taken}
+use Rattle.journal_laws.proofs.events.HostSteps.{HostMakes, step_makes}
+use Rattle.journal_laws.proofs.events.Outlets.{less_left, more_behind, nothing_given}
 use Rattle.journal_laws.proofs.events.Writable.{AreWritable, IsWritable}
-
--- an event's records stand behind those that there were
-outlet_if : (record_of : Redo) (o : Option (Option (List ℕ))) (log : List Redo)
-    → behind_all (log_if record_of o []) (outlet_with log) ≡ outlet_with (log_if record_of o log)
-outlet_if record_of None log = refl
-outlet_if record_of (Some image) log = refl
-
-outlet_more : (event : Event) (s : RowsState) (log : List Redo)
-    → behind_all (logged event s []) (outlet_with log) ≡ outlet_with (logged event s log)
-outlet_more (Prepare tx fragment key image) s log = refl
-outlet_more (Commit tx key epoch) s log = outlet_if (redo.Commit tx epoch key) (image_in s tx key) log
-outlet_more (Abort tx key) s log = outlet_if (redo.Abort tx key) (image_in s tx key) log
-outlet_more (Complete tx key) s log = refl
-outlet_more Step s log = refl
 
 records_more_if : (record_of : Redo) (o : Option (Option (List ℕ))) (log : List Redo)
     → AreRecords (log_if record_of o []) → AreRecords log → AreRecords (log_if record_of o log)
@@ -55,92 +50,139 @@ records_more Step s log own are = are
 abbrev pub TakesWritable : Start → HostStep → Type 0
 TakesWritable start e = is_well_formed start.shape e.step.taken ≡ true → IsWritable e.step.taken.body
 
-module _ (start : Start) (member : Member) (there : IsIn member (made start)) where
-  -- one more step
-  pub step_makes : (log : List HostStep) (e : HostStep)
-      → HostMakes start.shape e.step.taken (lqh_after start member log) (lqh_after start member (e ∷ log))
-  step_makes log e =
-      let step = own_ldm start member there log e in
-      let h : ℕ = ldm_of start member in
-      let before : rows_after start member log ≡ step.own.replica =
-      rows_are start member h log refl step.own step.runs in
-      let behind : rows_after start member (e ∷ log) ≡ step.does.own.replica =
-      rows_are start member h (e ∷ log) refl step.does.own step.does.is in
-      subst (λ (s : ReplicaState). HostMakes start.shape e.step.taken s.lqh (lqh_after start member (e ∷ log)))
-      (sym before)
-      (subst (λ (t : ReplicaState). HostMakes start.shape e.step.taken step.own.replica.lqh t.lqh) (sym behind)
-      (entered start.shape e.step.taken step.own _ step.does.between _ step.does.front step.does.enters
-      step.does.own.replica.lqh
-      (taken start.shape e.step.taken step.does.between _ step.does.own step.does.rest step.does.takes)))
+module _ (first : RowsState) where
+  -- Rows have come by events from what they were at first, and their journal has the records of these from a position
+  -- on.
+  pub record HasCome (s : LqhState) (events : List Event) : Type 0 where
+    pub rows : s.rows ≡ rows_behind first events
+    pub outlet : IsRestOf s.outlet (outlet_with (records_behind first events))
 
-  -- The rows have come by events from what they were at first, and the journal has their records, which can be written
-  -- if the signals can.
+  -- so it is behind a step
+  module _ (s t : SavingState) (body : Body) (it : Todo) (events : List Event) (has : HasCome s.replica.lqh events)
+    where
+      abbrev Come : Option Event → Type 0
+      Come event = HasCome t.replica.lqh (option_to_list event ++ events)
+
+      stays : LeavesAll s t → Come None
+      stays leaves = record {
+        rows = leaves.rows ∙ has.rows;
+        outlet =
+            subst (λ (o : OutletState). IsRestOf o (outlet_with (records_behind first events))) (sym leaves.outlet)
+            has.outlet;
+      }
+
+      event_made : (event : Option Event) → t.replica.lqh.rows ≡ changed_if event s.replica.lqh.rows
+          → t.replica.lqh.outlet ≡ behind_all (records_if event s.replica.lqh.rows) s.replica.lqh.outlet → Come event
+      event_made None same outlet = record {
+        rows = same ∙ has.rows;
+        outlet =
+            subst (λ (o : OutletState). IsRestOf o (outlet_with (records_behind first events))) (sym outlet)
+            has.outlet;
+      }
+      event_made (Some event) same outlet = record {
+        rows = same ∙ ap (changed event) has.rows;
+        outlet =
+            subst (λ (o : OutletState). IsRestOf o (outlet_with (records_behind first (event ∷ events)))) (sym outlet)
+            (subst
+            (λ (r : RowsState). IsRestOf (behind_all (logged event r []) s.replica.lqh.outlet)
+            (outlet_with (records_behind first (event ∷ events)))) (sym has.rows)
+            (more_behind event (rows_behind first events) s.replica.lqh.outlet (records_behind first events)
+            has.outlet));
+      }
+
+      pub comes : (event : Option Event) → IsStepBy s t body it event → Come event
+      comes event (rows makes keeps none nothing) = event_made event makes.rows makes.outlet
+      comes event (begins walks none nothing) = subst Come (sym none) (stays walks.leaves)
+      comes event (passes walks step writes) =
+          subst Come (sym step)
+          (let same = stays walks.leaves in record { rows = same.rows; outlet = same.outlet })
+      comes event (ends walks none syncs) = subst Come (sym none) (stays walks.leaves)
+      comes event (switches finished to none names) =
+          subst Come (sym none)
+          (record {
+            rows = to.rows ∙ has.rows;
+            outlet =
+                subst (λ (o : OutletState). IsRestOf o (outlet_with (records_behind first events))) (sym to.outlet)
+                (less_left s.replica.lqh.outlet (outlet_with (records_behind first events)) finished.from has.outlet
+                to.has);
+          })
+
+module _ (start : Start) (member : Member) (there : IsIn member (made start)) where
+  abbrev first : RowsState
+  first = first_rows start member
+
+  pub begun : HasCome first (lqh_after start member []) []
+  begun = record {
+    rows = refl;
+    outlet =
+        subst (λ (s : ReplicaState). IsRestOf s.lqh.outlet (outlet_with [])) (sym (first_replica start member there))
+        nothing_given;
+  }
+
+  -- whatever their events are
+  pub events_come : (log : List HostStep) (events : List Event) → AreEventsOf start member log events
+      → HasCome first (lqh_after start member log) events
+  events_come [] events none = subst (HasCome first (lqh_after start member [])) (sym none) begun
+  events_come (e ∷ log) events are =
+      subst (HasCome first (lqh_after start member (e ∷ log))) (sym are.1.1.0)
+      (comes first (saving_after start member log) (saving_after start member (e ∷ log)) e.step.taken.body
+      (todo_at start member e log) are.1.0 (events_come log are.1.0 are.1.1.1) are.0 are.1.1.2)
+
+  -- There are such events, and their records can be written if the signals can.
   pub record HasEvents (log : List HostStep) : Type 0 where
     pub events : List Event
     pub events_of : AreEventsOf start member log events
-    pub rows : (lqh_after start member log).rows ≡ rows_behind (first_rows start member) events
-    pub outlet : (lqh_after start member log).outlet ≡ outlet_with (records_behind (first_rows start member) events)
     pub writes : IsShape start.shape → Each (TakesWritable start) log
-        → AreWritable (lqh_after start member log) × AreRecords (records_behind (first_rows start member) events)
+        → AreWritable (lqh_after start member log) × AreRecords (records_behind first events)
 
   module _ (e : HostStep) (log : List HostStep) (has : HasEvents log)
-      (makes : HostMakes start.shape e.step.taken (lqh_after start member log) (lqh_after start member (e ∷ log)))
+      (makes : HostMakes start.shape e.step.taken (saving_after start member log) (saving_after start member (e ∷ log))
+      (todo_at start member e log))
     where
-      abbrev first : RowsState
-      first = first_rows start member
-
       abbrev older : List Event
       older = has.events
 
-      Behind : Option Event → Type 0
-      Behind event = (rows_behind first (option_to_list event ++ older)
-          ≡ changed_if event (lqh_after start member log).rows)
-          × (outlet_with (records_behind first (option_to_list event ++ older))
-          ≡ behind_all (records_if event (lqh_after start member log).rows) (lqh_after start member log).outlet)
-          × (AreRecords (records_if event (lqh_after start member log).rows) → AreRecords (records_behind first older)
-          → AreRecords (records_behind first (option_to_list event ++ older)))
-
-      behind : (event : Option Event) → Behind event
-      unfolding Behind
-      behind None = (sym has.rows, sym has.outlet, λ own are. are)
-      behind (Some event) = (
-        ap (changed event) (sym has.rows),
-        sym (outlet_more event (rows_behind first older) (records_behind first older))
-            ∙ ap (λ rows. behind_all (logged event rows []) (outlet_with (records_behind first older))) (sym has.rows)
-            ∙ ap (behind_all (logged event (lqh_after start member log).rows [])) (sym has.outlet),
-        λ own are.
-            records_more event (rows_behind first older) (records_behind first older)
-            (subst (λ rows. AreRecords (logged event rows [])) has.rows own) are,
-      )
+      recorded : (event : Option Event) → AreRecords (records_if event (lqh_after start member log).rows)
+          → AreRecords (records_behind first older) → AreRecords (records_behind first (option_to_list event ++ older))
+      recorded None own are = are
+      recorded (Some event) own are =
+          records_more event (rows_behind first older) (records_behind first older)
+          (subst (λ (rows : RowsState). AreRecords (logged event rows []))
+          (events_come log older has.events_of).rows own) are
 
       more : HasEvents (e ∷ log)
-      unfolding Behind
-      more =
-          let now = behind makes.event in
-          record {
-            events = option_to_list makes.event ++ older;
-            events_of = (makes.event, (older, (refl, has.events_of, makes.by)));
-            rows = makes.by.rows ∙ sym now.0;
-            outlet = makes.by.outlet ∙ sym now.1;
-            writes = λ shape takes.
-                let before = has.writes shape takes.1 in
-                let after = makes.writes before.0 takes.0 in
-                (after.0, now.2 after.1 before.1);
-          }
+      more = record {
+        events = option_to_list makes.event ++ older;
+        events_of = (makes.event, (older, (refl, has.events_of, makes.by)));
+        writes = λ shape takes.
+            let before = has.writes shape takes.1 in
+            let after = makes.writes before.0 takes.0 in (after.0, recorded makes.event after.1 before.1);
+      }
 
-  pub has_events : (log : List HostStep) → HasEvents log
-  has_events [] = record {
+  -- along each log of its host
+  pub has_events : (log : List HostStep) → IsLog (machine start) (ldm_of start member) log → HasEvents log
+  has_events [] is = record {
     events = [];
     events_of = refl;
-    rows = refl;
-    outlet = ap (λ (s : ReplicaState). s.lqh.outlet) (first_replica start member there);
     writes = λ shape takes. (first_writable start member there shape, tt);
   }
-  has_events (e ∷ log) = more e log (has_events log) (step_makes log e)
+  has_events (e ∷ log) is =
+      more e log (has_events log is.1) (step_makes start member there log e is.0.fits.marks)
 
   -- a log that takes what can be written has the records of its events
-  pub has_records : IsShape start.shape → (log : List HostStep) → Each (TakesWritable start) log
-      → (events : List Event) × HasRecords start member log events
-  has_records shape log takes =
-      let has = has_events log in
-      (has.events, record { events_of = has.events_of; records = (has.writes shape takes).1; outlet = has.outlet })
+  pub has_records : IsShape start.shape → (log : List HostStep) → IsLog (machine start) (ldm_of start member) log
+      → Each (TakesWritable start) log → (events : List Event) × HasRecords start member log events
+  has_records shape log is takes =
+      let has = has_events log is in (
+        has.events,
+        record {
+          events_of = has.events_of;
+          records = (has.writes shape takes).1;
+          outlet = (events_come log has.events has.events_of).outlet;
+        },
+      )
+
+  -- the saver of the rows knows where the journal ended when they were saved
+  pub saves_noted : (log : List HostStep) (e : HostStep) → IsLog (machine start) (ldm_of start member) (e ∷ log)
+      → NotesSaves (saving_after start member log) (saving_after start member (e ∷ log))
+  saves_noted log e is = (step_makes start member there log e is.0.fits.marks).notes

@@ -1,6 +1,6 @@
 -- A step of a node's rows makes an event of them or none, whichever form it has.
 use Rattle.std.proofs.Common.{◌≡◌, ◌≤◌, List, [], ◌∷◌, ℕ, Bool, true, false, refl, sym, ap, subst}
-use Rattle.std.specs.Prelude.{IfSome, Option, None, Some, remove}
+use Rattle.std.specs.Prelude.{IfSome, Option, None, Some, is_some, remove}
 use Rattle.run_theory.specs.Lists.{Each}
 use Rattle.run_theory.proofs.EachSent.{each_get, each_removed}
 use Rattle.run_theory.proofs.Pasts.{each_append}
@@ -38,6 +38,7 @@ use Rattle.lqh_block.specs.Storage as storage
 use Rattle.lqh_block.specs.Storage.{StorageState}
 use Rattle.lqh_block.proofs.LqhForms.{Applies, ExpireForms, GivesUp, LqhForms, lqh_forms}
 use Rattle.journal_laws.specs.Events.{IsMadeBy, behind_all, records_if}
+use Rattle.journal_laws.specs.Saver.{IsNoStep}
 use Rattle.journal_laws.proofs.events.PendingRecords.{IsOpen, each_aborted, each_committed, each_completed, each_first}
 use Rattle.journal_laws.proofs.events.PendingRecords.{each_stored, open_image, open_key, open_one, open_tx}
 use Rattle.journal_laws.proofs.events.Writable.{AreWritable, IsOwned, IsRequest, IsWritable, fragment_few}
@@ -47,6 +48,7 @@ use Rattle.journal_laws.proofs.events.Writable.{AreWritable, IsOwned, IsRequest,
 pub record Makes (s t : LqhState) (body : Body) : Type 0 where
   pub event : Option Event
   pub by : IsMadeBy s t body event
+  pub no_step : IsNoStep event
   pub writes : AreWritable s → IsWritable body → AreWritable t × AreRecords (records_if event s.rows)
 
 -- only locks, markers and what waits have changed
@@ -70,7 +72,8 @@ still_written s t are shape waiting pending = record {
 left_so : (s t : LqhState) (body : Body) → LeavesStorage s t body → Makes s t body
 left_so s t body leaves = record {
   event = None;
-  by = record { rows = leaves.rows; outlet = leaves.outlet; ordered = tt };
+  by = record { rows = leaves.rows; outlet = leaves.outlet; ordered = tt; prepared = tt };
+  no_step = tt;
   writes = λ are writable. (
     still_written s t are leaves.shape (leaves.waiting are writable)
         (subst (λ (rows : RowsState). Each IsOwned rows.pending) (sym leaves.rows) are.pending),
@@ -83,7 +86,13 @@ unlocked_so : (s t : LqhState) (body : Body) (tx : TxId) (key : List ℕ) → Ma
     → Makes s (unlocked t tx key) body
 unlocked_so s t body tx key makes = record {
   event = makes.event;
-  by = record { rows = makes.by.rows; outlet = makes.by.outlet; ordered = makes.by.ordered };
+  by = record {
+    rows = makes.by.rows;
+    outlet = makes.by.outlet;
+    ordered = makes.by.ordered;
+    prepared = makes.by.prepared;
+  };
+  no_step = makes.no_step;
   writes = λ are writable.
       let now = makes.writes are writable in (
         record {
@@ -124,7 +133,9 @@ module _ (s t : LqhState) (body : Body) (r : Request) (leaves : LeavesStorage s 
           rows = ap (λ rows. storing rows r.tx key image) leaves.rows;
           outlet = ap (λ o. behind o (redo.Prepare r.tx fragment key image)) leaves.outlet;
           ordered = tt;
+          prepared = tt;
         };
+        no_step = tt;
         writes = λ are writable.
             let own : IsRequest r = owned are writable in
             let own_key : IsKey key = subst IsKey key_is own.1.0 in
@@ -201,7 +212,9 @@ module _ (s : LqhState) where
           rows = refl;
           outlet = ap (λ o. behind_all (log_if (redo.Commit tx epoch key) o []) s.outlet) (sym image);
           ordered = (members, (at, refl));
+          prepared = ap is_some image;
         };
+        no_step = tt;
         writes = λ are writable.
             let own : IsOwned open_is.one = each_first IsOwned (is_of tx key) s.rows.pending open_is.one are.pending
             open_is.found in (
@@ -245,7 +258,9 @@ module _ (s : LqhState) where
           rows = refl;
           outlet = ap (λ o. behind_all (log_if (redo.Abort tx key) o []) s.outlet) (sym image);
           ordered = tt;
+          prepared = tt;
         };
+        no_step = tt;
         writes = λ are writable.
             let own : IsOwned open_is.one = each_first IsOwned (is_of tx key) s.rows.pending open_is.one are.pending
             open_is.found in (
@@ -279,7 +294,8 @@ module _ (s : LqhState) where
       → Makes s (unlocked (with_rows s (complete_record s.rows tx key)) tx key) body
   completes tx key body = record {
     event = Some (Complete tx key);
-    by = record { rows = refl; outlet = refl; ordered = tt };
+    by = record { rows = refl; outlet = refl; ordered = tt; prepared = tt };
+    no_step = tt;
     writes = λ are writable. (
       record {
         fragments_some = are.fragments_some;

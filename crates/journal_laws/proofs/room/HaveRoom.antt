@@ -1,14 +1,19 @@
 -- The journal of a member's rows has its room after every log of their host.
-use Rattle.std.proofs.Common.{◌≡◌, ℕ, List, [], ◌∷◌, refl, arith}
+use Rattle.std.proofs.Common.{◌≡◌, ◌≤◌, ◌-◌, ℕ, true, List, [], ◌∷◌, refl, arith}
+use Rattle.std.proofs.lemmas.Bool.{and_parts, leb-true}
+use Rattle.std.proofs.lemmas.List.{length-drop}
+use Rattle.std.specs.Prelude.{nat_le}
 use Rattle.sig_core.specs.declared.member.Member.{Member}
 use Rattle.sig_core.specs.declared.signal.Signal.{Signal}
 use Rattle.sig_core.specs.declared.view.View.{View}
+use Rattle.sig_core.specs.Journal.{end_of}
 use Rattle.sig_core.specs.Rows.{RowsState, no_rows, put_row}
 use Rattle.lqh_block.specs.Fresh.{unused}
 use Rattle.lqh_block.proofs.DueLemmas.{covered_at_rest}
 use Rattle.lqh_views.specs.Replica.{installed, replica_row}
 use Rattle.lqh_views.specs.State.{ReplicaState}
 use Rattle.lqh_views.proofs.Walk.{replica_outcomes}
+use Rattle.lqh_saver.specs.Switching.{given_up, has_position}
 use Rattle.node_core.specs.Fresh.{own_rows, with_rows}
 use Rattle.moment_laws.specs.Moments.{logs_of}
 use Rattle.moment_laws.specs.Places.{ldm_of}
@@ -40,6 +45,19 @@ takes s x has =
 installs : (s : ReplicaState) (view : View) → ReplicaHasRoom s → ReplicaHasRoom (installed s view)
 installs s view has = has
 
+-- where it gives something up, it has more
+gives : (s : ReplicaState) (at : ℕ) → has_position s.lqh.outlet at ≡ true → ReplicaHasRoom s
+    → ReplicaHasRoom (given_up s at)
+gives s at position has =
+    let parts = and_parts (nat_le s.lqh.outlet.flushed at) (nat_le at (end_of s.lqh.outlet)) position in
+    let least : s.lqh.outlet.flushed ≤ at = leb-true s.lqh.outlet.flushed at parts.0 in
+    let most : at ≤ end_of s.lqh.outlet = leb-true at (end_of s.lqh.outlet) parts.1 in
+    record {
+      used = omega (arith, least, most, length-drop (at - s.lqh.outlet.flushed) s.lqh.outlet.left);
+      room = omega (arith, least, has.used, has.room);
+      covered = record { kept = has.covered.kept };
+    }
+
 -- rows that are put leave the records as they were, and of these there are none at first
 put_leaves : (s : RowsState) (rows : List (List ℕ × List ℕ)) (epoch : ℕ) → (with_rows s rows epoch).pending ≡ s.pending
 put_leaves s [] epoch = refl
@@ -56,6 +74,6 @@ begins start member = record {
 
 pub journals_have_room : JournalsHaveRoom
 journals_have_room start all es moment member there =
-    let has = always ReplicaHasRoom takes installs start member there (begins start member)
+    let has = always ReplicaHasRoom takes installs gives start member there (begins start member)
     (logs_of start es (ldm_of start member)) in
     omega (arith, has.used, has.room)

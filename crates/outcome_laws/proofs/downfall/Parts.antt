@@ -20,6 +20,7 @@ use Rattle.node_views.specs.declared.parts.Parts.{Parts}
 use Rattle.node_views.specs.declared.parts.Parts.TheVariants.{Shell, Main, Tc, Ldm}
 use Rattle.node_views.specs.declared.shell_part.ShellPart.{ShellPart}
 use Rattle.node_views.specs.declared.tc_part.TcPart.{TcPart}
+use Rattle.lqh_saver.specs.State.{saving}
 use Rattle.node_views.specs.Parts.{ldm_row, main_row, shell_row, tc_row}
 use Rattle.world_views.specs.Machine.{step_by}
 use Rattle.outcome_laws.specs.Down.{CoordinatorHasNoDown, PartsHaveNoDown, TellsNoDown}
@@ -88,7 +89,7 @@ module _ (x : Signal) where
   ldm_up p = by x.to.block
     where
       by : (b : BlockId) → PartsHaveNoDown (Ldm (ldm_row p b x).state) × SendsNoDown (ldm_row p b x)
-      by block.Lqh = (tt, rows_down_none p.replica x)
+      by block.Lqh = (tt, rows_down_none (saving p.replica p.saver) x)
       by _ = (tt, tt)
 
   row_up : TellsNoDown x.body → (parts : Parts) → PartsHaveNoDown parts → StayUp (parts_row parts x)

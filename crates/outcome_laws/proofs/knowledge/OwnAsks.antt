@@ -33,7 +33,6 @@ use Rattle.dih_node.specs.Orders as dih
 use Rattle.dih_node.specs.State.{DihState, go_on_if}
 use Rattle.dih_node.specs.Verify.{given}
 use Rattle.gcp_master.specs.Master.{master_row}
-use Rattle.lqh_views.specs.Replica.{replica_row}
 use Rattle.qmgr_block.specs.Qmgr.{qmgr_installed, qmgr_row}
 use Rattle.takeover_block.specs.Takeover.{takeover_row}
 use Rattle.tc_views.specs.Coordinator.{coordinator_row}
@@ -45,6 +44,8 @@ use Rattle.node_views.specs.declared.parts.Parts.{Parts}
 use Rattle.node_views.specs.declared.parts.Parts.TheVariants.{Shell, Main, Tc, Ldm}
 use Rattle.node_views.specs.declared.shell_part.ShellPart.{ShellPart}
 use Rattle.node_views.specs.declared.tc_part.TcPart.{TcPart}
+use Rattle.lqh_saver.specs.Saver.{saver_row}
+use Rattle.lqh_saver.specs.State.{saving}
 use Rattle.node_views.specs.Parts.{ldm_row, main_row, shell_row, tc_row}
 use Rattle.moment_laws.proofs.MomentHosts.{HasNoTc}
 use Rattle.outcome_laws.specs.Counts.{IsCoordinatorOf, coordinator_member}
@@ -58,7 +59,7 @@ use Rattle.outcome_laws.proofs.knowledge.TellsNothing.{TellsNothing, untold_unco
 use Rattle.outcome_laws.proofs.knowledge.Parts.{arbiter_tells_nothing}
 use Rattle.outcome_laws.proofs.knowledge.HostSteps.{AreKept, IsOfEffects}
 use Rattle.outcome_laws.proofs.once.Counted.{AreUncounted, IsUncounted, is_counted}
-use Rattle.outcome_laws.proofs.rows.SendUncounted.{replica_none}
+use Rattle.outcome_laws.proofs.rows.SendUncounted.{rows_none}
 use Rattle.outcome_laws.proofs.takeovers.SendUncounted.{takeover_none}
 use Rattle.outcome_laws.proofs.rows.MarkNoOutcome.{rows_mark_none}
 use Rattle.outcome_laws.proofs.knowledge.MarksOfNoOutcome.{IsNoOutcome}
@@ -163,8 +164,9 @@ module _ (P : TxId → Place → Type 0) (Q : TxId → Type 0) where
   ldm_so : (p : LdmPart) (b : BlockId) (x : Signal) → AreSo (ldm_row p b x).effects
   unfolding ldm_row
   ldm_so p block.Lqh x = record {
-    ask = uncounted_so (replica_row p.replica x).effects.sends (replica_none p.replica x);
-    decide = marks_so (replica_row p.replica x).effects.marks (rows_mark_none p.replica x);
+    ask = uncounted_so (saver_row (saving p.replica p.saver) x).effects.sends (rows_none (saving p.replica p.saver) x);
+    decide =
+        marks_so (saver_row (saving p.replica p.saver) x).effects.marks (rows_mark_none (saving p.replica p.saver) x);
   }
   ldm_so p _ x = so_effects.none
 

@@ -17,7 +17,6 @@ use Rattle.sig_core.specs.Step.{Effects, Step}
 use Rattle.arbiter_block.specs.Arbiter.{ArbiterState, arbit_if, arbit_row, arbiter_row, arbiter_table, is_granted}
 use Rattle.dih_node.specs.Orders as dih
 use Rattle.gcp_master.specs.Master.{master_row}
-use Rattle.lqh_views.specs.Replica.{replica_row}
 use Rattle.qmgr_block.specs.Qmgr.{qmgr_installed, qmgr_row}
 use Rattle.tc_views.specs.Views as coordinator
 use Rattle.node_views.specs.Blocks.{parts_entered, parts_row}
@@ -27,6 +26,8 @@ use Rattle.node_views.specs.declared.parts.Parts.{Parts}
 use Rattle.node_views.specs.declared.parts.Parts.TheVariants.{Shell, Main, Tc, Ldm}
 use Rattle.node_views.specs.declared.shell_part.ShellPart.{ShellPart}
 use Rattle.node_views.specs.declared.tc_part.TcPart.{TcPart}
+use Rattle.lqh_saver.specs.Saver.{saver_row}
+use Rattle.lqh_saver.specs.State.{saving}
 use Rattle.node_views.specs.Parts.{ldm_row, main_row, shell_row, tc_row}
 use Rattle.outcome_laws.specs.Known.{PartsKnow}
 use Rattle.outcome_laws.specs.Tells.{Decides, IsRightMark, Teaches, Tells}
@@ -39,10 +40,10 @@ use Rattle.outcome_laws.proofs.knowledge.MasterTellsNothing.{master_tells_nothin
 use Rattle.outcome_laws.proofs.knowledge.MembershipTellsNothing.{membership_installs_nothing, membership_tells_nothing}
 use Rattle.outcome_laws.proofs.knowledge.TellsNothing.{TellsNothing, untold_silent}
 use Rattle.outcome_laws.proofs.knowledge.HostSteps.{AreKept, IsOfEffects}
-use Rattle.outcome_laws.proofs.rows.KnowDecided.{rows_know, rows_know_installed}
+use Rattle.outcome_laws.proofs.rows.KnowDecided.{rows_know_installed, saving_know}
 use Rattle.outcome_laws.proofs.rows.MarkNoOutcome.{rows_mark_none}
 use Rattle.outcome_laws.proofs.knowledge.MarksOfNoOutcome.{IsNoOutcome, none_right}
-use Rattle.outcome_laws.proofs.rows.TellTrue.{rows_tell}
+use Rattle.outcome_laws.proofs.rows.TellTrue.{saving_tell}
 use Rattle.outcome_laws.proofs.takeovers.KnowEpochs.{takeover_install_knows, takeover_knows}
 use Rattle.outcome_laws.proofs.takeovers.NoMarks.{takeover_marks_nothing}
 use Rattle.outcome_laws.proofs.takeovers.TellEpochs.{takeover_tells}
@@ -169,11 +170,12 @@ module _ (D : TxId → ℕ → Type 0) (B : TxId → Type 0) where
       where
         by : (b : BlockId) → AreTold x.body (Ldm (ldm_row p b x).state) × AreTrue (ldm_row p b x).effects
         by block.Lqh = (
-          (rows_know D B p.replica x knows told, tt),
+          (saving_know D B (saving p.replica p.saver) x knows told, tt),
           record {
-            right = each_map IsNoOutcome (IsRightMark D B) (replica_row p.replica x).effects.marks (none_right D B)
-                (rows_mark_none p.replica x);
-            tell = λ decided. rows_tell D B p.replica x knows told;
+            right =
+                each_map IsNoOutcome (IsRightMark D B) (saver_row (saving p.replica p.saver) x).effects.marks
+                (none_right D B) (rows_mark_none (saving p.replica p.saver) x);
+            tell = λ decided. saving_tell D B (saving p.replica p.saver) x knows told;
           },
         )
         by _ = ((knows, tt), true_effects.none)

@@ -29,6 +29,7 @@ use Rattle.dih_node.specs.Dih.{dih_row}
 use Rattle.dih_node.specs.Orders as dih
 use Rattle.node_views.specs.Blocks.{parts_entered, parts_row}
 use Rattle.node_views.specs.Replies.{giving}
+use Rattle.lqh_saver.specs.State.{saving}
 use Rattle.node_views.specs.Parts.{ldm_row, main_row, shell_row, tc_entered, tc_row}
 use Rattle.node_views.specs.declared.ldm_part.LdmPart.{LdmPart}
 use Rattle.node_views.specs.declared.main_part.MainPart.{MainPart}
@@ -100,7 +101,7 @@ module _ (tx : TxId) where
   ldm_undecided : (q : LdmPart) (b : BlockId) (x : Signal)
       → count_marked (is_decision tx) (ldm_row q b x).effects.marks ≡ 0
   unfolding ldm_row
-  ldm_undecided q block.Lqh x = undecided_none _ (rows_mark_none q.replica x)
+  ldm_undecided q block.Lqh x = undecided_none _ (rows_mark_none (saving q.replica q.saver) x)
   ldm_undecided q _ x = refl
 
   bare : (effects : Effects) → effects.marks ≡ [] → count_marked (is_decision tx) effects.marks ≡ 0

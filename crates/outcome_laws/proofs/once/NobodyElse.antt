@@ -20,6 +20,7 @@ use Rattle.sig_core.specs.Same.{same_tx}
 use Rattle.sig_core.proofs.TxLemmas.{same_tx-is}
 use Rattle.node_views.specs.Blocks.{parts_entered, parts_row}
 use Rattle.node_views.specs.Replies.{giving}
+use Rattle.lqh_saver.specs.State.{saving}
 use Rattle.node_views.specs.Parts.{ldm_row, main_row, shell_row}
 use Rattle.node_views.specs.declared.ldm_part.LdmPart.{LdmPart}
 use Rattle.node_views.specs.declared.main_part.MainPart.{MainPart}
@@ -40,7 +41,7 @@ use Rattle.outcome_laws.proofs.client.SendsNoAnswers.{client_sends, is_coordinat
 use Rattle.outcome_laws.proofs.once.Counted.{AreUncounted, IsUncounted, count_none, is_counted}
 use Rattle.outcome_laws.proofs.once.CoordinatorScale.{IsTcOf, coordinator_light, no_body, no_mark, no_marks}
 use Rattle.outcome_laws.proofs.once.CoordinatorScale.{of_coordinator}
-use Rattle.outcome_laws.proofs.rows.SendUncounted.{replica_none}
+use Rattle.outcome_laws.proofs.rows.SendUncounted.{rows_none}
 use Rattle.outcome_laws.proofs.once.Scales.{AreLight, IsLight, Scale}
 use Rattle.outcome_laws.proofs.coordinators.BeginsAndAsks.{coordinator_installs_own, coordinator_own}
 
@@ -119,7 +120,7 @@ main_uncounted q _ x = tt
 
 pub ldm_uncounted : (q : LdmPart) (b : BlockId) (x : Signal) → AreUncounted (ldm_row q b x).effects.sends
 unfolding ldm_row
-ldm_uncounted q block.Lqh x = replica_none q.replica x
+ldm_uncounted q block.Lqh x = rows_none (saving q.replica q.saver) x
 ldm_uncounted q _ x = tt
 
 module _ (p : Body → Bool) (counts : (body : Body) → is_counted body ≡ false → p body ≡ false) where

@@ -20,6 +20,9 @@ use Rattle.lqh_views.specs.Replica.{installed, is_stale, passed, replica_by, rep
 use Rattle.lqh_views.specs.Report.{go_on_by, is_orphaned_marker, is_orphaned_record, last_before, marker_by, record_by}
 use Rattle.lqh_views.specs.Report.{reporting}
 use Rattle.lqh_views.specs.State.{ReplicaState}
+use Rattle.lqh_saver.specs.Saver.{saver_row}
+use Rattle.lqh_saver.specs.State.{SavingState}
+use Rattle.lqh_saver.proofs.StepLemmas.{saver_rows}
 use Rattle.outcome_laws.specs.Known.{RowsKnow}
 use Rattle.outcome_laws.specs.Tells.{Tells}
 use Rattle.outcome_laws.proofs.rows.RecordsAndMarkers.{ListsKnow, lists_know}
@@ -83,6 +86,13 @@ module _ (D : TxId → ℕ → Type 0) (B : TxId → Type 0) where
       → RowsKnow D B (replica_row s x).state
   rows_know s x known told =
       known_lists (replica_row s x).state (by_knows s x (known.records, known.markers) told x.body)
+
+  -- with their saver, which gives up redo alone
+  pub saving_know : (s : SavingState) (x : Signal) → RowsKnow D B s.replica → Tells D B x.body
+      → RowsKnow D B (saver_row s x).state.replica
+  saving_know s x known told =
+      saver_rows s x (RowsKnow D B) known (rows_know s.replica x known told)
+      (λ at has. record { records = known.records; markers = known.markers })
 
   -- and whatever view is installed
   pub rows_know_installed : (s : ReplicaState) (view : View) → RowsKnow D B s → RowsKnow D B (installed s view)

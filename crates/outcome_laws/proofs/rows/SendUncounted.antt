@@ -1,12 +1,16 @@
--- The rows of a node send nothing that counts, whatever they take: they refuse an operation for want of room, after its
--- time, or where it is given up.
+-- The rows of a node and their saver send nothing that counts, whatever they take: they refuse an operation for want of
+-- room, after its time, or where it is given up.
 use Rattle.std.proofs.Common.{◌≡◌, false, refl}
+use Rattle.run_theory.specs.Lists.{Each}
 use Rattle.sig_core.specs.declared.signal.Signal.{Signal}
 use Rattle.lqh_block.specs.declared.request.Request.{Request}
 use Rattle.lqh_block.proofs.EachLqh.{RequestSends}
 use Rattle.lqh_views.specs.Replica.{replica_row}
 use Rattle.lqh_views.specs.State.{ReplicaState}
 use Rattle.lqh_views.proofs.Walk.{replica_says_each}
+use Rattle.lqh_saver.specs.Saver.{saver_row}
+use Rattle.lqh_saver.specs.State.{SavingState}
+use Rattle.lqh_saver.proofs.StepLemmas.{saver_sends}
 use Rattle.outcome_laws.proofs.once.Counted.{IsUncounted, SendsUncounted, is_counted}
 
 -- a request that is performed
@@ -18,7 +22,7 @@ request_none r = record {
   passes = λ image next is. refl;
 }
 
-pub replica_none : (s : ReplicaState) (x : Signal) → SendsUncounted (replica_row s x)
+replica_none : (s : ReplicaState) (x : Signal) → SendsUncounted (replica_row s x)
 replica_none s x =
     replica_says_each s x (λ body. is_counted body ≡ false)
     (λ of_rows. record {
@@ -46,4 +50,12 @@ replica_none s x =
       tells_marker = λ r under_way at m there. refl;
       reports_on = λ r under_way. refl;
       ends = λ r under_way. refl;
+    })
+
+pub rows_none : (s : SavingState) (x : Signal) → SendsUncounted (saver_row s x)
+rows_none s x =
+    saver_sends s x (Each IsUncounted) (replica_none s.replica x) tt (record {
+      goes_on = λ own. (refl, tt);
+      reports = λ walk to own walking. (refl, tt);
+      confirms = λ finished end ordered walked usable. (refl, tt);
     })

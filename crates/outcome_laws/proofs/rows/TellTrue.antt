@@ -30,6 +30,9 @@ use Rattle.lqh_views.specs.Replica.{is_stale, passed, replica_by, replica_row, s
 use Rattle.lqh_views.specs.Report.{go_on_by, is_orphaned_marker, is_orphaned_record, last_before, marker_by, record_by}
 use Rattle.lqh_views.specs.Report.{reporting, told_record_if}
 use Rattle.lqh_views.specs.State.{ReplicaState}
+use Rattle.lqh_saver.specs.Saver.{saver_row}
+use Rattle.lqh_saver.specs.State.{SavingState}
+use Rattle.lqh_saver.proofs.StepLemmas.{saver_sends}
 use Rattle.lqh_views.proofs.AddressLemmas.{same-body}
 use Rattle.lqh_views.proofs.LastLemmas.{IsThere, last-there}
 use Rattle.outcome_laws.specs.Known.{IsDecidedIf, RowsKnow}
@@ -144,3 +147,13 @@ module _ (D : TxId → ℕ → Type 0) (B : TxId → Type 0) where
   pub rows_tell : (s : ReplicaState) (x : Signal) → RowsKnow D B s → Tells D B x.body
       → Each (λ (sent : Outgoing). Tells D B sent.body) (replica_row s x).effects.sends
   rows_tell s x known told = by_tells s known x told x.body
+
+  -- and their saver tells nothing of transactions
+  pub saving_tell : (s : SavingState) (x : Signal) → RowsKnow D B s.replica → Tells D B x.body
+      → Each (λ (sent : Outgoing). Tells D B sent.body) (saver_row s x).effects.sends
+  saving_tell s x known told =
+      saver_sends s x (Each (λ (sent : Outgoing). Tells D B sent.body)) (rows_tell s.replica x known told) tt (record {
+        goes_on = λ own. (tt, tt);
+        reports = λ walk to own walking. (tt, tt);
+        confirms = λ finished end ordered walked usable. (tt, tt);
+      })

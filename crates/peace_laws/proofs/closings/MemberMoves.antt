@@ -14,7 +14,9 @@ use Rattle.dih_node.specs.Verify.{report_if, reported}
 use Rattle.gcp_master.specs.declared.orders.Order.{Order}
 use Rattle.gcp_master.specs.declared.orders.Order.TheVariants as order
 use Rattle.gcp_master.specs.Orders.{order_body}
-use Rattle.lqh_views.specs.Replica.{replica_by}
+use Rattle.lqh_saver.specs.Saver.{idling, saver_by}
+use Rattle.lqh_saver.specs.State.{SavingState, saving}
+use Rattle.lqh_views.specs.Replica.{replica_by, replica_row}
 use Rattle.lqh_views.specs.State.{ReplicaState}
 use Rattle.node_views.specs.Blocks.{parts_row}
 use Rattle.node_views.specs.Parts.{ldm_row, tc_row}
@@ -178,6 +180,20 @@ rows_move c s x (order.Done epoch) fits = refl
 rows_move c s x order.Walk fits = absurd fits
 rows_move c s x order.Switch fits = absurd fits
 
+-- and their saver hands it on to them
+saver_hands_on : (c : Course) (s : SavingState) (x : Signal) (order : Order) → IsOrder c order
+    → (saver_by s x (order_body order)).effects.sends ≡ (replica_row s.replica x).effects.sends
+unfolding order_body
+saver_hands_on c s x order.State fits = absurd fits
+saver_hands_on c s x (order.Prepare epoch next) fits = refl
+saver_hands_on c s x (order.Commit epoch next) fits = refl
+saver_hands_on c s x (order.Close epoch) fits = refl
+saver_hands_on c s x (order.Save epoch) fits = refl
+saver_hands_on c s x (order.Copy epoch mask) fits = refl
+saver_hands_on c s x (order.Done epoch) fits = refl
+saver_hands_on c s x order.Walk fits = absurd fits
+saver_hands_on c s x order.Switch fits = absurd fits
+
 -- A member of a closing takes an order of the president's master.
 pub record PartsMove (c : Course) (order : Order) (rows : Bool) (parts : Parts) (t : Step Parts) : Type 0 where
   pub member : HasMember c parts → HasMember c t.state
@@ -216,7 +232,9 @@ module _ (c : Course) (x : Signal) (order : Order) (fits : IsOrder c order) (fro
     has_rows = λ was. tt;
     says = λ is. absurd (true≢false is);
     sends =
-        ap (λ b. (replica_by p.replica x b).effects.sends) body
+        ap (λ b. (saver_by (idling (saving p.replica p.saver)) x b).effects.sends) body
+        ∙ saver_hands_on c (idling (saving p.replica p.saver)) x order fits
+        ∙ ap (λ b. (replica_by p.replica x b).effects.sends) body
         ∙ rows_move c p.replica x order fits
         ∙ to_first (answers true order);
   }

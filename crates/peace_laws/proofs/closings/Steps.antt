@@ -20,6 +20,8 @@ use Rattle.dih_node.specs.State.{can_serve, gives, go_on_if, is_unfinished}
 use Rattle.dih_node.specs.Verify.{report_if, reported}
 use Rattle.gcp_master.specs.Master.{master_row}
 use Rattle.lqh_block.specs.State.{LqhState}
+use Rattle.lqh_saver.specs.Saver.{idling, in_rows, saver_by}
+use Rattle.lqh_saver.specs.State.{SaverState, idle, saving, told_durable}
 use Rattle.lqh_views.specs.Replica.{replica_by}
 use Rattle.node_core.specs.declared.host.Host as plain
 use Rattle.node_core.specs.declared.host.Host.TheVariants as plain_host
@@ -27,7 +29,7 @@ use Rattle.node_core.specs.declared.main_part.MainPart as plain_main
 use Rattle.node_core.specs.declared.tc_part.TcPart as plain_tc
 use Rattle.node_core.specs.Dih as plain_dih
 use Rattle.node_views.specs.Blocks.{in_ldm, in_main, in_shell, in_tc, parts_row}
-use Rattle.node_views.specs.Parts.{in_client, in_dih, in_master, in_replica, ldm_row, main_row, shell_row, tc_row}
+use Rattle.node_views.specs.Parts.{in_client, in_dih, in_master, in_saving, ldm_row, main_row, shell_row, tc_row}
 use Rattle.node_views.specs.Row.{with_parts}
 use Rattle.node_views.specs.declared.host_body.HostBody as host
 use Rattle.node_views.specs.declared.ldm_part.LdmPart.{LdmPart}
@@ -365,11 +367,14 @@ module _ (start : Start) (h : ℕ) (given : List ApiReply) (standing : Standing)
         masters = λ beats some. confirmed_for x.member.node some _ step.sends;
       }
 
-  rows_by : (p : LdmPart) (s : LqhState) (body : Body) → ArePartsNear start given (Ldm p) (plain_host.Ldm s)
+  -- the rows take it, whatever their saver knows and notices
+  rows_by : (p : LdmPart) (s : LqhState) (saver : SaverState) (body : Body)
+      → ArePartsNear start given (Ldm p) (plain_host.Ldm s)
       → is_for_closing block.Lqh body ≡ true
       → HostNear start (suc h) given x.member.node
-      (with_parts (part_with (Ldm p)) (in_ldm (in_replica p body (replica_by p.replica x body)))) (plain_host.Ldm s)
-  rows_by p s (Epoch (epoch.GcpClosed closed)) near is = record {
+      (with_parts (part_with (Ldm p))
+      (in_ldm (in_saving p body (in_rows (saving p.replica saver) (replica_by p.replica x body))))) (plain_host.Ldm s)
+  rows_by p s saver (Epoch (epoch.GcpClosed closed)) near is = record {
     inner = plain_host.Ldm s;
     near = record { standing = ease; parts = near };
     same = refl;
@@ -378,7 +383,7 @@ module _ (start : Start) (h : ℕ) (given : List ApiReply) (standing : Standing)
     sends = ((refl, refl), tt);
     masters = λ beats some. ((refl, some), tt);
   }
-  rows_by p s (Epoch (epoch.GcpSaveReq closed)) near is = record {
+  rows_by p s saver (Epoch (epoch.GcpSaveReq closed)) near is = record {
     inner = plain_host.Ldm s;
     near = record { standing = ease; parts = near };
     same = refl;
@@ -387,7 +392,7 @@ module _ (start : Start) (h : ℕ) (given : List ApiReply) (standing : Standing)
     sends = ((refl, refl), tt);
     masters = λ beats some. ((refl, some), tt);
   }
-  rows_by p s (Epoch (epoch.GcpDone closed)) near is = record {
+  rows_by p s saver (Epoch (epoch.GcpDone closed)) near is = record {
     inner = plain_host.Ldm s;
     near = record { standing = ease; parts = near };
     same = refl;
@@ -396,7 +401,18 @@ module _ (start : Start) (h : ℕ) (given : List ApiReply) (standing : Standing)
     sends = tt;
     masters = λ beats some. tt;
   }
-  rows_by p s body near is = absurd (false≢true is)
+  rows_by p s saver body near is = absurd (false≢true is)
+
+  saver_near : (p : LdmPart) (s : LqhState) → ArePartsNear start given (Ldm p) (plain_host.Ldm s)
+      → is_for_closing block.Lqh x.body ≡ true → (body : Body) → is_for_closing block.Lqh body ≡ true
+      → HostNear start (suc h) given x.member.node
+      (with_parts (part_with (Ldm p))
+      (in_ldm (in_saving p x.body (saver_by (idling (saving p.replica p.saver)) x body)))) (plain_host.Ldm s)
+  saver_near p s near takes (Epoch (epoch.GcpClosed closed)) is = rows_by p s (idle p.saver) x.body near takes
+  saver_near p s near takes (Epoch (epoch.GcpSaveReq closed)) is = rows_by p s (idle p.saver) x.body near takes
+  saver_near p s near takes (Epoch (epoch.GcpDone closed)) is =
+      rows_by p s (told_durable (idle p.saver) closed) x.body near takes
+  saver_near p s near takes body is = absurd (false≢true is)
 
   main_near : (p : MainPart) (m : plain_main.MainPart) → is_beating (suc h) ≡ true
       → ArePartsNear start given (Main p) (plain_host.Main m) → is_for_closing block.GcpMaster x.body ≡ true
@@ -465,7 +481,7 @@ module _ (start : Start) (h : ℕ) (given : List ApiReply) (standing : Standing)
   at_rows : is_for_closing block.Lqh x.body ≡ true → (parts : Parts) (other : plain.Host)
       → ArePartsNear start given parts other → IsStep block.Lqh parts other
   unfolding shell_row main_row tc_row ldm_row
-  at_rows is (Ldm p) (plain_host.Ldm s) near = rows_by start h given standing ease x p s x.body near is
+  at_rows is (Ldm p) (plain_host.Ldm s) near = saver_near start h given standing ease x p s near is x.body is
   at_rows is (Shell p) other near = same_parts (Shell p) other near
   at_rows is (Main p) other near = same_parts (Main p) other near
   at_rows is (Tc p) other near = same_parts (Tc p) other near

@@ -15,7 +15,9 @@ use Rattle.sig_core.specs.declared.signal.takeover.TakeoverSignal.TheVariants.{L
 use Rattle.sig_core.specs.declared.view.View.{View}
 use Rattle.frag_map.specs.Layout.{Layout, first_layout}
 use Rattle.dih_node.specs.Orders as dih
-use Rattle.lqh_views.specs.Replica.{replica_row}
+use Rattle.lqh_saver.specs.Saver.{saver_row}
+use Rattle.lqh_saver.specs.State.{SavingState, saving}
+use Rattle.lqh_saver.proofs.StepLemmas.{saver_sends}
 use Rattle.takeover_block.specs.State.{TakeoverState, resting}
 use Rattle.takeover_block.specs.Takeover.{takeover_row}
 use Rattle.tc_views.specs.Coordinator.{coordinator_row}
@@ -237,13 +239,21 @@ module _ (start : Start) where
           front (remains same stands none) = subst (AreOrphans view) (sym none) tt
           front (installs above same stands is) = subst (AreOrphans view) (sym is) tt
 
-          told_in : AreOrphans step.does.between.replica.lqh.layout.view
-              (replica_row step.does.between.replica x).effects.sends
-          told_in = rows_tell_orphans step.does.between.replica x
+          both : SavingState
+          both = saving step.does.between.replica step.does.between.saver
+
+          told_in : AreOrphans both.replica.lqh.layout.view (saver_row both x).effects.sends
+          told_in =
+              saver_sends both x (AreOrphans both.replica.lqh.layout.view) (rows_tell_orphans both.replica x) tt
+              (record {
+                goes_on = λ is. (tt, tt);
+                reports = λ walk to is walking. (tt, tt);
+                confirms = λ finished end ordered walked usable. (tt, tt);
+              })
 
           row : (b : BlockId) → AreOrphans view (ldm_row step.does.between b x).effects.sends
           row block.Lqh =
-              subst (λ (l : Layout). AreOrphans l.view (replica_row step.does.between.replica x).effects.sends)
+              subst (λ (l : Layout). AreOrphans l.view (saver_row both x).effects.sends)
               (ldm_enters start step.own stood x step.does.between view step.does.front step.does.enters step.laid)
               told_in
           row _ = tt

@@ -31,6 +31,7 @@ use Rattle.lqh_block.specs.declared.request.Request.{Request}
 use Rattle.lqh_block.specs.Work.{work_mode}
 use Rattle.lqh_views.specs.Replica.{installed, replica_row}
 use Rattle.lqh_views.specs.State.{ReplicaState}
+use Rattle.lqh_saver.specs.Switching.{given_up, has_position}
 use Rattle.key_laws.specs.LockLaws.{is_attended}
 use Rattle.key_laws.specs.PrimaryEvents.{NoneOf}
 use Rattle.key_laws.specs.Replica.{Replica, aborts, ageing, ages, asked_by, asks, at_key, commits, completes, expires}
@@ -43,7 +44,7 @@ use Rattle.request_laws.specs.Blocks.{rows_after}
 use Rattle.request_laws.specs.Replicas.{event_under}
 use Rattle.request_laws.proofs.replicas.KeyEvents.{installations_are_events, installations_keep_well}
 use Rattle.request_laws.proofs.replicas.KeyEvents.{signals_are_events, signals_keep_well}
-use Rattle.request_laws.proofs.replicas.AlongLogs.{always, first_rows, first_well}
+use Rattle.request_laws.proofs.replicas.AlongLogs.{always, first_rows, first_well, given_up_well}
 use Rattle.request_laws.specs.Waiting.{AreAttended, EventsKeepAttended, EventsKeepRequests, HaveRequests}
 use Rattle.request_laws.specs.Waiting.{InstalledAreAttended}
 use Rattle.request_laws.specs.Waiting.{SignalsKeepAttended, WaitsHaveRequests}
@@ -345,7 +346,7 @@ record AreServed (s : ReplicaState) : Type 0 where
 pub waits_have_requests : WaitsHaveRequests
 waits_have_requests start member there log key =
     let is : AreServed (rows_after start member log) =
-    always AreServed signal install start member there
+    always AreServed signal install give start member there
     (record { well = first_well start member; each = first }) log in
     is.each key
   where
@@ -362,6 +363,9 @@ waits_have_requests start member there log key =
       well = installations_keep_well s view are.well;
       each = λ key. subst HaveRequests (sym (installations_are_events s view key are.well)) tt;
     }
+
+    give : (s : ReplicaState) (at : ℕ) → has_position s.lqh.outlet at ≡ true → AreServed s → AreServed (given_up s at)
+    give s at has are = record { well = given_up_well s at has are.well; each = are.each }
 
     first : (key : List ℕ) → HaveRequests (at_key key (first_rows start member).lqh)
     first key =

@@ -32,6 +32,8 @@ use Rattle.lqh_block.specs.State.{LqhState}
 use Rattle.lqh_block.proofs.LqhForms.{lqh_forms}
 use Rattle.lqh_views.specs.Replica.{is_stale, replica_by, replica_row, serve_if}
 use Rattle.lqh_views.specs.State.{ReplicaState}
+use Rattle.lqh_saver.specs.State.{saving}
+use Rattle.lqh_saver.proofs.StepLemmas.{saver_rows}
 use Rattle.node_views.specs.declared.host_body.HostBody as hosts
 use Rattle.node_views.specs.declared.ldm_part.LdmPart.{LdmPart}
 use Rattle.node_views.specs.declared.parts.Parts.{Parts}
@@ -227,7 +229,9 @@ module _ (start : Start) where
   ldm_rows : (p : LdmPart) (layout : Layout) (x : Signal) → AreLaid layout p → (to : BlockId)
       → AreLaid layout (ldm_row p to x).state
   unfolding ldm_row
-  ldm_rows p layout x own block.Lqh = rows_layout p.replica x ∙ own
+  ldm_rows p layout x own block.Lqh =
+      saver_rows (saving p.replica p.saver) x (λ (s : ReplicaState). s.lqh.layout ≡ layout) own
+      (rows_layout p.replica x ∙ own) (λ at has. own)
   ldm_rows p layout x own _ = own
 
   ldm_takes : (between : LdmPart) (stood : View) (x : Signal) (now : LdmPart) (rest : List Outgoing)

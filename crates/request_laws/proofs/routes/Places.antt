@@ -152,5 +152,5 @@ rows_node s x = by (rows_within s x)
 pub rows_know_node : (start : Start) (member : Member) → IsIn member (made start) → (log : List HostStep)
     → (rows_after start member log).lqh.node ≡ member.node
 rows_know_node start member there log =
-    always (λ (s : ReplicaState). s.lqh.node ≡ member.node) (λ s x own. rows_node s x ∙ own) (λ s view own. own) start
-    member there refl log
+    always (λ (s : ReplicaState). s.lqh.node ≡ member.node) (λ s x own. rows_node s x ∙ own) (λ s view own. own)
+    (λ s at has own. own) start member there refl log

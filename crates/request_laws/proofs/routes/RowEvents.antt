@@ -15,7 +15,10 @@ use Rattle.sig_core.specs.declared.view.View.{View}
 use Rattle.sig_core.specs.Place.{rows_of}
 use Rattle.frag_map.specs.Layout.{Layout}
 use Rattle.tc_block.proofs.LiveKeeps.{is_chain}
-use Rattle.lqh_views.specs.Replica.{installed, replica_row}
+use Rattle.lqh_saver.specs.Saver.{saver_row}
+use Rattle.lqh_saver.specs.State.{SavingState, saving}
+use Rattle.lqh_saver.proofs.StepLemmas.{saver_rows, saver_sends}
+use Rattle.lqh_views.specs.Replica.{installed}
 use Rattle.lqh_views.specs.State.{ReplicaState}
 use Rattle.node_views.specs.declared.ldm_part.LdmPart.{LdmPart}
 use Rattle.node_views.specs.declared.parts.Parts.TheVariants as part
@@ -206,11 +209,22 @@ module _ (start : Start) (all : ℕ → List HostStep) (e : HostStep) (es : List
           is_for_rows start all e es moment member there at taken.sound to (of_rows x.body is)
           ∙ ap rows_of (sym node_is)
 
-      row_waits : WaitsRouted layout A D G (replica_row between.replica x).state
-      row_waits = rows_wait_routed layout A D G between.replica x laid ask waits routed here
+      abbrev own : SavingState
+      own = saving between.replica between.saver
 
-      row_sends : Each (IsSentRouted layout A D G) (replica_row between.replica x).effects.sends
-      row_sends = rows_send_routed layout A D G between.replica x laid ask waits routed here
+      row_waits : WaitsRouted layout A D G (saver_row own x).state.replica
+      row_waits =
+          saver_rows own x (WaitsRouted layout A D G) waits
+          (rows_wait_routed layout A D G between.replica x laid ask waits routed here) (λ at has. waits)
+
+      row_sends : Each (IsSentRouted layout A D G) (saver_row own x).effects.sends
+      row_sends =
+          saver_sends own x (Each (IsSentRouted layout A D G))
+          (rows_send_routed layout A D G between.replica x laid ask waits routed here) tt (record {
+            goes_on = λ is. (tt, tt);
+            reports = λ walk node is walking. (tt, tt);
+            confirms = λ finished end ordered walked usable. (tt, tt);
+          })
 
     own_waits : WaitsRouted layout A D G later.replica
     unfolding ldm_row

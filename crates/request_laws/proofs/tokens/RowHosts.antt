@@ -17,7 +17,8 @@ use Rattle.sig_core.specs.declared.signal.Body.{Body}
 use Rattle.sig_core.specs.declared.signal.Body.TheVariants.{Chain}
 use Rattle.sig_core.specs.declared.signal.Signal.{Signal}
 use Rattle.sig_core.specs.declared.view.View.{View}
-use Rattle.lqh_views.specs.Replica.{replica_row}
+use Rattle.lqh_saver.specs.Saver.{saver_row}
+use Rattle.lqh_saver.specs.State.{saving}
 use Rattle.lqh_views.specs.State.{ReplicaState}
 use Rattle.node_views.specs.declared.ldm_part.LdmPart.{LdmPart}
 use Rattle.node_views.specs.declared.parts.Parts.TheVariants.{Ldm}
@@ -49,7 +50,7 @@ use Rattle.outcome_laws.proofs.coordinators.Lists.{count_both, count_more}
 use Rattle.request_laws.specs.Blocks.{no_replica, rows_after, rows_in}
 use Rattle.request_laws.specs.Tokens.{count_waiting, is_token, is_token_in}
 use Rattle.request_laws.proofs.replicas.WaitersHaveRequests.{none_ask_installed}
-use Rattle.request_laws.proofs.tokens.Rows.{rows_conserve, rows_run}
+use Rattle.request_laws.proofs.tokens.Rows.{rows_run, saving_conserve}
 use Rattle.request_laws.proofs.tokens.FirstInView.{sent_now, taken_now}
 
 -- of signals that a host sends no more pass a test than of what its blocks send
@@ -313,14 +314,15 @@ module _ (start : Start) (all : ℕ → List HostStep) (e : HostStep) (es : List
             row passed block.Lqh to is sends_are =
                 let taken = handled_now start all e es moment ldm_kind ldm_is p runs between front entering passed
                 block.Lqh to in
-                let own_is : count_waiting tx own.replica ≡ count_waiting tx (replica_row between.replica x).state =
+                let own_is : count_waiting tx own.replica
+                ≡ count_waiting tx (saver_row (saving between.replica between.saver) x).state.replica =
                 ap (λ (r : LdmPart). count_waiting tx r.replica) is in
                 omega (
                   arith,
                   sent_few start (is_token tx) now e.host old e,
                   out sent,
                   ap (count_sent (is_token tx)) sends_are,
-                  rows_conserve between.replica x tx (between_ask entering),
+                  saving_conserve (saving between.replica between.saver) x tx (between_ask entering),
                   own_is,
                   waits_few seen (count_waiting tx own.replica),
                   between_few entering (ap (λ (v : View). v.number) taken.stands),

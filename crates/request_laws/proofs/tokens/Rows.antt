@@ -39,6 +39,10 @@ use Rattle.lqh_views.specs.Report.{go_on_by, is_orphaned_marker, is_orphaned_rec
 use Rattle.lqh_views.specs.Report.{reporting, telling, told_record_if}
 use Rattle.lqh_views.specs.State.{ReplicaState}
 use Rattle.lqh_views.proofs.AddressLemmas.{same-body}
+use Rattle.lqh_saver.specs.Saver.{saver_row}
+use Rattle.lqh_saver.specs.State.{SavingState}
+use Rattle.lqh_saver.specs.Switching.{given_up, has_position}
+use Rattle.lqh_saver.proofs.Walk.{saver_outcomes}
 use Rattle.node_views.specs.declared.parts.Parts.{Parts}
 use Rattle.world_views.specs.Machine.{after}
 use Rattle.moment_laws.specs.Places.{ldm_of}
@@ -168,6 +172,25 @@ pub rows_conserve : (s : ReplicaState) (x : Signal) (tx : TxId) → WaitersAsk s
     ≤ count_waiting tx s + one_if (is_token tx x.body)
 rows_conserve s x tx ask = by_conserves tx s x ask x.body
 
+-- with their saver, which sends none and leaves what waits
+abbrev Conserve : ReplicaState → Signal → TxId → Step SavingState → Type 0
+Conserve s x tx step =
+    count_sent (is_token tx) step.effects.sends + count_waiting tx step.state.replica
+    ≤ count_waiting tx s + one_if (is_token tx x.body)
+
+pub saving_conserve : (s : SavingState) (x : Signal) (tx : TxId) → WaitersAsk s.replica.lqh
+    → Conserve s.replica x tx (saver_row s x)
+saving_conserve s x tx ask =
+    saver_outcomes s x (Conserve s.replica x tx) (record {
+      passes = λ is. rows_conserve s.replica x tx ask;
+      durable = λ epoch is. rows_conserve s.replica x tx ask;
+      orders = λ is. omega arith;
+      writes = λ n walk to at is walking some. omega arith;
+      ends = λ n walk to is walking all. omega arith;
+      switches = λ finished end is walked has usable. omega arith;
+      idles = λ is. omega arith;
+    })
+
 -- so it is of the rows of a member along logs
 first_asks : (start : Start) (member : Member) → WaitersAsk (first_rows start member).lqh
 first_asks start member = record {
@@ -176,18 +199,23 @@ first_asks start member = record {
       (ap or_unlocked (finite.get-empty key_cmp key))));
 }
 
+-- and where redo is given up
+still_ask : (s : ReplicaState) (at : ℕ) → has_position s.lqh.outlet at ≡ true → WaitersAsk s.lqh
+    → WaitersAsk (given_up s at).lqh
+still_ask s at has ask = record { asks = ask.asks }
+
 -- a host runs rows in which each wait has a request
 abbrev pub RunsRows : Parts → Type 0
-RunsRows = AreRows (λ (s : ReplicaState). WaitersAsk s.lqh) signal_asks (λ s view ask. none_ask_installed s view)
+RunsRows = AreRows (λ (s : ReplicaState). WaitersAsk s.lqh)
 
 pub rows_run : (start : Start) (member : Member) → IsIn member (made start) → (log : List HostStep)
     → RunsRows (after start (ldm_of start member) log).parts
 rows_run start member there log =
-    rows_so (λ (s : ReplicaState). WaitersAsk s.lqh) signal_asks (λ s view ask. none_ask_installed s view) start member
-    there (first_asks start member) log
+    rows_so (λ (s : ReplicaState). WaitersAsk s.lqh) signal_asks (λ s view ask. none_ask_installed s view) still_ask
+    start member there (first_asks start member) log
 
 pub waiters_ask : (start : Start) (member : Member) → IsIn member (made start) → (log : List HostStep)
     → WaitersAsk (rows_after start member log).lqh
 waiters_ask start member there =
-    always (λ (s : ReplicaState). WaitersAsk s.lqh) signal_asks (λ s view ask. none_ask_installed s view) start member
-    there (first_asks start member)
+    always (λ (s : ReplicaState). WaitersAsk s.lqh) signal_asks (λ s view ask. none_ask_installed s view) still_ask
+    start member there (first_asks start member)

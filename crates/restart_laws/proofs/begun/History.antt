@@ -1,10 +1,9 @@
 -- The rows with which the next life begins are those of the history of the one before.
-use Rattle.std.proofs.Common.{◌≡◌, ◌≤◌, ◌<◌, ◌+◌, ◌*◌, ◌∙◌, ℕ, true, List, get_or, sym, ap, arith}
+use Rattle.std.proofs.Common.{◌≡◌, ◌≤◌, ◌<◌, ◌+◌, ◌*◌, ◌∙◌, ℕ, List, get_or, sym, ap, arith}
 use Rattle.std.proofs.lemmas.Bool.{eq-eqb}
 use Rattle.std.proofs.lemmas.Nat.{mod_below}
 use Rattle.std.specs.FinMap as map
 use Rattle.frag_map.specs.Fragment.{frag_of, group_of_key}
-use Rattle.frag_map.specs.Layout.{holds}
 use Rattle.frag_map.specs.Shape.{group_of, groups}
 use Rattle.life_start.specs.Begun as begun
 use Rattle.saved_laws.specs.History.{row_up_to}

@@ -1,5 +1,6 @@
 -- What is restored of the disks of a life is its history up to the epoch of the latest system slot.
-use Rattle.std.proofs.Common.{◌≡◌, ◌≤◌, ◌<◌, ◌+◌, ◌*◌, ◌==◌, ◌∙◌, ℕ, true, false, List, [], sym, ap, subst, arith, get_or}
+use Rattle.std.proofs.Common.{◌≡◌, ◌≤◌, ◌<◌, ◌⊎◌, ◌+◌, ◌*◌, ◌==◌, ◌∙◌, ℕ, true, false, List, [], sym, ap, subst, inl, inr}
+use Rattle.std.proofs.Common.{arith, get_or}
 use Rattle.std.specs.FinMap as map
 use Rattle.std.specs.Prelude.{None, Some, Ok}
 use Rattle.frag_map.specs.Fragment.{group_of_key}
@@ -7,7 +8,7 @@ use Rattle.frag_map.specs.Layout.{holds}
 use Rattle.frag_map.specs.Replicas.{first_start}
 use Rattle.frag_map.specs.Shape.{group_of, groups}
 use Rattle.redo_log.specs.Replaying.{replayed}
-use Rattle.run_theory.proofs.Pasts.{each_in}
+use Rattle.run_theory.proofs.Pasts.{each_in, past_self}
 use Rattle.run_theory.specs.Lists.{IsIn}
 use Rattle.sig_core.specs.declared.mark.Mark.TheVariants.{Durable}
 use Rattle.sig_core.specs.declared.member.Member.{Member}
@@ -35,23 +36,73 @@ use Rattle.closing_laws.proofs.settled.Cuts.{events_of, logs_are}
 use Rattle.journal_laws.specs.Events.{records_behind}
 use Rattle.journal_laws.specs.Journal.{first_rows}
 use Rattle.journal_laws.specs.Laws.{ReplaysGiveOwnRows}
-use Rattle.saved_laws.specs.Copied.{CopiedWereSaved, DurableWereNoted, IsOfDurable, TellsDurable, WasTold}
+use Rattle.saved_laws.specs.Copied.{CopiedWereSaved, DoneWereMarked, DurableWereNoted, IsOfDurable, TellsDurable}
+use Rattle.saved_laws.specs.Copied.{WasTold}
 use Rattle.saved_laws.specs.History.{SavedRowsAreHistory, row_up_to}
 use Rattle.saved_laws.specs.Keys.{OtherKeysStay}
 use Rattle.disk_laws.specs.Found.{HasSavedRows}
 use Rattle.restart_laws.specs.Restart.{AreGrouped, AreLeft, IsOfLife, RestartsAreHistory}
+use Rattle.restart_laws.proofs.groups.Done.{WasMarked, told_done}
 use Rattle.restart_laws.proofs.groups.Left.{begins, told_durable}
 use Rattle.restart_laws.proofs.groups.Nodes.{first_below, group_low, has_full, node_group, node_low_group}
 use Rattle.restart_laws.proofs.groups.Rows.{none_pending}
 use Rattle.restart_laws.proofs.groups.Sources.{AreGroups, AreOfOne, HasOwnRows, IsGroup, all_groups, group_is}
 use Rattle.restart_laws.proofs.groups.System.{latest, listed_saved, manned, system_generation, system_least, system_up}
 
-module _ (copied : CopiedWereSaved) (durable : DurableWereNoted) (saved : SavedRowsAreHistory)
+module _ (copied : CopiedWereSaved) (durable : DurableWereNoted) (done : DoneWereMarked) (saved : SavedRowsAreHistory)
     (replays : ReplaysGiveOwnRows) (stay : OtherKeysStay) (start : Start) (r : Restored) (logs : ℕ → List HostStep)
     (images : Disks)
     (left : AreLeft start r logs images) where
   abbrev system : SystemSlot
   system = (latest start r logs images left).slot
+
+  -- no epoch that was reported durable is later
+  durable_low : (h epoch : ℕ) → h < hosts start → IsMarked (Durable epoch) (logs h) → epoch ≤ system.epoch
+  durable_low h epoch below marked = by noted
+    where
+      noted : IsOfDurable start logs epoch
+      noted =
+          subst
+          (λ (ls : ℕ → List HostStep). IsMarked (Durable epoch) (ls h) → IsOfDurable start ls epoch)
+          (logs_are start logs left.cluster)
+          (durable start logs (events_of start logs) (begins start r logs images left)
+          (are_moments start logs left.cluster) h epoch below)
+          marked
+
+      by : IsOfDurable start logs epoch → epoch ≤ system.epoch
+      by of =
+          let one =
+          has_full start.shape left.cluster.shape of.view
+          (viable have_orderly start logs left.cluster of.view of.installed) 0
+          (first_below start.shape left.cluster.shape) in
+          let there = full_made start logs left.cluster of.view of.installed one.member one.full in
+          let own =
+          told_durable start r logs images left one.member there epoch
+          (each_in (λ (m : Member). WasTold start logs (TellsDurable epoch) (tc_of start m)) one.member of.view.full
+          of.told one.full) in
+          let up = system_up start r logs images left one.member there in
+          omega (arith, own, up)
+
+  -- so what is found on the disk of a member is so up to it
+  least_low : (member : Member) (there : IsIn member (made start))
+      → (left.each member there).saved.least ≤ system.epoch
+  least_low member there =
+      by
+      (told_done done start logs left.cluster (begins start r logs images left) member (ldm_of start member)
+      (logs (ldm_of start member)) (past_self (logs (ldm_of start member))) (left.each member there).saved.least
+      (left.each member there).saved.told)
+    where
+      by : ((left.each member there).saved.least ≤ start.start_epoch)
+          ⊎ WasMarked start logs (left.each member there).saved.least
+          → (left.each member there).saved.least ≤ system.epoch
+      by (inl first) =
+          let is = left.epoch_is in
+          let low = system_least start r logs images left in
+          omega (arith, first, is, low)
+      by (inr was) =
+          let low = durable_low was.host was.at was.below was.marked in
+          let more = was.least in
+          omega (arith, low, more)
 
   -- a node's rows are those of the history up to the epoch of the slot, of its keys alone
   abbrev AreHistory : ℕ → Rows → Type 0
@@ -69,7 +120,7 @@ module _ (copied : CopiedWereSaved) (durable : DurableWereNoted) (saved : SavedR
         ap (λ generation. control_of_file generation (images node CONTROL_FILE))
         (system_generation start r logs images left ∙ sym has.generation_is)
         ∙ has.restores.0;
-    rows_are = has.restores.1 system.epoch;
+    rows_are = has.restores.1 system.epoch (least_low member there);
     so = (own, others);
   }
     where
@@ -154,33 +205,6 @@ module _ (copied : CopiedWereSaved) (durable : DurableWereNoted) (saved : SavedR
       (of_one node some low).below)
       ∙ apart)
 
-  -- no epoch that was reported durable is later
-  durable_low : (h epoch : ℕ) → h < hosts start → IsMarked (Durable epoch) (logs h) → epoch ≤ system.epoch
-  durable_low h epoch below marked = by noted
-    where
-      noted : IsOfDurable start logs epoch
-      noted =
-          subst
-          (λ (ls : ℕ → List HostStep). IsMarked (Durable epoch) (ls h) → IsOfDurable start ls epoch)
-          (logs_are start logs left.cluster)
-          (durable start logs (events_of start logs) (begins start r logs images left)
-          (are_moments start logs left.cluster) h epoch below)
-          marked
-
-      by : IsOfDurable start logs epoch → epoch ≤ system.epoch
-      by of =
-          let one =
-          has_full start.shape left.cluster.shape of.view
-          (viable have_orderly start logs left.cluster of.view of.installed) 0
-          (first_below start.shape left.cluster.shape) in
-          let there = full_made start logs left.cluster of.view of.installed one.member one.full in
-          let own =
-          told_durable start r logs images left one.member there epoch
-          (each_in (λ (m : Member). WasTold start logs (TellsDurable epoch) (tc_of start m)) one.member of.view.full
-          of.told one.full) in
-          let up = system_up start r logs images left one.member there in
-          omega (arith, own, up)
-
   of_life : IsOfLife start r logs restored
   of_life = record {
     generation_is = system_generation start r logs images left;
@@ -192,12 +216,12 @@ module _ (copied : CopiedWereSaved) (durable : DurableWereNoted) (saved : SavedR
   }
 
 -- what the laws of members and their journals say leads to it
-pub restarts_history : CopiedWereSaved → DurableWereNoted → SavedRowsAreHistory → ReplaysGiveOwnRows → OtherKeysStay
-    → RestartsAreHistory
-restarts_history copied durable saved replays stay start r logs images left = (
-  restored copied durable saved replays stay start r logs images left,
+pub restarts_history : CopiedWereSaved → DurableWereNoted → DoneWereMarked → SavedRowsAreHistory → ReplaysGiveOwnRows
+    → OtherKeysStay → RestartsAreHistory
+restarts_history copied durable done saved replays stay start r logs images left = (
+  restored copied durable done saved replays stay start r logs images left,
   (
-    is_restored copied durable saved replays stay start r logs images left,
-    of_life copied durable saved replays stay start r logs images left,
+    is_restored copied durable done saved replays stay start r logs images left,
+    of_life copied durable done saved replays stay start r logs images left,
   ),
 )

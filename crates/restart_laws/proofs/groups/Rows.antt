@@ -52,7 +52,7 @@ module _ (start : Start) (member : Member) (there : IsIn member (made start)) wh
   pub saved_above : (log : List HostStep) → start.start_epoch ≤ (rows_after start member log).saved
   saved_above log =
       always (λ (s : ReplicaState). start.start_epoch ≤ s.saved) (goes_up start.start_epoch) (λ s view above. above)
-      start member there (omega arith) log
+      (λ s at has above. above) start member there (omega arith) log
 
   pub none_pending : (first_rows start member).pending ≡ []
   none_pending =

@@ -48,6 +48,7 @@ lives_ask start r request w t disks asked well lived =
                 w t disks lived.sound there asked was.up;
             tells = requests_tell_what_is_kept start request w t lived.sound asked member there was.tells;
             shape = was.shape;
+            storable = was.storable;
           };
     }
 
@@ -99,5 +100,6 @@ lives_hear start r w t disks sound logs links lived =
                       was.tells.durable);
                 };
             shape = was.shape;
+            storable = was.storable;
           };
     }

@@ -84,6 +84,7 @@ module _ (shape : Shape) (r : Restored) (disks : Disks) (may : MayBegin shape r)
                 (subst (λ s. IsImage s bytes) (own.ready.0.0 SYSTEM_FILE (omega arith)) image)))
                 own.shapes;
           };
+          storable = own.storable;
         }
 
   begins : IsLived r world disks start

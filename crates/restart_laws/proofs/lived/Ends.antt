@@ -1,13 +1,11 @@
 -- Whatever a crash leaves of the disks of a life, a restart comes to its history.
-use Rattle.std.proofs.Common.{◌≡◌, ◌<◌, ◌-◌, ◌∙◌, ℕ, List, ap, sym, subst, arith}
-use Rattle.std.specs.FinMap as map
+use Rattle.std.proofs.Common.{◌≡◌, ◌<◌, ◌-◌, ℕ, List, subst, arith}
 use Rattle.std.specs.Prelude.{get_or, Option, None, Some}
 use Rattle.host_io.specs.Call.{Call}
 use Rattle.host_io.specs.DiskState.{state_of}
 use Rattle.host_io.specs.Image.{IsImage, IsLeft}
 use Rattle.run_theory.specs.Lists.{IsIn}
 use Rattle.sig_core.specs.declared.member.Member.{Member}
-use Rattle.sig_core.specs.Rows.{row_of}
 use Rattle.sys_restart.specs.declared.restored.Restored.{Restored}
 use Rattle.sys_restart.specs.Calls.{next_system, rows_of_node}
 use Rattle.sys_restart.specs.Files as files
@@ -18,17 +16,15 @@ use Rattle.world_core.specs.World.{logs_at}
 use Rattle.world_views.specs.World.{Whole}
 use Rattle.moment_laws.specs.Places.{tc_of}
 use Rattle.disk_world.specs.Disks.{Disks}
-use Rattle.journal_laws.specs.Journal.{first_rows}
 use Rattle.disk_laws.specs.Found.{HasLatest}
 use Rattle.disk_laws.specs.OnDisk.{KeepsUp}
 use Rattle.disk_laws.proofs.KeptLaw.{kept_is_found}
 use Rattle.disk_laws.proofs.shapes_of.Read.{shapes_read}
 use Rattle.restart_laws.specs.Lived.{IsLived, IsLivedAt, LivesRestart}
 use Rattle.restart_laws.specs.Restart.{AreLeft, IsLeftOf}
-use Rattle.restart_laws.proofs.begun.Rows.{rows_begin}
 use Rattle.restart_laws.proofs.groups.Whole.{restarts_as_history}
 use Rattle.restart_laws.proofs.lived.Epochs.{below_first, starts_behind}
-use Rattle.restart_laws.proofs.lived.Savable.{cluster}
+use Rattle.restart_laws.proofs.lived.Savable.{cluster, table_begins}
 
 same_calls : (o : Option (List Call)) (one other : List Call) → o ≡ Some one → o ≡ Some other → one ≡ other
 same_calls o one other first second = cc
@@ -46,12 +42,6 @@ module _ (start : Start) (r : Restored) (w : Whole) (disks : Disks) (images : fi
     image : IsLeft up.calls (images member.node)
     image = left member.node up.calls up.told
 
-    begun : (key : List ℕ)
-        → map.get (rows_of_node start.shape member.node r) key ≡ row_of (first_rows start member) key
-    begun key =
-        rows_begin start.shape r member lived.may (subst (λ (s : Start). IsIn member (made s)) lived.is_start there) key
-        ∙ ap (λ (s : Start). row_of (first_rows s member) key) (sym lived.is_start)
-
     noted : HasLatest start member (rows_of_node start.shape member.node r) (next_system start.shape r)
         (logs_at w.logs (tc_of start member)) (images member.node)
     noted =
@@ -61,7 +51,7 @@ module _ (start : Start) (r : Restored) (w : Whole) (disks : Disks) (images : fi
     left_of : IsLeftOf start r (logs_at w.logs) images member
     left_of =
         record {
-          begun = begun;
+          begun = table_begins start r lived.is_start lived.may member there;
           saved =
               kept_is_found.rows start member (rows_of_node start.shape member.node r) (next_system start.shape r) w
               disks (images member.node) up image;

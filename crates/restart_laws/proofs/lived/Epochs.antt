@@ -1,5 +1,5 @@
 -- The epochs of a life that begins behind what was restored.
-use Rattle.std.proofs.Common.{◌≡◌, ◌<◌, ◌+◌, ◌-◌, ◌*◌, ◌/◌, ◌^◌, ap, arith}
+use Rattle.std.proofs.Common.{◌≡◌, ◌≤◌, ◌<◌, ◌+◌, ◌-◌, ◌*◌, ◌/◌, ◌^◌, ap, arith}
 use Rattle.std.proofs.lemmas.Nat.{div-add-mod'}
 use Rattle.sys_restart.specs.declared.restored.Restored.{Restored}
 use Rattle.world_core.specs.Start.{Start}
@@ -14,6 +14,9 @@ module _ (start : Start) (r : Restored) (is : start ≡ start_behind start.shape
 
   pub below_first : start.start_epoch < start.epoch
   below_first = let split = div-add-mod' r.epoch (2 ^ 32) in grind (arith, first, starts_behind, split)
+
+  pub first_high : 2 ^ 32 ≤ start.epoch
+  first_high = omega (arith, first)
 
   pub first_low : start.epoch < 2 ^ 64 - 1
   first_low =

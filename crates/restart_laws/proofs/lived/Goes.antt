@@ -23,6 +23,7 @@ use Rattle.world_views.proofs.WorldLemmas.{stays_sound}
 use Rattle.view_laws.specs.Runs.{AreOfCluster}
 use Rattle.disk_world.specs.Disks.{Disks, HasGoneOn, HaveGoneOn}
 use Rattle.journal_laws.specs.Asked.{AreOfWords, IsOfRequest}
+use Rattle.saved_laws.specs.Checkpoints.{WalkedCheckpointsStand}
 use Rattle.disk_laws.specs.OnDisk.{KeepsUp}
 use Rattle.disk_laws.specs.Shapes.{KeepsShape}
 use Rattle.disk_laws.proofs.StepLaw.{steps_kept}
@@ -30,9 +31,9 @@ use Rattle.disk_laws.proofs.shapes_of.Kept.{shapes_kept}
 use Rattle.restart_laws.specs.Lived.{IsLived, LivesGoOn}
 use Rattle.restart_laws.specs.Told.{TellsWhatIsKept}
 use Rattle.view_laws.proofs.runs.FirstMembers.{first_in}
-use Rattle.restart_laws.proofs.lived.Epochs.{below_first, first_low}
+use Rattle.restart_laws.proofs.lived.Epochs.{below_first, first_high, first_low}
 use Rattle.restart_laws.proofs.lived.Notable.{notable}
-use Rattle.restart_laws.proofs.lived.Savable.{cluster, savable}
+use Rattle.restart_laws.proofs.lived.Savable.{can_write, cluster, savable}
 use Rattle.restart_laws.proofs.telling.All.{steps_tell_what_is_kept}
 
 -- a list has a place at which something stands
@@ -111,8 +112,8 @@ module _ (start : Start) (r : Restored) where
     all_slots = let inside = of_slots disks.slots (last.node - 1) up.slots up.slots_are in omega (arith, inside)
 
   -- one host went on, and the disk of its node kept what it was to keep of it
-  module _ (w t : Whole) (old new : Disks) (counts : List ℕ) (gone : HasGoneOn w old new counts t)
-      (lived : IsLived r w old start) where
+  module _ (stand : WalkedCheckpointsStand) (w t : Whole) (old new : Disks) (counts : List ℕ)
+      (gone : HasGoneOn w old new counts t) (lived : IsLived r w old start) where
     sound : IsSound start t
     sound = stays_sound start w t (gone.goes start lived.sound) lived.sound
 
@@ -131,18 +132,19 @@ module _ (start : Start) (r : Restored) where
 
     tells : (member : Member) → IsIn member (made start) → TellsWhatIsKept start member t
     tells member there =
-        steps_tell_what_is_kept start member (rows_of_node start.shape member.node r) (next_system start.shape r) w t
-        old new counts lived.sound there lived.told lived.slots gone (lived.each member there).up
+        steps_tell_what_is_kept start member w t old new counts lived.sound there lived.told lived.slots gone
         (lived.each member there).tells
 
     ups : (member : Member) → IsIn member (made start) → KeepsUp start member
         (rows_of_node start.shape member.node r) (next_system start.shape r) t new
     ups member there =
         steps_kept start member (rows_of_node start.shape member.node r) (next_system start.shape r) w t old new counts
-        lived.sound there lived.told lived.slots gone
+        lived.sound there lived.told lived.slots gone (first_high start r lived.is_start lived.may)
         (λ log past.
         savable start (logs_at t.logs) are (below_first start r lived.is_start lived.may)
-        (first_low start r lived.is_start lived.may) member there log past words)
+        (first_low start r lived.is_start lived.may) member there log past stand
+        (rows_of_node start.shape member.node r)
+        (can_write start r lived.is_start lived.may member there (lived.each member there).storable) words)
         (notable start r t are (below_first start r lived.is_start lived.may)
         (first_low start r lived.is_start lived.may) tells member there)
         (lived.each member there).up
@@ -163,16 +165,22 @@ module _ (start : Start) (r : Restored) where
           told = all_told t new lived.may.is_shape ups;
           slots = all_slots t new lived.may.is_shape ups;
           each = λ member there.
-              record { up = ups member there; tells = tells member there; shape = shapes member there };
+              record {
+                up = ups member there;
+                tells = tells member there;
+                shape = shapes member there;
+                storable = (lived.each member there).storable;
+              };
         }
 
-  many_steps : (steps : ℕ) (w t : Whole) (old new : Disks) → HaveGoneOn steps w old t new → IsLived r w old start
-      → IsLived r t new start
-  many_steps zero w t old new same lived =
+  many_steps : WalkedCheckpointsStand → (steps : ℕ) (w t : Whole) (old new : Disks) → HaveGoneOn steps w old t new
+      → IsLived r w old start → IsLived r t new start
+  many_steps stand zero w t old new same lived =
       subst (λ (v : Whole). IsLived r v new start) (sym same.0)
       (subst (λ (d : Disks). IsLived r w d start) (sym same.1) lived)
-  many_steps (suc steps) w t old new (between, (disks, (counts, (way, gone)))) lived =
-      one_step between t disks new counts gone (many_steps steps w between old disks way lived)
+  many_steps stand (suc steps) w t old new (between, (disks, (counts, (way, gone)))) lived =
+      one_step stand between t disks new counts gone (many_steps stand steps w between old disks way lived)
 
-pub lives_go_on : LivesGoOn
-lives_go_on start r w t old new way lived = many_steps start r way.0 w t old new way.1 lived
+-- where what a member has written stands for all that was before it
+pub lives_go_on : WalkedCheckpointsStand → LivesGoOn
+lives_go_on stand start r w t old new way lived = many_steps start r stand way.0 w t old new way.1 lived

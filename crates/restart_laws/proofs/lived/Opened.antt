@@ -108,6 +108,7 @@ module _ (shape : Shape) (r : Restored) (records : List (List Call)) (told : Lis
           slots_are = place.1;
           found = found;
           shapes = shapes node some few calls is_told;
+          storable = (may.each node some few).rows;
         }
 
 pub opened_are_ready : OpenedAreReady

@@ -27,6 +27,9 @@ use Rattle.lqh_views.specs.Report.{told_record_if}
 use Rattle.lqh_views.specs.State.{ReplicaState}
 use Rattle.lqh_views.specs.Words.{is_replica_mark, is_row_word}
 use Rattle.lqh_views.proofs.Walk.{passed_words, replica_outcomes}
+use Rattle.lqh_saver.specs.Saver.{saver_row}
+use Rattle.lqh_saver.specs.State.{SavingState, saving}
+use Rattle.lqh_saver.proofs.Walk.{saver_outcomes}
 use Rattle.node_views.specs.declared.ldm_part.LdmPart.{LdmPart}
 use Rattle.node_views.specs.declared.parts.Parts.{Parts}
 use Rattle.node_views.specs.Parts.{ldm_row}
@@ -123,11 +126,25 @@ replica_rightly s x =
     record_none to one true epoch tells = tells
     record_none to one false epoch tells = tells
 
+-- with their saver, which tells of no epoch that is saved
+saving_rightly : (s : SavingState) (x : Signal)
+    → TellRightly s.replica.saved (saver_row s x).state.replica.saved (saver_row s x).effects.sends
+saving_rightly s x =
+    saver_outcomes s x (λ step. TellRightly s.replica.saved step.state.replica.saved step.effects.sends) (record {
+      passes = λ is. replica_rightly s.replica x;
+      durable = λ epoch is. replica_rightly s.replica x;
+      orders = λ is. none_rightly s.replica.saved _ (λ epoch tells. tells, tt);
+      writes = λ n walk to at is walking some. none_rightly s.replica.saved _ (λ epoch tells. tells, tt);
+      ends = λ n walk to is walking all. none_rightly s.replica.saved _ (λ epoch tells. tells, tt);
+      switches = λ finished end is walked has usable. none_rightly s.replica.saved _ (λ epoch tells. tells, tt);
+      idles = λ is. none_rightly s.replica.saved [] tt;
+    })
+
 -- so it is of the part that runs them
 ldm_rightly : (p : LdmPart) (b : BlockId) (x : Signal)
     → TellRightly p.replica.saved (ldm_row p b x).state.replica.saved (ldm_row p b x).effects.sends
 unfolding ldm_row
-ldm_rightly p block.Lqh x = replica_rightly p.replica x
+ldm_rightly p block.Lqh x = saving_rightly (saving p.replica p.saver) x
 ldm_rightly p _ x = none_rightly p.replica.saved [] tt
 
 -- and of what its host does with it

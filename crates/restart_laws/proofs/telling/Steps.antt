@@ -1,6 +1,6 @@
 -- A host goes on, and the disk of its node keeps what it is to keep of it, or the host stops: a host that tells by its
 -- log has told, then as before, only what its disk kept.
-use Rattle.std.proofs.Common.{◌≡◌, ◌≢◌, ◌≤◌, ◌<◌, ◌⊎◌, ◌-◌, inl, inr, ℕ, zero, suc, List, ◌∷◌, Bool, true, false}
+use Rattle.std.proofs.Common.{◌≡◌, ◌≢◌, ◌≤◌, ◌<◌, ◌⊎◌, inl, inr, ℕ, zero, suc, List, ◌∷◌, Bool, true, false}
 use Rattle.std.proofs.Common.{length, refl, sym, ap, subst, ◌∙◌, arith}
 use Rattle.std.proofs.lemmas.Bool.{cases_eq, true≢false}
 use Rattle.std.specs.List.{list_any}
@@ -24,7 +24,7 @@ use Rattle.world_views.specs.Right.{IsRight}
 use Rattle.world_views.specs.World.{Whole, body_at, has_stopped_in}
 use Rattle.world_views.proofs.DiskLemmas.{disk_driven}
 use Rattle.world_views.proofs.ScheduleLemmas.{running_low}
-use Rattle.disk_world.specs.Disks.{Disks, GoesOn, HasGoneOn, HasKept, KeepsStep, kept_in, node_of}
+use Rattle.disk_world.specs.Disks.{Disks, GoesOn, HasGoneOn, KeepsStep, node_of}
 use Rattle.disk_laws.specs.Noted.{is_disk_stop, kept_if, kept_part}
 use Rattle.restart_laws.specs.Told.{IsTold}
 use Rattle.restart_laws.proofs.telling.Facts.{TellsByLog}
@@ -65,22 +65,17 @@ module _ (start : Start) (w t : Whole) (old new : Disks) (counts : List ℕ) (so
     sound_then =
         record { given = sound.given; right = (gone.driven start sound).right sound.given sound.right }
 
-    -- what became of the host that went on
+    -- what became of the host that went on: where a call for its step failed, it stopped behind that
     pub data Becomes : Type 0 where
       goes_on : t ≡ u → Becomes
-      fails : 1 ≤ g → has_stopped_in u g ≡ false → HasKept (kept_in u g) (node_of u g - 1) old new false
+      fails : (e : HostStep) → logs_at u.logs g ≡ e ∷ logs_at w.logs g → 1 ≤ g → has_stopped_in u g ≡ false
           → t ≡ ended u g (count_of counts (node_of u g)) → Becomes
 
-    pub becomes : Becomes
-    becomes = by (has_stopped_in u g) refl g refl
+    module _ (e : HostStep) (more : logs_at u.logs g ≡ e ∷ logs_at w.logs g) (some : 1 ≤ g)
+        (runs : has_stopped_in u g ≡ false)
       where
-        kept : (b : Bool) → 1 ≤ g → has_stopped_in u g ≡ false → HasKept (kept_in u g) (node_of u g - 1) old new b
-            → GoesOn b u g (count_of counts (node_of u g)) t → Becomes
-        kept true some runs has is = goes_on is
-        kept false some runs has is = fails some runs has is
-
-        keeps : 1 ≤ g → has_stopped_in u g ≡ false → KeepsStep u g old
-        keeps some runs =
+        keeps : KeepsStep u g old
+        keeps =
             let low = running_low start u g sound_then runs in
             let there = host_made start g some low in
             let node = node_is start u sound_then g some runs in
@@ -96,13 +91,23 @@ module _ (start : Start) (w t : Whole) (old new : Disks) (counts : List ℕ) (so
               };
             }
 
-        by : (b : Bool) → has_stopped_in u g ≡ b → (h : ℕ) → g ≡ h → Becomes
-        by true stops h is = goes_on (gone.nothing (inr stops)).0
-        by false runs zero is = goes_on (gone.nothing (inl is)).0
-        by false runs (suc h) is =
-            let some : 1 ≤ g = omega (arith, is) in
-            let step = gone.kept (keeps some runs) in
-            kept step.ok some runs step.kept step.goes
+        kept : (b : Bool) → GoesOn b u g (count_of counts (node_of u g)) t → Becomes
+        kept true is = goes_on is
+        kept false is = fails e more some runs is
+
+        made_one : Becomes
+        made_one = let step = gone.kept e more keeps in kept step.ok step.goes
+
+    pub becomes : Becomes
+    becomes = by (has_stopped_in u g) refl g refl gone.alone.own
+      where
+        by : (b : Bool) → has_stopped_in u g ≡ b → (h : ℕ) → g ≡ h
+            → (logs_at u.logs g ≡ logs_at w.logs g) ⊎ ((e : HostStep) × (logs_at u.logs g ≡ e ∷ logs_at w.logs g))
+            → Becomes
+        by true stops h is own = goes_on (gone.nothing (inr (inr stops))).0
+        by false runs zero is own = goes_on (gone.nothing (inl is)).0
+        by false runs (suc h) is (inl same) = goes_on (gone.nothing (inr (inl same))).0
+        by false runs (suc h) is (inr (e, more)) = made_one e more (omega (arith, is)) runs
 
     module _ (h : ℕ) (Tells : List HostStep → Body → Type 0) (tells : TellsByLog start h Tells)
         (told : IsTold start h (Tells (kept_part (logs_at w.logs h))) w)
@@ -185,44 +190,35 @@ module _ (start : Start) (w t : Whole) (old new : Disks) (counts : List ℕ) (so
                   by (inr apart) = none_taken (stop_other u g count j apart)
 
           -- this one: its last step is lost
-          own_told : h ≡ g → (logs_at u.logs h ≡ logs_at w.logs h → ⊥) → KeptIn (ended u g count)
-          own_told at again = by gone.alone.own
-            where
-              by : (logs_at u.logs g ≡ logs_at w.logs g)
-                  ⊎ ((e : HostStep) × (logs_at u.logs g ≡ e ∷ logs_at w.logs g))
-                  → KeptIn (ended u g count)
-              by (inl same) = absurd (again (subst (λ k. logs_at u.logs k ≡ logs_at w.logs k) (sym at) same))
-              by (inr (e, more)) =
-                  let now : logs_at u.logs h ≡ e ∷ logs_at w.logs h =
-                  subst (λ k. logs_at u.logs k ≡ e ∷ logs_at w.logs k) (sym at) more
-                  in
-                  let still : has_stopped (logs_at u.logs h) ≡ false =
-                  subst (λ k. has_stopped (logs_at u.logs k) ≡ false) (sym at)
-                  (sym (sound_then.right.stopped g low) ∙ runs)
-                  in
-                  let log : logs_at (ended u h count).logs h ≡ stop u h count ∷ logs_at u.logs h =
-                  stop_own u h count (logs_there start sound_then.given u sound_then.right h count tells.low)
-                  in
-                  let left : kept_part (logs_at (ended u h count).logs h) ≡ logs_at w.logs h =
-                  ap kept_part log ∙ ap (λ rest. kept_part (stop u h count ∷ rest)) now
-                  in
-                  subst (λ k. KeptIn (ended u k count)) at
-                  (subst (λ log. IsTold start h (Tells log) (ended u h count)) (sym left)
-                  (last_told start h Tells tells w u sound.given sound_then.given sound.right sound_then.right e now
-                  still (takes start w u g gone.alone sound_then h) count))
+          own_told : h ≡ g → (e : HostStep) → logs_at u.logs g ≡ e ∷ logs_at w.logs g → KeptIn (ended u g count)
+          own_told at e more =
+              let now : logs_at u.logs h ≡ e ∷ logs_at w.logs h =
+              subst (λ k. logs_at u.logs k ≡ e ∷ logs_at w.logs k) (sym at) more
+              in
+              let still : has_stopped (logs_at u.logs h) ≡ false =
+              subst (λ k. has_stopped (logs_at u.logs k) ≡ false) (sym at)
+              (sym (sound_then.right.stopped g low) ∙ runs)
+              in
+              let log : logs_at (ended u h count).logs h ≡ stop u h count ∷ logs_at u.logs h =
+              stop_own u h count (logs_there start sound_then.given u sound_then.right h count tells.low)
+              in
+              let left : kept_part (logs_at (ended u h count).logs h) ≡ logs_at w.logs h =
+              ap kept_part log ∙ ap (λ rest. kept_part (stop u h count ∷ rest)) now
+              in
+              subst (λ k. KeptIn (ended u k count)) at
+              (subst (λ log. IsTold start h (Tells log) (ended u h count)) (sym left)
+              (last_told start h Tells tells w u sound.given sound_then.given sound.right sound_then.right e now
+              still (takes start w u g gone.alone sound_then h) count))
 
-        pub host_told : ((some : 1 ≤ g) (runs : has_stopped_in u g ≡ false) → h ≡ g
-            → HasKept (kept_in u g) (node_of u g - 1) old new false → logs_at u.logs h ≡ logs_at w.logs h → ⊥)
-            → KeptIn t
-        host_told again = by becomes
+        pub host_told : KeptIn t
+        host_told = by becomes
           where
-            failed : (some : 1 ≤ g) (runs : has_stopped_in u g ≡ false)
-                → HasKept (kept_in u g) (node_of u g - 1) old new false → (count : ℕ) → (h ≡ g) ⊎ (h ≢ g)
-                → KeptIn (ended u g count)
-            failed some runs has count (inl at) = own_told some runs count at (again some runs at has)
-            failed some runs has count (inr apart) = other_told some runs count apart
+            failed : (e : HostStep) → logs_at u.logs g ≡ e ∷ logs_at w.logs g → (some : 1 ≤ g)
+                (runs : has_stopped_in u g ≡ false) → (count : ℕ) → (h ≡ g) ⊎ (h ≢ g) → KeptIn (ended u g count)
+            failed e more some runs count (inl at) = own_told some runs count at e more
+            failed e more some runs count (inr apart) = other_told some runs count apart
 
             by : Becomes → KeptIn t
             by (goes_on is) = subst KeptIn (sym is) stepped_told
-            by (fails some runs has is) =
-                subst KeptIn (sym is) (failed some runs has (count_of counts (node_of u g)) (cases_eq h g))
+            by (fails e more some runs is) =
+                subst KeptIn (sym is) (failed e more some runs (count_of counts (node_of u g)) (cases_eq h g))

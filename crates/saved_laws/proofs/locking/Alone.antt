@@ -110,8 +110,8 @@ module _ (start : Start) (all : ℕ → List HostStep) (member : Member) (there 
     where
       by : RowsTurn start all e es moment member there → AreAlone (rows_at start (logs_of start es) member)
           → AreAlone (rows_at start (logs_of start (e ∷ es)) member)
-      by (rest_now is quiet stays) before = subst AreAlone (sym is) before
-      by (enter_now is quiet) before = subst AreAlone (sym is) before
+      by (rest_now is quiet stays) before = subst AreLocked (sym (ap (λ (s : ReplicaState). s.lqh.rows) is)) before
+      by (enter_now is quiet) before = subst AreLocked (sym (ap (λ (s : ReplicaState). s.lqh.rows) is)) before
       by (take_now s between which taken) before =
           alone_now start all (e ∷ es) moment member there
           (among_now e es moment taken.at taken.now.stands)

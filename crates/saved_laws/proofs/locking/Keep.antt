@@ -37,6 +37,7 @@ use Rattle.journal_laws.proofs.events.FirstRows.{first_orderly}
 use Rattle.journal_laws.proofs.replays.Replays.{orderly_behind}
 use Rattle.saved_laws.specs.Locks.{MembersKeepLocks}
 use Rattle.saved_laws.proofs.locking.Alone.{always_alone}
+use Rattle.saved_laws.proofs.rows.ByStep.{rows_at_step}
 use Rattle.saved_laws.proofs.rows.Own.{rows_are}
 
 -- what can be written can be read
@@ -121,7 +122,8 @@ module _ (most : ℕ) where
         → Keep (e ∷ log)
     own_step e log locked keep events are records up =
         subst (HaveKeptLocks most first) (sym are.1.1.0)
-        (by are.0 are.1.1.2.rows (subst (λ list. AreRecords (records_behind first list)) are.1.1.0 records)
+        (by are.0 (rows_at_step start member e log are.0 are.1.1.2)
+        (subst (λ list. AreRecords (records_behind first list)) are.1.1.0 records)
         (subst (AreUpTo most) are.1.1.0 up))
       where
         by : (event : Option Event)

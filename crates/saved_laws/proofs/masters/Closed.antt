@@ -14,6 +14,8 @@ use Rattle.sig_core.specs.declared.view.View.{View}
 use Rattle.lqh_views.specs.Replica.{replica_row}
 use Rattle.lqh_views.specs.State.{ReplicaState}
 use Rattle.lqh_views.proofs.Walk.{replica_outcomes}
+use Rattle.lqh_saver.specs.State.{saving}
+use Rattle.lqh_saver.proofs.StepLemmas.{saver_rows}
 use Rattle.node_views.specs.declared.host_body.HostBody as node
 use Rattle.node_views.specs.declared.ldm_part.LdmPart.{LdmPart}
 use Rattle.node_views.specs.declared.parts.Parts.{Parts}
@@ -194,7 +196,10 @@ module _ (start : Start) (all : ℕ → List HostStep) (e : HostStep) (es : List
 
           row_now : (b : BlockId) → x.to.block ≡ b → IsNow (ldm_row did.between b x).state.replica.saved
           unfolding ldm_row
-          row_now block.Lqh to = rows_keep IsNow did.between.replica x (between did.enters) (ordered to)
+          row_now block.Lqh to =
+              saver_rows (saving did.between.replica did.between.saver) x (λ (s : ReplicaState). IsNow s.saved)
+              (between did.enters) (rows_keep IsNow did.between.replica x (between did.enters) (ordered to))
+              (λ at has. between did.enters)
           row_now _ to = between did.enters
 
         own : PartTakes ldm_kind start.shape did.between stood x did.own did.rest → IsNow did.own.replica.saved

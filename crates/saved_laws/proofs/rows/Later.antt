@@ -13,7 +13,7 @@ use Rattle.sig_core.specs.declared.member.Member.{Member}
 use Rattle.sig_core.specs.declared.member.TxId.{TxId}
 use Rattle.sig_core.specs.declared.place.Part.TheVariants.{Tc}
 use Rattle.node_views.specs.declared.host_body.HostBody as node
-use Rattle.world_core.specs.Entries.{entries, entries_in, entry_of}
+use Rattle.world_core.specs.Entries.{entries_in, entry_of}
 use Rattle.world_core.specs.SerialLaw.{AreEpochsOrdered}
 use Rattle.world_core.specs.Start.{Start, made}
 use Rattle.world_core.specs.Steps.{HostStep}

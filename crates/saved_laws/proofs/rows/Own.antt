@@ -25,6 +25,7 @@ use Rattle.commit_laws.specs.Traces.{record_at, replica_at}
 use Rattle.journal_laws.specs.Events.{IsOrdered, changed_if, own_behind, rows_behind}
 use Rattle.journal_laws.specs.Journal.{AreEventsOf, first_rows, lqh_after}
 use Rattle.saved_laws.specs.Closings.{Commits}
+use Rattle.saved_laws.proofs.rows.ByStep.{ordered_at_step, rows_at_step}
 use Rattle.saved_laws.proofs.rows.Cells.{Goes, NoneIsNew, commits, event_goes, still}
 
 module _ (start : Start) (member : Member) where
@@ -35,7 +36,7 @@ module _ (start : Start) (member : Member) where
   rows_are (e ∷ log) events are =
       ap (rows_behind (first_rows start member)) are.1.1.0 ∙ by are.0
       ∙ ap (changed_if are.0) (rows_are log are.1.0 are.1.1.1)
-      ∙ sym are.1.1.2.rows
+      ∙ sym (rows_at_step start member e log are.0 are.1.1.2)
     where
       by : (event : Option Event)
           → rows_behind (first_rows start member) (option_to_list event ++ are.1.0)
@@ -66,8 +67,8 @@ module _ (start : Start) (member : Member) where
       are = are.1.1.1;
       event = are.0;
       goes = subst (λ list. Goes epoch key are.0 (cell_of log) (cell_of (e ∷ log)) (own_row are.1.0) (own_row list))
-          (sym are.1.1.0) (by are.0 are.1.1.2.rows);
-      ordered = are.1.1.2.ordered;
+          (sym are.1.1.0) (by are.0 (rows_at_step start member e log are.0 are.1.1.2));
+      ordered = ordered_at_step start member e log are.0 are.1.1.2;
     }
       where
         older : List Event

@@ -15,6 +15,8 @@ use Rattle.tc_block.specs.Turn.{Turn}
 use Rattle.lqh_block.proofs.LqhForms.{lqh_forms}
 use Rattle.lqh_block.specs.Lqh.{lqh_table}
 use Rattle.lqh_block.specs.State.{LqhState}
+use Rattle.lqh_saver.specs.State.{saving}
+use Rattle.lqh_saver.proofs.StepLemmas.{saver_rows}
 use Rattle.lqh_views.specs.Replica.{replica_row}
 use Rattle.lqh_views.specs.State.{ReplicaState}
 use Rattle.node_views.specs.Blocks.{parts_row}
@@ -147,7 +149,9 @@ tc_takes p _ b x = refl
 
 ldm_takes : (p : LdmPart) (to b : BlockId) (x : Signal) → own_node (Ldm (ldm_row p to x).state) b ≡ own_node (Ldm p) b
 unfolding ldm_row
-ldm_takes p block.Lqh b x = replica_node p.replica x
+ldm_takes p block.Lqh b x =
+    saver_rows (saving p.replica p.saver) x (λ (s : ReplicaState). s.lqh.node ≡ p.replica.lqh.node) refl
+    (replica_node p.replica x) (λ at has. refl)
 ldm_takes p _ b x = refl
 
 node_takes : (parts : Parts) (b : BlockId) (x : Signal) → own_node (parts_row parts x).state b ≡ own_node parts b

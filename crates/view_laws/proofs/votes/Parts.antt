@@ -9,6 +9,8 @@ use Rattle.sig_core.specs.declared.place.BlockId.TheVariants as block
 use Rattle.sig_core.specs.declared.signal.Signal.{Signal}
 use Rattle.sig_core.specs.declared.view.View.{View}
 use Rattle.dih_node.specs.Orders as dih
+use Rattle.lqh_saver.specs.State.{saving}
+use Rattle.lqh_saver.proofs.StepLemmas.{saver_sends}
 use Rattle.node_views.specs.Blocks.{parts_entered, parts_row}
 use Rattle.node_views.specs.Parts.{ldm_row, tc_row}
 use Rattle.node_views.specs.declared.ldm_part.LdmPart.{LdmPart}
@@ -63,7 +65,13 @@ tc_quiet p _ x = inl tt
 ldm_quiet : (p : LdmPart) (b : BlockId) (x : Signal)
     → AreQuiet (own_node (Ldm p) b) x.body (ldm_row p b x).effects.sends
 unfolding ldm_row
-ldm_quiet p block.Lqh x = replica_quiet p.replica x
+ldm_quiet p block.Lqh x =
+    saver_sends (saving p.replica p.saver) x (AreQuiet p.replica.lqh.node x.body) (replica_quiet p.replica x) (inl tt)
+    (record {
+      goes_on = λ own. inl (refl, tt);
+      reports = λ walk to own walking. inl (refl, tt);
+      confirms = λ finished end ordered walked usable. inl (refl, tt);
+    })
 ldm_quiet p _ x = inl tt
 
 -- a part that runs neither of them

@@ -1,7 +1,7 @@
 use Rattle.std.proofs.Common.{ap}
 use Rattle.world_views.specs.Links.{arrival}
 use Rattle.world_views.specs.WorldOf.{whole_of}
-use Rattle.world_views.proofs.AloneLemmas.{step_alone}
+use Rattle.world_views.proofs.AloneLemmas.{step_alone, step_more}
 use Rattle.world_views.proofs.DropRight.{with_links}
 use Rattle.world_views.proofs.WorldLemmas.{can_take, first_given, has_stayed, has_stepped, stepped_unscheduled}
 use Rattle.world_views.proofs.world.World.step.Goals as goal
@@ -13,6 +13,12 @@ returns-in_default-clause-ok c =
 
 pub take-requires-2-clause-there : goal.take-requires-2-clause-there
 take-requires-2-clause-there c =
+    can_take (whole_of c.args.self.now) (arrival c.in-Some.arrived.host c.in-Some.arrived.signal c.take.new.self)
+    c.requires
+    c.in-Some.ensures.taken
+
+pub is_discarded-handled-requires : goal.is_discarded-handled-requires
+is_discarded-handled-requires c =
     can_take (whole_of c.args.self.now) (arrival c.in-Some.arrived.host c.in-Some.arrived.signal c.take.new.self)
     c.requires
     c.in-Some.ensures.taken
@@ -40,3 +46,9 @@ returns-clause-alone c =
     step_alone (whole_of c.args.self.now) (whole_of c.take-2.new.self)
     (arrival c.in-Some.arrived.host c.in-Some.arrived.signal c.take.new.self) c.requires c.in-Some.ensures.taken
     c.in_ok-take.ensures.ok
+
+pub returns-clause-made : goal.returns-clause-made
+returns-clause-made c =
+    step_more (whole_of c.args.self.now) (whole_of c.take-2.new.self)
+    (arrival c.in-Some.arrived.host c.in-Some.arrived.signal c.take.new.self) c.is_discarded-handled.result c.get.result.now
+    c.requires c.in-Some.ensures.taken c.in_ok-take.ensures.ok c.get.ensures c.is_discarded-handled.ensures

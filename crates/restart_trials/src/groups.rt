@@ -1,0 +1,96 @@
+//! Three groups of two nodes each.
+use crate::layout::Layout;
+use crate::restart::is_as;
+use crate::rows::{key_of, put_letter};
+use crate::trouble::Trouble;
+use frag_map::holds;
+use host_io::{Disk, MemDisk};
+use row_map::RowMap;
+use sig_core::{Seq, Shape};
+use std::alloc::Global;
+use sys_restart::{Restored, prepare_life, restore};
+
+const SIX: Shape = Shape {
+    nodes: 6,
+    replicas: 2,
+    fragments: 7,
+};
+
+/// Rows of all groups come back, and each node has those of its own.
+pub fn three_groups(alloc: Global) -> Result<(), Trouble> {
+    let mut disks = six_disks(alloc)?;
+    prepare_six(alloc, &mut disks, &letters(alloc, 1)?)?;
+    let found = restore_six(alloc, &mut disks)?;
+    is_as(alloc, &found, &letters(alloc, 2)?)?;
+    each_row_stands_twice(&mut disks)
+}
+
+fn six_disks(alloc: Global) -> Result<Vec<MemDisk>, Trouble> {
+    let none = Layout::new(alloc);
+    let mut disks = Vec::new(alloc);
+    for _ in 0..6 {
+        disks.push(none.disk()?)?;
+    }
+    Ok(disks)
+}
+
+fn prepare_six(alloc: Global, disks: &mut [MemDisk], restored: &Restored) -> Result<(), Trouble> {
+    if disks.len() != 6 {
+        return Err(Trouble::Layout);
+    }
+    match prepare_life(alloc, disks, SIX, restored) {
+        Ok(()) => Ok(()),
+        Err(fault) => Err(Trouble::from(fault)),
+    }
+}
+
+fn restore_six(alloc: Global, disks: &mut [MemDisk]) -> Result<Restored, Trouble> {
+    if disks.len() != 6 {
+        return Err(Trouble::Layout);
+    }
+    match restore(alloc, disks, SIX) {
+        Ok(found) => Ok(found),
+        Err(fault) => Err(Trouble::from(fault)),
+    }
+}
+
+// All letters, each in its group, in epoch 9 of a generation.
+fn letters(alloc: Global, generation: u64) -> Result<Restored, Trouble> {
+    let mut groups = Seq::new(alloc);
+    for node in [1, 3, 5] {
+        groups.push(letters_of(alloc, node)?)?;
+    }
+    Ok(Restored {
+        generation,
+        epoch: 9,
+        groups,
+    })
+}
+
+// The letters that a node's group has, each with itself as its value.
+fn letters_of(alloc: Global, node: u8) -> Result<RowMap, Trouble> {
+    let mut rows = RowMap::new(alloc);
+    for letter in b'a'..=b'z' {
+        if holds(node, &key_of(letter)?, &SIX) {
+            put_letter(&mut rows, letter, letter)?;
+        }
+    }
+    Ok(rows)
+}
+
+// Each of 26 rows of 12 bytes stands on two disks, behind a head of 2 bytes; none has all, and none has none.
+fn each_row_stands_twice(disks: &mut [MemDisk]) -> Result<(), Trouble> {
+    let mut all = 0u64;
+    for disk in disks {
+        let size = disk.size(2).unwrap_or(0);
+        if size == 2 || size == 314 {
+            return Err(Trouble::Other);
+        }
+        all = all.saturating_add(size);
+    }
+    if all == 636 {
+        Ok(())
+    } else {
+        Err(Trouble::Other)
+    }
+}

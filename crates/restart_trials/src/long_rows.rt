@@ -1,0 +1,20 @@
+//! Rows with words as long as they may be.
+use crate::trouble::Trouble;
+use row_map::RowMap;
+use sig_core::{Key, Value};
+
+/// Puts 260 of them.
+pub fn put_long_rows(rows: &mut RowMap) -> Result<(), Trouble> {
+    for letter in b'a'..=b'z' {
+        for digit in b'0'..=b'9' {
+            put_long_row(rows, letter, digit)?;
+        }
+    }
+    Ok(())
+}
+
+fn put_long_row(rows: &mut RowMap, letter: u8, digit: u8) -> Result<(), Trouble> {
+    let mut key = [letter; 32];
+    key[31] = digit;
+    Ok(rows.insert(Key::new(&key)?, Value::new(&[digit; 200])?)?)
+}

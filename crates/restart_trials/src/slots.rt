@@ -1,0 +1,127 @@
+//! Which slots count, and which disks are read.
+use crate::layout::{Layout, disks_of, slot_without_redo, system_of};
+use crate::records::checkpoint;
+use crate::restart::{expect, expect_fault, prepare_pair, wanted};
+use crate::trouble::Trouble;
+use host_io::MemDisk;
+use sig_core::RestartFault;
+use std::alloc::Global;
+
+/// What a disk has of a life of one row.
+#[derive(Clone, Copy)]
+struct Life {
+    generation: u64,
+    epoch: u64,
+    /// The nodes that its system slot lists.
+    mask: u8,
+    serial: u64,
+    /// The place of its two slots.
+    at: u64,
+    /// That of its checkpoint.
+    file: u8,
+    row: (u8, u8),
+}
+
+impl Life {
+    fn lay(&self, alloc: Global, layout: &mut Layout) -> Result<(), Trouble> {
+        let (key, value) = self.row;
+        let bytes = checkpoint(alloc, &[(key, value, self.epoch)])?;
+        let size = bytes.len() as u64;
+        layout.put(self.file, 0, &bytes)?;
+        let slot = slot_without_redo(self.file, self.generation, self.serial, self.epoch, size);
+        layout.control(self.at, &slot)?;
+        layout.system(self.at, &system_of(self.generation, self.epoch, self.mask))
+    }
+}
+
+const FIRST: Life = Life {
+    generation: 3,
+    epoch: 9,
+    mask: 3,
+    serial: 1,
+    at: 0,
+    file: 2,
+    row: (b'a', b'1'),
+};
+
+const SECOND: Life = Life {
+    generation: 4,
+    epoch: 1,
+    mask: 2,
+    serial: 1,
+    at: 4_096,
+    file: 3,
+    row: (b'z', b'2'),
+};
+
+fn layout_with(alloc: Global, lives: &[Life]) -> Result<Layout, Trouble> {
+    let mut layout = Layout::new(alloc);
+    for life in lives {
+        life.lay(alloc, &mut layout)?;
+    }
+    Ok(layout)
+}
+
+/// Of two system slots and of two control slots the later one counts, at whichever place it stands.
+pub fn the_later_slots(alloc: Global, earlier: u64, later: u64) -> Result<(), Trouble> {
+    let first = Life {
+        at: earlier,
+        ..FIRST
+    };
+    let second = Life {
+        generation: 3,
+        epoch: 10,
+        mask: 3,
+        serial: 2,
+        at: later,
+        ..SECOND
+    };
+    let layout = layout_with(alloc, &[first, second])?;
+    let wanted = wanted(alloc, 3, 10, &[SECOND.row])?;
+    expect(alloc, &mut disks_of(&layout, &layout)?, &wanted)
+}
+
+/// A greater generation counts before a greater epoch, and lists who has it.
+pub fn disks_that_disagree(alloc: Global) -> Result<(), Trouble> {
+    let first = layout_with(alloc, &[FIRST])?;
+    let second = layout_with(alloc, &[SECOND])?;
+    let wanted = wanted(alloc, 4, 1, &[SECOND.row])?;
+    expect(alloc, &mut disks_of(&first, &second)?, &wanted)
+}
+
+/// What a node has that isn't listed isn't read, and is no harm.
+pub fn an_unlisted_node(alloc: Global) -> Result<(), Trouble> {
+    let first = layout_with(alloc, &[Life { mask: 1, ..FIRST }])?;
+    let second = damaged_layout(alloc)?;
+    outlasts(alloc, &mut disks_of(&first, &second)?)
+}
+
+fn damaged_layout(alloc: Global) -> Result<Layout, Trouble> {
+    let mut layout = Layout::new(alloc);
+    layout.put(1, 0, &[0x4e; 56])?;
+    layout.put(2, 0, &[0xff; 100])?;
+    Ok(layout)
+}
+
+// A restart gives the first life, and then the one that is prepared behind it.
+fn outlasts(alloc: Global, disks: &mut [MemDisk; 2]) -> Result<(), Trouble> {
+    let first = wanted(alloc, FIRST.generation, FIRST.epoch, &[FIRST.row])?;
+    expect(alloc, disks, &first)?;
+    prepare_pair(alloc, disks, &first)?;
+    let next = wanted(alloc, FIRST.generation + 1, FIRST.epoch, &[FIRST.row])?;
+    expect(alloc, disks, &next)
+}
+
+/// A group without a control slot is damaged at its first node that is listed.
+pub fn a_group_without_a_slot(alloc: Global) -> Result<(), Trouble> {
+    let mut layout = Layout::new(alloc);
+    layout.system(4_096, &system_of(3, 4, 2))?;
+    layout.put(1, 0, &[7])?;
+    let fault = RestartFault::Damaged {
+        node: 2,
+        file: 1,
+        at: 0,
+        byte: 7,
+    };
+    expect_fault(alloc, &mut disks_of(&layout, &layout)?, fault)
+}
