@@ -1,0 +1,6 @@
+pub mod AllLemmas
+pub mod AnswerLemmas
+pub mod CompareLemmas
+pub mod HistoryLemmas
+pub mod LabelLemmas
+pub mod StepLemmas
