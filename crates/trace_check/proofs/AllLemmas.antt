@@ -10,28 +10,31 @@ use Rattle.world_core.specs.Start.{Start}
 use Rattle.world_views.specs.Driven.{IsSound}
 use Rattle.world_views.specs.World.{Whole}
 use Rattle.trace_check.specs.declared.fault.StepFault.{StepFault}
-use Rattle.trace_check.specs.Playing.{DidAt, Does, HaveDone, StopsFirst, step_in}
+use Rattle.trace_check.specs.Playing.{DidAt, Does, HasGone, HaveDone, StopsFirst, step_in}
 
 -- one step more
 further : (start : Start) (told : List HostLog) (w u v : Whole) (places : List RunStep) (place : RunStep)
     (step : LogStep)
-    → HaveDone start told places w u → step_in told place ≡ Some step → Does start u place.host.0 step.taken v
+    → HaveDone start told places w u → step_in told place ≡ Some step → HasGone start u v
+    → Does start u place.host.0 step.taken v
     → HaveDone start told (places ++ place ∷ []) w v
-further start told w u v [] place step same there does =
+further start told w u v [] place step same there gone does =
     record {
       step = step;
       there = there;
       then = v;
+      gone = subst (λ (a : Whole). HasGone start a v) same gone;
       does = subst (λ (a : Whole). Does start a place.host.0 step.taken v) same does;
       more = refl;
     }
-further start told w u v (p ∷ places) place step led there does =
+further start told w u v (p ∷ places) place step led there gone does =
     record {
       step = led.step;
       there = led.there;
       then = led.then;
+      gone = led.gone;
       does = led.does;
-      more = further start told led.then u v places place step led.more there does;
+      more = further start told led.then u v places place step led.more there gone does;
     }
 
 -- Where doing them is: those so far were done.
@@ -44,9 +47,10 @@ pub goes_further : (start : Start) (told : List HostLog) (run : List RunStep) (a
     → IsAt start told run (at + 1) w v
 goes_further start told run at d w u v inside here done =
     record {
-      sound = done.did.0;
+      sound = done.did.0.sound;
       led = subst (λ ps. HaveDone start told ps w v) (sym (take_more run at d inside))
-          (further start told w u v (take at run) (get_or run at d) done.step here.led done.there done.did.1);
+          (further start told w u v (take at run) (get_or run at d) done.step here.led done.there done.did.0
+          done.did.1);
     }
 
 pub stops : (start : Start) (told : List HostLog) (run : List RunStep) (at : ℕ) (d : RunStep) (why : StepFault)

@@ -2,16 +2,19 @@
 use Rattle.std.proofs.Common.{◌≡◌, ◌∙◌, ℕ, ◌+◌, ◌*◌, Bool, false, List, refl, ap, subst, sym}
 use Rattle.std.specs.Prelude.{◌/◌, IfErr, IfOk, Option, Result, Ok, Err}
 use Rattle.gcp_master.specs.declared.numbers.TheConstants.{MICROS}
+use Rattle.run_theory.specs.Runs.{AreLogs}
 use Rattle.run_theory.proofs.Merging.{merged_run}
 use Rattle.sig_core.specs.declared.entry.Entry.{Entry}
 use Rattle.sig_core.specs.declared.log.HostLog.{HostLog}
 use Rattle.sig_core.specs.declared.log.Life.{Life}
+use Rattle.sig_core.specs.declared.log.LogStep.{LogStep}
 use Rattle.sig_core.specs.declared.view.Shape.{Shape}
 use Rattle.trace_bytes.specs.Lives.{IsLife, read_of, trace_of}
 use Rattle.trace_bytes.specs.Lives as traces
 use Rattle.trace_bytes.proofs.LivesAgain.{traces_read}
 use Rattle.trace_merge.specs.declared.run.RunStep.{RunStep}
 use Rattle.trace_merge.specs.Merge.{IsMerge}
+use Rattle.trace_merge.specs.RunLaw.{AreNumbered, IsRunOf, events_of}
 use Rattle.world_core.specs.History.{history}
 use Rattle.world_core.specs.Hosts.{hosts}
 use Rattle.world_core.specs.Labels.{AreLabelled}
@@ -28,9 +31,10 @@ use Rattle.world_views.proofs.WorldLemmas.{sound_labels}
 use Rattle.trace_check.specs.declared.fault.StepFault.{StepFault}
 use Rattle.trace_check.specs.declared.fault.TraceFault.{TraceFault}
 use Rattle.trace_check.specs.declared.fault.TraceFault.TheVariants.{NoMemory, NotHosts, NotStep, NotTrace}
-use Rattle.trace_check.specs.Answer.{AreMade, IsBecause, IsFaultAt, IsHistoryOf}
+use Rattle.trace_check.specs.Answer.{AreMade, IsBecause, IsFaultAt, IsHistoryOf, IsUnwanted, any_wants}
 use Rattle.trace_check.specs.Playing.{DidAll}
 use Rattle.trace_check.specs.RightLife.{AreOfRun, IsRightLife, IsTold}
+use Rattle.trace_check.proofs.RefusedLemmas.{refused}
 
 -- ---- the life that is told
 
@@ -100,9 +104,12 @@ of_made start told made run why m = subst (AreOfRun start) (sym m.is) (of_run st
 -- where they differ the life that was told isn't made
 pub because : (bytes : List ℕ) (shape : Shape) (life : Life) (run : List RunStep) (logs : List HostLog)
     (why : Option StepFault) (fault : TraceFault)
-    → read_of bytes ≡ Ok (shape, life) → IsMerge life.logs run → AreMade (start_of shape life) life.logs run logs why
+    → read_of bytes ≡ Ok (shape, life) → IsMerge life.logs run
+    → ((s : Start) (none : LogStep) → AreNumbered life.logs → AreLogs (machine s) (logs_at life.logs)
+    → IsRunOf s life.logs (events_of life.logs none run))
+    → AreMade (start_of shape life) life.logs run logs why → IsUnwanted logs fault
     → IsFaultAt life.logs logs run why fault → IsBecause bytes fault
-because bytes shape life run logs why (NotStep host step cause) told merged made differs =
+because bytes shape life run logs why (NotStep host step cause) told merged ordered made unwanted differs =
     record {
       shape = shape;
       life = life;
@@ -114,10 +121,12 @@ because bytes shape life run logs why (NotStep host step cause) told merged made
       made = made;
       differs = differs.0;
       caused = differs.1;
+      wrong = refused (start_of shape life) life.logs logs run why (record { host = host; step = step }) ordered made
+          unwanted differs.0;
     }
-because bytes shape life run logs why NoMemory told merged made differs = tt
-because bytes shape life run logs why NotHosts told merged made differs = absurd differs
-because bytes shape life run logs why (NotTrace at) told merged made differs = absurd differs
+because bytes shape life run logs why NoMemory told merged ordered made unwanted differs = tt
+because bytes shape life run logs why NotHosts told merged ordered made unwanted differs = absurd differs
+because bytes shape life run logs why (NotTrace at) told merged ordered made unwanted differs = absurd differs
 
 -- a world begins as a life did
 pub begun : (shape : Shape) (life : Life) (epoch : ℕ) (rows : List (List ℕ × List ℕ)) (w : Whole)
@@ -166,6 +175,13 @@ again_with life logs =
       slots = life.slots;
     }
 
+-- no host wanted memory where a step is refused
+pub unwanted_is : (logs : List HostLog) (fault : TraceFault) → any_wants logs ≡ false → IsUnwanted logs fault
+unwanted_is logs (NotStep host step cause) none = none
+unwanted_is logs NoMemory none = tt
+unwanted_is logs NotHosts none = tt
+unwanted_is logs (NotTrace at) none = tt
+
 -- where that is answered it is right
 pub right_ok : (out : Result (Shape × Life) TraceFault) (shape : Shape) (life : Life) (run : List RunStep)
     (logs : List HostLog) (why : Option StepFault)
@@ -182,11 +198,16 @@ right_ok (Ok found) shape life run logs why made same =
 pub because_ok : (out : Result (Shape × Life) TraceFault) (told : List ℕ) (shape : Shape) (life : Life)
     (all those : List HostLog) (run : List RunStep) (logs : List HostLog) (why : Option StepFault)
     → IsTold told shape life → all ≡ life.logs → those ≡ life.logs → IsMerge all run
-    → AreMade (start_of shape life) life.logs run logs why
+    → ((s : Start) (none : LogStep) → AreNumbered all → AreLogs (machine s) (logs_at all)
+    → IsRunOf s all (events_of all none run))
+    → AreMade (start_of shape life) life.logs run logs why → IfErr out (λ fault. IsUnwanted logs fault)
     → IfErr out (λ fault. IsFaultAt those logs run why fault) → IfErr out (λ fault. IsBecause told fault)
-because_ok (Ok found) told shape life all those run logs why is same too merged made differs = tt
-because_ok (Err fault) told shape life all those run logs why is same too merged made differs =
-    because told shape life run logs why fault is.is (subst (λ (ls : List HostLog). IsMerge ls run) same merged) made
+because_ok (Ok found) told shape life all those run logs why is same too merged ordered made unwanted differs = tt
+because_ok (Err fault) told shape life all those run logs why is same too merged ordered made unwanted differs =
+    because told shape life run logs why fault is.is (subst (λ (ls : List HostLog). IsMerge ls run) same merged)
+    (subst (λ (ls : List HostLog). (s : Start) (none : LogStep) → AreNumbered ls → AreLogs (machine s) (logs_at ls)
+    → IsRunOf s ls (events_of ls none run)) same ordered)
+    made unwanted
     (subst (λ (ls : List HostLog). IsFaultAt ls logs run why fault) too differs)
 
 -- ---- the history

@@ -68,14 +68,14 @@ found_more h steps at x past into found more inside is same now was =
 -- an entry at its place
 pub placed : (a : Entry) (xs : List Entry) → take (place_of a xs) xs ++ a ∷ drop (place_of a xs) xs ≡ insert a xs
 placed a [] = refl
-placed a (b ∷ rest) = go (is_before a b)
+placed a (b ∷ rest) = go (placed a rest) (is_before a b)
   where
-    go : (c : Bool)
+    go : take (place_of a rest) rest ++ a ∷ drop (place_of a rest) rest ≡ insert a rest → (c : Bool)
         → take (if c then 0 else suc (place_of a rest)) (b ∷ rest)
         ++ a ∷ drop (if c then 0 else suc (place_of a rest)) (b ∷ rest)
         ≡ (if c then a ∷ b ∷ rest else b ∷ insert a rest)
-    go true = refl
-    go false = ap (λ (es : List Entry). b ∷ es) (placed a rest)
+    go more true = refl
+    go more false = ap (λ (es : List Entry). b ∷ es) more
 
 -- those of one host more
 pub entries_more : (logs : List HostLog) (h : ℕ) (steps : List LogStep) (found more : List Entry)
@@ -94,7 +94,7 @@ or_false : (b : Bool) → (b || false) ≡ b
 or_false true = refl
 or_false false = refl
 
-or_true : (b : Bool) → (b || true) ≡ true
+pub or_true : (b : Bool) → (b || true) ≡ true
 or_true true = refl
 or_true false = refl
 
@@ -109,7 +109,7 @@ or_turned false true = refl
 or_turned false false = refl
 
 module _ (test : Mark → Bool) where
-  has_append : (log more : List HostStep) → has_mark test (log ++ more) ≡ (has_mark test log || has_mark test more)
+  pub has_append : (log more : List HostStep) → has_mark test (log ++ more) ≡ (has_mark test log || has_mark test more)
   has_append [] more = refl
   has_append (e ∷ log) more =
       ap (λ b. list_any test e.step.marks || b) (has_append log more)
@@ -130,27 +130,28 @@ module _ (test : Mark → Bool) where
   pub have_more : (logs : List HostLog) (h : ℕ) (steps : List LogStep) (b : Bool) → log_of h steps ≡ logs_at logs h
       → have_mark test h (logs_at logs) ≡ false → b ≡ any_shows test steps → b ≡ false
       → have_mark test (h + 1) (logs_at logs) ≡ false
-  have_more logs h steps b same none is no =
+  have_more logs h steps b same none is missing =
       ap (λ n. have_mark test n (logs_at logs)) (more_is h)
       ∙ ap (λ c. c || have_mark test h (logs_at logs))
-      (ap (has_mark test) (sym same) ∙ shows_is h steps ∙ sym is ∙ no)
+      (ap (has_mark test) (sym same) ∙ shows_is h steps ∙ sym is ∙ missing)
       ∙ none
 
   -- one of them has it
   pub have_found : (logs : List HostLog) (n h : ℕ) (steps : List LogStep) (b : Bool) → log_of h steps ≡ logs_at logs h
       → h < n → b ≡ any_shows test steps → b ≡ true → have_mark test n (logs_at logs) ≡ true
-  have_found logs zero h steps b same low is yes = absurd (omega (arith, low))
-  have_found logs (suc n) h steps b same low is yes = go (cases_lt h n)
+  have_found logs zero h steps b same low is shown = absurd (omega (arith, low))
+  have_found logs (suc n) h steps b same low is shown =
+      go (λ below. have_found logs n h steps b same below is shown) (cases_lt h n)
     where
-      go : (h < n) ⊎ (n ≤ h) → (has_mark test (logs_at logs n) || have_mark test n (logs_at logs)) ≡ true
-      go (inl below) =
-          ap (λ c. has_mark test (logs_at logs n) || c) (have_found logs n h steps b same below is yes)
-          ∙ or_true (has_mark test (logs_at logs n))
-      go (inr past) =
+      go : (h < n → have_mark test n (logs_at logs) ≡ true) → (h < n) ⊎ (n ≤ h)
+          → (has_mark test (logs_at logs n) || have_mark test n (logs_at logs)) ≡ true
+      go before (inl below) =
+          ap (λ c. has_mark test (logs_at logs n) || c) (before below) ∙ or_true (has_mark test (logs_at logs n))
+      go before (inr past) =
           let top : h ≡ n = omega (arith, low, past) in
           ap (λ c. c || have_mark test n (logs_at logs))
           (ap (λ k. has_mark test (logs_at logs k)) (sym top) ∙ ap (has_mark test) (sym same) ∙ shows_is h steps ∙ sym is
-          ∙ yes)
+          ∙ shown)
 
 -- an entry is kept by its sign
 pub kept_by : (n : ℕ) (logs : List HostLog) (a : Entry) (b : Bool) → b ≡ writes a

@@ -32,7 +32,7 @@ use Rattle.world_views.specs.World.{Whole, has_stopped_in, stopped}
 use Rattle.world_views.proofs.WorldLemmas.{asked_sound, stays_sound}
 use Rattle.trace_check.specs.declared.fault.StepFault.{StepFault}
 use Rattle.trace_check.specs.declared.fault.StepFault.TheVariants as fault
-use Rattle.trace_check.specs.Playing.{CameOut, Did, DidAt, DidOwn, DidPick, Took, step_in}
+use Rattle.trace_check.specs.Playing.{CameOut, Did, DidAt, DidOwn, DidPick, HasGone, Took, step_in}
 
 -- a world that stays sound from whichever start, or is as it was, is one still
 pub kept_world : (w t : Whole) → ((start : Start) → IsSound start w → IsSound start t) → IsWorld w → IsWorld t
@@ -41,7 +41,7 @@ kept_world w t kept is = record { start = is.start; sound = kept is.start is.sou
 -- whatever came of a step the world is one
 pub at_world : (w t : Whole) (told : List HostLog) (place : RunStep) (why : Option StepFault)
     → ((start : Start) → IsSound start w → DidAt start told place w t why) → IsWorld w → IsWorld t
-at_world w t told place None did is = record { start = is.start; sound = (did is.start is.sound).did.0 }
+at_world w t told place None did is = record { start = is.start; sound = (did is.start is.sound).did.0.sound }
 at_world w t told place (Some why) did is = subst IsWorld (sym (did is.start is.sound).did.0) is
 
 -- ---- picks
@@ -53,13 +53,17 @@ none_done P w t p zero stops =
     (stops.before, subst (λ u. P u p) stops.before (subst (P t) (sym is) stops.cannot))
 none_done P w t p (suc at) stops = absurd cc
 
+-- a world that was driven went on
+gone_on : (start : Start) (w t : Whole) → IsSound start w → IsDriven start w t → HasGone start w t
+gone_on start w t sound driven = record { sound = stays_sound start w t driven sound; more = driven.grown.more }
+
 -- a pick came out so
 pub picked : (result : Result (Unit {0}) ScheduleFault) (why : Option StepFault) (w t : Whole) (p : Pick)
     → CameOut result why → IsScheduled w (p ∷ []) t result → (start : Start) → IsSound start w
     → LeavesRight start w t result → DidPick start w p t why
 picked (Ok done) why w t p came is start sound right =
     subst (DidPick start w p t) (sym came)
-    (stays_sound start w t right sound, subst (HasPicked w p) (sym is.more) is.picked)
+    (gone_on start w t sound right, subst (HasPicked w p) (sym is.more) is.picked)
 picked (Err (schedule.Empty at)) why w t p came is start sound right =
     subst (DidPick start w p t) (sym came) (none_done (λ u q. IsEmpty u q) w t p at is)
 picked (Err (schedule.Gone at)) why w t p came is start sound right =
@@ -102,7 +106,7 @@ pub asked_own : (w t : Whole) (h at : ℕ) (request copied : ApiReq) (start : St
     → IsSound start w
     → HasAsked start copied w t → DidOwn start w h (Host (Continue (Request request) at)) t None
 asked_own w t h at request copied start same shell sound asked =
-    (asked_sound start copied w t asked sound, (shell, subst (λ r. HasAsked start r w t) same asked))
+    (record { sound = asked_sound start copied w t asked sound; more = asked.more }, (shell, subst (λ r. HasAsked start r w t) same asked))
 
 pub asks_wrongly : (w : Whole) (h at : ℕ) (request : ApiReq) (start : Start) → (h ≡ 0 → ⊥)
     → DidOwn start w h (Host (Continue (Request request) at)) w (Some fault.Wrong)
@@ -133,7 +137,7 @@ stopped_ok (Ok why) w t host cause is some runs did start sound =
 
 pub failed_own : (w t : Whole) (h count : ℕ) (start : Start) → IsSound start w → IsDriven start w t
     → t ≡ stopped w h (Disk count) 1 → DidOwn start w h (Host (Closed (Disk count))) t None
-failed_own w t h count start sound driven is = (stays_sound start w t driven sound, is)
+failed_own w t h count start sound driven is = (gone_on start w t sound driven, is)
 
 -- a node that a host may cut off
 may_cut : (start : Start) (w : Whole) (h node first : ℕ) → IsSound start w → has_stopped_in w h ≡ false
@@ -171,8 +175,8 @@ took_own why w t h (Host (Continue (Request request) at)) start is did = absurd 
 took_own why w t h (Host (Closed cause)) start is did = absurd (true≢false is)
 took_own why w t h (Host (Cut node first)) start is did = absurd (true≢false is)
 took_own None w t h body start is did = did
-took_own (Some fault.Empty) w t h body start is did = did
-took_own (Some fault.CutOff) w t h body start is did = did
+took_own (Some fault.Empty) w t h body start is did = (did.0, (is, did.1))
+took_own (Some fault.CutOff) w t h body start is did = (did.0, (is, did.1))
 took_own (Some fault.Gone) w t h body start is did = absurd did.1
 took_own (Some fault.Wrong) w t h body start is did = absurd did.1
 took_own (Some fault.Other) w t h body start is did = absurd did.1

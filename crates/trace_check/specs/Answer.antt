@@ -1,8 +1,12 @@
 -- What a check of a trace answers.
-use Rattle.std.specs.Prelude.{◌≡◌, ◌<◌, ℕ, Bool, true, false, List, slice_get, Option, None, Some, Result, Ok, Err}
+use Rattle.std.specs.Prelude.{◌≡◌, ◌<◌, ℕ, ◌||◌, Bool, true, false, List, [], ◌∷◌, ◌++◌, slice_get, Option, None, Some}
+use Rattle.std.specs.Prelude.{Result, Ok, Err}
 use Rattle.sig_core.specs.declared.log.HostLog.{HostLog}
 use Rattle.sig_core.specs.declared.log.Life.{Life}
 use Rattle.sig_core.specs.declared.log.LogStep.{LogStep}
+use Rattle.sig_core.specs.declared.mark.Mark.{Mark}
+use Rattle.sig_core.specs.declared.mark.Mark.TheVariants.{Stopped}
+use Rattle.sig_core.specs.declared.outcome.StopCause.TheVariants.{Memory}
 use Rattle.sig_core.specs.declared.view.Shape.{Shape}
 use Rattle.sig_core.specs.declared.entry.Entry.{Entry}
 use Rattle.trace_bytes.specs.Lives.{IsLife, read_of, step_bytes, trace_of}
@@ -13,15 +17,19 @@ use Rattle.world_core.specs.History.{history}
 use Rattle.world_core.specs.Hosts.{hosts}
 use Rattle.world_core.specs.Labels.{AreLabelled}
 use Rattle.world_core.specs.Start.{Start}
+use Rattle.world_core.specs.Steps.{HostStep}
 use Rattle.world_core.specs.World.{logs_at}
 use Rattle.world_views.specs.Driven.{IsSound}
 use Rattle.world_views.specs.Lives.{start_of}
-use Rattle.world_views.specs.World.{Whole, new_world}
+use Rattle.world_views.specs.Machine.{stops_by}
+use Rattle.world_views.specs.World.{Whole, is_stamp, new_world}
 use Rattle.trace_check.specs.declared.fault.StepFault.{StepFault}
 use Rattle.trace_check.specs.declared.fault.StepFault.TheVariants.{Other}
 use Rattle.trace_check.specs.declared.fault.TraceFault.{TraceFault}
 use Rattle.trace_check.specs.declared.fault.TraceFault.TheVariants.{NoMemory, NotHosts, NotStep, NotTrace}
+use Rattle.trace_check.specs.Histories.{any_shows}
 use Rattle.trace_check.specs.Playing.{DidAll, step_in}
+use Rattle.trace_check.specs.RightLife.{AreOfRun}
 
 -- ---- the history
 
@@ -79,6 +87,24 @@ IsFaultAt told made run why (NotStep host step cause) =
 IsFaultAt told made run why NoMemory = Unit {0}
 IsFaultAt told made run why fault = ⊥
 
+-- ---- lives in which no host stops
+
+-- the host stopped for want of memory
+abbrev pub is_want : Mark → Bool
+is_want (Stopped Memory) = true
+is_want mark = false
+
+abbrev pub any_wants : List HostLog → Bool
+any_wants [] = false
+any_wants (log ∷ logs) = any_shows is_want log.steps || any_wants logs
+
+-- no host of these logs stops, and there is a stamp for each step
+pub record IsUnbroken (logs : List HostLog) : Type 0 where
+  pub goes_on : (h : ℕ) (newer : List HostStep) (e : HostStep) (before : List HostStep)
+      → logs_at logs h ≡ newer ++ e ∷ before → stops_by e.step.marks ≡ false
+  pub low : (h : ℕ) (newer : List HostStep) (e : HostStep) (before : List HostStep)
+      → logs_at logs h ≡ newer ++ e ∷ before → is_stamp e.step.stamp ≡ true
+
 -- ---- why there is no life
 
 -- The bytes are the trace of no life: reading them stops at this place.
@@ -106,6 +132,13 @@ pub record IsNotMade (bytes : List ℕ) (place : RunStep) (cause : StepFault) : 
   pub made : AreMade (start_of shape life) life.logs run logs why
   pub differs : DiffersFirst life.logs logs run place
   pub caused : cause ≡ cause_of logs place why
+  -- so the logs are no run in which no host stops
+  pub wrong : AreOfRun (start_of shape life) life.logs → IsUnbroken life.logs → ⊥
+
+-- where a step is refused no host that was made anew wanted memory
+abbrev pub IsUnwanted : List HostLog → TraceFault → Type 0
+IsUnwanted logs (NotStep host step cause) = any_wants logs ≡ false
+IsUnwanted logs fault = Unit {0}
 
 -- what a fault says of the bytes
 abbrev pub IsBecause : List ℕ → TraceFault → Type 0

@@ -13,8 +13,9 @@ use Rattle.sig_core.specs.declared.signal.host.HostSignal.TheVariants.{Closed, C
 use Rattle.sig_core.specs.declared.signal.host.Work.TheVariants.{Request}
 use Rattle.node_views.specs.Row.{is_cut}
 use Rattle.trace_merge.specs.declared.run.RunStep.{RunStep}
+use Rattle.run_theory.specs.Lists.{IsPast}
 use Rattle.world_core.specs.Start.{Start}
-use Rattle.world_core.specs.World.{steps_of}
+use Rattle.world_core.specs.World.{logs_at, steps_of}
 use Rattle.world_views.specs.declared.schedule.Pick.{Pick}
 use Rattle.world_views.specs.declared.schedule.ScheduleFault.{ScheduleFault}
 use Rattle.world_views.specs.declared.schedule.ScheduleFault.TheVariants as schedule
@@ -67,8 +68,9 @@ CannotTake why w h from = ⊥
 
 -- why it can't do what it has from itself
 abbrev pub CannotOwn : StepFault → Start → Whole → ℕ → Body → Type 0
-CannotOwn fault.Empty start w h body = (link w.links h h).signals ≡ []
-CannotOwn fault.CutOff start w h body = is_cut (body_at w.bodies h).standing (record { 0 = h }) ≡ true
+CannotOwn fault.Empty start w h body = (is_own_work body ≡ false) × ((link w.links h h).signals ≡ [])
+CannotOwn fault.CutOff start w h body =
+    (is_own_work body ≡ false) × (is_cut (body_at w.bodies h).standing (record { 0 = h }) ≡ true)
 CannotOwn fault.Wrong start w h body = (is_own_work body ≡ true) × (IsOwnWork start h body → ⊥)
 CannotOwn fault.Unknown start w h body = IsWant (closes body)
 CannotOwn why start w h body = ⊥
@@ -82,23 +84,28 @@ abbrev pub Cannot : StepFault → Start → Whole → ℕ → Signal → Type 0
 Cannot fault.Gone start w h x = has_stopped_in w h ≡ true
 Cannot why start w h x = cannot_if (x.from.0 == h) why start w h x
 
--- ---- how that came out: it was done, and the world stayed sound; or it couldn't be for this cause, and nothing happened
+-- ---- how that came out: it was done, and the world went on; or it couldn't be for this cause, and nothing happened
+
+-- a world went on: it is sound, and no log has lost a step
+pub record HasGone (start : Start) (w t : Whole) : Type 0 where
+  pub sound : IsSound start t
+  pub more : (h : ℕ) → IsPast (logs_at w.logs h) (logs_at t.logs h)
 
 abbrev pub Took : Start → Whole → ℕ → HostId → Whole → Option StepFault → Type 0
-Took start w h from t None = IsSound start t × HasPickedFrom w from.0 h t
+Took start w h from t None = HasGone start w t × HasPickedFrom w from.0 h t
 Took start w h from t (Some why) = (t ≡ w) × CannotTake why w h from
 
 abbrev pub DidOwn : Start → Whole → ℕ → Body → Whole → Option StepFault → Type 0
-DidOwn start w h body t None = IsSound start t × DoesOwn start w h body t
+DidOwn start w h body t None = HasGone start w t × DoesOwn start w h body t
 DidOwn start w h body t (Some why) = (t ≡ w) × CannotOwn why start w h body
 
 abbrev pub Did : Start → Whole → ℕ → Signal → Whole → Option StepFault → Type 0
-Did start w h x t None = IsSound start t × Does start w h x t
+Did start w h x t None = HasGone start w t × Does start w h x t
 Did start w h x t (Some why) = (t ≡ w) × Cannot why start w h x
 
 -- so of a pick
 abbrev pub DidPick : Start → Whole → Pick → Whole → Option StepFault → Type 0
-DidPick start w pick t None = IsSound start t × HasPicked w pick t
+DidPick start w pick t None = HasGone start w t × HasPicked w pick t
 DidPick start w pick t (Some fault.Empty) = (t ≡ w) × IsEmpty w pick
 DidPick start w pick t (Some fault.Gone) = (t ≡ w) × IsGone w pick
 DidPick start w pick t (Some why) = ⊥
@@ -122,6 +129,7 @@ pub record HasDone (start : Start) (told : List HostLog) (place : RunStep) (w : 
   pub step : LogStep
   pub there : step_in told place ≡ Some step
   pub then : Whole
+  pub gone : HasGone start w then
   pub does : Does start w place.host.0 step.taken then
   pub more : More then
 

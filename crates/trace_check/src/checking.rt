@@ -2,7 +2,7 @@
 ghost use Rattle.std.specs.Prelude.{◌≡◌, ◌+◌, ◌*◌, ◌/◌, ◌<◌, IfErr, IfOk};
 ghost use Rattle.frag_map.specs.Shape.{IsShape};
 ghost use Rattle.trace_bytes.specs.Lives.{LAST_START, trace_of};
-ghost use Rattle.trace_check.specs.Answer.{AreMade, IsBecause, IsFaultAt, IsHistoryOf};
+ghost use Rattle.trace_check.specs.Answer.{AreMade, IsBecause, IsFaultAt, IsHistoryOf, IsUnwanted};
 ghost use Rattle.trace_check.specs.RightLife.{IsRightLife, IsTold};
 ghost use Rattle.world_views.specs.Lives.{start_of};
 
@@ -138,6 +138,7 @@ fn first_epoch(start_epoch: u64) -> u64
 }
 
 // The life that was made, where these bytes are its trace; else where it isn't the one that was told.
+#[tactic(auto, using(crate::proofs::AnswerLemmas::unwanted_is))]
 fn compared(
     alloc: Global,
     bytes: &[u8],
@@ -150,12 +151,14 @@ fn compared(
     ensures told { IfOk result (λ found. bytes.now ≡ trace_of found.0 found.1) }
     ensures made { IfOk result (λ found. (found.0 ≡ shape) × (found.1 ≡ life)) }
     ensures err { IfErr result (λ fault. IsFaultAt told.now life.logs run.now why fault) }
+    ensures unwanted { IfErr result (λ fault. IsUnwanted life.logs fault) }
 {
     if is_trace_of(alloc, bytes, shape, &life)? {
         return Ok((shape, life));
     }
-    if have_wanted(life.logs.as_slice()) {
+    let logs = life.logs.as_slice();
+    if have_wanted(logs) {
         return Err(TraceFault::NoMemory);
     }
-    Err(first_fault(alloc, told, life.logs.as_slice(), run.as_slice(), why)?)
+    Err(first_fault(alloc, told, logs, run.as_slice(), why)?)
 }

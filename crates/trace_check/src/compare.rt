@@ -1,7 +1,9 @@
 //! Lives, compared with what was told of them.
 ghost use Rattle.std.specs.Prelude.{◌≡◌, Decides, IfOk, true};
 ghost use Rattle.trace_bytes.specs.Lives.{step_bytes, trace_of};
-ghost use Rattle.trace_check.specs.Answer.{IsFaultAt, IsSameAt, NoneDiffers, TellsSame, cause_of};
+ghost use Rattle.std.specs.List.{list_any};
+ghost use Rattle.trace_check.specs.Answer.{IsFaultAt, IsSameAt, NoneDiffers, TellsSame, any_wants, cause_of, is_want};
+ghost use Rattle.trace_check.specs.Histories.{any_shows};
 
 use crate::fault::{StepFault, TraceFault};
 use crate::play::step_at;
@@ -99,18 +101,42 @@ fn are_same(one: &[u8], other: &[u8]) -> bool
 }
 
 /// Whether a host of these logs stopped for want of memory.
-pub fn have_wanted(logs: &[HostLog]) -> bool {
-    logs.iter().any(has_wanted)
-}
-
-fn has_wanted(log: &HostLog) -> bool {
-    match log.steps.as_slice().last() {
-        Some(step) => step.marks.as_slice().iter().any(is_want),
-        None => false,
+pub fn have_wanted(logs: &[HostLog]) -> bool
+    ensures { result ≡ any_wants logs.now }
+{
+    for log in logs {
+        if has_wanted(log.steps.as_slice()) {
+            return true;
+        }
     }
+    false
 }
 
-fn is_want(mark: &Mark) -> bool {
+fn has_wanted(steps: &[LogStep]) -> bool
+    ensures { result ≡ any_shows is_want steps.now }
+{
+    for step in steps {
+        if tell_want(step.marks.as_slice()) {
+            return true;
+        }
+    }
+    false
+}
+
+fn tell_want(marks: &[Mark]) -> bool
+    ensures { result ≡ list_any is_want marks.now }
+{
+    for mark in marks {
+        if is_want(mark) {
+            return true;
+        }
+    }
+    false
+}
+
+fn is_want(mark: &Mark) -> bool
+    ensures { result ≡ is_want mark.now }
+{
     match mark {
         Mark::Stopped {
             cause: StopCause::Memory,
