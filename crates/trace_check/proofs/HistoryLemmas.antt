@@ -51,7 +51,8 @@ entered_is h stamp log (Decided tx epoch ∷ marks) before into =
 entered_is h stamp log (mark ∷ marks) before into = entered_is h stamp log marks before into
 
 -- those of one step more
-pub found_more : (h : ℕ) (steps : List LogStep) (at : ℕ) (x : LogStep) (past : List LogStep) (into found more : List Entry)
+pub found_more : (h : ℕ) (steps : List LogStep) (at : ℕ) (x : LogStep) (past : List LogStep)
+    (into found more : List Entry)
     → at < length steps → x ≡ get_or steps at x → past ≡ take (at + 1) steps
     → more ≡ entered h x.stamp (log_of h past) x.marks found
     → found ≡ insert_all (entries_of h (first_of h steps at)) into
@@ -150,7 +151,8 @@ module _ (test : Mark → Bool) where
       go before (inr past) =
           let top : h ≡ n = omega (arith, low, past) in
           ap (λ c. c || have_mark test n (logs_at logs))
-          (ap (λ k. has_mark test (logs_at logs k)) (sym top) ∙ ap (has_mark test) (sym same) ∙ shows_is h steps ∙ sym is
+          (ap (λ k. has_mark test (logs_at logs k)) (sym top) ∙ ap (has_mark test) (sym same) ∙ shows_is h steps
+          ∙ sym is
           ∙ shown)
 
 -- an entry is kept by its sign

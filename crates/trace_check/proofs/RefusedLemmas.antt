@@ -227,7 +227,8 @@ module _ (start : Start) (told : List HostLog) (right : AreOfRun start told) (un
         ((machine start).signal f ∷ taken (machine start) i (logs_at w.logs h))
     given i from plain = (
       going i,
-      subst (λ xs. IsGiven (machine start) i h (logs_at w.logs i) ((machine start).signal f ∷ taken (machine start) i xs))
+      subst (λ xs. IsGiven (machine start) i h (logs_at w.logs i)
+          ((machine start).signal f ∷ taken (machine start) i xs))
           (sym (same h))
           (subst (λ xs. IsGiven (machine start) i h xs
           ((machine start).signal f ∷ taken (machine start) i (log_of (machine start) (es ps) h))) (sym (same i))
@@ -237,7 +238,8 @@ module _ (start : Start) (told : List HostLog) (right : AreOfRun start told) (un
     -- it is done as told, and then the world has made it too
     goes : (t : Whole) → HasGone start w t → Does start w h e.taken t → State t (ps ++ p ∷ [])
     goes t gone does =
-        go (does_so start told right unbroken w t sound gone h low f (log_of (machine start) (es qs) h) own_part step given
+        go (does_so start told right unbroken w t sound gone h low f (log_of (machine start) (es qs) h) own_part step
+        given
         does)
       where
         made : HasMade w t h f → Same t (ps ++ p ∷ [])
@@ -268,12 +270,14 @@ module _ (start : Start) (told : List HostLog) (right : AreOfRun start told) (un
   -- one step after the other
   all : (ps qs rest : List RunStep) (w t : Whole) → run ≡ ps ++ (qs ++ rest) → IsSound start w → State w ps
       → HaveDone start told qs w t → IsSound start t × State t (ps ++ qs)
-  all ps [] rest w t is sound state done =
-      (subst (IsSound start) (sym done) sound,
-      subst (λ (u : Whole). State u (ps ++ [])) (sym done) (subst (State w) (sym (append-nil ps)) state))
+  all ps [] rest w t is sound state done = (
+    subst (IsSound start) (sym done) sound,
+    subst (λ (u : Whole). State u (ps ++ [])) (sym done) (subst (State w) (sym (append-nil ps)) state),
+  )
   all ps (q ∷ qs) rest w t is sound state led =
       subst (λ rs. IsSound start t × State t rs) (append_assoc ps (q ∷ []) qs)
-      (all (ps ++ q ∷ []) qs rest led.then t (is ∙ sym (append_assoc ps (q ∷ []) (qs ++ rest))) led.gone.sound (on state)
+      (all (ps ++ q ∷ []) qs rest led.then t (is ∙ sym (append_assoc ps (q ∷ []) (qs ++ rest))) led.gone.sound
+      (on state)
       led.more)
     where
       on : State w ps → State led.then (ps ++ q ∷ [])

@@ -105,8 +105,10 @@ took_ok (Ok why) w t host from runs did start sound = took why w t host from sta
 pub asked_own : (w t : Whole) (h at : ℕ) (request copied : ApiReq) (start : Start) → copied ≡ request → h ≡ 0
     → IsSound start w
     → HasAsked start copied w t → DidOwn start w h (Host (Continue (Request request) at)) t None
-asked_own w t h at request copied start same shell sound asked =
-    (record { sound = asked_sound start copied w t asked sound; more = asked.more }, (shell, subst (λ r. HasAsked start r w t) same asked))
+asked_own w t h at request copied start same shell sound asked = (
+  record { sound = asked_sound start copied w t asked sound; more = asked.more },
+  (shell, subst (λ r. HasAsked start r w t) same asked),
+)
 
 pub asks_wrongly : (w : Whole) (h at : ℕ) (request : ApiReq) (start : Start) → (h ≡ 0 → ⊥)
     → DidOwn start w h (Host (Continue (Request request) at)) w (Some fault.Wrong)
@@ -117,7 +119,8 @@ pub stopped_own : (why : Option StepFault) (w t : Whole) (host : HostId) (start 
     → DidPick start w (pick.Stop host 0) t why → DidOwn start w host.0 (Host (Closed Killed)) t why
 stopped_own None w t host start some runs did = did
 stopped_own (Some fault.Empty) w t host start some runs did = absurd did.1
-stopped_own (Some fault.Gone) w t host start some runs did = absurd (runs_may (has_stopped_in w host.0) host.0 some runs did.1)
+stopped_own (Some fault.Gone) w t host start some runs did =
+    absurd (runs_may (has_stopped_in w host.0) host.0 some runs did.1)
   where
     runs_may : (b : Bool) (h : ℕ) → 1 ≤ h → b ≡ false → (nat_lt 0 h && not b) ≡ false → ⊥
     runs_may b h low is none = grind (arith, nat_tests, low, is, none)

@@ -30,8 +30,8 @@ use Rattle.trace_check.specs.declared.fault.StepFault.TheVariants as fault
 
 -- ---- what a step says
 
--- Host h stops by itself for this cause: where it was made to, no signal of its links is lost, and where the disk of its
--- node failed the youngest of each.
+-- Host h stops by itself for this cause: where it was made to, no signal of its links is lost, and where the disk of
+-- its node failed the youngest of each.
 abbrev pub StopsFor : Whole → ℕ → StopCause → Whole → Type 0
 StopsFor w h Killed t = t ≡ stopped w h Killed 0
 StopsFor w h (Disk count) t = t ≡ stopped w h (Disk count) 1

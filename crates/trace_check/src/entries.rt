@@ -186,6 +186,5 @@ fn is_before(one: &Entry, other: &Entry) -> bool
 {
     one.view < other.view
         || (one.view == other.view
-            && (one.stamp < other.stamp
-                || (one.stamp == other.stamp && one.host.0 < other.host.0)))
+            && (one.stamp < other.stamp || (one.stamp == other.stamp && one.host.0 < other.host.0)))
 }

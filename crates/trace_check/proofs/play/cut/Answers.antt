@@ -15,5 +15,6 @@ returns-in-Some c = λ first start sound.
 
 pub returns-in-None : goal.returns-in-None
 returns-in-None c = λ first start sound.
-    subst (λ why. DidPick start (whole_of c.args.world.now) (Cut c.args.host c.args.node) (whole_of c.pick.new.world) why)
+    subst (λ why. DidPick start (whole_of c.args.world.now) (Cut c.args.host c.args.node) (whole_of c.pick.new.world)
+    why)
     c.in-None.is (c.in_ok-pick.ensures start sound)
