@@ -31,7 +31,7 @@ pub struct Checked {
 /// its steps say, in the order of stamps and hosts, makes just these logs. And the history of its logs.
 ///
 /// # Errors
-/// `NotTrace` exactly where the bytes are the trace of no life; `NotHosts` exactly where they are that of one whose
+/// `NotTrace` exactly where the bytes are the trace of no life; `NotHosts` where they are that of one whose
 /// logs aren't one for each host; `NotStep` at the first step that such a world doesn't make, and where no host of
 /// these logs stops they are then no run of the machine. `NoMemory`. A life in which a host stops may be refused
 /// though the machine allows it: no trace tells what a stop loses of each link, so none is taken to be lost, and one
