@@ -41,6 +41,7 @@ pub fn request_of(alloc: Global, command: &Command, at: u8) -> Result<Option<Api
         Command::View => Some(ApiReq::View),
         Command::Micro => Some(ApiReq::Micro),
         Command::Gcp => Some(ApiReq::Gcp),
+        Command::Lcp => Some(ApiReq::Lcp),
         _ => None,
     })
 }
