@@ -10,6 +10,7 @@ use sig_core::{Answer, ApiReply, ApiReq, NoMemory, UAnswer};
 use std::alloc::Global;
 use std::sync::Wait;
 use trial_requests::{request_of, requests};
+use world_views::{Pick, ScheduleFault};
 
 /// Asks the shell for all that a command asks for, and takes signals to quiet behind each request; what the
 /// command leaves unanswered is asked about. Adds the lines of all replies to a text.
@@ -36,6 +37,64 @@ pub fn serve<W: Wait>(
         text.extend_from_slice(b"down\n")?;
     }
     Ok(())
+}
+
+/// Asks the shell for the first request of a command, and takes no signal.
+///
+/// # Errors
+/// `NoMemory`.
+pub fn want(
+    alloc: Global,
+    world: &mut DiskWorld<MemDisk>,
+    command: &Command,
+) -> Result<(), NoMemory>
+    requires { IsWorld (whole_of world.old.world) }
+    ensures { OnOk result (IsWorld (whole_of world.new.world)) }
+{
+    match request_of(alloc, command, 0)? {
+        Some(request) => ask(alloc, world, request),
+        None => Ok(()),
+    }
+}
+
+/// Makes a pick so many times. Adds to a text that one can't be made, and then makes no more.
+///
+/// # Errors
+/// `NoMemory`.
+pub fn make(
+    alloc: Global,
+    world: &mut DiskWorld<MemDisk>,
+    pick: &Pick,
+    times: u32,
+    text: &mut Vec<u8>,
+) -> Result<(), NoMemory>
+    requires { IsWorld (whole_of world.old.world) }
+    ensures { OnOk result (IsWorld (whole_of world.new.world)) }
+{
+    for _ in 0..times {
+        if let Some(why) = make_one(alloc, world, *pick)? {
+            text.extend_from_slice(why.as_bytes())?;
+            return Ok(());
+        }
+    }
+    Ok(())
+}
+
+// Makes a pick, and says why it can't be made.
+fn make_one(
+    alloc: Global,
+    world: &mut DiskWorld<MemDisk>,
+    pick: Pick,
+) -> Result<Option<&'static str>, NoMemory>
+    requires { IsWorld (whole_of world.old.world) }
+    ensures { OnOk result (IsWorld (whole_of world.new.world)) }
+{
+    match world.pick(alloc, pick) {
+        Ok(()) => Ok(None),
+        Err(ScheduleFault::NoMemory) => Err(NoMemory),
+        Err(ScheduleFault::Empty { .. }) => Ok(Some("empty\n")),
+        Err(ScheduleFault::Gone { .. }) => Ok(Some("gone\n")),
+    }
 }
 
 // Asks the shell for the request of a command at this place, and takes signals to quiet.

@@ -1,8 +1,9 @@
 //! What a line of a run says.
 use frag_map::is_shape;
 use script_lang::{Command, parse_line};
-use sig_core::Shape;
+use sig_core::{HostId, Shape};
 use std::str::SplitWhitespace;
+use world_views::Pick;
 
 /// What a line of a run says.
 #[derive(Clone, Copy)]
@@ -22,6 +23,10 @@ pub enum Line<'a> {
     /// How many calls of a node's disk were made.
     Calls(u8),
     Ask(Command),
+    /// The same, and no signal is taken.
+    Want(Command),
+    /// A pick is made, so many times.
+    Pick { pick: Pick, times: u32 },
 }
 
 /// A byte of the disk of a node.
@@ -45,6 +50,9 @@ pub fn parse<'a>(line: &'a str, nodes: u8) -> Option<Line<'a>> {
         "lay" => lay_of(rest, nodes),
         "flip" => flip_of(rest, nodes),
         "calls" => calls_of(rest, nodes),
+        "ask" => want_of(rest, nodes),
+        "take" => take_of(rest),
+        "stop" => stop_of(rest),
         _ => match parse_line(line.as_bytes(), false, nodes) {
             Ok(Some(command)) => Some(Line::Ask(command)),
             Ok(None) => Some(Line::Nothing),
@@ -128,4 +136,54 @@ fn calls_of<'a>(rest: &'a str, nodes: u8) -> Option<Line<'a>> {
     let node = node(&mut words, nodes)?;
     end(&mut words)?;
     Some(Line::Calls(node))
+}
+
+fn want_of<'a>(rest: &'a str, nodes: u8) -> Option<Line<'a>> {
+    match parse_line(rest.as_bytes(), false, nodes) {
+        Ok(Some(command)) => Some(Line::Want(command)),
+        _ => None,
+    }
+}
+
+// The next word, as a host.
+fn host(words: &mut SplitWhitespace<'_>) -> Option<HostId> {
+    Some(HostId(words.next()?.parse::<u32>().ok()?))
+}
+
+// The number behind this word, or the default where nothing more stands there.
+fn number_behind(words: &mut SplitWhitespace<'_>, word: &str, default: u32) -> Option<u32> {
+    match words.next() {
+        None => Some(default),
+        Some(next) if next == word => words.next()?.parse::<u32>().ok(),
+        Some(_) => None,
+    }
+}
+
+fn take_of<'a>(rest: &'a str) -> Option<Line<'a>> {
+    let mut words = rest.split_whitespace();
+    let host_taking = host(&mut words)?;
+    let from = host(&mut words)?;
+    let times = number_behind(&mut words, "times", 1)?;
+    end(&mut words)?;
+    Some(Line::Pick {
+        pick: Pick::Take {
+            host: host_taking,
+            from,
+        },
+        times,
+    })
+}
+
+fn stop_of<'a>(rest: &'a str) -> Option<Line<'a>> {
+    let mut words = rest.split_whitespace();
+    let stopping = host(&mut words)?;
+    let lost = number_behind(&mut words, "lose", 0)?;
+    end(&mut words)?;
+    Some(Line::Pick {
+        pick: Pick::Stop {
+            host: stopping,
+            lost,
+        },
+        times: 1,
+    })
 }

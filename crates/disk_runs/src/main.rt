@@ -11,12 +11,16 @@
 //! | `fail NODE CALL` | the call of this number, from 0, of the node's disk fails; it stands in front of all commands |
 //! | `lay NODE PICK` | a number of 0 to 255 that says what a cut of power leaves of one place of the node's disk; so too |
 //! | COMMAND | the cluster is asked for it, and goes on until nothing is under way |
+//! | `ask COMMAND` | the cluster is asked for it, and no signal is taken |
+//! | `take HOST FROM`, with `times N` | the first signal of the link is taken; N of them |
+//! | `stop HOST`, with `lose N` | the host stops; the youngest N signals of each of its links are lost |
 //! | `crash` | power is cut: of what isn't synced the disks keep what they were told to keep |
 //! | `restart` | the life ends, and the next one begins on its disks |
 //! | `flip NODE FILE AT` | all bits of a byte of the node's disk change, and it is told which byte stood there; behind a `crash` |
 //! | `calls NODE` | it is told how many calls of the node's disk were made |
 //!
-//! Printed are the title and then the replies, in order. Behind a `crash` the cluster is down until it is
+//! Hosts are numbers: 0 is the shell's, and node k has 3k - 2 (main), 3k - 1 (tc) and 3k (ldm). Printed are the title
+//! and then the replies, in order; `empty` or `gone` where a signal can't be taken, or a host can't stop. Behind a `crash` the cluster is down until it is
 //! restarted. A line that is none of these, or may not stand there, ends the program with status 2 before any
 //! run.
 #![tactic(auto)]

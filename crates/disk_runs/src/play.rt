@@ -4,7 +4,7 @@ ghost use Rattle.frag_map.specs.Shape.{IsShape};
 ghost use Rattle.world_views.specs.Driven.{IsWorld};
 ghost use Rattle.world_views.specs.WorldOf.{whole_of};
 
-use crate::cluster::serve;
+use crate::cluster::{make, serve, want};
 use crate::disks::{change, cut_all, fresh_disks};
 use crate::fault::Fault;
 use crate::line::Line;
@@ -106,6 +106,8 @@ fn play_lines<W: Wait>(
     for line in lines {
         match line {
             Line::Ask(command) => serve(rt, alloc, world, command, text)?,
+            Line::Want(command) => want(alloc, world, command)?,
+            Line::Pick { pick, times } => make(alloc, world, pick, *times, text)?,
             Line::Calls(node) => tell_calls(alloc, world.disks(), *node, text)?,
             _ => {}
         }

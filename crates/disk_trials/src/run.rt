@@ -8,12 +8,20 @@ use crate::disks::{cut_all, fresh_disks};
 use crate::fault::RunFault;
 use crate::life::live;
 use disk_world::{DiskWorld, Ended, Unopened};
+use frag_map::is_shape;
 use host_io::MemDisk;
 use life_judge::{Dice, judge, judge_restart};
 use sig_core::{Key, Life, RestartFault, Shape};
 use std::alloc::Global;
 use std::sync::Wait;
 use trial_requests::all_keys;
+
+/// The shape of most runs.
+const PAIR: Shape = Shape {
+    nodes: 2,
+    replicas: 2,
+    fragments: 1,
+};
 
 /// How many lives a run has.
 const LIVES: usize = 5;
@@ -65,7 +73,7 @@ fn run_on<W: Wait>(
     keys: &[Key],
 ) -> Result<Told, RunFault> {
     let mut dice = Dice::new(seed);
-    let shape = shape_of(dice.roll(12));
+    let shape = shape_of(&mut dice);
     live_all(rt, alloc, &mut dice, &Trial { shape, fails, keys })
 }
 
@@ -199,12 +207,14 @@ fn judge_life(alloc: Global, dice: &mut Dice, trial: &Trial, life: &Life) -> Res
     Ok(())
 }
 
-fn shape_of(drawn: u64) -> Shape
+// One of some shapes, or any.
+fn shape_of(dice: &mut Dice) -> Shape
     ensures { IsShape result }
 {
-    let (nodes, replicas, fragments) = match drawn {
+    let (nodes, replicas, fragments) = match dice.roll(12) {
         0 | 1 => (4, 2, 4),
-        2 | 3 => (3, 3, 1),
+        2 => (3, 3, 1),
+        3 | 11 => return any_shape(dice),
         4 => (6, 3, 2),
         5 => (4, 4, 3),
         6 => (1, 1, 2),
@@ -217,4 +227,17 @@ fn shape_of(drawn: u64) -> Shape
         replicas,
         fragments,
     }
+}
+
+fn any_shape(dice: &mut Dice) -> Shape
+    ensures { IsShape result }
+{
+    let replicas = 1 + dice.roll(4) as u8;
+    let groups = 1 + dice.roll(8) as u8;
+    let shape = Shape {
+        nodes: replicas.saturating_mul(groups),
+        replicas,
+        fragments: 1 + dice.roll(32) as u8,
+    };
+    if is_shape(&shape) { shape } else { PAIR }
 }
