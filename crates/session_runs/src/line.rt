@@ -25,10 +25,21 @@ pub enum Line<'a> {
     NoWrite(u64),
     /// This call of a node's disk fails.
     NoCall { node: u8, at: u64 },
+    /// What is written to a node's disk before the run.
+    Lay(Laid<'a>),
     /// The program is run again, on the disks that are left: what follows is its script.
     Again,
     /// The logs are told.
     Logs,
+}
+
+/// The place of a file of a node's disk, and the bytes that are written there, as numbers in words.
+#[derive(Clone, Copy)]
+pub struct Laid<'a> {
+    pub node: u8,
+    pub file: u8,
+    pub at: u64,
+    pub bytes: &'a str,
 }
 
 // The first word of a line, and what stands behind it.
@@ -56,6 +67,7 @@ pub fn parse<'a>(line: &'a str) -> Option<Line<'a>> {
         "again" if rest.is_empty() => Some(Line::Again),
         "logs" if rest.is_empty() => Some(Line::Logs),
         "no" => failure(rest),
+        "lay" => laid(rest),
         _ => number(first, rest),
     }
 }
@@ -78,6 +90,19 @@ fn disk_failure<'a>(rest: &'a str) -> Option<Line<'a>> {
         node: node.parse::<u8>().ok()?,
         at: at.parse::<u64>().ok()?,
     })
+}
+
+// The line of bytes that are written to a disk.
+fn laid<'a>(rest: &'a str) -> Option<Line<'a>> {
+    let (node, rest) = cut_word(rest);
+    let (file, rest) = cut_word(rest);
+    let (at, bytes) = cut_word(rest);
+    Some(Line::Lay(Laid {
+        node: node.parse::<u8>().ok()?,
+        file: file.parse::<u8>().ok()?,
+        at: at.parse::<u64>().ok()?,
+        bytes,
+    }))
 }
 
 // A line with a number in it.

@@ -13,6 +13,7 @@
 //! | `read N` | the script is read in pieces of at most so many bytes |
 //! | `no read N`, `no write N` | the call of this number, from 0, fails |
 //! | `no call N C` | call C of the disk of node N, from 0, fails |
+//! | `lay N F P B ..` | before the program is run, these bytes are written to file F of the disk of node N, from place P on |
 //! | `again` | the program is run once more, with the words and the script that follow, on the disks that are left |
 //! | `logs` | at the end, the logs of each life are told: how many steps a host has, and which marks stand there |
 //! | `N times > LINE` | a line of the script, so many times |

@@ -2,7 +2,7 @@
 use crate::fault::Fault;
 use crate::logs::tell_lives;
 use crate::pieces::Pieces;
-use crate::session::Session;
+use crate::session::{DiskWrite, Run, Session, Setting};
 use host_io::{Disk, MemDisk, MemSink, MemSource, NoGate, Sink, Source};
 use shell_top::run_shell;
 use std::alloc::Global;
@@ -20,53 +20,94 @@ pub fn play<R: Threads + Wait + Sync>(
     session: Session,
     text: &mut Vec<u8>,
 ) -> Result<(), Fault> {
-    let title = session.title.as_str();
+    let Session {
+        title,
+        run,
+        earlier,
+        setting,
+    } = session;
+    let title = title.as_str();
     add(text, &format!(in alloc; "session {title}\n")?)?;
     let mut disks: Vec<Box<dyn Disk + Send>> = Vec::new(alloc);
     for node in 1..=DISKS {
-        disks.push(Box::new(alloc, fresh_disk(alloc, &session, node)?)?)?;
+        disks.push(Box::new(alloc, fresh_disk(alloc, &setting, node)?)?)?;
     }
-    let mut runs = session.earlier;
-    runs.push(session.run)?;
+    let mut runs = earlier;
+    runs.push(run)?;
     for run in runs {
-        let mut source = Pieces {
-            source: MemSource::new(run.script, copied(alloc, &session.no_reads)?)?,
-            most: session.piece,
-        };
-        let mut sink = MemSink::new(alloc, copied(alloc, &session.no_writes)?)?;
-        // All come back from each run; this says so to its check.
-        if disks.len() != usize::from(DISKS) {
-            return Ok(());
-        }
-        let ended = run_shell(
-            rt,
-            alloc,
-            &run.words,
-            &mut source,
-            &mut sink,
-            disks,
-            &NoGate,
-        );
-        tell(alloc, sink.written(), ended.status, text)?;
-        tell_faults(alloc, "reads", source.faults(), text)?;
-        tell_faults(alloc, "writes", sink.faults(), text)?;
-        if session.tells_logs {
-            tell_lives(alloc, &ended.lives, text)?;
-        }
-        disks = ended.disks;
+        disks = play_run(rt, alloc, run, &setting, disks, text)?;
     }
     Ok(())
 }
 
+// A run of the program on these disks, which come back.
+fn play_run<R: Threads + Wait + Sync>(
+    rt: &R,
+    alloc: Global,
+    run: Run,
+    setting: &Setting,
+    disks: Vec<Box<dyn Disk + Send>>,
+    text: &mut Vec<u8>,
+) -> Result<Vec<Box<dyn Disk + Send>>, Fault> {
+    let Run {
+        words,
+        script,
+        writes,
+    } = run;
+    let mut disks = disks;
+    lay_all(disks.as_mut_slice(), &writes)?;
+    // All come back from each run; this says so to its check.
+    if disks.len() != usize::from(DISKS) {
+        return Ok(disks);
+    }
+    let mut source = Pieces {
+        source: MemSource::new(script, copied(alloc, &setting.no_reads)?)?,
+        most: setting.piece,
+    };
+    let mut sink = MemSink::new(alloc, copied(alloc, &setting.no_writes)?)?;
+    let ended = run_shell(rt, alloc, &words, &mut source, &mut sink, disks, &NoGate);
+    tell(alloc, sink.written(), ended.status, text)?;
+    tell_faults(alloc, "reads", source.faults(), text)?;
+    tell_faults(alloc, "writes", sink.faults(), text)?;
+    if setting.tells_logs {
+        tell_lives(alloc, &ended.lives, text)?;
+    }
+    Ok(ended.disks)
+}
+
 // The disk of a node, which was never written.
-fn fresh_disk(alloc: Global, session: &Session, node: u8) -> Result<MemDisk, Fault> {
+fn fresh_disk(alloc: Global, setting: &Setting, node: u8) -> Result<MemDisk, Fault> {
     let mut fails = Vec::new(alloc);
-    for call in session.no_calls.as_slice() {
+    for call in setting.no_calls.as_slice() {
         if call.node == node {
             fails.push(call.at)?;
         }
     }
     Ok(MemDisk::new(alloc, fails, Vec::new(alloc))?)
+}
+
+// All is written that a run says is written before it.
+fn lay_all(disks: &mut [Box<dyn Disk + Send>], writes: &[DiskWrite]) -> Result<(), Fault> {
+    for write in writes {
+        let at = usize::from(write.node).wrapping_sub(1);
+        match disks.get_mut(at) {
+            Some(disk) => lay(disk, write)?,
+            None => return Err(Fault::Line),
+        }
+    }
+    Ok(())
+}
+
+// These bytes are written to a disk, and stay there.
+fn lay(disk: &mut Box<dyn Disk + Send>, write: &DiskWrite) -> Result<(), Fault> {
+    match disk.write(write.file, write.at, &write.bytes) {
+        Ok(()) => {}
+        Err(_) => return Err(Fault::Line),
+    }
+    match disk.sync(write.file) {
+        Ok(()) => Ok(()),
+        Err(_) => Err(Fault::Line),
+    }
 }
 
 fn copied(alloc: Global, numbers: &[u64]) -> Result<Vec<u64>, Fault> {

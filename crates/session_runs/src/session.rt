@@ -1,14 +1,24 @@
 //! A session as its lines tell it.
 use crate::fault::Fault;
-use crate::line::Line;
+use crate::line::{Laid, Line};
 use std::alloc::Global;
 use std::mem;
 
-/// A run of the program: the words behind its name, and its script.
+/// A run of the program: the words behind its name, its script, and what is written to disks before it.
 #[derive(Drop)]
 pub struct Run {
     pub words: Vec<String>,
     pub script: Vec<u8>,
+    pub writes: Vec<DiskWrite>,
+}
+
+/// Bytes that are written to a node's disk.
+#[derive(Drop)]
+pub struct DiskWrite {
+    pub node: u8,
+    pub file: u8,
+    pub at: u64,
+    pub bytes: Vec<u8>,
 }
 
 /// A call of a node's disk.
@@ -18,13 +28,9 @@ pub struct DiskCall {
     pub at: u64,
 }
 
-/// A session as its lines tell it.
+/// How the runs of a session are read and written, and what is told of them.
 #[derive(Drop)]
-pub struct Session {
-    pub title: String,
-    /// The run that is being told, and those before it, on the same disks.
-    pub run: Run,
-    pub earlier: Vec<Run>,
+pub struct Setting {
     /// How many bytes a read gives at most.
     pub piece: usize,
     /// The calls of the source that fail, and those of the sink.
@@ -36,12 +42,23 @@ pub struct Session {
     pub tells_logs: bool,
 }
 
+/// A session as its lines tell it.
+#[derive(Drop)]
+pub struct Session {
+    pub title: String,
+    /// The run that is being told, and those before it, on the same disks.
+    pub run: Run,
+    pub earlier: Vec<Run>,
+    pub setting: Setting,
+}
+
 impl Run {
     // A run with no words and an empty script.
     fn new(alloc: Global) -> Run {
         Run {
             words: Vec::new(alloc),
             script: Vec::new(alloc),
+            writes: Vec::new(alloc),
         }
     }
 }
@@ -53,11 +70,13 @@ impl Session {
             title: String::from_str(alloc, title)?,
             run: Run::new(alloc),
             earlier: Vec::new(alloc),
-            piece: usize::MAX,
-            no_reads: Vec::new(alloc),
-            no_writes: Vec::new(alloc),
-            no_calls: Vec::new(alloc),
-            tells_logs: false,
+            setting: Setting {
+                piece: usize::MAX,
+                no_reads: Vec::new(alloc),
+                no_writes: Vec::new(alloc),
+                no_calls: Vec::new(alloc),
+                tells_logs: false,
+            },
         })
     }
 
@@ -69,11 +88,12 @@ impl Session {
             Line::Returned(line) => self.add_returned(line),
             Line::Last(line) => Ok(self.run.script.extend_from_slice(line.as_bytes())?),
             Line::Spaces(count) => self.add_spaces(count),
+            Line::Lay(laid) => self.add_write(alloc, laid),
             Line::Again => {
                 let run = mem::replace(&mut self.run, Run::new(alloc));
                 Ok(self.earlier.push(run)?)
             }
-            line => self.set(line),
+            line => self.setting.set(line),
         }
     }
 
@@ -104,7 +124,26 @@ impl Session {
         Ok(())
     }
 
-    // How it is read and written, and what is told of it.
+    fn add_write(&mut self, alloc: Global, laid: Laid<'_>) -> Result<(), Fault> {
+        let mut bytes = Vec::new(alloc);
+        for word in laid.bytes.split(' ') {
+            match word.parse::<u8>() {
+                Ok(byte) => bytes.push(byte)?,
+                Err(_) => return Err(Fault::Line),
+            }
+        }
+        Ok(
+            self.run.writes.push(DiskWrite {
+                node: laid.node,
+                file: laid.file,
+                at: laid.at,
+                bytes,
+            })?,
+        )
+    }
+}
+
+impl Setting {
     fn set(&mut self, line: Line<'_>) -> Result<(), Fault> {
         match line {
             Line::Read(piece) => self.piece = piece as usize,
