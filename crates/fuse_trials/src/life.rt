@@ -12,8 +12,11 @@ use sig_core::{ApiReq, HeldOp, Key, Op, Value};
 use std::alloc::Global;
 use std::sync::Wait;
 
-/// How many keys there are.
+/// How many keys writes alone take in turn. The one behind them is that of transactions.
 const KEYS: u32 = 6;
+
+/// The name of each transaction.
+const NAME: u16 = 1;
 
 /// The keys of all rows.
 ///
@@ -21,15 +24,15 @@ const KEYS: u32 = 6;
 /// `NoMemory`.
 pub fn all_keys(alloc: Global) -> Result<Vec<Key>, Trouble> {
     let mut keys = Vec::new(alloc);
-    for number in 0..KEYS {
-        keys.push(key_of(number)?)?;
+    for letter in 0..=KEYS {
+        keys.push(key_of(letter)?)?;
     }
     Ok(keys)
 }
 
-// The key of a write, as long as one may be.
-fn key_of(number: u32) -> Result<Key, Trouble> {
-    Ok(Key::new(&[b'a' + (number % KEYS) as u8; 32])?)
+// A key as long as one may be, of this letter.
+fn key_of(letter: u32) -> Result<Key, Trouble> {
+    Ok(Key::new(&[b'a' + (letter % 26) as u8; 32])?)
 }
 
 // The value of a write, as long as one may be, which no other write has.
@@ -78,14 +81,27 @@ fn times_of(act: &Act) -> u32 {
 }
 
 fn request_of(alloc: Global, act: &Act, number: u32) -> Result<ApiReq, Trouble> {
-    let op = match act {
-        Act::Gcp => return Ok(ApiReq::Gcp),
-        Act::Lcp => return Ok(ApiReq::Lcp),
-        Act::Write(_) => Op::Put(key_of(number)?, value_of(number)?),
-        Act::Delete => Op::Del(key_of(number)?),
-    };
+    match act {
+        Act::Gcp => Ok(ApiReq::Gcp),
+        Act::Lcp => Ok(ApiReq::Lcp),
+        Act::Begin => Ok(ApiReq::Begin {
+            name: NAME,
+            node: None,
+        }),
+        Act::Commit => Ok(ApiReq::Commit { name: NAME }),
+        Act::Operate => operate(alloc, Some(NAME), Op::Put(key_of(KEYS)?, value_of(number)?)),
+        Act::Write(_) => operate(
+            alloc,
+            None,
+            Op::Put(key_of(number % KEYS)?, value_of(number)?),
+        ),
+        Act::Delete => operate(alloc, None, Op::Del(key_of(number % KEYS)?)),
+    }
+}
+
+fn operate(alloc: Global, name: Option<u16>, op: Op) -> Result<ApiReq, Trouble> {
     Ok(ApiReq::Operate {
-        name: None,
+        name,
         op: HeldOp::new(alloc, op)?,
     })
 }

@@ -12,6 +12,10 @@ pub enum Act {
     Write(u32),
     /// A row is deleted.
     Delete,
+    /// A transaction begins, writes a row that nobody else does, or commits.
+    Begin,
+    Operate,
+    Commit,
     Gcp,
     Lcp,
 }
@@ -47,16 +51,22 @@ const ROUND: &[Act] = &[
     Act::Write(13_000),
 ];
 
+// Of the two transactions each is open over a local checkpoint, and the first over a global one, too.
 const WORK: &[Act] = &[
     Act::Write(3),
+    Act::Begin,
+    Act::Operate,
     Act::Lcp,
     Act::Write(4),
     Act::Gcp,
     Act::Delete,
+    Act::Commit,
     Act::Write(2),
     Act::Lcp,
-    Act::Write(1),
+    Act::Begin,
+    Act::Operate,
     Act::Lcp,
+    Act::Commit,
     Act::Delete,
     Act::Write(3),
     Act::Gcp,
