@@ -70,3 +70,25 @@ fn an_installation_ends_a_scan_and_its_locks(rt: HostRuntime) -> Result<(), Fail
     assert_eq!(rt; wrong_in(rt.alloc(), 1, &lines)?, None);
     Ok(())
 }
+
+// By MD5, of two fragments a and d are in the second, b and c in the first.
+#[test]
+fn rows_of_other_fragments_are_passed(rt: HostRuntime) -> Result<(), Fail> {
+    let lines = [
+        (Do::Write(1, b'a'), &[Says::Other] as &[Says]),
+        (Do::Write(1, b'b'), &[Says::Other]),
+        (Do::Write(1, b'd'), &[Says::Other]),
+        (Do::Write(1, b'c'), &[Says::Other]),
+        (Do::Commit(1, b'a', 5), &[Says::Other]),
+        (Do::Commit(1, b'b', 5), &[Says::Other]),
+        (Do::Commit(1, b'd', 5), &[Says::Other]),
+        (Do::Commit(1, b'c', 5), &[Says::Other]),
+        (Do::Scan(0), &[Says::Row(b'b', 5, 2)]),
+        (Do::Unlock(b'b'), &[]),
+        (Do::Scan(2), &[Says::Row(b'c', 5, 4)]),
+        (Do::Unlock(b'c'), &[]),
+        (Do::Scan(4), &[Says::NoRow]),
+    ];
+    assert_eq!(rt; wrong_in(rt.alloc(), 2, &lines)?, None);
+    Ok(())
+}

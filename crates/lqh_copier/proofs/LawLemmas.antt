@@ -49,18 +49,18 @@ noticed s x = with_commits (takes s x).state (watched (rows_in s) s.copier.commi
 
 module _ (s : CopyingState) (x : Signal) where
   -- the rows took the signal, or what was asked in its place
-  of_heard : (y : Signal) → IsHeard x y → (t : Step CopyingState) → TakesBase s y t → IsOfRows s x t
-  of_heard y (itself is quiet) t base = law.takes (subst (λ z. TakesBase s z t) is base)
+  of_heard : (y : Signal) → IsHeard x y → (t : Step CopyingState) → TakesBase s.base y t → IsOfRows s.base x t
+  of_heard y (itself is quiet) t base = law.takes (subst (λ z. TakesBase s.base z t) is base)
   of_heard y (question asked) t base = law.asks y asked base
 
-  steps_of : CopierForms s x (IsOfRows s x)
+  steps_of : CopierForms s x (IsOfRows s.base x)
   steps_of = record {
     passed = law.takes
-        (goes_on_forms (noticed s x) (takes s x).effects (TakesBase s x) (record { base = refl; marks = refl })
+        (goes_on_forms (noticed s x) (takes s x).effects (TakesBase s.base x) (record { base = refl; marks = refl })
         (λ to parts noted left is. record { base = refl; marks = refl }));
     taken = λ quiet. law.takes (record { base = refl; marks = refl });
     drains = λ quiet. law.takes
-        (answer_forms (takes s x).state (takes s x).effects (TakesBase s x) (record { base = refl; marks = refl })
+        (answer_forms (takes s x).state (takes s x).effects (TakesBase s.base x) (record { base = refl; marks = refl })
         (λ to parts noted left is. record { base = refl; marks = refl }) x.member.node);
     seeks_on = λ quiet scan. law.takes (record { base = refl; marks = refl });
     ends = λ quiet. law.takes (record { base = refl; marks = refl });
@@ -90,7 +90,7 @@ module _ (s : CopyingState) (x : Signal) where
   }
 
 pub steps_are_of_rows : StepsAreOfRows
-steps_are_of_rows s x = copier_forms (noted s) x (IsOfRows s x) (steps_of (noted s) x)
+steps_are_of_rows s x = copier_forms (noted s) x (IsOfRows s.base x) (steps_of (noted s) x)
 
 pub what_stood_stays : WhatStoodStays
 what_stood_stays = record {
@@ -147,12 +147,14 @@ commits_are_markers = record {
 none_left : (rows : RowsState) (commits : List Marker) (parts : List Part) → first_left rows commits parts ≡ None
     → Each (λ p. is_left rows commits p ≡ false) parts
 none_left rows commits [] none = tt
-none_left rows commits (p ∷ parts) none = by (is_left rows commits p) refl none
+none_left rows commits (p ∷ parts) none = by (is_left rows commits p) refl (none_left rows commits parts) none
   where
-    by : (b : Bool) → is_left rows commits p ≡ b → left_if b p (first_left rows commits parts) ≡ None
+    by : (b : Bool) → is_left rows commits p ≡ b
+        → (first_left rows commits parts ≡ None → Each (λ q. is_left rows commits q ≡ false) parts)
+        → left_if b p (first_left rows commits parts) ≡ None
         → Each (λ q. is_left rows commits q ≡ false) (p ∷ parts)
-    by true is found = absurd cc
-    by false is found = (is, none_left rows commits parts found)
+    by true is rest found = absurd cc
+    by false is rest found = (is, rest found)
 
 -- what the rows and their saver say tells no end of what stood, and no row
 ends_word : (t : CopyingState) (body : Body) → is_saver_word body ≡ true → TellsEnd t body

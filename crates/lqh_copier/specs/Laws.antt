@@ -11,6 +11,7 @@ use Rattle.sig_core.specs.Passing.{epoch_or}
 use Rattle.sig_core.specs.Rows.{row_epoch, row_of}
 use Rattle.sig_core.specs.Step.{Step}
 use Rattle.lqh_saver.specs.Saver.{saver_row}
+use Rattle.lqh_saver.specs.State.{SavingState}
 use Rattle.lqh_copier.specs.declared.stage.Part.{Part}
 use Rattle.lqh_copier.specs.declared.stage.Stood.TheVariants.{Noted}
 use Rattle.lqh_copier.specs.Asking.{asks_ahead, asks_lock, lets_go, saying}
@@ -26,17 +27,17 @@ pub data IsQuestion (x y : Signal) : Type 0 where
   of_end : (key : List ℕ) → y ≡ saying x (lets_go key) → IsQuestion x y
 
 -- the rows and their saver took this signal, and all that is marked is theirs
-pub record TakesBase (s : CopyingState) (y : Signal) (t : Step CopyingState) : Type 0 where
-  pub base : t.state.base ≡ (saver_row s.base y).state
-  pub marks : t.effects.marks ≡ (saver_row s.base y).effects.marks
+pub record TakesBase (before : SavingState) (y : Signal) (t : Step CopyingState) : Type 0 where
+  pub base : t.state.base ≡ (saver_row before y).state
+  pub marks : t.effects.marks ≡ (saver_row before y).effects.marks
 
 -- a step is theirs, at the signal or at what the copying asks in its place
-pub data IsOfRows (s : CopyingState) (x : Signal) (t : Step CopyingState) : Type 0 where
-  takes : TakesBase s x t → IsOfRows s x t
-  asks : (y : Signal) → IsQuestion x y → TakesBase s y t → IsOfRows s x t
+pub data IsOfRows (before : SavingState) (x : Signal) (t : Step CopyingState) : Type 0 where
+  takes : TakesBase before x t → IsOfRows before x t
+  asks : (y : Signal) → IsQuestion x y → TakesBase before y t → IsOfRows before x t
 
 abbrev pub StepsAreOfRows : Type 0
-StepsAreOfRows = (s : CopyingState) (x : Signal) → IsOfRows s x (copier_row s x)
+StepsAreOfRows = (s : CopyingState) (x : Signal) → IsOfRows s.base x (copier_row s x)
 
 -- the copier has the commits that the rows have
 abbrev pub HasCommits : CopyingState → Type 0
