@@ -7,8 +7,8 @@ use lqh_views::Replica;
 use redo_log::Log;
 use sig_core::{
     Body, Chain, ChainSignal, ClientSignal, CopyingSignal, Held, HeldOp, HeldWork, HostId,
-    HostSignal, JoiningSignal, Key, Member, Members, Op, Outgoing, Outs, Shape, Signal, TxId, Value,
-    View, Work, rows_of,
+    HostSignal, JoiningSignal, Key, Member, Members, Op, Outgoing, Outs, Shape, Signal, TxId,
+    Value, View, Work, rows_of,
 };
 use std::alloc::Global;
 use std::test::Fail;
@@ -149,9 +149,7 @@ fn of_transaction(alloc: Global, told: Do) -> Result<Body, Fail> {
 
 fn body(alloc: Global, told: Do) -> Result<Body, Fail> {
     match told {
-        Do::Acknowledge(seq) => {
-            Ok(Body::Client(ClientSignal::TcCommitAck { tx: tx(seq) }))
-        }
+        Do::Acknowledge(seq) => { Ok(Body::Client(ClientSignal::TcCommitAck { tx: tx(seq) })) }
         Do::Drain => Ok(Body::Joining(JoiningSignal::DrainReq)),
         Do::Scan(at) => Ok(Body::Copying(CopyingSignal::LqhScanReq { fragment: 0, at })),
         Do::Unlock(letter) => {
@@ -180,8 +178,18 @@ fn said(send: &Outgoing) -> Says {
         Body::Copying(CopyingSignal::LqhScanConf { row, epoch, next }) => {
             row_told(row, *epoch, *next)
         }
-        Body::Host(HostSignal::Continue { work: Work::Held, at: _ }) => Says::HoldsOn,
-        Body::Host(HostSignal::Continue { work: Work::Granted, at: _ }) => Says::Grants,
+        Body::Host(
+            HostSignal::Continue {
+                work: Work::Held,
+                at: _,
+            },
+        ) => Says::HoldsOn,
+        Body::Host(
+            HostSignal::Continue {
+                work: Work::Granted,
+                at: _,
+            },
+        ) => Says::Grants,
         _ => Says::Other,
     }
 }
@@ -229,8 +237,13 @@ impl Node {
             view: Held::new(alloc, self.view)?,
             body,
         };
-        self.copier
-            .handle(alloc, &mut self.replica, &mut self.saver, &signal, &mut self.out)?;
+        self.copier.handle(
+            alloc,
+            &mut self.replica,
+            &mut self.saver,
+            &signal,
+            &mut self.out,
+        )?;
         Ok(())
     }
 

@@ -3,7 +3,7 @@ use Rattle.std.proofs.Common.{◌≡◌, ◌∙◌, ℕ, Bool, true, false, List
 use Rattle.std.proofs.lemmas.Bool.{true≢false}
 use Rattle.std.specs.Prelude.{Option, None, Some}
 use Rattle.run_theory.specs.Lists.{Each}
-use Rattle.run_theory.proofs.Pasts.{each_map}
+use Rattle.run_theory.proofs.Pasts.{each_append, each_map}
 use Rattle.sig_core.specs.declared.outs.Outgoing.{Outgoing}
 use Rattle.sig_core.specs.declared.signal.Body.{Body}
 use Rattle.sig_core.specs.declared.signal.Body.TheVariants.{Copying, Joining}
@@ -30,12 +30,12 @@ use Rattle.lqh_copier.specs.Laws.{CommitsAreMarkers, DrainsTellTheTruth, HasComm
 use Rattle.lqh_copier.specs.Laws.{StepsAreOfRows, TakesBase, TellsEnd, TellsRow, WhatStoodStays, of_end, of_lock}
 use Rattle.lqh_copier.specs.Laws.{of_wait}
 use Rattle.lqh_copier.specs.Laws as law
-use Rattle.lqh_copier.specs.Scanning.{copied_by, on_lock}
+use Rattle.lqh_copier.specs.Scanning.{copied_by, on_lock, told_ahead}
 use Rattle.lqh_copier.specs.State.{CopyingState, node_of, rows_in, with_commits}
 use Rattle.lqh_copier.specs.Words.{CopierKeepsToItsWords}
 use Rattle.lqh_copier.proofs.CommitLemmas.{saver_markers}
-use Rattle.lqh_copier.proofs.Walk.{CopierForms, IsHeard, IsQuiet, answer_forms, copier_forms, each_more, each_sifted}
-use Rattle.lqh_copier.proofs.Walk.{goes_on_forms, itself, question, speaks}
+use Rattle.lqh_copier.proofs.Walk.{CopierForms, IsHeard, IsQuiet, answer_forms, copier_forms, each_ahead}
+use Rattle.lqh_copier.proofs.Walk.{each_more, each_sifted, goes_on_forms, itself, question, speaks}
 
 pub copier_words : CopierKeepsToItsWords
 copier_words = record {
@@ -68,7 +68,7 @@ module _ (s : CopyingState) (x : Signal) where
     stays = λ y is row. of_heard y is _ (record { base = refl; marks = refl });
     goes_on = λ y is scan. of_heard y is _ (record { base = refl; marks = refl });
     locks = λ y is row. of_heard y is _ (record { base = refl; marks = refl });
-    waits = λ y is row tx. of_heard y is _ (record { base = refl; marks = refl });
+    waits = λ y is row h. of_heard y is _ (record { base = refl; marks = refl });
   }
 
   abbrev Stays : Step CopyingState → Type 0
@@ -86,7 +86,7 @@ module _ (s : CopyingState) (x : Signal) where
     stays = λ y is row. refl;
     goes_on = λ y is scan. refl;
     locks = λ y is row. refl;
-    waits = λ y is row tx. refl;
+    waits = λ y is row h. refl;
   }
 
 pub steps_are_of_rows : StepsAreOfRows
@@ -134,7 +134,7 @@ module _ (s : CopyingState) (x : Signal) (has : HasCommits s) where
     stays = λ y is row. unmarked y (heard_quiet y is);
     goes_on = λ y is scan. unmarked y (heard_quiet y is);
     locks = λ y is row. unmarked y (heard_quiet y is);
-    waits = λ y is row tx. unmarked y (heard_quiet y is);
+    waits = λ y is row h. unmarked y (heard_quiet y is);
   }
 
 pub commits_are_markers : CommitsAreMarkers
@@ -215,7 +215,9 @@ module _ (s : CopyingState) (x : Signal) (has : HasCommits s) where
     goes_on = λ y is scan. each_more (Ends _) (to_others (saver_row s.base y).effects.sends) _ (heard_ends _ y) tt;
     locks = λ y is row.
         each_more (Ends _) (to_others (saver_row s.base y).effects.sends) _ (heard_ends _ y) (lock_ends _ row _);
-    waits = λ y is row tx. each_more (Ends _) (to_others (saver_row s.base y).effects.sends) _ (heard_ends _ y) tt;
+    waits = λ y is row h.
+        each_append (Ends _) (to_others (saver_row s.base y).effects.sends) (told_ahead (node_of s) h)
+        (heard_ends _ y) (each_ahead (Ends _) (node_of s) (λ tx. tt) h);
   }
 
 pub drains_tell_the_truth : DrainsTellTheTruth
@@ -263,7 +265,9 @@ module _ (s : CopyingState) where
     locks = λ y is row.
         each_more RowTold (to_others (saver_row s.base y).effects.sends) _ (heard_rows y)
         (lock_row row (row_of (rows_in s) row.key) refl);
-    waits = λ y is row tx. each_more RowTold (to_others (saver_row s.base y).effects.sends) _ (heard_rows y) tt;
+    waits = λ y is row h.
+        each_append RowTold (to_others (saver_row s.base y).effects.sends) (told_ahead (node_of s) h) (heard_rows y)
+        (each_ahead RowTold (node_of s) (λ tx. tt) h);
   }
 
 pub scans_tell_rows : ScansTellRows

@@ -33,15 +33,16 @@ use Rattle.lqh_copier.specs.declared.stage.Sought.{Sought}
 use Rattle.lqh_copier.specs.declared.stage.Sought.TheVariants.{Found, Further, Over}
 use Rattle.lqh_copier.specs.declared.stage.Stood.{Stood}
 use Rattle.lqh_copier.specs.declared.stage.Stood.TheVariants.{Unasked, Fresh, Noted}
-use Rattle.lqh_copier.specs.Asking.{asks_ahead, asks_lock, heard_at, is_to_reader, lets_go, listens, saying, takes}
+use Rattle.lqh_copier.specs.Asking.{asks_ahead, asks_lock, heard_at, is_reader, is_to_reader, lets_go, listens}
+use Rattle.lqh_copier.specs.Asking.{saying, takes}
 use Rattle.lqh_copier.specs.Asking.{to_others, unless_said}
 use Rattle.lqh_copier.specs.Commits.{watched}
 use Rattle.lqh_copier.specs.Copier.{copier_by, drain_row}
 use Rattle.lqh_copier.specs.Draining.{answer_by, answers, first_left, goes_on, goes_on_by, goes_on_if, is_left, told_by}
 use Rattle.lqh_copier.specs.Passing.{passes}
-use Rattle.lqh_copier.specs.Scanning.{after_lock, asked_by, asks, comes_to, copied, ends_scan, go_on_at, go_on_if}
+use Rattle.lqh_copier.specs.Scanning.{ahead_if, asked_by, asks, comes_to, copied, ends_scan, go_on_at, go_on_if}
 use Rattle.lqh_copier.specs.Scanning.{granted_at, granted_by, locked, on_lock, passes_over, scan_by, scans_on, seeks}
-use Rattle.lqh_copier.specs.Scanning.{seeks_by, tells, unlock_by, waits, waits_by}
+use Rattle.lqh_copier.specs.Scanning.{seeks_by, told_ahead, unlock_by, waits, waits_by}
 use Rattle.lqh_copier.specs.Laws.{IsQuestion, of_end, of_lock, of_wait}
 use Rattle.lqh_copier.specs.Seeking.{seek}
 use Rattle.lqh_copier.specs.State.{CopyingState, node_of, rows_in, with_commits}
@@ -69,8 +70,7 @@ pub record CopierForms (s : CopyingState) (x : Signal) (R : Step CopyingState �
   pub stays : (y : Signal) → IsHeard x y → (row : Reached) → R (comes_to (listens s y) (Waiting row))
   pub goes_on : (y : Signal) → IsHeard x y → (scan : Scan) → R (scans_on s (listens s y) scan)
   pub locks : (y : Signal) → IsHeard x y → (row : Reached) → R (locked s (listens s y) row)
-  pub waits : (y : Signal) → IsHeard x y → (row : Reached) (tx : TxId)
-      → R (tells (listens s y) (Waiting row) (copying (node_of s)) (Joining (DrainWait tx)))
+  pub waits : (y : Signal) → IsHeard x y → (row : Reached) (h : Heard) → R (waits_by s (listens s y) row h)
 
 module _ (s : CopyingState) (x : Signal) (R : Step CopyingState → Type 0) (forms : CopierForms s x R) where
   asks_row : (row : Reached) → R (asks s x row)
@@ -102,18 +102,9 @@ module _ (s : CopyingState) (x : Signal) (R : Step CopyingState → Type 0) (for
   scans quiet fragment at (Gone row) = forms.taken quiet
 
   waits_row : (row : Reached) → R (waits s x row)
-  waits_row row = by (heard_at s y)
-    where
-      y : Signal
-      y = saying x (asks_ahead row.key)
-
-      asked : IsHeard x y
-      asked = question (of_wait row.key refl)
-
-      by : (h : Heard) → R (waits_by s (listens s y) row h)
-      by heard.Granted = forms.stays y asked row
-      by heard.Silence = forms.stays y asked row
-      by (heard.Ahead tx) = forms.waits y asked row tx
+  waits_row row =
+      forms.waits (saying x (asks_ahead row.key)) (question (of_wait row.key refl)) row
+      (heard_at s (saying x (asks_ahead row.key)))
 
   goes_at : IsQuiet x.body → (scan : Scan) → R (go_on_at s x scan)
   goes_at quiet Idle = forms.taken quiet
@@ -167,7 +158,7 @@ module _ (s : CopyingState) (x : Signal) (R : Step CopyingState → Type 0) (for
 module _ (s : CopyingState) (effects : Effects) (Q : Step CopyingState → Type 0)
     (nothing : Q (record { state = s; effects = effects }))
     (told : (to : ℕ) (parts : List Part) → s.copier.stood ≡ Noted parts → (left : Option Part)
-        → first_left (rows_in s) s.copier.commits parts ≡ left → Q (told_by s effects to left))
+    → first_left (rows_in s) s.copier.commits parts ≡ left → Q (told_by s effects to left))
   where
     pub answer_forms : (to : ℕ) → Q (answers s effects to)
     answer_forms to = by s.copier.stood refl
@@ -201,6 +192,17 @@ each_sifted P (send ∷ sends) all = by (is_to_reader send.body) (each_sifted P 
 pub each_more : (P : Outgoing → Type 0) (sends : List Outgoing) (send : Outgoing) → Each P sends → P send
     → Each P (sends ++ send ∷ [])
 each_more P sends send all one = each_append P sends (send ∷ []) all (one, tt)
+
+-- and of whom the copying waits for
+pub each_ahead : (P : Outgoing → Type 0) (node : ℕ)
+    → ((tx : TxId) → P (to_place (copying node) (Joining (DrainWait tx)))) → (h : Heard) → Each P (told_ahead node h)
+each_ahead P node one heard.Silence = tt
+each_ahead P node one heard.Granted = tt
+each_ahead P node one (heard.Ahead tx) = by (is_reader tx)
+  where
+    by : (b : Bool) → Each P (ahead_if node tx b)
+    by true = tt
+    by false = (one tx, tt)
 
 -- a word of the rows and their saver is one of theirs with their copier
 is_word : (body : Body) → is_saver_word body ≡ true → is_copier_word body ≡ true
@@ -242,8 +244,8 @@ module _ (s : CopyingState) where
         goes_on_forms (with_commits (takes s x).state (watched (rows_in s) s.copier.commits x.body))
         (takes s x).effects Speak (words x, marks x)
         (λ to parts noted left is.
-            told (with_commits (takes s x).state (watched (rows_in s) s.copier.commits x.body)) (takes s x).effects
-            (words x) (marks x) to left);
+        told (with_commits (takes s x).state (watched (rows_in s) s.copier.commits x.body)) (takes s x).effects
+        (words x) (marks x) to left);
     taken = λ quiet. (words x, marks x);
     drains = λ quiet.
         answer_forms (takes s x).state (takes s x).effects Speak (words x, marks x)
@@ -256,5 +258,9 @@ module _ (s : CopyingState) where
     goes_on = λ y is scan. (each_more (IsWord is_copier_word) _ _ (heard_words y) refl, marks y);
     locks = λ y is row.
         (each_more (IsWord is_copier_word) _ _ (heard_words y) (lock_word row (copied (rows_in s) row.key)), marks y);
-    waits = λ y is row tx. (each_more (IsWord is_copier_word) _ _ (heard_words y) refl, marks y);
+    waits = λ y is row h. (
+      each_append (IsWord is_copier_word) (to_others (saver_row s.base y).effects.sends) (told_ahead (node_of s) h)
+          (heard_words y) (each_ahead (IsWord is_copier_word) (node_of s) (λ tx. refl) h),
+      marks y,
+    );
   }

@@ -1,5 +1,6 @@
 -- The scan of a fragment, row by row, under a shared lock of each.
-use Rattle.std.specs.Prelude.{ℕ, ◌==◌, Bool, true, false, List, Option, None, Some}
+use Rattle.std.specs.Prelude.{ℕ, ◌==◌, Bool, true, false, List, [], ◌∷◌, ◌++◌, Option, None, Some}
+use Rattle.sig_core.specs.declared.member.TxId.{TxId}
 use Rattle.sig_core.specs.declared.outs.Outgoing.{Outgoing}
 use Rattle.sig_core.specs.declared.place.Place.{Place}
 use Rattle.sig_core.specs.declared.signal.Body.{Body}
@@ -20,7 +21,7 @@ use Rattle.lqh_copier.specs.declared.stage.Scan.{Scan}
 use Rattle.lqh_copier.specs.declared.stage.Scan.TheVariants.{Idle, Seeking, Waiting, Gone}
 use Rattle.lqh_copier.specs.declared.stage.Sought.{Sought}
 use Rattle.lqh_copier.specs.declared.stage.Sought.TheVariants.{Found, Further, Over}
-use Rattle.lqh_copier.specs.Asking.{asks_ahead, asks_lock, heard_at, lets_go, listens, saying, takes}
+use Rattle.lqh_copier.specs.Asking.{asks_ahead, asks_lock, heard_at, is_reader, lets_go, listens, saying, takes}
 use Rattle.lqh_copier.specs.Seeking.{seek}
 use Rattle.lqh_copier.specs.State.{CopyingState, node_of, rows_in, with_scan}
 use Rattle.lqh_copier.specs.Passing.{passes}
@@ -91,9 +92,24 @@ scan_by s x fragment at _ = takes s x
 abbrev pub scan_row : CopyingState → Signal → ℕ → ℕ → Step CopyingState
 scan_row s x fragment at = scan_by s x fragment at s.copier.scan
 
+-- for whom the copying waits; behind a wait that stood too long that is nobody
+abbrev pub ahead_if : ℕ → TxId → Bool → List Outgoing
+ahead_if node tx true = []
+ahead_if node tx false = to_place (copying node) (Joining (DrainWait tx)) ∷ []
+
+abbrev pub told_ahead : ℕ → Heard → List Outgoing
+told_ahead node (Ahead tx) = ahead_if node tx (is_reader tx)
+told_ahead node _ = []
+
 abbrev pub waits_by : CopyingState → Step CopyingState → Reached → Heard → Step CopyingState
-waits_by s t row (Ahead tx) = tells t (Waiting row) (copying (node_of s)) (Joining (DrainWait tx))
-waits_by s t row _ = comes_to t (Waiting row)
+waits_by s t row heard =
+    record {
+      state = with_scan t.state (Waiting row);
+      effects = record {
+        sends = t.effects.sends ++ told_ahead (node_of s) heard;
+        marks = t.effects.marks;
+      };
+    }
 
 -- the copying is told for whom it waits
 abbrev pub waits : CopyingState → Signal → Reached → Step CopyingState

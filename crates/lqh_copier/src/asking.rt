@@ -82,7 +82,8 @@ fn saying(signal: &Signal, body: Body) -> Result<Signal, NoMemory>
     })
 }
 
-fn is_reader(tx: TxId) -> bool
+/// Whether the transaction is the copying's.
+pub(crate) fn is_reader(tx: TxId) -> bool
     ensures { result ≡ is_reader tx }
 {
     tx.tc == 0

@@ -12,7 +12,7 @@ mod stage;
 
 pub use copier::Copier;
 pub use laws::{
-    commits_are_markers, drains_tell_the_truth, keeps_to_its_words, scans_tell_rows, steps_are_of_rows,
-    what_stood_stays,
+    commits_are_markers, drains_tell_the_truth, keeps_to_its_words, scans_tell_rows,
+    steps_are_of_rows, what_stood_stays,
 };
 pub use stage::{Drain, Heard, Part, Reached, Scan, Sought, Stood};

@@ -1,5 +1,5 @@
 //! The scan of a fragment, row by row, under a shared lock of each.
-ghost use Rattle.std.specs.Prelude.{◌≡◌, ◌<◌, IfOk, None, OnErr, OnOk, length};
+ghost use Rattle.std.specs.Prelude.{◌≡◌, ◌<◌, ◌++◌, IfOk, None, OnErr, OnOk, length};
 ghost use Rattle.sig_core.specs.declared.signal.Body.TheVariants.{Copying, Host};
 ghost use Rattle.sig_core.specs.declared.signal.copying.CopyingSignal.TheVariants.{LqhScanConf};
 ghost use Rattle.sig_core.specs.declared.signal.host.HostSignal.TheVariants.{Continue};
@@ -8,10 +8,10 @@ ghost use Rattle.sig_core.specs.Place.{copying, rows_of};
 ghost use Rattle.sig_core.specs.Step.{HasRoom, IsTaken, IsUntouched, and_send};
 ghost use Rattle.lqh_copier.specs.declared.stage.Scan.TheVariants.{Idle, Waiting};
 ghost use Rattle.lqh_copier.specs.Scanning.{after_lock, asks, copied, go_on_at, go_on_row, granted_at, granted_row};
-ghost use Rattle.lqh_copier.specs.Scanning.{on_lock, passes_over, scan_row, seeks, unlock_row, waits};
+ghost use Rattle.lqh_copier.specs.Scanning.{on_lock, passes_over, scan_row, seeks, told_ahead, unlock_row, waits};
 ghost use Rattle.lqh_copier.specs.State.{has_scan, together};
 
-use crate::asking::{ask_ahead, ask_lock, let_go};
+use crate::asking::{ask_ahead, ask_lock, is_reader, let_go};
 use crate::copier::Copier;
 use crate::seeking::seek;
 use crate::stage::{Heard, Reached, Scan, Sought};
@@ -40,6 +40,22 @@ fn copied<R: Rows>(
             Ok(Some((row, epoch)))
         }
         None => Ok(None),
+    }
+}
+
+// The copying is told for whom it waits. Behind a wait that stood too long that is nobody.
+fn tell_ahead(node: u8, heard: Heard, out: &mut Outs)
+    requires { length out.old.sends < 16 }
+    ensures sends { out.new.sends ≡ out.old.sends ++ told_ahead node heard }
+    ensures marks { out.new.marks ≡ out.old.marks }
+{
+    if let Heard::Ahead { tx } = heard {
+        if !is_reader(tx) {
+            out.send(
+                copying(node),
+                Body::Joining(JoiningSignal::DrainWait { tx }),
+            );
+        }
     }
 }
 
@@ -196,9 +212,7 @@ impl Copier {
         let body = ask_ahead(&row.key);
         let heard = self.ask(alloc, replica, saver, signal, body, out)?;
         self.scan = Scan::Waiting { row };
-        if let Heard::Ahead { tx } = heard {
-            out.send(copying(node), Body::Joining(JoiningSignal::DrainWait { tx }));
-        }
+        tell_ahead(node, heard, out);
         Ok(())
     }
 
