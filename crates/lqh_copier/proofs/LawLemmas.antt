@@ -1,5 +1,5 @@
 -- What is true of each step of the rows with their saver and their copier, form by form.
-use Rattle.std.proofs.Common.{◌≡◌, ◌∙◌, ℕ, Bool, true, false, List, [], ◌∷◌, refl, sym, ap, subst}
+use Rattle.std.proofs.Common.{◌≡◌, ◌∙◌, ℕ, Bool, true, false, List, [], ◌∷◌, refl, sym, ap, subst, append-nil}
 use Rattle.std.proofs.lemmas.Bool.{true≢false}
 use Rattle.std.specs.Prelude.{Option, None, Some}
 use Rattle.run_theory.specs.Lists.{Each}
@@ -13,7 +13,7 @@ use Rattle.sig_core.specs.declared.signal.joining.JoiningSignal.TheVariants.{Dra
 use Rattle.sig_core.specs.declared.view.View.{View}
 use Rattle.sig_core.specs.Passing.{epoch_or}
 use Rattle.sig_core.specs.Rows.{RowsState, row_epoch, row_of}
-use Rattle.sig_core.specs.Step.{Effects, Step}
+use Rattle.sig_core.specs.Step.{Step, stay}
 use Rattle.step_forms.specs.Does.{IsWord}
 use Rattle.lqh_block.specs.declared.request.Marker.{Marker}
 use Rattle.lqh_saver.specs.Saver.{saver_row}
@@ -25,17 +25,18 @@ use Rattle.lqh_copier.specs.declared.stage.Stood.TheVariants.{Noted}
 use Rattle.lqh_copier.specs.Asking.{asks_ahead, asks_lock, lets_go, listens, saying, takes, to_others}
 use Rattle.lqh_copier.specs.Commits.{watched}
 use Rattle.lqh_copier.specs.Copier.{copier_row}
-use Rattle.lqh_copier.specs.Draining.{first_left, is_left, left_if, noted, told_by}
-use Rattle.lqh_copier.specs.Laws.{CommitsAreMarkers, DrainsTellTheTruth, HasCommits, IsOfRows, IsQuestion, ScansTellRows}
+use Rattle.lqh_copier.specs.Draining.{behind, first_left, is_left, left_if, noted, told_by}
+use Rattle.lqh_copier.specs.Laws.{CommitsAreMarkers, DrainsTellTheTruth, HasCommits, IsOfRows, ScansTellRows}
 use Rattle.lqh_copier.specs.Laws.{StepsAreOfRows, TakesBase, TellsEnd, TellsRow, WhatStoodStays, of_end, of_lock}
 use Rattle.lqh_copier.specs.Laws.{of_wait}
 use Rattle.lqh_copier.specs.Laws as law
-use Rattle.lqh_copier.specs.Scanning.{copied_by, on_lock, told_ahead}
+use Rattle.lqh_copier.specs.Scanning.{copied, copied_by, on_grant, on_lock, told_ahead}
 use Rattle.lqh_copier.specs.State.{CopyingState, node_of, rows_in, with_commits}
 use Rattle.lqh_copier.specs.Words.{CopierKeepsToItsWords}
 use Rattle.lqh_copier.proofs.CommitLemmas.{saver_markers}
-use Rattle.lqh_copier.proofs.Walk.{CopierForms, IsHeard, IsQuiet, answer_forms, copier_forms, each_ahead}
-use Rattle.lqh_copier.proofs.Walk.{each_more, each_sifted, goes_on_forms, itself, question, speaks}
+use Rattle.lqh_copier.proofs.Walk.{CopierForms, IsHeard, IsQuiet, answer_forms, copier_forms, each_ahead, each_asked}
+use Rattle.lqh_copier.proofs.Walk.{each_grant, each_more, each_same, each_sifted, goes_on_forms, itself, noticed}
+use Rattle.lqh_copier.proofs.Walk.{question, speaks}
 
 pub copier_words : CopierKeepsToItsWords
 copier_words = record {
@@ -43,32 +44,37 @@ copier_words = record {
   installs = λ s view. (tt, tt);
 }
 
--- the state behind a signal that the rows take, of which the copier has noticed the commits
-abbrev noticed : CopyingState → Signal → CopyingState
-noticed s x = with_commits (takes s x).state (watched (rows_in s) s.copier.commits x.body)
-
 module _ (s : CopyingState) (x : Signal) where
   -- the rows took the signal, or what was asked in its place
   of_heard : (y : Signal) → IsHeard x y → (t : Step CopyingState) → TakesBase s.base y t → IsOfRows s.base x t
   of_heard y (itself is quiet) t base = law.takes (subst (λ z. TakesBase s.base z t) is base)
   of_heard y (question asked) t base = law.asks y asked base
 
+  -- what the copying is told marks nothing
+  based : (t : CopyingState) → t.base ≡ (saver_row s.base x).state
+      → TakesBase s.base x (behind (takes s x).effects (stay t))
+  based t is = record { base = is; marks = append-nil (saver_row s.base x).effects.marks }
+
+  told_based : (t : CopyingState) → t.base ≡ (saver_row s.base x).state → (to : ℕ) (left : Option Part)
+      → TakesBase s.base x (behind (takes s x).effects (told_by t to left))
+  told_based t is to left = record { base = is; marks = append-nil (saver_row s.base x).effects.marks }
+
   steps_of : CopierForms s x (IsOfRows s.base x)
   steps_of = record {
     passed = law.takes
-        (goes_on_forms (noticed s x) (takes s x).effects (TakesBase s.base x) (record { base = refl; marks = refl })
-        (λ to parts noted left is. record { base = refl; marks = refl }));
+        (goes_on_forms (noticed s x) (takes s x).effects (TakesBase s.base x) (based (noticed s x) refl)
+        (λ to parts noted left is. told_based (noticed s x) refl to left));
     taken = λ quiet. law.takes (record { base = refl; marks = refl });
     drains = λ quiet. law.takes
-        (answer_forms (takes s x).state (takes s x).effects (TakesBase s.base x) (record { base = refl; marks = refl })
-        (λ to parts noted left is. record { base = refl; marks = refl }) x.member.node);
+        (answer_forms (takes s x).state (takes s x).effects (TakesBase s.base x) (based (takes s x).state refl)
+        (λ to parts noted left is. told_based (takes s x).state refl to left) x.member.node);
     seeks_on = λ quiet scan. law.takes (record { base = refl; marks = refl });
     ends = λ quiet. law.takes (record { base = refl; marks = refl });
     heard = λ y is. of_heard y is _ (record { base = refl; marks = refl });
-    stays = λ y is row. of_heard y is _ (record { base = refl; marks = refl });
     goes_on = λ y is scan. of_heard y is _ (record { base = refl; marks = refl });
-    locks = λ y is row. of_heard y is _ (record { base = refl; marks = refl });
+    asks = λ y is row h. of_heard y is _ (record { base = refl; marks = refl });
     waits = λ y is row h. of_heard y is _ (record { base = refl; marks = refl });
+    grants = λ y is row h. of_heard y is _ (record { base = refl; marks = refl });
   }
 
   abbrev Stays : Step CopyingState → Type 0
@@ -83,10 +89,10 @@ module _ (s : CopyingState) (x : Signal) where
     seeks_on = λ quiet scan. refl;
     ends = λ quiet. refl;
     heard = λ y is. refl;
-    stays = λ y is row. refl;
     goes_on = λ y is scan. refl;
-    locks = λ y is row. refl;
+    asks = λ y is row h. refl;
     waits = λ y is row h. refl;
+    grants = λ y is row h. refl;
   }
 
 pub steps_are_of_rows : StepsAreOfRows
@@ -104,7 +110,8 @@ module _ (s : CopyingState) (x : Signal) (has : HasCommits s) where
 
   -- what is heard tells nothing of commits
   heard_quiet : (y : Signal) → IsHeard x y → IsQuiet y.body
-  heard_quiet y (itself is quiet) rows commits = ap (λ (z : Signal). watched rows commits z.body) is ∙ quiet rows commits
+  heard_quiet y (itself is quiet) rows commits =
+      ap (λ (z : Signal). watched rows commits z.body) is ∙ quiet rows commits
   heard_quiet y (question (of_lock key is)) rows commits = ap (λ (z : Signal). watched rows commits z.body) is
   heard_quiet y (question (of_wait key is)) rows commits = ap (λ (z : Signal). watched rows commits z.body) is
   heard_quiet y (question (of_end key is)) rows commits = ap (λ (z : Signal). watched rows commits z.body) is
@@ -131,10 +138,10 @@ module _ (s : CopyingState) (x : Signal) (has : HasCommits s) where
     seeks_on = λ quiet scan. unmarked x quiet;
     ends = λ quiet. unmarked x quiet;
     heard = λ y is. unmarked y (heard_quiet y is);
-    stays = λ y is row. unmarked y (heard_quiet y is);
     goes_on = λ y is scan. unmarked y (heard_quiet y is);
-    locks = λ y is row. unmarked y (heard_quiet y is);
+    asks = λ y is row h. unmarked y (heard_quiet y is);
     waits = λ y is row h. unmarked y (heard_quiet y is);
+    grants = λ y is row h. unmarked y (heard_quiet y is);
   }
 
 pub commits_are_markers : CommitsAreMarkers
@@ -181,9 +188,12 @@ module _ (s : CopyingState) (x : Signal) (has : HasCommits s) where
   abbrev True : Step CopyingState → Type 0
   True step = Each (Ends step.state) step.effects.sends
 
+  same_true : (t : CopyingState) → True (behind (takes s x).effects (stay t))
+  same_true t = each_same (Ends t) (saver_row s.base x).effects.sends (base_ends t x)
+
   told_true : (t : CopyingState) → HasCommits t → (to : ℕ) (parts : List Part) → t.copier.stood ≡ Noted parts
       → (left : Option Part) → first_left (rows_in t) t.copier.commits parts ≡ left
-      → True (told_by t (takes s x).effects to left)
+      → True (behind (takes s x).effects (told_by t to left))
   told_true t same to parts noted None none =
       each_more (Ends _) (saver_row s.base x).effects.sends _ (base_ends _ x) (record {
         parts = parts;
@@ -202,22 +212,26 @@ module _ (s : CopyingState) (x : Signal) (has : HasCommits s) where
   truths : CopierForms s x True
   truths = record {
     passed =
-        goes_on_forms (noticed s x) (takes s x).effects True (base_ends (noticed s x) x)
+        goes_on_forms (noticed s x) (takes s x).effects True (same_true (noticed s x))
         (told_true (noticed s x) (noticed_has s x has));
     taken = λ quiet. base_ends _ x;
     drains = λ quiet.
-        answer_forms (takes s x).state (takes s x).effects True (base_ends _ x)
+        answer_forms (takes s x).state (takes s x).effects True (same_true (takes s x).state)
         (told_true (takes s x).state (unmarked s x has x quiet)) x.member.node;
     seeks_on = λ quiet scan. each_more (Ends _) (saver_row s.base x).effects.sends _ (base_ends _ x) tt;
     ends = λ quiet. each_more (Ends _) (saver_row s.base x).effects.sends _ (base_ends _ x) tt;
     heard = λ y is. heard_ends _ y;
-    stays = λ y is row. heard_ends _ y;
     goes_on = λ y is scan. each_more (Ends _) (to_others (saver_row s.base y).effects.sends) _ (heard_ends _ y) tt;
-    locks = λ y is row.
-        each_more (Ends _) (to_others (saver_row s.base y).effects.sends) _ (heard_ends _ y) (lock_ends _ row _);
+    asks = λ y is row h.
+        each_more (Ends _) (to_others (saver_row s.base y).effects.sends) _ (heard_ends _ y)
+        (each_asked (Ends _) (node_of s) row (copied (rows_in s) row.key) (lock_ends _ row _) tt h);
     waits = λ y is row h.
         each_append (Ends _) (to_others (saver_row s.base y).effects.sends) (told_ahead (node_of s) h)
         (heard_ends _ y) (each_ahead (Ends _) (node_of s) (λ tx. tt) h);
+    grants = λ y is row h.
+        each_append (Ends _) (to_others (saver_row s.base y).effects.sends)
+        (on_grant (node_of s) row h (copied (rows_in s) row.key)) (heard_ends _ y)
+        (each_grant (Ends _) (node_of s) row (copied (rows_in s) row.key) (lock_ends _ row _) h);
   }
 
 pub drains_tell_the_truth : DrainsTellTheTruth
@@ -243,31 +257,40 @@ module _ (s : CopyingState) where
   abbrev RowsTold : Step CopyingState → Type 0
   RowsTold step = Each RowTold step.effects.sends
 
+  same_rows : (x : Signal) (t : CopyingState) → RowsTold (behind (takes s x).effects (stay t))
+  same_rows x t = each_same RowTold (saver_row s.base x).effects.sends (base_rows x)
+
   told_rows : (x : Signal) (t : CopyingState) (to : ℕ) (left : Option Part)
-      → RowsTold (told_by t (takes s x).effects to left)
+      → RowsTold (behind (takes s x).effects (told_by t to left))
   told_rows x t to None = each_more RowTold (saver_row s.base x).effects.sends _ (base_rows x) tt
   told_rows x t to (Some p) = each_more RowTold (saver_row s.base x).effects.sends _ (base_rows x) tt
+
+  lock_is : (row : Reached) → RowTold (on_lock (node_of s) row (copied (rows_in s) row.key))
+  lock_is row = lock_row row (row_of (rows_in s) row.key) refl
 
   rows_told : (x : Signal) → CopierForms s x RowsTold
   rows_told x = record {
     passed =
-        goes_on_forms (noticed s x) (takes s x).effects RowsTold (base_rows x)
+        goes_on_forms (noticed s x) (takes s x).effects RowsTold (same_rows x (noticed s x))
         (λ to parts noted left is. told_rows x (noticed s x) to left);
     taken = λ quiet. base_rows x;
     drains = λ quiet.
-        answer_forms (takes s x).state (takes s x).effects RowsTold (base_rows x)
+        answer_forms (takes s x).state (takes s x).effects RowsTold (same_rows x (takes s x).state)
         (λ to parts noted left is. told_rows x (takes s x).state to left) x.member.node;
     seeks_on = λ quiet scan. each_more RowTold (saver_row s.base x).effects.sends _ (base_rows x) tt;
     ends = λ quiet. each_more RowTold (saver_row s.base x).effects.sends _ (base_rows x) tt;
     heard = λ y is. heard_rows y;
-    stays = λ y is row. heard_rows y;
     goes_on = λ y is scan. each_more RowTold (to_others (saver_row s.base y).effects.sends) _ (heard_rows y) tt;
-    locks = λ y is row.
+    asks = λ y is row h.
         each_more RowTold (to_others (saver_row s.base y).effects.sends) _ (heard_rows y)
-        (lock_row row (row_of (rows_in s) row.key) refl);
+        (each_asked RowTold (node_of s) row (copied (rows_in s) row.key) (lock_is row) tt h);
     waits = λ y is row h.
         each_append RowTold (to_others (saver_row s.base y).effects.sends) (told_ahead (node_of s) h) (heard_rows y)
         (each_ahead RowTold (node_of s) (λ tx. tt) h);
+    grants = λ y is row h.
+        each_append RowTold (to_others (saver_row s.base y).effects.sends)
+        (on_grant (node_of s) row h (copied (rows_in s) row.key)) (heard_rows y)
+        (each_grant RowTold (node_of s) row (copied (rows_in s) row.key) (lock_is row) h);
   }
 
 pub scans_tell_rows : ScansTellRows

@@ -15,8 +15,9 @@ use Rattle.sig_core.specs.declared.signal.host.Work.TheVariants as work
 use Rattle.sig_core.specs.declared.signal.joining.JoiningSignal.TheVariants.{DrainConf, DrainReq, DrainWait}
 use Rattle.sig_core.specs.Place.{copying, rows_of}
 use Rattle.sig_core.specs.Rows.{RowsState}
-use Rattle.sig_core.specs.Step.{Effects, Step, to_place}
-use Rattle.step_forms.specs.Does.{Does, IsAmong, IsWord, Speaks}
+use Rattle.sig_core.specs.Step.{Effects, Step, stay, to_place}
+use Rattle.step_forms.specs.Does.{IsAmong, IsWord, Speaks}
+use Rattle.step_forms.proofs.DoesLemmas.{joined_have}
 use Rattle.lqh_block.specs.declared.request.Marker.{Marker}
 use Rattle.lqh_views.specs.Words.{is_replica_mark}
 use Rattle.lqh_saver.specs.Saver.{saver_row}
@@ -38,11 +39,12 @@ use Rattle.lqh_copier.specs.Asking.{saying, takes}
 use Rattle.lqh_copier.specs.Asking.{to_others, unless_said}
 use Rattle.lqh_copier.specs.Commits.{watched}
 use Rattle.lqh_copier.specs.Copier.{copier_by, drain_row}
-use Rattle.lqh_copier.specs.Draining.{answer_by, answers, first_left, goes_on, goes_on_by, goes_on_if, is_left, told_by}
+use Rattle.lqh_copier.specs.Draining.{answer_by, answers, behind, first_left, goes_on, goes_on_by, goes_on_if}
+use Rattle.lqh_copier.specs.Draining.{is_left, told_by}
 use Rattle.lqh_copier.specs.Passing.{passes}
-use Rattle.lqh_copier.specs.Scanning.{ahead_if, asked_by, asks, comes_to, copied, ends_scan, go_on_at, go_on_if}
-use Rattle.lqh_copier.specs.Scanning.{granted_at, granted_by, locked, on_lock, passes_over, scan_by, scans_on, seeks}
-use Rattle.lqh_copier.specs.Scanning.{seeks_by, told_ahead, unlock_by, waits, waits_by}
+use Rattle.lqh_copier.specs.Scanning.{ahead_if, asked_by, asks, copied, ends_scan, go_on_at, go_on_if, granted_at}
+use Rattle.lqh_copier.specs.Scanning.{granted_by, on_ask, on_grant, on_lock, scan_by, scans_on, seeks, seeks_by}
+use Rattle.lqh_copier.specs.Scanning.{told_ahead, unlock_by, waits, waits_by}
 use Rattle.lqh_copier.specs.Laws.{IsQuestion, of_end, of_lock, of_wait}
 use Rattle.lqh_copier.specs.Seeking.{seek}
 use Rattle.lqh_copier.specs.State.{CopyingState, node_of, rows_in, with_commits}
@@ -65,27 +67,18 @@ pub record CopierForms (s : CopyingState) (x : Signal) (R : Step CopyingState �
   -- a scan goes on, or ends
   pub seeks_on : IsQuiet x.body → (scan : Scan) → R (scans_on s (takes s x) scan)
   pub ends : IsQuiet x.body → R (ends_scan s (takes s x))
-  -- the rows are heard
+  -- the rows are heard: a lock is asked for, waited for, granted, or let go of
   pub heard : (y : Signal) → IsHeard x y → R (listens s y)
-  pub stays : (y : Signal) → IsHeard x y → (row : Reached) → R (comes_to (listens s y) (Waiting row))
   pub goes_on : (y : Signal) → IsHeard x y → (scan : Scan) → R (scans_on s (listens s y) scan)
-  pub locks : (y : Signal) → IsHeard x y → (row : Reached) → R (locked s (listens s y) row)
+  pub asks : (y : Signal) → IsHeard x y → (row : Reached) (h : Heard) → R (asked_by s (listens s y) row h)
   pub waits : (y : Signal) → IsHeard x y → (row : Reached) (h : Heard) → R (waits_by s (listens s y) row h)
+  pub grants : (y : Signal) → IsHeard x y → (row : Reached) (h : Heard) → R (granted_by s (listens s y) row h)
 
 module _ (s : CopyingState) (x : Signal) (R : Step CopyingState → Type 0) (forms : CopierForms s x R) where
   asks_row : (row : Reached) → R (asks s x row)
-  asks_row row = by (heard_at s y)
-    where
-      y : Signal
-      y = saying x (asks_lock row.key)
-
-      asked : IsHeard x y
-      asked = question (of_lock row.key refl)
-
-      by : (h : Heard) → R (asked_by s (listens s y) row h)
-      by heard.Granted = forms.locks y asked row
-      by heard.Silence = forms.goes_on y asked (Waiting row)
-      by (heard.Ahead tx) = forms.goes_on y asked (Waiting row)
+  asks_row row =
+      forms.asks (saying x (asks_lock row.key)) (question (of_lock row.key refl)) row
+      (heard_at s (saying x (asks_lock row.key)))
 
   seeks_row : IsQuiet x.body → (fragment at : ℕ) → R (seeks s x fragment at)
   seeks_row quiet fragment at = by (seek s.copier.shape (rows_in s) fragment at)
@@ -121,12 +114,7 @@ module _ (s : CopyingState) (x : Signal) (R : Step CopyingState → Type 0) (for
   grants quiet Idle = forms.passed
   grants quiet (Seeking fragment at) = forms.passed
   grants quiet (Gone row) = forms.passed
-  grants quiet (Waiting row) = by (heard_at s x)
-    where
-      by : (h : Heard) → R (granted_by s (listens s x) row h)
-      by heard.Granted = forms.locks x (itself refl quiet) row
-      by heard.Silence = forms.stays x (itself refl quiet) row
-      by (heard.Ahead tx) = forms.stays x (itself refl quiet) row
+  grants quiet (Waiting row) = forms.grants x (itself refl quiet) row (heard_at s x)
 
   unlocks : IsQuiet x.body → (key : List ℕ) → (scan : Scan) → R (unlock_by s x key scan)
   unlocks quiet key Idle = forms.heard (saying x (lets_go key)) (question (of_end key refl))
@@ -154,28 +142,32 @@ module _ (s : CopyingState) (x : Signal) (R : Step CopyingState → Type 0) (for
           grants (quiet (Host (Continue work.Granted at)) is (λ rows commits. refl)) s.copier.scan
       by _ is = forms.passed
 
--- what the copying is told of the end of what stood: nothing, or how far it is
+-- the state behind a signal that the rows take, of which the copier has noticed the commits
+abbrev pub noticed : CopyingState → Signal → CopyingState
+noticed s x = with_commits (takes s x).state (watched (rows_in s) s.copier.commits x.body)
+
+-- what the copying is told of the end of what stood, behind effects: nothing, or how far it is
 module _ (s : CopyingState) (effects : Effects) (Q : Step CopyingState → Type 0)
-    (nothing : Q (record { state = s; effects = effects }))
+    (nothing : Q (behind effects (stay s)))
     (told : (to : ℕ) (parts : List Part) → s.copier.stood ≡ Noted parts → (left : Option Part)
-    → first_left (rows_in s) s.copier.commits parts ≡ left → Q (told_by s effects to left))
+    → first_left (rows_in s) s.copier.commits parts ≡ left → Q (behind effects (told_by s to left)))
   where
-    pub answer_forms : (to : ℕ) → Q (answers s effects to)
+    pub answer_forms : (to : ℕ) → Q (behind effects (answers s to))
     answer_forms to = by s.copier.stood refl
       where
-        by : (stood : Stood) → s.copier.stood ≡ stood → Q (answer_by s effects to stood)
+        by : (stood : Stood) → s.copier.stood ≡ stood → Q (behind effects (answer_by s to stood))
         by Unasked is = nothing
         by Fresh is = nothing
         by (Noted parts) is = told to parts is (first_left (rows_in s) s.copier.commits parts) refl
 
-    pub goes_on_forms : Q (goes_on s effects)
+    pub goes_on_forms : Q (behind effects (goes_on s))
     goes_on_forms = by s.copier.drain
       where
-        by_if : (to : ℕ) (b : Bool) → Q (goes_on_if s effects to b)
+        by_if : (to : ℕ) (b : Bool) → Q (behind effects (goes_on_if s to b))
         by_if to true = nothing
         by_if to false = answer_forms to
 
-        by : (drain : Option Drain) → Q (goes_on_by s effects drain)
+        by : (drain : Option Drain) → Q (behind effects (goes_on_by s drain))
         by None = nothing
         by (Some d) = by_if d.to (is_left (rows_in s) s.copier.commits d.named)
 
@@ -193,7 +185,11 @@ pub each_more : (P : Outgoing → Type 0) (sends : List Outgoing) (send : Outgoi
     → Each P (sends ++ send ∷ [])
 each_more P sends send all one = each_append P sends (send ∷ []) all (one, tt)
 
--- and of whom the copying waits for
+-- and of none more
+pub each_same : (P : Outgoing → Type 0) (sends : List Outgoing) → Each P sends → Each P (sends ++ [])
+each_same P sends all = each_append P sends [] all tt
+
+-- so it is of what the copying is told of whom it waits for
 pub each_ahead : (P : Outgoing → Type 0) (node : ℕ)
     → ((tx : TxId) → P (to_place (copying node) (Joining (DrainWait tx)))) → (h : Heard) → Each P (told_ahead node h)
 each_ahead P node one heard.Silence = tt
@@ -203,6 +199,21 @@ each_ahead P node one (heard.Ahead tx) = by (is_reader tx)
     by : (b : Bool) → Each P (ahead_if node tx b)
     by true = tt
     by false = (one tx, tt)
+
+-- of a row that is locked, or goes on being waited for
+module _ (P : Outgoing → Type 0) (node : ℕ) (row : Reached) (found : Option ((List ℕ × List ℕ) × ℕ))
+    (told : P (on_lock node row found))
+  where
+    pub each_asked : P (to_place (rows_of node) (Host (Continue work.Held 0))) → (h : Heard)
+        → P (on_ask node row h found)
+    each_asked on heard.Silence = on
+    each_asked on heard.Granted = told
+    each_asked on (heard.Ahead tx) = on
+
+    pub each_grant : (h : Heard) → Each P (on_grant node row h found)
+    each_grant heard.Silence = tt
+    each_grant heard.Granted = (told, tt)
+    each_grant (heard.Ahead tx) = tt
 
 -- a word of the rows and their saver is one of theirs with their copier
 is_word : (body : Body) → is_saver_word body ≡ true → is_copier_word body ≡ true
@@ -232,35 +243,49 @@ module _ (s : CopyingState) where
   lock_word row None = refl
   lock_word row (Some found) = refl
 
-  told : (t : CopyingState) (effects : Effects) → Each (IsWord is_copier_word) effects.sends
-      → Each (IsAmong is_replica_mark) effects.marks → (to : ℕ) (left : Option Part)
-      → Speak (told_by t effects to left)
-  told t effects all none to None = (each_more (IsWord is_copier_word) effects.sends _ all refl, none)
-  told t effects all none to (Some p) = (each_more (IsWord is_copier_word) effects.sends _ all refl, none)
+  told : (t : CopyingState) (y : Signal) (to : ℕ) (left : Option Part)
+      → Speak (behind (takes s y).effects (told_by t to left))
+  told t y to None =
+      joined_have (IsWord is_copier_word) (IsAmong is_replica_mark) (takes s y).effects
+      (told_by t to None).effects (words y, marks y) ((refl, tt), tt)
+  told t y to (Some p) =
+      joined_have (IsWord is_copier_word) (IsAmong is_replica_mark) (takes s y).effects
+      (told_by t to (Some p)).effects (words y, marks y) ((refl, tt), tt)
+
+  same : (t : CopyingState) (y : Signal) → Speak (behind (takes s y).effects (stay t))
+  same t y =
+      joined_have (IsWord is_copier_word) (IsAmong is_replica_mark) (takes s y).effects (stay t).effects
+      (words y, marks y) (tt, tt)
 
   pub speaks : (x : Signal) → CopierForms s x Speak
   speaks x = record {
     passed =
-        goes_on_forms (with_commits (takes s x).state (watched (rows_in s) s.copier.commits x.body))
-        (takes s x).effects Speak (words x, marks x)
-        (λ to parts noted left is.
-        told (with_commits (takes s x).state (watched (rows_in s) s.copier.commits x.body)) (takes s x).effects
-        (words x) (marks x) to left);
+        goes_on_forms (noticed s x) (takes s x).effects Speak (same (noticed s x) x)
+        (λ to parts noted left is. told (noticed s x) x to left);
     taken = λ quiet. (words x, marks x);
     drains = λ quiet.
-        answer_forms (takes s x).state (takes s x).effects Speak (words x, marks x)
-        (λ to parts noted left is. told (takes s x).state (takes s x).effects (words x) (marks x) to left)
-        x.member.node;
+        answer_forms (takes s x).state (takes s x).effects Speak (same (takes s x).state x)
+        (λ to parts noted left is. told (takes s x).state x to left) x.member.node;
     seeks_on = λ quiet scan. (each_more (IsWord is_copier_word) _ _ (words x) refl, marks x);
     ends = λ quiet. (each_more (IsWord is_copier_word) _ _ (words x) refl, marks x);
     heard = λ y is. (heard_words y, marks y);
-    stays = λ y is row. (heard_words y, marks y);
     goes_on = λ y is scan. (each_more (IsWord is_copier_word) _ _ (heard_words y) refl, marks y);
-    locks = λ y is row.
-        (each_more (IsWord is_copier_word) _ _ (heard_words y) (lock_word row (copied (rows_in s) row.key)), marks y);
+    asks = λ y is row h. (
+      each_more (IsWord is_copier_word) _ _ (heard_words y)
+          (each_asked (IsWord is_copier_word) (node_of s) row (copied (rows_in s) row.key)
+          (lock_word row (copied (rows_in s) row.key)) refl h),
+      marks y,
+    );
     waits = λ y is row h. (
       each_append (IsWord is_copier_word) (to_others (saver_row s.base y).effects.sends) (told_ahead (node_of s) h)
           (heard_words y) (each_ahead (IsWord is_copier_word) (node_of s) (λ tx. refl) h),
+      marks y,
+    );
+    grants = λ y is row h. (
+      each_append (IsWord is_copier_word) (to_others (saver_row s.base y).effects.sends)
+          (on_grant (node_of s) row h (copied (rows_in s) row.key)) (heard_words y)
+          (each_grant (IsWord is_copier_word) (node_of s) row (copied (rows_in s) row.key)
+          (lock_word row (copied (rows_in s) row.key)) h),
       marks y,
     );
   }

@@ -1,5 +1,5 @@
--- What the copying asks of the rows. It does so as a transaction that reads, by the signals of transactions; what the rows
--- say to it goes no further.
+-- What the copying asks of the rows. It does so as a transaction that reads, by the signals of transactions; what the
+-- rows say to it goes no further.
 use Rattle.std.specs.Prelude.{ℕ, ◌==◌, Bool, true, false, List, [], ◌∷◌}
 use Rattle.sig_core.specs.declared.member.TxId.{TxId}
 use Rattle.sig_core.specs.declared.op.Op.TheVariants.{Get}

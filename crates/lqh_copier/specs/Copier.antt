@@ -14,7 +14,7 @@ use Rattle.lqh_saver.specs.Saver.{saver_installed}
 use Rattle.lqh_copier.specs.declared.stage.Scan.TheVariants.{Idle}
 use Rattle.lqh_copier.specs.declared.stage.Stood.TheVariants.{Unasked}
 use Rattle.lqh_copier.specs.Asking.{takes}
-use Rattle.lqh_copier.specs.Draining.{answers, noted, stood_in}
+use Rattle.lqh_copier.specs.Draining.{answers, behind, noted, stood_in}
 use Rattle.lqh_copier.specs.Passing.{passes}
 use Rattle.lqh_copier.specs.Scanning.{go_on_row, granted_row, scan_row, unlock_row}
 use Rattle.lqh_copier.specs.State.{CopierState, CopyingState}
@@ -25,7 +25,7 @@ fresh_copier shape = record { shape = shape; commits = []; stood = Unasked; drai
 
 -- the copying of a node asks for the end of what stood when the view was installed
 abbrev pub drain_row : CopyingState → Signal → Step CopyingState
-drain_row s x = answers (takes s x).state (takes s x).effects x.member.node
+drain_row s x = behind (takes s x).effects (answers (takes s x).state x.member.node)
 
 -- what they do, by what a signal says
 abbrev pub copier_by : CopyingState → Signal → Body → Step CopyingState

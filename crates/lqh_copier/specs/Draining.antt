@@ -8,7 +8,7 @@ use Rattle.sig_core.specs.declared.signal.joining.JoiningSignal.{JoiningSignal}
 use Rattle.sig_core.specs.declared.signal.joining.JoiningSignal.TheVariants.{DrainConf, DrainWait}
 use Rattle.sig_core.specs.Place.{copying}
 use Rattle.sig_core.specs.Rows.{RowsState, record_state}
-use Rattle.sig_core.specs.Step.{Effects, Step, and_send}
+use Rattle.sig_core.specs.Step.{Effects, Step, joined, sending, stay}
 use Rattle.lqh_block.specs.declared.request.Marker.{Marker}
 use Rattle.lqh_block.specs.Commit.{is_marker}
 use Rattle.lqh_copier.specs.declared.stage.Drain.{Drain}
@@ -35,6 +35,15 @@ parts_of pending commits = map part_of_record pending ++ map part_of_marker comm
 abbrev pub noted_by : Stood → List Part → Stood
 noted_by Fresh parts = Noted parts
 noted_by stood parts = stood
+
+abbrev pub is_fresh : Stood → Bool
+is_fresh Fresh = true
+is_fresh _ = false
+
+-- what was noted of it is forgotten
+abbrev pub restored : CopierState → Bool → CopierState
+restored c true = has_stood c Fresh
+restored c false = c
 
 -- what stands is noted, where it is what stood when the view was installed
 abbrev pub noting : CopierState → RowsState → CopierState
@@ -65,32 +74,32 @@ abbrev pub told_body : Option Part → JoiningSignal
 told_body None = DrainConf
 told_body (Some p) = DrainWait p.tx
 
-abbrev pub told_by : CopyingState → Effects → ℕ → Option Part → Step CopyingState
-told_by s effects to left =
-    record {
-      state = with_drain s (told_drain to left);
-      effects = and_send effects (copying to) (Joining (told_body left));
-    }
+abbrev pub told_by : CopyingState → ℕ → Option Part → Step CopyingState
+told_by s to left = sending (with_drain s (told_drain to left)) (copying to) (Joining (told_body left))
 
-abbrev pub answer_by : CopyingState → Effects → ℕ → Stood → Step CopyingState
-answer_by s effects to (Noted parts) = told_by s effects to (first_left (rows_in s) s.copier.commits parts)
-answer_by s effects to _ = record { state = s; effects = effects }
+abbrev pub answer_by : CopyingState → ℕ → Stood → Step CopyingState
+answer_by s to (Noted parts) = told_by s to (first_left (rows_in s) s.copier.commits parts)
+answer_by s to _ = stay s
 
--- the copying of a node is told how far it is, behind these effects
-abbrev pub answers : CopyingState → Effects → ℕ → Step CopyingState
-answers s effects to = answer_by s effects to s.copier.stood
+-- the copying of a node is told how far it is
+abbrev pub answers : CopyingState → ℕ → Step CopyingState
+answers s to = answer_by s to s.copier.stood
 
-abbrev pub goes_on_if : CopyingState → Effects → ℕ → Bool → Step CopyingState
-goes_on_if s effects to true = record { state = s; effects = effects }
-goes_on_if s effects to false = answers s effects to
+abbrev pub goes_on_if : CopyingState → ℕ → Bool → Step CopyingState
+goes_on_if s to true = stay s
+goes_on_if s to false = answers s to
 
-abbrev pub goes_on_by : CopyingState → Effects → Option Drain → Step CopyingState
-goes_on_by s effects None = record { state = s; effects = effects }
-goes_on_by s effects (Some d) = goes_on_if s effects d.to (is_left (rows_in s) s.copier.commits d.named)
+abbrev pub goes_on_by : CopyingState → Option Drain → Step CopyingState
+goes_on_by s None = stay s
+goes_on_by s (Some d) = goes_on_if s d.to (is_left (rows_in s) s.copier.commits d.named)
 
 -- where what the copying was told of is gone, it is told how far it is
-abbrev pub goes_on : CopyingState → Effects → Step CopyingState
-goes_on s effects = goes_on_by s effects s.copier.drain
+abbrev pub goes_on : CopyingState → Step CopyingState
+goes_on s = goes_on_by s s.copier.drain
+
+-- effects, and then those of a step
+abbrev pub behind : Effects → Step CopyingState → Step CopyingState
+behind effects t = record { state = t.state; effects = joined effects t.effects }
 
 -- a view is installed: what stands is noted where a member begins anew
 abbrev pub stood_in : List Member → Stood

@@ -26,11 +26,7 @@ use Rattle.lqh_copier.specs.Seeking.{seek}
 use Rattle.lqh_copier.specs.State.{CopyingState, node_of, rows_in, with_scan}
 use Rattle.lqh_copier.specs.Passing.{passes}
 
--- behind a step the scan has come so far
-abbrev pub comes_to : Step CopyingState → Scan → Step CopyingState
-comes_to t scan = record { state = with_scan t.state scan; effects = t.effects }
-
--- and one signal is sent
+-- behind a step the scan has come so far, and one signal is sent
 abbrev pub tells : Step CopyingState → Scan → Place → Body → Step CopyingState
 tells t scan to body = record { state = with_scan t.state scan; effects = and_send t.effects to body }
 
@@ -61,14 +57,20 @@ on_lock node row None = to_place (rows_of node) (Host (Continue Held 0))
 on_lock node row (Some found) =
     to_place (copying node) (Copying (LqhScanConf (Some found.0) found.1 (Some row.next)))
 
-abbrev pub locked : CopyingState → Step CopyingState → Reached → Step CopyingState
-locked s t row =
-    tells t (after_lock row (copied (rows_in s) row.key)) (on_lock (node_of s) row (copied (rows_in s) row.key)).to
-    (on_lock (node_of s) row (copied (rows_in s) row.key)).body
+-- once it was asked for: it is locked, or waited for
+abbrev pub after_ask : Reached → Heard → Option ((List ℕ × List ℕ) × ℕ) → Scan
+after_ask row Granted found = after_lock row found
+after_ask row _ found = Waiting row
+
+abbrev pub on_ask : ℕ → Reached → Heard → Option ((List ℕ × List ℕ) × ℕ) → Outgoing
+on_ask node row Granted found = on_lock node row found
+on_ask node row _ found = to_place (rows_of node) (Host (Continue Held 0))
 
 abbrev pub asked_by : CopyingState → Step CopyingState → Reached → Heard → Step CopyingState
-asked_by s t row Granted = locked s t row
-asked_by s t row _ = scans_on s t (Waiting row)
+asked_by s t row heard =
+    tells t (after_ask row heard (copied (rows_in s) row.key))
+    (on_ask (node_of s) row heard (copied (rows_in s) row.key)).to
+    (on_ask (node_of s) row heard (copied (rows_in s) row.key)).body
 
 -- the lock of a row is asked for; where that isn't granted at once, the next step asks for whom it waits
 abbrev pub asks : CopyingState → Signal → Reached → Step CopyingState
@@ -134,9 +136,20 @@ go_on_if s x false = takes s x
 abbrev pub go_on_row : CopyingState → Signal → Step CopyingState
 go_on_row s x = go_on_if s x (x.view.number == s.base.replica.lqh.layout.view.number)
 
+-- while it is waited for
+abbrev pub on_grant : ℕ → Reached → Heard → Option ((List ℕ × List ℕ) × ℕ) → List Outgoing
+on_grant node row Granted found = on_lock node row found ∷ []
+on_grant node row _ found = []
+
 abbrev pub granted_by : CopyingState → Step CopyingState → Reached → Heard → Step CopyingState
-granted_by s t row Granted = locked s t row
-granted_by s t row _ = comes_to t (Waiting row)
+granted_by s t row heard =
+    record {
+      state = with_scan t.state (after_ask row heard (copied (rows_in s) row.key));
+      effects = record {
+        sends = t.effects.sends ++ on_grant (node_of s) row heard (copied (rows_in s) row.key);
+        marks = t.effects.marks;
+      };
+    }
 
 abbrev pub granted_at : CopyingState → Signal → Scan → Step CopyingState
 granted_at s x (Waiting row) = granted_by s (listens s x) row (heard_at s x)

@@ -74,6 +74,7 @@ impl Copier {
     ///
     /// # Errors
     /// `NoMemory`, and then nothing has happened.
+    #[tactic(auto, using(crate::proofs::NotedLemmas::restored_same))]
     pub fn handle<R: Rows>(
         &mut self,
         alloc: Global,
@@ -86,13 +87,15 @@ impl Copier {
         ensures ok { OnOk result (IsTaken (copier_row (together replica.old saver.old self.old) signal.now) (together replica.new saver.new self.new) out.old out.new) }
         ensures err { OnErr result (IsUntouched (together replica.old saver.old self.old) (together replica.new saver.new self.new) out.old out.new) }
     {
-        let fresh = matches!(&self.stood, Stood::Fresh);
+        let fresh = self.is_fresh();
         self.note(alloc, replica.rows())?;
-        let done = self.take(alloc, replica, saver, signal, out);
-        if fresh && done.is_err() {
-            self.stood = Stood::Fresh;
+        match self.take(alloc, replica, saver, signal, out) {
+            Ok(()) => Ok(()),
+            Err(NoMemory) => {
+                self.restore(fresh);
+                Err(NoMemory)
+            }
         }
-        done
     }
 
     // They take a signal, and what stood is noted.
@@ -135,7 +138,7 @@ impl Copier {
     }
 
     // The copying of a node asks for the end of what stood.
-    #[tactic(auto, using(crate::proofs::FewLemmas::few))]
+    #[tactic(auto, using(crate::proofs::EffectLemmas::effects))]
     fn drain<R: Rows>(
         &mut self,
         alloc: Global,
@@ -157,7 +160,7 @@ impl Copier {
     ///
     /// # Errors
     /// `NoMemory`, and then nothing has happened.
-    #[tactic(auto, using(crate::proofs::FewLemmas::few))]
+    #[tactic(auto, using(crate::proofs::EffectLemmas::effects))]
     pub(crate) fn pass<R: Rows>(
         &mut self,
         alloc: Global,

@@ -3,10 +3,11 @@ ghost use Rattle.std.specs.Prelude.{◌≡◌, ◌<◌, ◌++◌, IfOk, OnOk, On
 ghost use Rattle.std.specs.List.{list_any};
 ghost use Rattle.sig_core.specs.declared.signal.Body.TheVariants.{Joining};
 ghost use Rattle.sig_core.specs.Place.{copying};
-ghost use Rattle.sig_core.specs.Step.{and_send};
+ghost use Rattle.sig_core.specs.Step.{IsTaken, and_send};
 ghost use Rattle.lqh_block.specs.Commit.{is_marker};
-ghost use Rattle.lqh_copier.specs.Draining.{answers, first_left, goes_on, is_left, noting, part_of_marker};
-ghost use Rattle.lqh_copier.specs.Draining.{part_by, part_of_record, parts_of, told_body, told_drain};
+ghost use Rattle.lqh_copier.specs.Draining.{answers, first_left, goes_on, is_fresh, is_left, noting, part_of_marker};
+ghost use Rattle.lqh_copier.specs.Draining.{part_by, part_of_record, parts_of, restored, told_body};
+ghost use Rattle.lqh_copier.specs.Draining.{told_drain};
 ghost use Rattle.lqh_copier.specs.State.{has_drain, together};
 
 use crate::commits::is_marker;
@@ -123,6 +124,22 @@ impl Copier {
         Ok(())
     }
 
+    /// Whether all that stands is what stood.
+    pub(crate) fn is_fresh(&self) -> bool
+        ensures { result ≡ is_fresh self.now.stood }
+    {
+        matches!(&self.stood, Stood::Fresh)
+    }
+
+    /// What was noted is forgotten, where it was noted just now.
+    pub(crate) fn restore(&mut self, fresh: bool)
+        ensures { self.new ≡ restored self.old fresh }
+    {
+        if fresh {
+            self.stood = Stood::Fresh;
+        }
+    }
+
     /// The copying of a node is told how far the end of what stood is.
     pub(crate) fn answer<R: Rows>(
         &mut self,
@@ -132,7 +149,7 @@ impl Copier {
         out: &mut Outs,
     )
         requires { length out.old.sends < 16 }
-        ensures { record { state = together replica.now saver.now self.new; effects = out.new } ≡ answers (together replica.now saver.now self.old) out.old to }
+        ensures { IsTaken (answers (together replica.now saver.now self.old) to) (together replica.now saver.now self.new) out.old out.new }
     {
         if let Stood::Noted(parts) = &self.stood {
             let left = first_left(replica.rows(), &self.commits, parts.as_slice());
@@ -148,8 +165,8 @@ impl Copier {
     {
         match left {
             Some(named) => {
-                self.drain = Some(Drain { to, named });
                 let tx = named.tx;
+                self.drain = Some(Drain { to, named });
                 out.send(copying(to), Body::Joining(JoiningSignal::DrainWait { tx }));
             }
             None => {
@@ -167,7 +184,7 @@ impl Copier {
         out: &mut Outs,
     )
         requires { length out.old.sends < 16 }
-        ensures { record { state = together replica.now saver.now self.new; effects = out.new } ≡ goes_on (together replica.now saver.now self.old) out.old }
+        ensures { IsTaken (goes_on (together replica.now saver.now self.old)) (together replica.now saver.now self.new) out.old out.new }
     {
         if let Some(drain) = &self.drain {
             let drain = *drain;

@@ -5,7 +5,6 @@ ghost use Rattle.lqh_copier.specs.Words.{CopierKeepsToItsWords};
 
 /// A law, which does nothing: a step is one of the rows and their saver, at the signal or at what the copying asks of
 /// them in its place, which is the shared lock of a key, for whom it waits there, or to let go of it.
-#[tactic(auto, using(crate::proofs::LawLemmas::steps_are_of_rows))]
 pub fn steps_are_of_rows()
     ensures { StepsAreOfRows }
 {}

@@ -7,8 +7,9 @@ ghost use Rattle.sig_core.specs.declared.signal.host.Work.TheVariants as work;
 ghost use Rattle.sig_core.specs.Place.{copying, rows_of};
 ghost use Rattle.sig_core.specs.Step.{HasRoom, IsTaken, IsUntouched, and_send};
 ghost use Rattle.lqh_copier.specs.declared.stage.Scan.TheVariants.{Idle, Waiting};
-ghost use Rattle.lqh_copier.specs.Scanning.{after_lock, asks, copied, go_on_at, go_on_row, granted_at, granted_row};
-ghost use Rattle.lqh_copier.specs.Scanning.{on_lock, passes_over, scan_row, seeks, told_ahead, unlock_row, waits};
+ghost use Rattle.lqh_copier.specs.Scanning.{after_ask, after_lock, asks, copied, go_on_at, go_on_row, granted_at};
+ghost use Rattle.lqh_copier.specs.Scanning.{granted_row, on_ask, on_grant, on_lock, passes_over, scan_row, seeks};
+ghost use Rattle.lqh_copier.specs.Scanning.{told_ahead, unlock_row, waits};
 ghost use Rattle.lqh_copier.specs.State.{has_scan, together};
 
 use crate::asking::{ask_ahead, ask_lock, is_reader, let_go};
@@ -85,7 +86,7 @@ impl Copier {
     }
 
     // The next row of a fragment is sought, from a place on.
-    #[tactic(auto, using(crate::proofs::FewLemmas::few))]
+    #[tactic(auto, using(crate::proofs::EffectLemmas::effects))]
     fn seek_on<R: Rows>(
         &mut self,
         alloc: Global,
@@ -117,7 +118,7 @@ impl Copier {
     }
 
     // The lock of a row is asked for.
-    #[tactic(auto, using(crate::proofs::FewLemmas::few))]
+    #[tactic(auto, using(crate::proofs::EffectLemmas::effects))]
     fn lock<R: Rows>(
         &mut self,
         alloc: Global,
@@ -134,10 +135,8 @@ impl Copier {
         let node = replica.node();
         let found = copied(alloc, replica.rows(), &row.key)?;
         let body = ask_lock(alloc, &row.key)?;
-        match self.ask(alloc, replica, saver, signal, body, out)? {
-            Heard::Granted => self.end_lock(node, row, found, out),
-            _ => self.scan_on(node, Scan::Waiting { row }, out),
-        }
+        let heard = self.ask(alloc, replica, saver, signal, body, out)?;
+        self.end_ask(node, row, heard, found, out);
         Ok(())
     }
 
@@ -194,7 +193,7 @@ impl Copier {
     }
 
     // The copying is told for whom it waits.
-    #[tactic(auto, using(crate::proofs::FewLemmas::few))]
+    #[tactic(auto, using(crate::proofs::EffectLemmas::effects))]
     fn tell_wait<R: Rows>(
         &mut self,
         alloc: Global,
@@ -217,7 +216,7 @@ impl Copier {
     }
 
     // The lock of a row that is gone is let go of, and the next one is sought.
-    #[tactic(auto, using(crate::proofs::FewLemmas::few))]
+    #[tactic(auto, using(crate::proofs::EffectLemmas::effects))]
     fn pass_over<R: Rows>(
         &mut self,
         alloc: Global,
@@ -268,7 +267,7 @@ impl Copier {
     }
 
     // They do while the copying waits.
-    #[tactic(auto, using(crate::proofs::FewLemmas::few))]
+    #[tactic(auto, using(crate::proofs::EffectLemmas::effects))]
     fn granted_at<R: Rows>(
         &mut self,
         alloc: Global,
@@ -284,10 +283,8 @@ impl Copier {
     {
         let node = replica.node();
         let found = copied(alloc, replica.rows(), &row.key)?;
-        match self.listen(alloc, replica, saver, signal, out)? {
-            Heard::Granted => self.end_lock(node, row, found, out),
-            _ => self.scan = Scan::Waiting { row },
-        }
+        let heard = self.listen(alloc, replica, saver, signal, out)?;
+        self.end_wait(node, row, heard, found, out);
         Ok(())
     }
 
@@ -314,6 +311,45 @@ impl Copier {
                 Ok(())
             }
             _ => saver.handle(alloc, replica, signal, out),
+        }
+    }
+
+    // The lock of a row was asked for: it is locked, or waited for.
+    fn end_ask(
+        &mut self,
+        node: u8,
+        row: Reached,
+        heard: Heard,
+        found: Option<(Held<(Key, Value)>, u64)>,
+        out: &mut Outs,
+    )
+        requires { length out.old.sends < 16 }
+        ensures scan { self.new ≡ has_scan self.old (after_ask row heard found) }
+        ensures sent { out.new ≡ and_send out.old (on_ask node row heard found).to (on_ask node row heard found).body }
+    {
+        match heard {
+            Heard::Granted => self.end_lock(node, row, found, out),
+            _ => self.scan_on(node, Scan::Waiting { row }, out),
+        }
+    }
+
+    // It was waited for: it is locked, or waited for further.
+    fn end_wait(
+        &mut self,
+        node: u8,
+        row: Reached,
+        heard: Heard,
+        found: Option<(Held<(Key, Value)>, u64)>,
+        out: &mut Outs,
+    )
+        requires { length out.old.sends < 16 }
+        ensures scan { self.new ≡ has_scan self.old (after_ask row heard found) }
+        ensures sent { out.new.sends ≡ out.old.sends ++ on_grant node row heard found }
+        ensures marks { out.new.marks ≡ out.old.marks }
+    {
+        match heard {
+            Heard::Granted => self.end_lock(node, row, found, out),
+            _ => self.scan = Scan::Waiting { row },
         }
     }
 
