@@ -109,5 +109,6 @@ impl Client {
         if let Some(closing) = self.closing {
             ask(closing, view, out);
         }
+        self.ask_start_anew(view, out);
     }
 }
