@@ -1,11 +1,14 @@
 //! The start of a node that is asked for.
-ghost use Rattle.std.specs.Prelude.{◌≡◌, ◌<◌, ◌≤◌, ◌+◌, filter, length, OnOk, OnErr};
+ghost use Rattle.std.specs.Prelude.{◌≡◌, ◌<◌, ◌≤◌, ◌+◌, filter, length, None, Some, IfErr, IfOk, OnOk, OnErr};
 ghost use Rattle.std.specs.List.{list_any};
-ghost use Rattle.sig_core.specs.Step.{HasRoom, IsTaken, IsUntouched, joined, sends_only};
+ghost use Rattle.sig_core.specs.Step.{HasRoom, IsTaken, IsUntouched, joined, sends_only, stay};
 ghost use Rattle.api_views.specs.Starting.{begins_in, begun_start, drain_row, gone_at, is_apart, is_awaited, is_over};
 ghost use Rattle.api_views.specs.Starting.{is_waiting, start_anew, start_asking, start_is_gone, start_over};
 ghost use Rattle.api_views.specs.Starting.{start_over_by, start_refusal, start_row, started_row, unjoined_row};
 ghost use Rattle.api_views.specs.Starting.{unstarted, with_behind, with_start};
+ghost use Rattle.api_views.specs.Members.{president};
+ghost use Rattle.api_views.specs.Starts.{next_start};
+ghost use Rattle.api_views.specs.State.{telling};
 
 use crate::client::Client;
 use crate::cuts::CutPair;
@@ -47,7 +50,8 @@ fn ask(starting: &Starting, view: &View, out: &mut Outs)
 // The president of a view is told that the member has closed.
 fn tell_gone(member: Member, view: &View, out: &mut Outs)
     requires { length out.old.sends < 16 }
-    ensures { out.new ≡ joined out.old (sends_only (gone_at member (president view.now))) }
+    ensures sent { out.new ≡ joined out.old (sends_only (gone_at member (president view.now))) }
+    ensures few { length out.new.sends ≤ length out.old.sends + 1 }
 {
     if let Some(node) = president(view) {
         out.send(
@@ -249,7 +253,7 @@ impl Client {
     // A view was installed: what start is asked for is asked for anew, unless it is over.
     pub(crate) fn ask_start_anew(&mut self, view: &View, out: &mut Outs)
         requires { length out.old.sends < 16 }
-        ensures state { self.new ≡ with_behind self.old None }
+        ensures behind { self.new ≡ with_behind self.old None }
         ensures sent { out.new ≡ joined out.old (sends_only (start_anew (start_is_gone self.old) self.old.starting view.now)) }
     {
         if let (Some(starting), false) = (self.starting, self.start_is_gone()) {

@@ -1,5 +1,5 @@
 //! Starts of nodes, with their hosts.
-ghost use Rattle.std.specs.Prelude.{◌≡◌, IfSome, None, false};
+ghost use Rattle.std.specs.Prelude.{◌≡◌, IfSome, None, false, true};
 ghost use Rattle.api_views.specs.Starts.{first_of, first_start, has_numbers, is_of_node, last_of, latest};
 ghost use Rattle.api_views.specs.Starts.{latest_member, next_start};
 
@@ -86,7 +86,8 @@ impl Client {
 
     /// A further start of a node, if there are numbers for it and its hosts.
     pub(crate) fn next_start(&self, node: u8) -> Option<NodeStart>
-        ensures some { IfSome result (λ start. start ≡ next_start self.now node) }
+        ensures start { IfSome result (λ start. start ≡ next_start self.now node) }
+        ensures some { IfSome result (λ start. has_numbers self.now node ≡ true) }
         ensures none { result ≡ None → has_numbers self.now node ≡ false }
     {
         let latest = self.latest_member(node);
