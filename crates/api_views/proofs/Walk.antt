@@ -160,10 +160,28 @@ pub gone_each : (P : Outgoing → Type 0)
 gone_each P gone member None = tt
 gone_each P gone member (Some node) = (gone node member, tt)
 
+-- what is asked for is asked for anew
+pub anew_all_each : (P : Outgoing → Type 0)
+    → ((closing : Closing) (node : ℕ) → P (to_place (checkpoints node) (ask_of closing)))
+    → ((node : ℕ) (member : Member) (own : Option ℕ)
+    → P (to_place (membership node) (Joining (StartReq member own)))) → (s : ClientState) → (view : View)
+    → Each P (anew s.closing view ++ start_anew (start_is_gone s) s.starting view)
+anew_all_each P closes starts s view =
+    each_append P (anew s.closing view) _ (anew_each P closes s.closing view)
+    (start_anew_each P starts (start_is_gone s) s.starting view)
+
 -- the block goes on, or doesn't
 pub more_each : (P : Outgoing → Type 0) → P (go_on_at client Report 0) → (b : Bool) → Each P (more_if b)
 more_each P on true = (on, tt)
 more_each P on false = tt
+
+-- a start is over, and the block goes on, or doesn't
+pub over_each : (P : Outgoing → Type 0)
+    → ((node : ℕ) (member : Member) → P (to_place (membership node) (Joining (StartGone member))))
+    → P (go_on_at client Report 0) → (member : Member) → (o : Option ℕ) → (b : Bool)
+    → Each P (gone_at member o ++ more_if b)
+over_each P gone on member o b =
+    each_append P (gone_at member o) (more_if b) (gone_each P gone member o) (more_each P on b)
 
 module _ (s : ClientState) (x : Signal) (P : Outgoing → Type 0) (M : Mark → Type 0) (forms : ClientForms s x P M) where
   of_api : ApiForms s.api x.body P M
@@ -205,11 +223,7 @@ module _ (s : ClientState) (x : Signal) (P : Outgoing → Type 0) (M : Mark → 
     obstructs = λ name on is e. (tt, tt);
     closes = λ closing none. (asking_each P forms.closes closing (president s.api.view), tt);
     closed = λ closing epoch is. (tt, tt);
-    asks_anew = λ is. (
-      each_append P (anew s.closing x.view) _ (anew_each P forms.closes s.closing x.view)
-      (start_anew_each P forms.starts (start_is_gone s) s.starting x.view),
-      tt,
-    );
+    asks_anew = λ is. (anew_all_each P forms.closes forms.starts s x.view, tt);
     starts = λ node own is free.
         (starting_each P forms.starts (starting_of _ own) (president s.api.view), tt);
     started = λ member is waits. (tt, tt);
@@ -217,11 +231,8 @@ module _ (s : ClientState) (x : Signal) (P : Outgoing → Type 0) (M : Mark → 
     drains = λ tx is. (tt, tt);
     holds = λ tx is behind. (tt, tt);
     breaks = λ node is. (more _, tt);
-    ends_start = λ starting some gone. (
-      each_append P (gone_at starting.member (president s.api.view)) _
-      (gone_each P forms.gone starting.member (president s.api.view)) (more _),
-      tt,
-    );
+    ends_start = λ starting some gone.
+        (over_each P forms.gone forms.goes_on starting.member (president s.api.view) _, tt);
     never_begins = λ at f none. (more _, tt);
     goes_down = λ at f tx own down. (more _, (forms.down _ at f tx own down, tt));
     fails = λ at f tx view own over out last.
