@@ -112,8 +112,9 @@ impl Client {
         if has_node(self.api.view(), node) {
             return Err(Refusal::InView(node));
         }
+        let free = self.starting.is_none();
         match self.next_start(node) {
-            Some(start) if self.starting.is_none() => Ok(start),
+            Some(start) if free => Ok(start),
             _ => Err(Refusal::Busy),
         }
     }

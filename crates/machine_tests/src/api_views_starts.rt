@@ -13,7 +13,9 @@ use std::test::Fail;
 const MOST: u32 = 100;
 
 const ONE: Member = Member { node: 1, start: 0 };
+
 const TWO: Member = Member { node: 2, start: 0 };
+
 const AGAIN: Member = Member { node: 2, start: 1 };
 
 // A transaction of node 1, and one of the later start of node 2.
@@ -22,6 +24,7 @@ const OLD: TxId = TxId {
     start: 0,
     seq: 1,
 };
+
 const NEW: TxId = TxId {
     tc: 2,
     start: 1,
@@ -243,11 +246,13 @@ fn a_start_is_refused_until_all_hosts_have_closed(rt: HostRuntime) -> Result<(),
     talk.told(by(ONE, 1, 2), ClientSignal::ViewRep)?;
     talk.start()?;
     talk.start()?;
-    assert!(rt; is_told(
-        &talk,
-        "no member 3\nrunning 2\nnode 2 stopped killed\nrunning 2\nrunning 2\nin view 2\n\
+    assert!(rt;
+        is_told(
+            &talk,
+            "no member 3\nrunning 2\nnode 2 stopped killed\nrunning 2\nrunning 2\nin view 2\n\
          > qmgr 1 start_req 2.1 own 7\nbusy\n",
-    ));
+        )
+    );
     Ok(())
 }
 
@@ -271,11 +276,13 @@ fn a_start_waits_and_is_answered(rt: HostRuntime) -> Result<(), Fail> {
     talk.join(by(ONE, 1, 4), JoiningSignal::StartRep { member: AGAIN })?;
     talk.join(by(ONE, 1, 4), JoiningSignal::StartRep { member: AGAIN })?;
     talk.start()?;
-    assert!(rt; is_told(
-        &talk,
-        "> tc 1 request\n@5 begun 1\nnode 2 stopped killed\n> qmgr 1 start_req 2.1 own 7\n\
+    assert!(rt;
+        is_told(
+            &talk,
+            "> tc 1 request\n@5 begun 1\nnode 2 stopped killed\n> qmgr 1 start_req 2.1 own 7\n\
          pending held by @5\n> qmgr 1 start_req 2.1 own 7\nstarted 2\nrunning 2\n",
-    ));
+        )
+    );
     Ok(())
 }
 
@@ -292,12 +299,14 @@ fn a_start_whose_host_closes_has_ended(rt: HostRuntime) -> Result<(), Fail> {
     talk.closes(by(AGAIN, 8, 3), StopCause::Sibling { host })?;
     talk.closes(by(AGAIN, 9, 3), StopCause::Sibling { host })?;
     talk.start()?;
-    assert!(rt; is_told(
-        &talk,
-        "node 2 stopped killed\n> qmgr 1 start_req 2.1 own 7\n> qmgr 2 kill 0\n\
+    assert!(rt;
+        is_told(
+            &talk,
+            "node 2 stopped killed\n> qmgr 1 start_req 2.1 own 7\n> qmgr 2 kill 0\n\
          node 2 stopped killed\n> api 0 goes on\nstart 2 ended\n> qmgr 1 start_gone 2.1\n\
          in view 2\n",
-    ));
+        )
+    );
     Ok(())
 }
 
@@ -316,14 +325,16 @@ fn the_next_start_has_the_next_hosts(rt: HostRuntime) -> Result<(), Fail> {
     talk.ask(ApiReq::Gcp)?;
     talk.ask(ApiReq::Pending)?;
     talk.ask(ApiReq::Tick { round: 1, of: 1 })?;
-    assert!(rt; is_told(
-        &talk,
-        "node 2 stopped killed\n> qmgr 1 start_req 2.1 own 7\n> qmgr 2 kill 0\n\
+    assert!(rt;
+        is_told(
+            &talk,
+            "node 2 stopped killed\n> qmgr 1 start_req 2.1 own 7\n> qmgr 2 kill 0\n\
          node 2 stopped killed\n> api 0 goes on\nstart 2 ended\n> qmgr 1 start_gone 2.1\n\
          > qmgr 1 start_req 2.2 own 7\ncut 1 2\n> qmgr 1 cut 2 from 10\n> tc 1 cut 2 from 10\n\
          > lqh 1 cut 2 from 10\n> gcp_master 1 closing\npending cut 1 2\nticked 1\n\
          > lqh 1 round\n> lqh 2 round\n> qmgr 1 round\n> qmgr 2 round\n",
-    ));
+        )
+    );
     Ok(())
 }
 
@@ -335,11 +346,13 @@ fn a_cluster_that_goes_down_answers_no_start(rt: HostRuntime) -> Result<(), Fail
     talk.closes(by(ONE, 1, 3), StopCause::Killed)?;
     talk.closes(by(AGAIN, 7, 3), StopCause::NoGroup { group: 0 })?;
     talk.start()?;
-    assert!(rt; is_told(
-        &talk,
-        "node 2 stopped killed\n> qmgr 1 start_req 2.1 own 7\nnode 1 stopped killed\n\
+    assert!(rt;
+        is_told(
+            &talk,
+            "node 2 stopped killed\n> qmgr 1 start_req 2.1 own 7\nnode 1 stopped killed\n\
          node 2 stopped nogroup 0\ndown\n",
-    ));
+        )
+    );
     Ok(())
 }
 
@@ -358,10 +371,12 @@ fn who_joined_later_is_not_judged_by_an_old_takeover(rt: HostRuntime) -> Result<
     talk.told(by(AGAIN, 8, 4), ClientSignal::TcBeginConf { name, tx: NEW })?;
     talk.closes(by(ONE, 1, 4), StopCause::Killed)?;
     talk.goes_on()?;
-    assert!(rt; is_told(
-        &talk,
-        "node 2 stopped killed\n> qmgr 1 start_req 2.1 own 7\nstarted 2\n> tc 2 request\n\
+    assert!(rt;
+        is_told(
+            &talk,
+            "node 2 stopped killed\n> qmgr 1 start_req 2.1 own 7\nstarted 2\n> tc 2 request\n\
          @1 begun 2\nnode 1 stopped killed\n",
-    ));
+        )
+    );
     Ok(())
 }

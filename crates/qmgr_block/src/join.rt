@@ -63,7 +63,10 @@ impl Known {
     fn trusts_all(&self) -> bool
         ensures { result ≡ trusts_all self.now }
     {
-        trusts_each(self.suspects.as_slice(), members_of(self.layout.view()).as_slice())
+        trusts_each(
+            self.suspects.as_slice(),
+            members_of(self.layout.view()).as_slice(),
+        )
     }
 
     // Whether a member more may be proposed, or a full one more.
