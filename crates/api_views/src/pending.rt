@@ -1,5 +1,5 @@
 //! What an unanswered command waits for.
-ghost use Rattle.std.specs.Prelude.{◌≡◌, OnOk, OnErr, true, false};
+ghost use Rattle.std.specs.Prelude.{◌≡◌, ◌<◌, IfSome, OnOk, OnErr, length, position, true, false};
 ghost use Rattle.std.specs.List.{list_any};
 ghost use Rattle.sig_core.specs.Firsts.{first};
 ghost use Rattle.sig_core.specs.Step.{HasRoom, IsTaken, IsUntouched, stay};
@@ -24,6 +24,14 @@ fn has_tx(tx: TxId, t: &OpenTransaction) -> bool
         Some(begun) => begun == tx,
         None => false,
     }
+}
+
+// Where a transaction stands.
+fn place_of(opened: &[OpenTransaction], tx: TxId) -> Option<usize>
+    ensures value { result ≡ position (has_tx tx) opened.now }
+    ensures inside { IfSome result (λ at. at < length opened.now) }
+{
+    opened.iter().position(|t| has_tx(tx, t))
 }
 
 fn is_at(node: u8, member: &Member) -> bool
@@ -156,9 +164,8 @@ impl Client {
     fn name_of(&self, tx: TxId) -> Option<u16>
         ensures { result ≡ name_of self.now.api tx }
     {
-        let opened = self.api.opened();
-        match opened.iter().position(|t| has_tx(tx, t)) {
-            Some(at) => opened[at].name,
+        match place_of(self.api.opened(), tx) {
+            Some(at) => self.api.opened()[at].name,
             None => None,
         }
     }

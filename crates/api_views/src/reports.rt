@@ -3,13 +3,15 @@ ghost use Rattle.std.specs.Prelude.{◌≡◌, ◌<◌, ◌+◌, ◌≤◌, posi
 ghost use Rattle.sig_core.specs.Step.{HasRoom, IsTaken, IsUntouched, joined, sends_only};
 ghost use Rattle.api_block.specs.Views.{dump_node};
 ghost use Rattle.api_views.specs.Reports.{begun_verdict, broken_by, complete_row, current_takeover, down_outcome};
-ghost use Rattle.api_views.specs.Reports.{dump_breaks, ended_by, failed_by, first_ended, going_on, greater_of};
+ghost use Rattle.api_views.specs.Reports.{dump_breaks, ended_by, failed_by, first_ended, going_on, gone_only};
+ghost use Rattle.api_views.specs.Reports.{greater_of};
 ghost use Rattle.api_views.specs.Reports.{has_more, is_due, more_if, place_due, report_row, stop_row, stop_told_if};
 ghost use Rattle.api_views.specs.Reports.{told_if, unasked, unbegun_if, verdict, with_stop};
 ghost use Rattle.api_views.specs.Starting.{start_is_gone};
 
 use crate::client::Client;
 use crate::members::{greater_view, is_member};
+use crate::starts::Starting;
 use crate::stops::{HostStop, is_sibling, is_told, ldm_stopped, tc_stopped};
 use api_block::{Api, Doing, OpenTransaction, is_beginning};
 use sig_core::{
@@ -32,6 +34,13 @@ fn down_outcome(doing: &Doing) -> Outcome
         Doing::Committing => Outcome::Unknown,
         _ => Outcome::Aborted(AbortCause::Down),
     }
+}
+
+// The start that is asked for, where it is over.
+fn gone_only(starting: Option<Starting>, gone: bool) -> Option<Starting>
+    ensures { result ≡ gone_only starting gone }
+{
+    if gone { starting } else { None }
 }
 
 // The end of a transaction by a complete takeover.
@@ -61,8 +70,9 @@ impl Client {
         ensures { result ≡ current_takeover self.now }
     {
         match self.taken_over {
-            Some(view) if view.number >= self.api.view().number => Some(view),
-            _ => None,
+            Some(view) if view.number < self.api.view().number => None,
+            Some(view) => Some(view),
+            None => None,
         }
     }
 
@@ -284,11 +294,10 @@ impl Client {
         ensures { self.new ≡ unasked self.old }
     {
         if self.is_down() {
-            if !self.start_is_gone() {
-                self.starting = None;
-            }
+            self.starting = gone_only(self.starting, self.start_is_gone());
             self.closing = None;
-            self.set_aside();
+            self.own = false;
+            self.own_start = false;
         }
     }
 

@@ -2,7 +2,8 @@
 ghost use Rattle.std.specs.Prelude.{◌≡◌, ◌<◌, ◌≤◌, ◌+◌, filter, length, None, Some, IfErr, IfOk, OnOk, OnErr};
 ghost use Rattle.std.specs.List.{list_any};
 ghost use Rattle.sig_core.specs.Step.{HasRoom, IsTaken, IsUntouched, joined, sends_only, stay};
-ghost use Rattle.api_views.specs.Starting.{begins_in, begun_start, drain_row, gone_at, is_apart, is_awaited, is_over};
+ghost use Rattle.api_views.specs.Starting.{begins_in, begun_start, behind, drain_row, dumps_by, gone_at, is_apart};
+ghost use Rattle.api_views.specs.Starting.{is_awaited, is_over};
 ghost use Rattle.api_views.specs.Starting.{is_waiting, start_anew, start_asking, start_is_gone, start_over};
 ghost use Rattle.api_views.specs.Starting.{start_over_by, start_refusal, start_row, started_row, unjoined_row};
 ghost use Rattle.api_views.specs.Starting.{unstarted, with_behind, with_start};
@@ -35,6 +36,16 @@ fn some_begin_in(node: u8, opened: &[OpenTransaction]) -> bool
     opened.iter().any(|t| begins_in(node, t))
 }
 
+// Whether the rows of the node are asked for.
+fn dumps_by(node: u8, dump: Option<u8>) -> bool
+    ensures { result ≡ dumps_by node dump }
+{
+    match dump {
+        Some(other) => other == node,
+        None => false,
+    }
+}
+
 // The president of a view is asked for the start.
 fn ask(starting: &Starting, view: &View, out: &mut Outs)
     requires { length out.old.sends < 16 }
@@ -61,6 +72,19 @@ fn tell_gone(member: Member, view: &View, out: &mut Outs)
     }
 }
 
+// The start waits for this transaction, or it isn't known for which.
+fn behind(tx: Option<TxId>, starting: Option<Starting>) -> Option<Starting>
+    ensures { result ≡ behind tx starting }
+{
+    match starting {
+        Some(starting) => Some(Starting {
+            behind: tx,
+            ..starting
+        }),
+        None => None,
+    }
+}
+
 // Whether neither node of the pair is this one.
 fn is_apart(node: u8, cut: &CutPair) -> bool
     ensures { result ≡ is_apart node cut.now }
@@ -80,11 +104,7 @@ impl Client {
     fn is_awaited(&self, node: u8) -> bool
         ensures { result ≡ is_awaited self.now node }
     {
-        some_begin_in(node, self.api.opened())
-            || match self.api.dump_node() {
-                Some(other) => other == node,
-                None => false,
-            }
+        some_begin_in(node, self.api.opened()) || dumps_by(node, self.api.dump_node())
     }
 
     // Whether the latest start of a node is over: all its hosts have stopped, and nothing waits for
@@ -165,10 +185,10 @@ impl Client {
         ensures err { OnErr result (self.new ≡ self.old) }
     {
         self.later.reserve(1)?;
-        self.leave();
-        forget_cuts(&mut self.cuts, start.member.node);
         self.later.push_reserved(start);
+        forget_cuts(&mut self.cuts, start.member.node);
         self.starting = Some(starting);
+        self.leave();
         self.own_start = true;
         Ok(())
     }
@@ -224,12 +244,7 @@ impl Client {
     fn set_behind(&mut self, tx: Option<TxId>)
         ensures { self.new ≡ with_behind self.old tx }
     {
-        if let Some(starting) = self.starting {
-            self.starting = Some(Starting {
-                behind: tx,
-                ..starting
-            });
-        }
+        self.starting = behind(tx, self.starting);
     }
 
     // The copying waits for a transaction.
@@ -251,15 +266,23 @@ impl Client {
         }
     }
 
-    // A view was installed: what start is asked for is asked for anew, unless it is over.
+    // What start is asked for is asked for anew, unless it is over.
+    fn send_start_anew(&self, view: &View, out: &mut Outs)
+        requires { length out.old.sends < 16 }
+        ensures { out.new ≡ joined out.old (sends_only (start_anew (start_is_gone self.now) self.now.starting view.now)) }
+    {
+        if let (Some(starting), false) = (self.starting, self.start_is_gone()) {
+            ask(&starting, view, out);
+        }
+    }
+
+    // A view was installed: the start is asked for anew, and its joining begins anew.
     pub(crate) fn ask_start_anew(&mut self, view: &View, out: &mut Outs)
         requires { length out.old.sends < 16 }
         ensures behind { self.new ≡ with_behind self.old None }
         ensures sent { out.new ≡ joined out.old (sends_only (start_anew (start_is_gone self.old) self.old.starting view.now)) }
     {
-        if let (Some(starting), false) = (self.starting, self.start_is_gone()) {
-            ask(&starting, view, out);
-        }
+        self.send_start_anew(view, out);
         self.set_behind(None);
     }
 

@@ -92,14 +92,15 @@ impl Client {
     {
         let latest = self.latest_member(node);
         let many = self.later.len();
-        if many >= STARTS {
-            return None;
+        if many < STARTS && latest.start < u32::MAX {
+            let start = latest.start + 1;
+            let host = 3 * (self.nodes as u32 + many as u32) + 1;
+            Some(NodeStart {
+                member: Member { node, start },
+                host: HostId(host),
+            })
+        } else {
+            None
         }
-        let start = latest.start.checked_add(1)?;
-        let host = 3 * (self.nodes as u32 + many as u32) + 1;
-        Some(NodeStart {
-            member: Member { node, start },
-            host: HostId(host),
-        })
     }
 }
