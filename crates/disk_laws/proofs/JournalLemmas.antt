@@ -32,13 +32,6 @@ use Rattle.journal_laws.specs.Journal.{AreEventsOf, first_rows, lqh_after, outle
 use Rattle.journal_laws.specs.Saver.{IsStepBy}
 use Rattle.journal_laws.specs.Saver as steps
 
--- the bytes of newer records follow those of the others
-pub bytes_both : (newer older : List Redo) → log_bytes (newer ++ older) ≡ log_bytes older ++ log_bytes newer
-bytes_both [] older = sym (append-nil (log_bytes older))
-bytes_both (newest ∷ newer) older =
-    ap (λ bytes. bytes ++ bytes_of newest) (bytes_both newer older)
-    ∙ append_assoc (log_bytes older) (log_bytes newer) (bytes_of newest)
-
 -- records are newer ones and others
 pub newer_records : (newer older : List Redo) → AreRecords (newer ++ older) → AreRecords newer
 newer_records [] older are = tt

@@ -1,5 +1,5 @@
 -- No transaction has two records on a key, after every log of the host of the rows.
-use Rattle.std.proofs.Common.{◌≡◌, ℕ, Bool, true, false, filter, map, List, [], ◌∷◌, refl, sym, subst}
+use Rattle.std.proofs.Common.{◌≡◌, ℕ, Bool, true, false, filter, map, List, sym, subst}
 use Rattle.std.specs.Prelude.{Option}
 use Rattle.run_theory.specs.Lists.{IsIn}
 use Rattle.sig_core.specs.declared.member.Member.{Member}
@@ -13,11 +13,11 @@ use Rattle.sig_core.specs.declared.signal.chain.RowWork.{RowWork}
 use Rattle.sig_core.specs.declared.signal.chain.RowWork.TheVariants.{Operate, Store}
 use Rattle.sig_core.specs.declared.view.View.{View}
 use Rattle.sig_core.specs.Op.{answer_to, image_of, key_of}
-use Rattle.sig_core.specs.Rows.{RowsState, is_on, no_rows, prepared, put_row}
+use Rattle.sig_core.specs.Rows.{is_on, no_rows, prepared}
 use Rattle.lqh_views.specs.Replica.{installed, replica_row}
 use Rattle.lqh_views.specs.State.{ReplicaState}
 use Rattle.lqh_saver.specs.Switching.{given_up, has_position}
-use Rattle.node_core.specs.Fresh.{own_rows, with_rows}
+use Rattle.node_core.specs.Fresh.{own_rows}
 use Rattle.key_laws.specs.Records.{AreOnce, found, seen_by, without_epoch}
 use Rattle.key_laws.specs.Replica.{Cell, Replica, at_key}
 use Rattle.key_laws.specs.Replica.{operated, storing, worked}
@@ -25,6 +25,7 @@ use Rattle.key_laws.proofs.RecordLemmas.{once-stored}
 use Rattle.host_laws.specs.ReplicaLaws.{IsWell}
 use Rattle.world_core.specs.Start.{Start, made}
 use Rattle.world_core.specs.Steps.{HostStep}
+use Rattle.world_views.proofs.FreshBodies.{none_pending}
 use Rattle.run_laws.proofs.fades.Records.{once_after}
 use Rattle.request_laws.specs.Blocks.{rows_after}
 use Rattle.request_laws.specs.Replicas.{event_under}
@@ -71,17 +72,12 @@ give_so s at has so =
     record { well = given_up_well s at has so.well; once = so.once }
 
 -- none is there at first
-pub none_put : (s : RowsState) (rows : List (List ℕ × List ℕ)) (epoch : ℕ) → s.pending ≡ []
-    → (with_rows s rows epoch).pending ≡ []
-none_put s [] epoch none = none
-none_put s (r ∷ rows) epoch none = none_put (put_row s r.0 r.1 epoch) rows epoch none
-
 first_so : (start : Start) (member : Member) → AreSo (first_rows start member)
 first_so start member = record {
   well = first_well start member;
   once = λ key.
       subst (λ (xs : List PendingRecord). AreOnce (map without_epoch (filter (is_on key) xs)))
-      (sym (none_put no_rows (own_rows start.shape member.node start.rows) start.start_epoch refl)) tt;
+      (sym (none_pending no_rows (own_rows start.shape member.node start.rows) start.start_epoch)) tt;
 }
 
 module _ (start : Start) (member : Member) (there : IsIn member (made start)) (log : List HostStep) where

@@ -62,7 +62,8 @@ use Rattle.request_laws.proofs.routes.Places.{is_for_rows, rows_know_node}
 use Rattle.request_laws.proofs.routes.PartsOfTheFirst.{nobody_later}
 use Rattle.request_laws.proofs.tokens.HostsApart.{ldm_low}
 use Rattle.commit_laws.specs.Traces.{IsReplicaOf, record_at, replica_at, rows_at}
-use Rattle.commit_laws.proofs.records.Once.{none_put, rows_well}
+use Rattle.commit_laws.proofs.records.Once.{rows_well}
+use Rattle.world_views.proofs.FreshBodies.{none_pending}
 use Rattle.commit_laws.proofs.records.Replicas.{chained, in_turns, self, turn_in}
 use Rattle.commit_laws.proofs.hosts.RowsTurn.{IsBetween, IsTakenAt, RowsGo, as_was, enter, entered, rest, rows_go, take}
 
@@ -330,7 +331,7 @@ module _ (start : Start) where
       ap (λ (s : hosts.HostBody). (at_key key (rows_in (no_replica start member) s.parts).lqh).cell.pending)
       (ldm_started start member there)
       ∙ ap (λ (xs : List PendingRecord). map without_epoch (filter (is_on key) xs))
-      (none_put no_rows (own_rows start.shape member.node start.rows) start.start_epoch refl)
+      (none_pending no_rows (own_rows start.shape member.node start.rows) start.start_epoch)
 
   always_placed : (all : ℕ → List HostStep) (es : List HostStep) → IsMoment start all es → (member : Member)
       → IsIn member (made start) → ArePlaced (logs_of start es) member

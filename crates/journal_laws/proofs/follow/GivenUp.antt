@@ -22,7 +22,8 @@ use Rattle.world_core.specs.Steps.{HostStep}
 use Rattle.journal_laws.specs.Checkpoints.{in_journal}
 use Rattle.journal_laws.specs.Events.{AreUpTo, changed_if, records_behind, rows_behind}
 use Rattle.journal_laws.specs.Journal.{first_rows, lqh_after}
-use Rattle.journal_laws.specs.Saver.{SwitchesTo, saver_after, saving_after}
+use Rattle.journal_laws.specs.Saver.{SwitchesTo}
+use Rattle.request_laws.specs.Blocks.{saver_after, saving_after}
 use Rattle.journal_laws.specs.Walks.{HasEnded, HasGivenUp, position_behind}
 use Rattle.journal_laws.proofs.events.FirstRows.{first_orderly, first_pending, first_replica}
 use Rattle.journal_laws.proofs.events.HostEvents.{HasCome}
