@@ -42,6 +42,7 @@ use Rattle.host_laws.proofs.coordinator.Turns.{abort_ends, aborted, aborts, all_
 use Rattle.host_laws.proofs.coordinator.Turns.{commits, committed, completed, completes, decides, ends, entered_phase}
 use Rattle.host_laws.proofs.coordinator.Turns.{gives_up, GivesUp, goes_on, is_wait_kind, keeps, late, over_not, refused}
 use Rattle.host_laws.proofs.coordinator.Turns.{TurnMove}
+use Rattle.host_laws.proofs.coordinator.Ways.{aborting_apart}
 use Rattle.tc_block.specs.Phases.{is_aborting}
 
 -- neither a request for an operation nor an answer to one
@@ -279,13 +280,6 @@ module _ (s : TcState) (tx : TxId) (key : List ℕ) (t : Transaction) (body : Bo
   given_undecided w (asked_to (inr p) other about is) = ap is_decided p
   given_undecided w (refused other at why asked p about on is) = ap is_decided p
 
-  aborting_undecided : (phase : Phase) → is_aborting phase ≡ true → is_decided phase ≡ false
-  aborting_undecided (Aborting why v k) e = refl
-  aborting_undecided Open e = refl
-  aborting_undecided Verifying e = refl
-  aborting_undecided (Committing epoch k) e = absurd (false≢true e)
-  aborting_undecided (Completing epoch k) e = absurd (false≢true e)
-
   pub back_turn : TurnMove s tx t body turn → BackTurn
   back_turn (keeps sends is kind missed) =
       back_same _ is refl (λ off. of_kind is_wait_kind (is_back tx) (wait_back tx) sends kind)
@@ -293,7 +287,7 @@ module _ (s : TcState) (tx : TxId) (key : List ℕ) (t : Transaction) (body : Bo
       back_same _ is refl (λ off. back_parts s.node s.layout tx t.phase t.touched at off)
   back_turn (asks op about p q fit is) = back_same _ is refl (λ off. refl)
   back_turn (answers at a asked about p q is) = back_same _ is refl (λ off. refl)
-  back_turn (late at asked about p q is) = back_from _ is (aborting_undecided t.phase p)
+  back_turn (late at asked about p q is) = back_from _ is (aborting_apart t.phase p)
       (of_map (is_back tx) (abort_of tx at) (chain_of s.layout at) (λ r. refl))
   back_turn (decides about p q is) = back_from _ is (ap is_decided p) refl
   back_turn (aborts w why gives some is) =

@@ -54,8 +54,9 @@ use Rattle.disk_laws.specs.Laws.{AreSavable}
 use Rattle.disk_laws.specs.Noted.{kept_part}
 use Rattle.disk_laws.specs.OnDisk.{HasLastRows, HasWalked, HaveSerials, StandUntilNow}
 use Rattle.disk_laws.proofs.ImageLemmas.{joined, others_restore}
-use Rattle.disk_laws.proofs.JournalLemmas.{both_records, newer_records, same_records}
+use Rattle.disk_laws.proofs.JournalLemmas.{both_records, same_records}
 use Rattle.journal_laws.proofs.follow.Oldest.{bytes_append}
+use Rattle.journal_laws.proofs.follow.GivenUp.{newer_records}
 use Rattle.disk_laws.proofs.RowsSaved.{goes_nowhere, last_found, left_size, told_longer}
 use Rattle.disk_laws.proofs.SlotNumbers.{HasNumbers, control_numbers}
 use Rattle.disk_laws.proofs.StandLemmas.{stand_same}

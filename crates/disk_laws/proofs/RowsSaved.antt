@@ -41,8 +41,9 @@ use Rattle.disk_laws.specs.Laws.{AreSavable}
 use Rattle.disk_laws.specs.Noted.{kept_part}
 use Rattle.disk_laws.specs.OnDisk.{HasLastRows, HaveSerials, StandUntilNow}
 use Rattle.disk_laws.proofs.ImageLemmas.{joined, others_restore}
-use Rattle.disk_laws.proofs.JournalLemmas.{newer_records, same_records}
+use Rattle.disk_laws.proofs.JournalLemmas.{same_records}
 use Rattle.journal_laws.proofs.follow.Oldest.{bytes_append}
+use Rattle.journal_laws.proofs.follow.GivenUp.{newer_records}
 use Rattle.disk_laws.proofs.KeptParts.{kept_is_past}
 use Rattle.disk_laws.proofs.SavedLemmas.{first_saved, saved_along}
 use Rattle.disk_laws.proofs.SlotNumbers.{HasNumbers, control_numbers}

@@ -27,14 +27,15 @@ use Rattle.epoch_laws.proofs.MasterHears.{among_in, among_out}
 use Rattle.epoch_laws.proofs.MasterMoves.{known_with, voice_of, with_one}
 
 -- the lesser and the greater of two are on their sides of both, and one of them
-lesser_first : (one other : ℕ) → lesser one other ≤ one
+pub lesser_first : (one other : ℕ) → lesser one other ≤ one
 lesser_first one other = by (nat_lt one other) refl
   where
     by : (b : Bool) → nat_lt one other ≡ b → (if b then one else other) ≤ one
     by true e = omega arith
     by false e = grind (arith, nat_tests)
 
-lesser_second : (one other : ℕ) → lesser one other ≤ other
+-- the lesser of two is at most the second
+pub lesser_second : (one other : ℕ) → lesser one other ≤ other
 lesser_second one other = by (nat_lt one other) refl
   where
     by : (b : Bool) → nat_lt one other ≡ b → (if b then one else other) ≤ other
@@ -48,14 +49,16 @@ greater_first one other = by (nat_lt one other) refl
     by true e = grind (arith, nat_tests)
     by false e = omega arith
 
-greater_second : (one other : ℕ) → other ≤ greater one other
+-- the second is at most the greater
+pub greater_second : (one other : ℕ) → other ≤ greater one other
 greater_second one other = by (nat_lt one other) refl
   where
     by : (b : Bool) → nat_lt one other ≡ b → other ≤ (if b then other else one)
     by true e = omega arith
     by false e = grind (arith, nat_tests)
 
-greater_is : (P : ℕ → Type 0) (one other : ℕ) → P one → P other → P (greater one other)
+-- what is so of both is so of the greater
+pub greater_is : (P : ℕ → Type 0) (one other : ℕ) → P one → P other → P (greater one other)
 greater_is P one other p q = by (nat_lt one other)
   where
     by : (b : Bool) → P (if b then other else one)

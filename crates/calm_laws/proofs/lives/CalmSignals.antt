@@ -1,6 +1,6 @@
 -- What a calm signal tells by its block and its body.
 use Rattle.std.proofs.Common.{◌≡◌, ℕ, zero, suc, [], Bool, true, false, refl, sym, ◌∙◌}
-use Rattle.std.specs.Prelude.{◌%◌, ◌&&◌}
+use Rattle.std.specs.Prelude.{◌%◌}
 use Rattle.std.proofs.lemmas.Bool.{false≢true}
 use Rattle.api_views.specs.Laws.{is_vouched}
 use Rattle.node_core.specs.Requests.{is_request}
@@ -19,6 +19,7 @@ use Rattle.sig_core.specs.declared.signal.host.HostSignal.TheVariants.{Closed, C
 use Rattle.sig_core.specs.declared.signal.host.Work.TheVariants.{Request}
 use Rattle.sig_core.specs.declared.signal.membership.MembershipSignal.TheVariants.{Heartbeat}
 use Rattle.sig_core.specs.declared.view.Shape.{Shape}
+use Rattle.lqh_views.proofs.ListsKept.{both}
 use Rattle.world_core.specs.Hosts.{part_by}
 use Rattle.world_views.specs.Sending.{is_own_work}
 use Rattle.calm_laws.specs.Calm.{has_block, is_calm, is_for, is_for_coordinator, is_for_epochs, is_for_membership}
@@ -31,10 +32,6 @@ use Rattle.calm_laws.specs.Steps.{is_of_views}
 abbrev pub is_client : BlockId → Bool
 is_client block.Api = true
 is_client of = false
-
-both : (a b : Bool) → (a && b) ≡ true → (a ≡ true) × (b ≡ true)
-both true b e = (refl, e)
-both false b e = absurd cc
 
 -- the host has the block, and the block takes the body
 pub calm_block : (h : ℕ) (x : Signal) → is_calm h x ≡ true → has_block h x.to.block ≡ true

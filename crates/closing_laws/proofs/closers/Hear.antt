@@ -26,6 +26,7 @@ use Rattle.world_core.specs.Steps.{HostStep}
 use Rattle.world_views.specs.Machine.{after, step_after, told}
 use Rattle.view_laws.specs.Runs.{view_after}
 use Rattle.view_laws.specs.Votes.{main_of}
+use Rattle.view_laws.proofs.ballots.MadeSets.{in_either}
 use Rattle.moment_laws.specs.Moments.{IsMoment, current, logs_of}
 use Rattle.moment_laws.specs.Parts.{IsPassed}
 use Rattle.moment_laws.specs.Places.{ldm_of, tc_of}
@@ -33,7 +34,6 @@ use Rattle.moment_laws.proofs.MomentHosts.{main_low, tc_started}
 use Rattle.moment_laws.proofs.MomentTurns.{current_rises, host_low, old_current, own_behind, taker_stands}
 use Rattle.moment_laws.proofs.MomentViews.{current_above, current_number, moment_less, number_in}
 use Rattle.moment_laws.proofs.PartTaken.{IsTakenNow}
-use Rattle.outcome_laws.proofs.order.BeforeInLists.{in_either}
 use Rattle.epoch_laws.proofs.FallAll.{told_view}
 use Rattle.epoch_laws.specs.Alike.{EachFull}
 use Rattle.epoch_laws.specs.Masters.{EachHeard}

@@ -42,9 +42,9 @@ use Rattle.tc_block.proofs.EachTurn.{AbortForms, TurnFormsAt, rows_at}
 use Rattle.tc_block.proofs.TurnRows.{is_turn, turn_for, turn_with, tx_in}
 use Rattle.tc_views.specs.Coordinator.{coordinator_row}
 use Rattle.tc_views.specs.State.{CoordinatorState, go_on_with}
+use Rattle.view_laws.proofs.ballots.MadeSets.{in_either}
 use Rattle.tc_views.specs.State as views
 use Rattle.outcome_laws.specs.Counts.{IsCoordinatorOf}
-use Rattle.outcome_laws.proofs.order.BeforeInLists.{in_either}
 use Rattle.tc_block.proofs.EachResume as walk
 use Rattle.request_laws.specs.Ways.{entry_of}
 use Rattle.request_laws.proofs.phases.TurnSends.{AreSpared, IsSpared}

@@ -25,6 +25,7 @@ use Rattle.lqh_views.specs.State.{ReplicaState}
 use Rattle.node_views.specs.Fence.{is_fenced}
 use Rattle.node_views.specs.WellFormed.{is_well_formed}
 use Rattle.host_laws.proofs.coordinator.OfLive.{each_found}
+use Rattle.host_laws.proofs.rows.Operations.{true_and}
 use Rattle.world_core.specs.Hosts.{hosts}
 use Rattle.world_core.specs.Marks.{has_mark}
 use Rattle.world_core.specs.Start.{Start, made}
@@ -208,10 +209,6 @@ module _ (start : Start) (all : ℕ → List HostStep) (e : HostStep) (es : List
     asked_off false work true e f = refl
     asked_off false work false e f = absurd (true≢false (sym f))
 
-    both_true : (a b : Bool) → a ≡ true → b ≡ true → (a && b) ≡ true
-    both_true true b is other = other
-    both_true false b is other = absurd (true≢false (sym is))
-
     pub token_alone : IsTakenNow start all e es moment block.Lqh → is_token tx e.step.taken.body ≡ true
         → IsAlone start (logs_of start es) tx now_number
     unfolding is_fenced
@@ -220,7 +217,7 @@ module _ (start : Start) (all : ℕ → List HostStep) (e : HostStep) (es : List
         let plain = token_plain tx x.body is in
         taken_alone start all e es moment tx own
         (asked_off (x.from.0 == e.host) (is_own_work x.body) (is_well_formed start.shape x) plain.0 taken.sound)
-        (both_true (is_token tx x.body) (x.view.number == now_number) is
+        (true_and (is_token tx x.body) (x.view.number == now_number) is
         (eq-eqb x.view.number now_number (taken.fresh (plain.1 x))))
 
     waits_none : (number : ℕ) → number ≡ now_number

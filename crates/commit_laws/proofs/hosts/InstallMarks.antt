@@ -45,10 +45,9 @@ use Rattle.view_laws.specs.HostEvents.{block_events, counted_events, entering_ev
 use Rattle.view_laws.specs.HostEvents.{headed_events, installing, is_handled, passed_events, sound_events, taking}
 use Rattle.view_laws.proofs.eras.Parts.{entered_bare}
 use Rattle.view_laws.proofs.follow.Memberships.{settles_on}
-use Rattle.view_laws.proofs.ballots.MadeSets.{in_front}
+use Rattle.view_laws.proofs.ballots.MadeSets.{in_either, in_front}
 use Rattle.view_laws.proofs.memberships.Outstanding.{Does, does_answer, does_hear, does_propose, does_rest, does_settle}
 use Rattle.view_laws.proofs.memberships.Outstanding.{is_settling, table_does}
-use Rattle.outcome_laws.proofs.order.BeforeInLists.{in_either}
 use Rattle.gcp_master.specs.Words.{is_master_mark}
 use Rattle.gcp_master.proofs.Walk.{master_words}
 use Rattle.step_forms.specs.Does.{IsAmong}

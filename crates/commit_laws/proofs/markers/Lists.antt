@@ -9,7 +9,6 @@ use Rattle.run_theory.specs.Lists.{Each, IsIn}
 use Rattle.run_theory.proofs.EachSent.{each_removed, each_set}
 use Rattle.run_theory.proofs.Focus.{taken_at}
 use Rattle.run_theory.proofs.Pasts.{each_append, each_map, in_append}
-use Rattle.outcome_laws.proofs.knowledge.CommitsWereDecided.{in_front}
 use Rattle.sig_core.specs.declared.member.TxId.{TxId}
 use Rattle.sig_core.specs.declared.rows.PendingRecord.{PendingRecord}
 use Rattle.sig_core.specs.declared.signal.Body.{Body}
@@ -37,6 +36,7 @@ use Rattle.lqh_block.specs.Wait.{acknowledged, is_other}
 use Rattle.row_records.proofs.KeyLemmas.{same as same_key-is}
 use Rattle.lqh_block.proofs.LqhForms.{Applies, GivesUp, LqhForms, lqh_forms, perform_forms}
 use Rattle.lqh_views.proofs.ListsKept.{both}
+use Rattle.view_laws.proofs.ballots.MadeSets.{in_front}
 use Rattle.commit_laws.proofs.hosts.SomePasses.{passed, passing}
 
 pub in_filter : {A : Type 0} (p : A → Bool) (x : A) (xs : List A) → IsIn x xs → p x ≡ true → IsIn x (filter p xs)

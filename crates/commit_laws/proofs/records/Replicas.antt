@@ -12,10 +12,9 @@ use Rattle.frag_map.specs.Fragment.{frag_of}
 use Rattle.frag_map.specs.Layout.{chain_of, first_layout}
 use Rattle.frag_map.specs.Replicas.{first_start, in_turn, is_member, node_in_turn}
 use Rattle.frag_map.specs.Shape.{IsShape}
-use Rattle.outcome_laws.proofs.knowledge.CommitsWereDecided.{in_front}
-use Rattle.outcome_laws.proofs.order.BeforeInLists.{in_either}
 use Rattle.world_core.specs.Start.{Start, made}
 use Rattle.world_core.specs.Steps.{HostStep}
+use Rattle.view_laws.proofs.ballots.MadeSets.{in_either, in_front}
 use Rattle.moment_laws.specs.Moments.{IsMoment, current, logs_of}
 use Rattle.moment_laws.proofs.MomentMembers.{all_full, current_made, full_less}
 use Rattle.moment_laws.proofs.MomentTurns.{Turn, keeps, raises, turn}

@@ -49,6 +49,7 @@ use Rattle.world_views.specs.Machine.{after, machine, step_after, stops_by}
 use Rattle.view_laws.proofs.runs.FirstMembers.{node_low, node_some}
 use Rattle.view_laws.specs.Order.{sound_machine}
 use Rattle.view_laws.specs.Runs.{view_after}
+use Rattle.view_laws.proofs.ballots.MadeSets.{in_either}
 use Rattle.moment_laws.specs.Moments.{IsMoment, current, logs_of}
 use Rattle.moment_laws.specs.Parts.{Enters, IsPassed, enters, stays}
 use Rattle.moment_laws.specs.Places.{tc_of}
@@ -57,7 +58,6 @@ use Rattle.moment_laws.proofs.MomentMembers.{current_made}
 use Rattle.moment_laws.proofs.MomentTurns.{host_low}
 use Rattle.moment_laws.proofs.MomentViews.{current_number, moment_less, number_in, stands_in_current}
 use Rattle.moment_laws.proofs.PartTaken.{IsTakenNow, passed_now}
-use Rattle.outcome_laws.proofs.order.BeforeInLists.{in_either}
 use Rattle.outcome_laws.specs.Counts.{coordinator_member}
 use Rattle.request_laws.specs.Blocks.{takeover_after}
 use Rattle.request_laws.proofs.phases.AlongLogs.{told_some}

@@ -23,11 +23,11 @@ use Rattle.view_laws.specs.Sets.{all_of}
 use Rattle.view_laws.proofs.eras.Rises.{view_rises}
 use Rattle.view_laws.proofs.fences.OfOwnMember.{HasAsked}
 use Rattle.view_laws.proofs.runs.Step.{started_view}
+use Rattle.view_laws.proofs.ballots.MadeSets.{in_front}
 use Rattle.moment_laws.specs.Moments.{IsMoment, current, logs_of}
 use Rattle.moment_laws.specs.Places.{tc_of}
 use Rattle.moment_laws.proofs.MomentMembers.{current_made}
 use Rattle.moment_laws.proofs.MomentViews.{IsSome, current_is}
-use Rattle.outcome_laws.proofs.knowledge.CommitsWereDecided.{in_front}
 use Rattle.request_laws.specs.Blocks.{coordinator_after}
 use Rattle.request_laws.proofs.strays.FencesSpareNone.{stands_at}
 use Rattle.request_laws.proofs.strays.Numbers.{fence_above, fence_is, have_the_number}

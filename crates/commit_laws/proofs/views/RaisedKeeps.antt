@@ -17,12 +17,12 @@ use Rattle.tc_block.specs.Doom.{is_outside, strays}
 use Rattle.host_laws.proofs.coordinator.OfLive.{each_found}
 use Rattle.world_core.specs.Start.{Start}
 use Rattle.world_core.specs.Steps.{HostStep}
+use Rattle.view_laws.proofs.ballots.MadeSets.{in_front}
 use Rattle.moment_laws.specs.Moments.{IsMoment, current, logs_of}
 use Rattle.moment_laws.specs.Places.{tc_of}
 use Rattle.moment_laws.proofs.MomentHosts.{tc_low}
 use Rattle.moment_laws.proofs.MomentViews.{current_above, current_number, moment_installed, moment_less}
 use Rattle.outcome_laws.specs.Counts.{coordinator_member}
-use Rattle.outcome_laws.proofs.knowledge.CommitsWereDecided.{in_front}
 use Rattle.request_laws.specs.Blocks.{coordinator_after}
 use Rattle.request_laws.specs.Routed.{layout_in}
 use Rattle.request_laws.specs.Routes.{IsTouchedRouted, touched_chain}

@@ -34,7 +34,8 @@ use Rattle.journal_laws.proofs.replays.Replays.{has_more, orderly_behind}
 use Rattle.journal_laws.proofs.walks.Appending.{rows_append}
 use Rattle.journal_laws.proofs.walks.Following.{has_on}
 
-newer_records : (newer older : List Redo) → AreRecords (newer ++ older) → AreRecords newer
+-- of two lists of records that make one up, the newer
+pub newer_records : (newer older : List Redo) → AreRecords (newer ++ older) → AreRecords newer
 newer_records [] older are = tt
 newer_records (r ∷ newer) older are = (are.0, newer_records newer older are.1)
 

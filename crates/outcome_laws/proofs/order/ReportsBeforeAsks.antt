@@ -29,6 +29,7 @@ use Rattle.view_laws.specs.Order.{by_views, decisions}
 use Rattle.view_laws.specs.Runs.{AreOfCluster}
 use Rattle.view_laws.proofs.eras.Entries.{stand_in_order}
 use Rattle.view_laws.proofs.eras.Order.{run_in_views}
+use Rattle.view_laws.proofs.ballots.MadeSets.{in_either}
 use Rattle.moment_laws.specs.Moments.{IsMoment, logs_of}
 use Rattle.moment_laws.proofs.MomentRuns.{are_moments}
 use Rattle.outcome_laws.specs.Counts.{is_begin, one_if}
@@ -41,7 +42,7 @@ use Rattle.outcome_laws.proofs.knowledge.CommitsWereDecided.{in_turned, marked_s
 use Rattle.outcome_laws.proofs.once.Begins.{begin_once}
 use Rattle.outcome_laws.proofs.once.DecidedOnce.{decided_once}
 use Rattle.outcome_laws.proofs.order.EventsBefore.{IsUpTo, decisions_past, entry_decided, events_up_to, moment_before}
-use Rattle.outcome_laws.proofs.order.BeforeInLists.{in_either, kept_in, stands_by, stands_kept}
+use Rattle.outcome_laws.proofs.order.BeforeInLists.{kept_in, stands_by, stands_kept}
 
 -- the mark by which a transaction was reported committed
 record IsReport (tx : TxId) (mark : Mark) : Type 0 where

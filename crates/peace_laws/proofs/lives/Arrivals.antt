@@ -2,7 +2,7 @@
 -- closing.
 use Rattle.std.proofs.Common.{◌≡◌, ◌⊎◌, ◌<◌, ◌≤◌, ◌+◌, ◌/◌, inl, inr, ℕ, zero, suc, List, [], ◌∷◌, Bool, true, false}
 use Rattle.std.proofs.Common.{refl, ap, sym, ◌∙◌, subst, subst₂, arith}
-use Rattle.std.specs.Prelude.{◌==◌, ◌&&◌, map}
+use Rattle.std.specs.Prelude.{◌==◌, map}
 use Rattle.std.proofs.lemmas.Bool.{and_right, cases_lt, false≢true, true≢false}
 use Rattle.std.proofs.lemmas.List.{map-append}
 use Rattle.api_views.specs.Laws.{is_vouched}
@@ -43,6 +43,7 @@ use Rattle.calm_laws.proofs.lives.Arrivals.{arriving}
 use Rattle.calm_laws.proofs.lives.CalmSignals.{IsBeat, main_beat}
 use Rattle.calm_laws.proofs.lives.FirstMembers.{first_fine, member_first, member_known}
 use Rattle.level_laws.specs.Levels.{signal_at}
+use Rattle.host_laws.proofs.rows.Operations.{right_of}
 use Rattle.peace_laws.specs.Parts.{plain_part}
 use Rattle.peace_laws.specs.Peace.{is_closing, is_for_closing}
 use Rattle.peace_laws.specs.Steps.{ComesForClosing, asks_master}
@@ -102,10 +103,6 @@ asked_false start h stamp x false is = tt
 request_free : (body : Body) → is_request body ≡ true → is_vouched body ≡ true → ⊥
 request_free (Host (Continue (Request request) at)) asks vouched = cc
 request_free body asks vouched = cc
-
-own_parts : (a b : Bool) → (a && b) ≡ true → b ≡ true
-own_parts true b e = e
-own_parts false b e = absurd cc
 
 -- a closing is asked for at a master alone
 asks_at : (of : BlockId) (body : Body) → is_for_closing of body ≡ true → asks_master body ≡ true → is_master of ≡ true
@@ -254,7 +251,7 @@ module _ (start : Start) (es : List HostStep) (h : ℕ) (x : Signal)
   asked_arrives : IsPlainKind x.to.block x.body → is_asked h x ≡ true → IsOwn start h (log h) x
       → Arrives start es h x
   asked_arrives kind asked own =
-      let work : is_own_work x.body ≡ true = own_parts (x.from.0 == h) (is_own_work x.body) asked in
+      let work : is_own_work x.body ≡ true = right_of (x.from.0 == h) (is_own_work x.body) asked in
       let asks : is_request x.body ≡ true = kind.own work in
       let level : is_request (signal_at start.epoch x).body ≡ true = request_level start.epoch x.body ∙ asks in
       record {

@@ -8,6 +8,7 @@ use Rattle.world_core.specs.Machine as plain
 use Rattle.world_core.specs.Start.{Start}
 use Rattle.world_core.specs.Steps.{HostStep}
 use Rattle.world_views.specs.Machine.{machine}
+use Rattle.view_laws.proofs.memberships.SetTests.{or_true}
 use Rattle.calm_laws.specs.Plain.{is_beating}
 use Rattle.peace_laws.specs.Parts.{is_beside, levelled, plain_part}
 use Rattle.peace_laws.specs.Peace.{is_closing}
@@ -25,11 +26,6 @@ is_left e = is_beating e.host || is_closing e.host e.step.taken
 abbrev pub plain_events : Start → List HostStep → List HostStep
 plain_events start [] = []
 plain_events start (e ∷ es) = unless_left (is_left e) (levelled start.epoch e) (plain_events start es)
-
--- it is one of the two, or neither
-or_true : (b : Bool) → (b || true) ≡ true
-or_true true = refl
-or_true false = refl
 
 pub left_beating : (e : HostStep) → is_beating e.host ≡ true → is_left e ≡ true
 left_beating e beats = ap (λ b. b || is_closing e.host e.step.taken) beats

@@ -96,7 +96,8 @@ count_less : {A : Type 0} (p q : A → Bool) → ((x : A) → one_if (p x) ≤ o
 count_less p q less [] = omega arith
 count_less p q less (x ∷ xs) = omega (arith, count_more p x xs, count_more q x xs, less x, count_less p q less xs)
 
-filter_count : {A : Type 0} (p f : A → Bool) (xs : List A) → count_by p (filter f xs) ≤ count_by p xs
+-- of a part no more are counted
+pub filter_count : {A : Type 0} (p f : A → Bool) (xs : List A) → count_by p (filter f xs) ≤ count_by p xs
 filter_count p f [] = omega arith
 filter_count p f (x ∷ xs) = by (f x) (filter_count p f xs)
   where

@@ -40,8 +40,8 @@ use Rattle.request_laws.specs.Blocks.{no_replica, rows_in}
 use Rattle.commit_laws.specs.Traces.{rows_at}
 use Rattle.commit_laws.proofs.views.AtEvents.{full_was}
 use Rattle.epoch_laws.proofs.StandKinds.{RunsRows, runs_rows}
+use Rattle.epoch_laws.proofs.MasterKnows.{greater_is}
 use Rattle.closing_laws.specs.Closed.{WasClosed}
-use Rattle.closing_laws.proofs.durable.WereClosed.{greater_one}
 use Rattle.closing_laws.proofs.settled.Cuts.{MarksAt, goes_back, marks_at}
 use Rattle.saved_laws.specs.Closings.{SavedWereClosed, WasFullAtClosing}
 use Rattle.saved_laws.proofs.masters.All.{all_ordered}
@@ -58,7 +58,7 @@ rows_keep P s x was ordered =
       ignores = λ signal is. was;
       promises = λ proposal is. was;
       closes = λ epoch is. was;
-      saves = λ epoch is. greater_one P s.saved epoch was (ordered epoch is);
+      saves = λ epoch is. greater_is P s.saved epoch was (ordered epoch is);
       states = λ is. was;
       tells_record = λ r under_way at one last there. was;
       tells_marker = λ r under_way at m none last there. was;

@@ -25,13 +25,13 @@ use Rattle.world_core.specs.Steps.{HostStep}
 use Rattle.world_views.specs.Machine.{after, step_after}
 use Rattle.view_laws.specs.Runs.{view_after}
 use Rattle.view_laws.specs.Votes.{main_of}
+use Rattle.view_laws.proofs.ballots.MadeSets.{in_either}
 use Rattle.moment_laws.specs.Moments.{IsMoment, current, logs_of}
 use Rattle.moment_laws.specs.Places.{ldm_of, tc_of}
 use Rattle.moment_laws.proofs.MomentHosts.{main_low, tc_started}
 use Rattle.moment_laws.proofs.MomentMembers.{current_made}
 use Rattle.moment_laws.proofs.MomentTurns.{current_rises, own_behind}
 use Rattle.moment_laws.proofs.MomentViews.{current_above, moment_less, number_in}
-use Rattle.outcome_laws.proofs.order.BeforeInLists.{in_either}
 use Rattle.outcome_laws.proofs.order.EventsBefore.{moment_before}
 use Rattle.request_laws.proofs.replicas.AlongLogs.{always}
 use Rattle.request_laws.specs.Blocks.{rows_after}

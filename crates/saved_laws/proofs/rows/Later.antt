@@ -19,13 +19,14 @@ use Rattle.world_core.specs.Start.{Start, made}
 use Rattle.world_core.specs.Steps.{HostStep}
 use Rattle.view_laws.specs.Order.{decisions, entries_along}
 use Rattle.view_laws.specs.Runs.{view_after}
+use Rattle.view_laws.proofs.ballots.MadeSets.{in_front}
 use Rattle.moment_laws.proofs.MomentHosts.{main_number, part_some, tc_low, tc_member, tc_number, tc_started}
 use Rattle.moment_laws.proofs.MomentMembers.{current_host, current_made}
 use Rattle.moment_laws.proofs.MomentTurns.{own_behind, stands_behind}
 use Rattle.moment_laws.proofs.MomentViews.{moment_less}
 use Rattle.moment_laws.specs.Moments.{IsMoment, current, logs_of}
 use Rattle.moment_laws.specs.Places.{tc_of}
-use Rattle.outcome_laws.proofs.knowledge.CommitsWereDecided.{in_front, in_turned}
+use Rattle.outcome_laws.proofs.knowledge.CommitsWereDecided.{in_turned}
 use Rattle.outcome_laws.proofs.order.EventsBefore.{decisions_past, entries_past, moment_before}
 use Rattle.outcome_laws.specs.Counts.{coordinator_member}
 use Rattle.epoch_laws.specs.Members.{IsFirst, dih_in, epochs_of}
