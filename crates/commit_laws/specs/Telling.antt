@@ -17,8 +17,9 @@ use Rattle.world_core.specs.Steps.{Addressed, HostStep}
 use Rattle.view_laws.specs.Order.{sound_machine}
 use Rattle.moment_laws.specs.Moments.{IsMoment, current, logs_of}
 use Rattle.moment_laws.specs.Places.{ldm_of, tc_of}
+use Rattle.request_laws.specs.Orphans.{IsOrphan}
 use Rattle.commit_laws.specs.Gathering.{EndsGathering, IsPreparedSomewhere}
-use Rattle.commit_laws.specs.Takeovers.{IsOrphan, takeover_at}
+use Rattle.commit_laws.specs.Takeovers.{takeover_at}
 use Rattle.commit_laws.specs.Traces.{has_marker_at, record_at}
 
 module _ (start : Start) (logs : ℕ → List HostStep) where

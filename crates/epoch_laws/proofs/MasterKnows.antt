@@ -14,6 +14,7 @@ use Rattle.gcp_master.specs.Known.{greater, learned, learned_of_epochs, learned_
 use Rattle.gcp_master.specs.Resume.{learned_if}
 use Rattle.gcp_master.specs.State.{MasterState}
 use Rattle.gcp_master.specs.Voices.{is_among}
+use Rattle.gcp_master.proofs.Outcomes.{voice_of}
 use Rattle.dih_node.specs.State.{DihState}
 use Rattle.world_core.specs.Start.{Start}
 use Rattle.world_core.specs.Steps.{HostStep}
@@ -24,7 +25,7 @@ use Rattle.moment_laws.specs.Places.{ldm_of, tc_of}
 use Rattle.moment_laws.specs.Moments.{current}
 use Rattle.epoch_laws.specs.Told.{IsAllSilent, IsAsTold, IsTrueState}
 use Rattle.epoch_laws.proofs.MasterHears.{among_in, among_out}
-use Rattle.epoch_laws.proofs.MasterMoves.{known_with, voice_of, with_one}
+use Rattle.epoch_laws.proofs.MasterMoves.{known_with, with_one}
 
 -- the lesser and the greater of two are on their sides of both, and one of them
 pub lesser_first : (one other : ℕ) → lesser one other ≤ one

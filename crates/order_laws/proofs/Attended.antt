@@ -186,8 +186,6 @@ module _ (start : Start) (key : List ℕ) where
       ap (λ (r : Replica). r.waiting)
       (nodes_begin start (node_at (replicas start key) at) key node.from node.to node.holding)
 
-  }
-
   pub serving_along : (at : ℕ) → at < length (replicas start key) → (es : List HostStep) → IsRun start es
       → IsServing (at_host start (logs_of start es) key (replica_host start key at))
   serving_along at inside [] run = record {

@@ -19,7 +19,6 @@ use Rattle.sig_core.specs.declared.signal.host.HostSignal.TheVariants.{Closed, C
 use Rattle.sig_core.specs.declared.signal.host.Work.TheVariants.{Request}
 use Rattle.sig_core.specs.declared.signal.membership.MembershipSignal.TheVariants.{Heartbeat}
 use Rattle.sig_core.specs.declared.view.Shape.{Shape}
-use Rattle.lqh_views.proofs.ListsKept.{both}
 use Rattle.world_core.specs.Hosts.{part_by}
 use Rattle.world_views.specs.Sending.{is_own_work}
 use Rattle.calm_laws.specs.Calm.{has_block, is_calm, is_for, is_for_coordinator, is_for_epochs, is_for_membership}
@@ -27,18 +26,12 @@ use Rattle.calm_laws.specs.Calm.{is_for_rows, is_in}
 use Rattle.calm_laws.specs.Known.{txs_in}
 use Rattle.calm_laws.specs.Plain.{is_beating, is_main}
 use Rattle.calm_laws.specs.Steps.{is_of_views}
+use Rattle.calm_laws.proofs.plain_steps.Ease.{has_calm_block, takes_calmly}
 
 -- a block of the client's side
 abbrev pub is_client : BlockId → Bool
 is_client block.Api = true
 is_client of = false
-
--- the host has the block, and the block takes the body
-pub calm_block : (h : ℕ) (x : Signal) → is_calm h x ≡ true → has_block h x.to.block ≡ true
-calm_block h x calm = (both (has_block h x.to.block) (is_for x.to.block x.body) calm).0
-
-pub calm_body : (h : ℕ) (x : Signal) → is_calm h x ≡ true → is_for x.to.block x.body ≡ true
-calm_body h x calm = (both (has_block h x.to.block) (is_for x.to.block x.body) calm).1
 
 -- no block takes a closing or a cut
 pub no_closing : (of : BlockId) (cause : StopCause) → is_for of (Host (Closed cause)) ≡ false
@@ -135,4 +128,4 @@ pub main_beat : (shape : Shape) (h : ℕ) (x : Signal) → is_beating h ≡ true
 main_beat shape zero x beats calm = absurd (false≢true beats)
 main_beat shape (suc h) x beats calm =
     beat shape x.body
-    (main_takes (part_by (h % 3)) x.to.block x.body beats (calm_block (suc h) x calm) (calm_body (suc h) x calm))
+    (main_takes (part_by (h % 3)) x.to.block x.body beats (has_calm_block (suc h) x calm) (takes_calmly (suc h) x calm))

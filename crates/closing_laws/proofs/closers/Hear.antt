@@ -15,6 +15,7 @@ use Rattle.gcp_master.specs.declared.phase.Phase.TheVariants.{Unordered, Committ
 use Rattle.gcp_master.specs.declared.voices.Voice.{Voice}
 use Rattle.gcp_master.specs.Master.{fresh_master, master_row}
 use Rattle.gcp_master.specs.State.{MasterState}
+use Rattle.gcp_master.proofs.Outcomes.{voice_of}
 use Rattle.gcp_master.specs.Voices as gcp
 use Rattle.node_views.specs.declared.host_body.HostBody as node
 use Rattle.node_views.specs.declared.main_part.MainPart.{MainPart}
@@ -40,7 +41,7 @@ use Rattle.epoch_laws.specs.Masters.{EachHeard}
 use Rattle.epoch_laws.specs.Members.{IsFirst, IsPresident, IsStanding, epochs_of, master_in, master_of}
 use Rattle.epoch_laws.specs.Stand.{AllStand}
 use Rattle.epoch_laws.proofs.MasterHears.{all_by_one, same_member-is, same_member-self}
-use Rattle.epoch_laws.proofs.MasterMoves.{HaveAll, voice_of, with_one}
+use Rattle.epoch_laws.proofs.MasterMoves.{HaveAll, with_one}
 use Rattle.epoch_laws.proofs.MasterSpeaks.{installed}
 use Rattle.epoch_laws.proofs.StandAll.{epochs_stand}
 use Rattle.epoch_laws.proofs.StandKinds.{RunsMain, Whose, of_main, of_rows, of_shell, of_tc, runs_main, runs_rows}

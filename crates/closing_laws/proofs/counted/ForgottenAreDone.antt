@@ -76,7 +76,7 @@ use Rattle.commit_laws.proofs.commits.EndTurns.{HasEpoch, before, by_now}
 use Rattle.commit_laws.proofs.forth.Speaks.{gives_epoch}
 use Rattle.commit_laws.proofs.answered.Answered.{counted_written}
 use Rattle.closing_laws.specs.Ended.{ForgottenAreDone}
-use Rattle.closing_laws.proofs.counted.Turns.{OverStep, completed, given_up, over_step, unwritten}
+use Rattle.closing_laws.proofs.counted.Turns.{OverStep, completed, given_up, none_some, over_step, unwritten}
 
 -- why it is done
 data HasEnded (start : Start) (logs : ℕ → List HostStep) (tx : TxId) : Type 0 where
@@ -100,9 +100,6 @@ commits_untold tx sends all =
     by : (body : Body) → is_commit_told body ≡ false → tells_commit tx body ≡ false
     by (Client (TcCommitConf other epoch)) is = absurd (true≢false is)
     by body is = refl
-
-none_some : (t : Transaction) (o : Option Transaction) → o ≡ None → o ≡ Some t → ⊥
-none_some t o none some = let empty : None ≡ Some t = sym none ∙ some in absurd cc
 
 -- a turn that goes on leaves its transaction
 goes_on : (turn : Turn) → turn.over ≡ false → left_of turn ≡ None → ⊥

@@ -188,7 +188,8 @@ pub record Forgets (tx : TxId) (s now : CoordinatorState) : Type 0 where
   pub gone : entry_of now tx ≡ None
   pub next : now.tc.next_seq ≡ s.tc.next_seq
 
-none_some : (t : Transaction) (o : Option Transaction) → o ≡ None → o ≡ Some t → ⊥
+-- what is none is not some
+pub none_some : (t : Transaction) (o : Option Transaction) → o ≡ None → o ≡ Some t → ⊥
 none_some t o none some = let nothing : None ≡ Some t = sym none ∙ some in absurd cc
 
 module _ (member : Member) (s : CoordinatorState) (of : IsCoordinatorOf member s) (x : Signal) (tx : TxId) where

@@ -7,7 +7,7 @@ use Rattle.std.specs.Prelude.{if◌then◌else◌, Some}
 use Rattle.run_theory.proofs.Pasts.{each_map}
 use Rattle.run_theory.specs.Lists.{Each}
 use Rattle.sig_core.specs.Firsts.{drop_first, first}
-use Rattle.outcome_laws.specs.Counts.{one_if}
+use Rattle.tc_block.specs.Complete.{one_if}
 use Rattle.outcome_laws.proofs.coordinators.Lists.{count_more, none_passes}
 
 module _ {A : Type 0} (t p : A → Bool) (q : A) (own : t q ≡ true) where

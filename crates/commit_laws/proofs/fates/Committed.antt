@@ -31,6 +31,7 @@ use Rattle.world_core.specs.Marks.{has_mark}
 use Rattle.world_core.specs.Start.{Start, made}
 use Rattle.world_core.specs.Steps.{HostStep}
 use Rattle.world_views.specs.Sending.{is_own_work}
+use Rattle.run_laws.specs.Tokens.{is_token}
 use Rattle.view_laws.specs.Runs.{view_after}
 use Rattle.moment_laws.specs.Moments.{IsMoment, logs_of}
 use Rattle.moment_laws.specs.Places.{ldm_of, tc_of}
@@ -42,7 +43,7 @@ use Rattle.outcome_laws.specs.Counts.{coordinator_member, is_decision}
 use Rattle.outcome_laws.specs.Decided.{IsMarked}
 use Rattle.outcome_laws.proofs.coordinators.Lists.{none_passes}
 use Rattle.request_laws.specs.Phases.{CoordinatorStands, HasGone, IsGivenWith, SaysIn, WaitsWith}
-use Rattle.request_laws.specs.Tokens.{IsAlone, IsQuiet, count_waiting, has_asked, is_token, may_go, number_now}
+use Rattle.request_laws.specs.Tokens.{IsAlone, IsQuiet, count_waiting, has_asked, may_go, number_now}
 use Rattle.request_laws.specs.Ways.{has_gone_forth}
 use Rattle.request_laws.proofs.phases.Stands.{coordinators_stand}
 use Rattle.request_laws.proofs.tokens.Alone.{quiet_unless_asked, taken_alone}

@@ -45,7 +45,7 @@ use Rattle.moment_laws.proofs.MomentHosts.{HasNoTc, TcHost, of_none, of_tc, part
 use Rattle.moment_laws.proofs.MomentSignals.{EachSent, sent_next, taken_told}
 use Rattle.moment_laws.proofs.MomentTurns.{host_low}
 use Rattle.moment_laws.proofs.MomentViews.{moment_less}
-use Rattle.outcome_laws.proofs.knowledge.Moments.{not_closed, not_own}
+use Rattle.outcome_laws.proofs.knowledge.Moments.{is_host, not_closed, not_own}
 use Rattle.outcome_laws.specs.Counts.{coordinator_member}
 use Rattle.outcome_laws.specs.Known.{IsDecidedIf, RowsKnow, TakeoverKnows}
 use Rattle.outcome_laws.proofs.knowledge.Hosts.{HasNoShell, never_shell}
@@ -61,11 +61,6 @@ use Rattle.commit_laws.proofs.forth.Parts.{Fits, SpeakIn, step_speaks, told_fit}
 use Rattle.commit_laws.proofs.forth.Speaks.{Anyone, AreSpoken, Of, Speaks, rows_grow, speaks_grow, takeover_grows}
 use Rattle.commit_laws.proofs.forth.Speaks.{tells_forth}
 use Rattle.commit_laws.proofs.hosts.SomePasses.{passed, passing}
-
--- a signal of the hosts themselves
-abbrev is_host : Body → Bool
-is_host (Host signal) = true
-is_host body = false
 
 host_speaks : (F A : TxId → Type 0) (body : Body) → is_host body ≡ true → Speaks F A body
 host_speaks F A (Host signal) is = tt

@@ -19,12 +19,13 @@ use Rattle.world_core.specs.Steps.{HostStep}
 use Rattle.moment_laws.specs.Moments.{IsMoment, current, logs_of}
 use Rattle.moment_laws.specs.Places.{ldm_of}
 use Rattle.moment_laws.proofs.MomentViews.{moment_less}
+use Rattle.request_laws.specs.Orphans.{IsOrphan}
 use Rattle.commit_laws.proofs.gathering.TellingsGathered.{closing_runs}
 use Rattle.commit_laws.specs.Fates.{is_led_by_full}
 use Rattle.commit_laws.specs.Gathering.{EndsGathering}
 use Rattle.commit_laws.specs.Going.{is_forth, is_lost}
 use Rattle.commit_laws.specs.Reported.{GatheringsList, IsListed, IsSaid, aborted, known}
-use Rattle.commit_laws.specs.Takeovers.{IsOrphan, takeover_at}
+use Rattle.commit_laws.specs.Takeovers.{takeover_at}
 use Rattle.commit_laws.specs.Telling.{AllHaveEnded, EndsComeBehind, OrdersComeFirst, TellingsAreGathered}
 use Rattle.commit_laws.specs.Traces.{has_marker_at, has_trace, is_committed_of, is_known, is_marker_of, leave_trace}
 use Rattle.commit_laws.specs.Traces.{members_now, rows_at}

@@ -62,7 +62,8 @@ InstallsNone mark = is_installation mark ≡ false
 none_installed : (marks : List Mark) → Each InstallsNone marks → (view : View) → IsIn (Installed view) marks → ⊥
 none_installed marks none view there = true≢false (each_in InstallsNone (Installed view) marks none there)
 
-one_mark : (set view : View) → Installed view ≡ Installed set → view ≡ set
+-- the mark of a view is of no other
+pub one_mark : (set view : View) → Installed view ≡ Installed set → view ≡ set
 one_mark set view same = cc (same)
 
 one_event : (set view : View) → installs view ≡ installs set → view ≡ set

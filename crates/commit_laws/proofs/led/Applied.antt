@@ -28,7 +28,7 @@ use Rattle.view_laws.specs.Order.{decisions, entries_along}
 use Rattle.moment_laws.proofs.MomentViews.{moment_less}
 use Rattle.moment_laws.specs.Moments.{IsMoment, logs_of}
 use Rattle.moment_laws.specs.Places.{ldm_of, tc_of}
-use Rattle.outcome_laws.proofs.knowledge.CommitsWereDecided.{in_turned}
+use Rattle.outcome_laws.proofs.knowledge.CommitsWereDecided.{in_before, in_turned}
 use Rattle.outcome_laws.specs.Counts.{coordinator_member, is_decision}
 use Rattle.outcome_laws.specs.Decided.{IsMarked}
 use Rattle.request_laws.proofs.tokens.HostsApart.{ldm_low}
@@ -93,20 +93,12 @@ applied_past start all (e ∷ newer) es moment v key applied =
     applied_more start all e (newer ++ es) moment v key
     (applied_past start all newer es (moment_less start all e (newer ++ es) moment) v key applied)
 
--- entries stay
-entry_stays : (h stamp : ℕ) (log : List HostStep) (z : Entry) (marks : List Mark) (list : List Entry) → IsIn z list
-    → IsIn z (entries_in h stamp log marks list)
-entry_stays h stamp log z [] list there = there
-entry_stays h stamp log z (Decided u n ∷ marks) list there =
-    entry_stays h stamp log z marks (entry_of h stamp log u n ∷ list) (inr there)
-entry_stays h stamp log z (mark ∷ marks) list there = entry_stays h stamp log z marks list there
-
 -- the entry of a decision
 entry_there : (h stamp : ℕ) (log : List HostStep) (v : TxId) (epoch : ℕ) (marks : List Mark) (before : List Entry)
     → IsIn (Decided v epoch) marks → IsIn (entry_of h stamp log v epoch) (entries_in h stamp log marks before)
 entry_there h stamp log v epoch [] before there = absurd there
 entry_there h stamp log v epoch (Decided tx k ∷ marks) before (inl same) =
-    entry_stays h stamp log (entry_of h stamp log v epoch) marks (entry_of h stamp log tx k ∷ before)
+    in_before h stamp log (entry_of h stamp log v epoch) marks (entry_of h stamp log tx k ∷ before)
     (inl (λ i. entry_of h stamp log (tx_of (same i)) (epoch_of (same i))))
   where
     tx_of : Mark → TxId
@@ -162,7 +154,7 @@ entry_of_decided start all (e ∷ es) moment v is =
         record {
           entry = old.entry;
           there =
-              entry_stays e.host e.step.stamp (e ∷ logs_of start es e.host) old.entry e.step.marks
+              in_before e.host e.step.stamp (e ∷ logs_of start es e.host) old.entry e.step.marks
               (decisions start es) old.there;
           tx_is = old.tx_is;
           ops_is = old.ops_is ∙ sym (ops_same start all e es moment v was);

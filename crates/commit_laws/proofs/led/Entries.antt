@@ -16,6 +16,7 @@ use Rattle.sig_core.specs.declared.mark.Mark.{Mark}
 use Rattle.sig_core.specs.declared.mark.Mark.TheVariants.{Decided}
 use Rattle.sig_core.specs.declared.member.TxId.{TxId}
 use Rattle.sig_core.specs.Same.{same_tx}
+use Rattle.tc_block.specs.Complete.{one_if}
 use Rattle.world_core.specs.Entries.{entries_in, entry_of}
 use Rattle.world_core.specs.Marks.{has_mark}
 use Rattle.world_core.specs.Start.{Start}
@@ -31,7 +32,7 @@ use Rattle.outcome_laws.proofs.once.DecidedOnce.{decided_few, none_elsewhere, on
 use Rattle.outcome_laws.proofs.order.EventsBefore.{decisions_past}
 use Rattle.outcome_laws.proofs.order.BeforeInLists.{kept_in}
 use Rattle.outcome_laws.proofs.coordinators.Lists.{count_more}
-use Rattle.outcome_laws.specs.Counts.{coordinator_member, is_decision, one_if}
+use Rattle.outcome_laws.specs.Counts.{coordinator_member, is_decision}
 use Rattle.outcome_laws.specs.Once.{marks_in}
 use Rattle.outcome_laws.specs.Outcomes.{AreOnce}
 use Rattle.commit_laws.specs.Owed.{AreFresh, DecisionsAreFresh, EntriesAreFinal, IsAlong}

@@ -38,6 +38,7 @@ use Rattle.world_core.specs.Marks.{has_mark}
 use Rattle.world_core.specs.Start.{Start, made}
 use Rattle.world_core.specs.Steps.{Addressed, HostStep}
 use Rattle.world_views.specs.Machine.{machine}
+use Rattle.run_laws.specs.Tokens.{is_token}
 use Rattle.view_laws.proofs.eras.SoundLogs.{each_filter}
 use Rattle.view_laws.specs.Runs.{view_after}
 use Rattle.moment_laws.specs.Moments.{IsMoment, logs_of}
@@ -47,7 +48,7 @@ use Rattle.moment_laws.proofs.MomentViews.{current_above, moment_less}
 use Rattle.outcome_laws.specs.Counts.{coordinator_member, is_decision}
 use Rattle.outcome_laws.specs.Known.{IsDecidedIf}
 use Rattle.request_laws.specs.Replicas.{event_under}
-use Rattle.request_laws.specs.Tokens.{count_waiting, is_token, may_go, number_now, waiting_at}
+use Rattle.request_laws.specs.Tokens.{count_waiting, may_go, number_now, waiting_at}
 use Rattle.request_laws.proofs.routes.PartSteps.{ldm_step, tc_step}
 use Rattle.request_laws.proofs.tokens.Alone.{waiting_alone}
 use Rattle.request_laws.proofs.tokens.HostsApart.{ldm_low}

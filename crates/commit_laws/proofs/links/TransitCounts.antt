@@ -14,6 +14,7 @@ use Rattle.run_theory.specs.Links.{put, sent, sent_by}
 use Rattle.run_theory.specs.Lists.{Each, IsIn, IsPast}
 use Rattle.run_theory.specs.Machine.{Machine}
 use Rattle.sig_core.specs.declared.signal.Signal.{Signal}
+use Rattle.tc_block.specs.Complete.{one_if}
 use Rattle.host_laws.proofs.hosts.Sums.{total_zero}
 use Rattle.world_core.specs.Hosts.{hosts}
 use Rattle.world_core.specs.Start.{Start}
@@ -24,7 +25,6 @@ use Rattle.run_laws.proofs.transit.Weighing.{joined_each}
 use Rattle.view_laws.specs.Order.{sound_machine}
 use Rattle.moment_laws.specs.Moments.{IsMoment, logs_of}
 use Rattle.moment_laws.proofs.MomentViews.{moment_less}
-use Rattle.outcome_laws.specs.Counts.{one_if}
 use Rattle.outcome_laws.proofs.coordinators.Lists.{count_more}
 use Rattle.request_laws.specs.Tokens.{all_sent, all_taken}
 use Rattle.request_laws.proofs.tokens.Rows.{one_same}

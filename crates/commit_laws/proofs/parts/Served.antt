@@ -36,6 +36,7 @@ use Rattle.key_laws.specs.Replica.{served_by, serves, serves_if}
 use Rattle.key_laws.proofs.KeyAfter.{first_here}
 use Rattle.key_laws.proofs.Waiting.{each-first_item}
 use Rattle.run_laws.proofs.transit.Weighing.{joined_each}
+use Rattle.run_laws.specs.Tokens.{is_token}
 use Rattle.world_core.specs.Start.{Start, made}
 use Rattle.world_core.specs.Steps.{Addressed, HostStep}
 use Rattle.world_views.specs.Machine.{machine}
@@ -49,7 +50,7 @@ use Rattle.request_laws.specs.Blocks.{rows_after}
 use Rattle.request_laws.specs.Replicas.{event_by, event_if}
 use Rattle.request_laws.specs.Routed.{IsGivenUp, WasAskedIn, WasDrivenIn, layout_in}
 use Rattle.request_laws.specs.Routes.{IsRequestRouted, WaitsRouted}
-use Rattle.request_laws.specs.Tokens.{WaitsAlone, count_waiting, is_token, is_token_in, number_now, waiting_at}
+use Rattle.request_laws.specs.Tokens.{WaitsAlone, count_waiting, is_token_in, number_now, waiting_at}
 use Rattle.request_laws.proofs.replicas.KeyEvents.{signals_are_events}
 use Rattle.request_laws.proofs.routes.All.{signals_are_routed}
 use Rattle.request_laws.proofs.routes.Places.{rows_know_node}

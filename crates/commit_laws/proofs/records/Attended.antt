@@ -30,6 +30,7 @@ use Rattle.key_laws.specs.Replica.{expires, expires_if, if_on, is_refused, rests
 use Rattle.host_laws.specs.ReplicaLaws.{IsWell}
 use Rattle.world_core.specs.Start.{Start, made}
 use Rattle.world_core.specs.Steps.{Addressed, HostStep}
+use Rattle.run_laws.specs.Tokens.{is_token}
 use Rattle.view_laws.proofs.eras.SoundLogs.{each_filter}
 use Rattle.moment_laws.specs.Moments.{IsMoment, logs_of}
 use Rattle.moment_laws.specs.Places.{ldm_of}
@@ -37,7 +38,6 @@ use Rattle.moment_laws.proofs.MomentHosts.{ldm_started}
 use Rattle.moment_laws.proofs.MomentViews.{moment_less}
 use Rattle.request_laws.specs.Blocks.{no_replica, rows_in}
 use Rattle.request_laws.specs.Replicas.{event_by, event_if, event_under}
-use Rattle.request_laws.specs.Tokens.{is_token}
 use Rattle.request_laws.specs.Waiting.{AreAttended, IsOneByOne}
 use Rattle.request_laws.proofs.replicas.KeyEvents.{installations_keep_well}
 use Rattle.request_laws.proofs.replicas.Waits.{installed_are_attended, signals_keep_attended}

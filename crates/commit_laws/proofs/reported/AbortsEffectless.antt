@@ -17,6 +17,7 @@ use Rattle.sig_core.specs.declared.outcome.AbortCause.TheVariants as cause
 use Rattle.sig_core.specs.declared.outcome.Outcome.{Outcome}
 use Rattle.sig_core.specs.declared.outcome.Outcome.TheVariants.{Aborted, Committed}
 use Rattle.sig_core.specs.Same.{same_tx}
+use Rattle.tc_block.specs.Complete.{one_if}
 use Rattle.world_core.specs.Entries.{entries}
 use Rattle.world_core.specs.History.{history, is_kept, is_reported}
 use Rattle.world_core.specs.Hosts.{hosts}
@@ -31,7 +32,7 @@ use Rattle.outcome_laws.proofs.downfall.NeverDecided.{none_down_decided}
 use Rattle.outcome_laws.proofs.once.ReportedOnce.{reported_once}
 use Rattle.outcome_laws.proofs.order.BeforeInLists.{kept_in}
 use Rattle.outcome_laws.proofs.coordinators.Lists.{count_more}
-use Rattle.outcome_laws.specs.Counts.{is_report, one_if}
+use Rattle.outcome_laws.specs.Counts.{is_report}
 use Rattle.outcome_laws.specs.Decided.{IsMarked}
 use Rattle.outcome_laws.specs.Once.{marks_in}
 use Rattle.outcome_laws.specs.Outcomes.{reports_in}

@@ -66,12 +66,13 @@ use Rattle.request_laws.proofs.routes.Entering.{own_full}
 use Rattle.request_laws.proofs.routes.Headers.{takeover_fenced}
 use Rattle.request_laws.proofs.routes.Layouts.{RunsTc, runs_tc}
 use Rattle.request_laws.proofs.routes.PartSteps.{takeover_is}
+use Rattle.request_laws.specs.Orphans.{IsOrphan}
 use Rattle.commit_laws.specs.Fates.{Fate, aborts, commits, fate, fate_if, is_led_by_full, undetermined}
 use Rattle.commit_laws.specs.Gathering.{EndsGathering}
 use Rattle.commit_laws.specs.Going.{is_forth, is_lost}
 use Rattle.commit_laws.specs.Reported.{AreAttended, CompletesLast, GatheringsList, IsListed, IsSaid, aborted, known}
 use Rattle.commit_laws.specs.Reported.{told}
-use Rattle.commit_laws.specs.Takeovers.{IsOrphan, takeover_at}
+use Rattle.commit_laws.specs.Takeovers.{takeover_at}
 use Rattle.commit_laws.specs.Together.{FatesMove, Follows}
 use Rattle.commit_laws.specs.Traces.{has_trace, is_known}
 use Rattle.commit_laws.proofs.fates.Committed.{decided_made}

@@ -33,6 +33,7 @@ use Rattle.sig_core.specs.declared.signal.host.HostSignal.TheVariants.{Closed}
 use Rattle.sig_core.specs.declared.view.View.{View}
 use Rattle.sig_core.specs.Place.{client}
 use Rattle.sig_core.specs.Step.{Step}
+use Rattle.tc_block.specs.Complete.{one_if}
 use Rattle.api_block.specs.declared.opened.OpenTransaction.{OpenTransaction}
 use Rattle.api_block.specs.Opened.{has_tx}
 use Rattle.api_block.specs.Outcome.{commit_report_row}
@@ -69,13 +70,13 @@ use Rattle.outcome_laws.proofs.knowledge.Parts.{arbiter_tells_nothing}
 use Rattle.outcome_laws.proofs.once.DecidesAndReports.{IsShell, client_light, in_client, of_client, reports_client}
 use Rattle.outcome_laws.proofs.once.CoordinatorScale.{no_body}
 use Rattle.outcome_laws.proofs.once.Scales.{step_light}
-use Rattle.outcome_laws.specs.Counts.{coordinator_member, count_open, is_begin, is_report, one_if}
+use Rattle.outcome_laws.specs.Counts.{coordinator_member, count_open, is_begin, is_report}
 use Rattle.outcome_laws.specs.Once.{takes_in}
 use Rattle.request_laws.proofs.routes.PartsOfTheFirst.{nobody_later}
 use Rattle.request_laws.specs.Ways.{is_sent}
+use Rattle.request_laws.specs.Orphans.{IsOrphan}
 use Rattle.commit_laws.specs.Fates.{aborts, fate}
 use Rattle.commit_laws.specs.Reported.{CompletesLast, IsSaid, aborted, known, told}
-use Rattle.commit_laws.specs.Takeovers.{IsOrphan}
 use Rattle.commit_laws.specs.Together.{FatesMove, Follows}
 use Rattle.commit_laws.specs.Traces.{has_sent, is_acknowledgement, is_known}
 use Rattle.commit_laws.proofs.forth.ClientReports.{TakesWord, acknowledges_some, drops, notes, takes_word, tally_counts}

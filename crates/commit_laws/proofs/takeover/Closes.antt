@@ -25,11 +25,12 @@ use Rattle.moment_laws.specs.Moments.{IsMoment, current, logs_of}
 use Rattle.moment_laws.proofs.MomentViews.{moment_installed}
 use Rattle.request_laws.specs.Routed.{layout_in}
 use Rattle.request_laws.proofs.routes.PartsOfTheFirst.{chains_in}
+use Rattle.request_laws.specs.Orphans.{IsOrphan}
 use Rattle.commit_laws.specs.Commits.{ComesWhenDone, CommitsStand, HoldsImage, IsDone, IsKept, by_marker, by_record}
 use Rattle.commit_laws.specs.Fates.{aborts, commits, fate, is_led_by_full}
 use Rattle.commit_laws.specs.Gathering.{AllIsTold, IsPreparedSomewhere}
 use Rattle.commit_laws.specs.Going.{is_forth, is_lost}
-use Rattle.commit_laws.specs.Takeovers.{HasAllKeys, IsOrphan, takeover_at}
+use Rattle.commit_laws.specs.Takeovers.{HasAllKeys, takeover_at}
 use Rattle.commit_laws.specs.Traces.{IsReplicaOf, has_marker_at, has_trace, is_committed_by, is_committed_of, is_known}
 use Rattle.commit_laws.specs.Traces.{is_marker_of, leave_trace, members_now, rows_at}
 use Rattle.commit_laws.proofs.fates.Cases.{known_commits, none_aborts, not_both}

@@ -47,11 +47,11 @@ use Rattle.request_laws.proofs.routes.Hosts.{PartHost, beside_sends, coordinates
 use Rattle.request_laws.proofs.orphans.TakeoversOfOrphans.{takeovers_are_of_orphans}
 use Rattle.request_laws.proofs.routes.PartSteps.{TcStep, tc_step}
 use Rattle.request_laws.proofs.tokens.HostsApart.{ldm_low}
-use Rattle.request_laws.specs.Orphans.{TellsOf}
+use Rattle.request_laws.specs.Orphans.{IsOrphan, TellsOf}
 use Rattle.commit_laws.specs.Commits.{HasWritten, LeavesTraceOn, committed_there, marked_there}
 use Rattle.commit_laws.specs.Fates.{commits, fate, is_led_by_full}
 use Rattle.commit_laws.specs.Going.{is_decided, is_forth, is_lost}
-use Rattle.commit_laws.specs.Takeovers.{IsOrphan, IsTrueReport, TellsFate}
+use Rattle.commit_laws.specs.Takeovers.{IsTrueReport, TellsFate}
 use Rattle.commit_laws.specs.Together.{FatesMove, Follows}
 use Rattle.commit_laws.specs.Traces.{has_trace, is_committed_of, is_known, is_marker_of, leave_trace, members_now}
 use Rattle.commit_laws.specs.Traces.{record_at, rows_at}

@@ -16,6 +16,7 @@ use Rattle.sig_core.specs.declared.place.Part.TheVariants.{Ldm, Main, Tc}
 use Rattle.sig_core.specs.Same.{same_tx}
 use Rattle.sig_core.proofs.Keys.{same_tx-self}
 use Rattle.sig_core.proofs.TxLemmas.{same_tx-is}
+use Rattle.tc_block.specs.Complete.{one_if}
 use Rattle.world_core.specs.Entries.{entries, entries_in, entries_of, entry_of, insert, insert_all, is_before}
 use Rattle.world_core.specs.Hosts.{hosts, member_at, part_by}
 use Rattle.world_core.specs.Start.{Start, made}
@@ -25,7 +26,7 @@ use Rattle.world_views.specs.Machine.{machine}
 use Rattle.view_laws.specs.Runs.{AreOfCluster}
 use Rattle.moment_laws.proofs.MomentRuns.{have_moments}
 use Rattle.moment_laws.specs.Places.{tc_of}
-use Rattle.outcome_laws.specs.Counts.{coordinator_member, is_asking, is_decision, one_if}
+use Rattle.outcome_laws.specs.Counts.{coordinator_member, is_asking, is_decision}
 use Rattle.outcome_laws.specs.Once.{marks_in, takes_in}
 use Rattle.outcome_laws.specs.Outcomes.{AreOnce, TransactionsAreDecidedOnce}
 use Rattle.outcome_laws.proofs.knowledge.DecidedAtOwnHost.{AreDecidedHere, IsDecidedHere, all_own}

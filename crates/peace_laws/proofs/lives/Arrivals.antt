@@ -47,13 +47,14 @@ use Rattle.host_laws.proofs.rows.Operations.{right_of}
 use Rattle.peace_laws.specs.Parts.{plain_part}
 use Rattle.peace_laws.specs.Peace.{is_closing, is_for_closing}
 use Rattle.peace_laws.specs.Steps.{ComesForClosing, asks_master}
-use Rattle.peace_laws.proofs.closings.Signals.{IsPlainKind, calm_apart, closing_body, closing_given, closing_links}
+use Rattle.peace_laws.proofs.closings.Signals.{IsPlainKind, calm_apart, closing_given, closing_links}
 use Rattle.peace_laws.proofs.near.Signals.{calm_level, request_level}
 use Rattle.peace_laws.proofs.near.Mirrored.{IsMirrored}
 use Rattle.peace_laws.proofs.plain.Calm.{sent_calm}
 use Rattle.peace_laws.proofs.plain.Events.{events_are, plain_events}
 use Rattle.peace_laws.proofs.near.Seen.{IsSeen, IsSend, is_master}
 use Rattle.peace_laws.proofs.near.Sent.{addressed_at}
+use Rattle.peace_laws.proofs.closings.Ease.{takes_it}
 
 -- What is known of the signal that comes next to host h, and that it may come to the plain one, but for its epoch.
 pub record Arrives (start : Start) (es : List HostStep) (h : ℕ) (x : Signal) : Type 0 where
@@ -283,10 +284,10 @@ module _ (start : Start) (es : List HostStep) (h : ℕ) (x : Signal)
   module _ (closing : is_closing h x ≡ true) where
     pub closing_unasked : is_asked h x ≡ false
     closing_unasked =
-        and_right (x.from.0 == h) (is_own_work x.body) (closing_given x.to.block x.body (closing_body h x closing))
+        and_right (x.from.0 == h) (is_own_work x.body) (closing_given x.to.block x.body (takes_it h x closing))
 
     no_link : (cause : StopCause) → x.body ≡ Host (Closed cause) → ⊥
-    no_link cause is = closing_links x.to.block x.body cause (closing_body h x closing) is
+    no_link cause is = closing_links x.to.block x.body cause (takes_it h x closing) is
 
     module _ (given : GivesNext (machine start) es i h (arriving h x)) where
       -- the client's side alone asks for one
@@ -296,7 +297,7 @@ module _ (start : Start) (es : List HostStep) (h : ℕ) (x : Signal)
           go : (k : ℕ) → x.member ≡ member_at (made start) k → IsSend k x.to.block x.body → x.member.node ≡ 0
           go zero member send = ap (λ (m : Member). m.node) member
           go (suc k) member (inl calm) =
-              absurd (false≢true (sym calm.other ∙ asks_at x.to.block x.body (closing_body h x closing) asks))
+              absurd (false≢true (sym calm.other ∙ asks_at x.to.block x.body (takes_it h x closing) asks))
           go (suc k) member (inr of) = absurd (cc (of.asks asks))
 
       pub closing_comes : is_well_formed start.shape x ≡ true → ComesForClosing start h x
@@ -312,7 +313,7 @@ module _ (start : Start) (es : List HostStep) (h : ℕ) (x : Signal)
             go false rests =
                 absurd
                 (false≢true
-                (sym (calm_apart h x (sym (calm_level start.epoch h x) ∙ calm)) ∙ closing_body h x closing))
+                (sym (calm_apart h x (sym (calm_level start.epoch h x) ∙ calm)) ∙ takes_it h x closing))
               where
                 calm : is_calm h (signal_at start.epoch x) ≡ true
                 calm =

@@ -30,11 +30,12 @@ use Rattle.tc_block.proofs.EachTurn.{rows_at, rows_of}
 use Rattle.tc_block.proofs.TurnRows.{turn_for, turn_with}
 use Rattle.tc_views.specs.Coordinator.{coordinator_row}
 use Rattle.tc_views.specs.State.{CoordinatorState, go_on_if, go_on_with}
+use Rattle.run_laws.specs.Tokens.{is_token}
 use Rattle.outcome_laws.specs.Counts.{IsCoordinatorOf, coordinator_member, count_sent, is_unborn}
 use Rattle.outcome_laws.proofs.coordinators.Lists.{count_both, none_counted}
 use Rattle.tc_block.proofs.EachResume as walk
 use Rattle.request_laws.specs.Drives.{is_request}
-use Rattle.request_laws.specs.Tokens.{has_asked, is_token}
+use Rattle.request_laws.specs.Tokens.{has_asked}
 use Rattle.request_laws.specs.Ways.{entry_of, is_at, is_sent, tells_abort}
 use Rattle.request_laws.proofs.phases.TurnSends.{AreSpared}
 use Rattle.request_laws.proofs.phases.Turns.{Changes, back, decides, forth, is_abort_told, opens, resume_changes}

@@ -17,6 +17,7 @@ use Rattle.gcp_master.specs.declared.phase.Run.{Run}
 use Rattle.gcp_master.specs.Master.{fresh_master, master_row}
 use Rattle.gcp_master.specs.State.{MasterState}
 use Rattle.gcp_master.specs.Voices.{same_member}
+use Rattle.gcp_master.proofs.Outcomes.{voice_of}
 use Rattle.lqh_views.specs.State.{ReplicaState}
 use Rattle.node_views.specs.declared.host_body.HostBody as node
 use Rattle.node_views.specs.declared.main_part.MainPart.{MainPart}
@@ -41,7 +42,6 @@ use Rattle.epoch_laws.specs.Members.{IsFirst, IsPresident, IsStanding, dih_in, e
 use Rattle.epoch_laws.specs.Stand.{AllStand}
 use Rattle.epoch_laws.proofs.FallAll.{told_view}
 use Rattle.epoch_laws.proofs.MasterHears.{same_member-is, same_member-self}
-use Rattle.epoch_laws.proofs.MasterMoves.{voice_of}
 use Rattle.epoch_laws.proofs.MasterSpeaks.{installed}
 use Rattle.epoch_laws.proofs.StandAll.{epochs_stand}
 use Rattle.epoch_laws.proofs.StandKinds.{RunsMain, runs_main}
