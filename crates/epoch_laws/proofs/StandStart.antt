@@ -94,7 +94,7 @@ module _ (start : Start) (all : ℕ → List HostStep) (below : start.start_epoc
     where
       by : (view : View) → (view ≡ first) ⊎ IsViewOf start logs (world.hosts start) view → view ≡ first
       by view (inl is) = is
-      by view (inr one) = one.is ∙ started_view start moment.cluster.shape one.host
+      by view (inr one) = one.is ∙ started_view start one.host
 
   right_begun : (member : Member) (president : Bool) → IsRightIn start logs [] (first_phase start.epoch president)
   right_begun member true =

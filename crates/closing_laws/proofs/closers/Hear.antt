@@ -28,6 +28,7 @@ use Rattle.world_views.specs.Machine.{after, step_after, told}
 use Rattle.view_laws.specs.Runs.{view_after}
 use Rattle.view_laws.specs.Votes.{main_of}
 use Rattle.view_laws.proofs.ballots.MadeSets.{in_either}
+use Rattle.view_laws.proofs.eras.Deciders.{told_view}
 use Rattle.moment_laws.specs.Moments.{IsMoment, current, logs_of}
 use Rattle.moment_laws.specs.Parts.{IsPassed}
 use Rattle.moment_laws.specs.Places.{ldm_of, tc_of}
@@ -35,7 +36,6 @@ use Rattle.moment_laws.proofs.MomentHosts.{main_low, tc_started}
 use Rattle.moment_laws.proofs.MomentTurns.{current_rises, host_low, old_current, own_behind, taker_stands}
 use Rattle.moment_laws.proofs.MomentViews.{current_above, current_number, moment_less, number_in}
 use Rattle.moment_laws.proofs.PartTaken.{IsTakenNow}
-use Rattle.epoch_laws.proofs.FallAll.{told_view}
 use Rattle.epoch_laws.specs.Alike.{EachFull}
 use Rattle.epoch_laws.specs.Masters.{EachHeard}
 use Rattle.epoch_laws.specs.Members.{IsFirst, IsPresident, IsStanding, epochs_of, master_in, master_of}

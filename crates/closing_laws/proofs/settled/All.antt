@@ -218,7 +218,7 @@ module _ (start : Start) (large : ℕ → List HostStep) (more : AreOfCluster st
               by : (view : View) → IsSome start (logs_of start []) (hosts start) view
                   → view ≡ (first_layout start.shape).view
               by view (inl first) = first
-              by view (inr one) = one.is ∙ started_view start more.shape one.host
+              by view (inr one) = one.is ∙ started_view start one.host
 
           above : (current start (logs_of start [])).number < (current start (logs_of start (e ∷ older))).number
           above =

@@ -37,7 +37,7 @@ first_current start all moment = by (current start (logs_of start [])) (current_
   where
     by : (view : View) → IsSome start (logs_of start []) (hosts start) view → view ≡ (first_layout start.shape).view
     by view (inl first) = first
-    by view (inr one) = one.is ∙ started_view start moment.cluster.shape one.host
+    by view (inr one) = one.is ∙ started_view start one.host
 
 -- a place that is found is inside
 pub place_inside : (xs : List Member) (at : ℕ) (x : Member) → slice_get xs at ≡ Some x → at < length xs

@@ -74,7 +74,7 @@ module _ (confirmed : ConfirmedIsFenced) (start : Start)
 
     not_before : (h : ℕ) (log : List HostStep) → (first_view start.shape.nodes).number ≤ (view_after start h log).number
     not_before h [] =
-        let is = ap (λ (v : View). v.number) (started_view start moment.cluster.shape h) in omega (arith, is)
+        let is = ap (λ (v : View). v.number) (started_view start h) in omega (arith, is)
     not_before h (f ∷ log) =
         let up = view_rises start h log f in let low = not_before h log in omega (arith, up, low)
 

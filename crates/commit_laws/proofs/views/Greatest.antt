@@ -350,7 +350,7 @@ module _ (start : Start) (logs : ℕ → List HostStep) (are : AreOfCluster star
     there = omega arith;
     log = [];
     past = past_nil (logs 0);
-    is = sym (started_view start are.shape 0);
+    is = sym (started_view start 0);
   }
 
   -- of this view, and those that a host has marked in a part of its log, this is the greatest
@@ -422,7 +422,7 @@ module _ (start : Start) (logs : ℕ → List HostStep) (are : AreOfCluster star
       was = λ was. was;
       grows = omega arith;
       stood =
-          λ above. let is = ap (λ (v : View). v.number) (started_view start are.shape h) in omega (arith, is, above);
+          λ above. let is = ap (λ (v : View). v.number) (started_view start h) in omega (arith, is, above);
       least = λ c own stands. own;
     }
     top_of (e ∷ log) past local view =

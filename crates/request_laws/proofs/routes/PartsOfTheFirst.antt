@@ -40,13 +40,13 @@ module _ (start : Start) (all : ℕ → List HostStep) (are : AreOfCluster start
     there = omega arith;
     log = [];
     past = past_nil (all 0);
-    is = sym (started_view start are.shape 0);
+    is = sym (started_view start 0);
   }
 
   -- no host stands below the first view
   not_before : (h : ℕ) (log : List HostStep) → first.number ≤ (view_after start h log).number
   not_before h [] =
-      let is = ap (λ (v : View). v.number) (started_view start are.shape h) in omega (arith, is)
+      let is = ap (λ (v : View). v.number) (started_view start h) in omega (arith, is)
   not_before h (e ∷ log) = let up = view_rises start h log e in let low = not_before h log in omega (arith, up, low)
 
   pub first_part : (view : View) → WasInstalled start all view → IsPart first view

@@ -1,11 +1,10 @@
 -- A signal about rows that comes to the rows of a member is for a place of its node, and the rows know their node.
-use Rattle.std.proofs.Common.{◌≡◌, ◌<◌, ◌==◌, ◌∙◌, ℕ, zero, suc, Bool, true, false, filter, List, [], ◌∷◌}
+use Rattle.std.proofs.Common.{◌≡◌, ◌<◌, ◌==◌, ◌∙◌, ℕ, zero, suc, Bool, true, false, List, [], ◌∷◌}
 use Rattle.std.proofs.Common.{refl, ap, sym, arith}
-use Rattle.std.proofs.lemmas.Bool.{eqb-true, true≢false}
+use Rattle.std.proofs.lemmas.Bool.{true≢false}
 use Rattle.std.specs.Prelude.{if◌then◌else◌, Option, None, Some}
 use Rattle.run_theory.specs.Lists.{IsIn}
-use Rattle.run_theory.proofs.EachSent.{each_get}
-use Rattle.run_theory.proofs.Pasts.{each_from, each_in, each_map}
+use Rattle.run_theory.proofs.Pasts.{each_in, each_map}
 use Rattle.sig_core.specs.declared.member.Member.{Member}
 use Rattle.sig_core.specs.declared.outs.Outgoing.{Outgoing}
 use Rattle.sig_core.specs.declared.place.BlockId.{BlockId}
@@ -25,12 +24,10 @@ use Rattle.world_views.specs.Hosts.{reached, started}
 use Rattle.world_views.specs.Machine.{signals_of, step_after}
 use Rattle.view_laws.specs.Order.{is_sound}
 use Rattle.view_laws.specs.Runs.{view_after}
-use Rattle.view_laws.specs.Sets.{all_of}
 use Rattle.view_laws.proofs.eras.SoundLogs.{each_filter}
-use Rattle.view_laws.proofs.fences.Hosts.{hosts_same}
+use Rattle.view_laws.proofs.fences.Hosts.{hosts_same, node_of}
 use Rattle.view_laws.proofs.follow.Senders.{IsSentBy, each_sent}
 use Rattle.view_laws.proofs.runs.FirstMembers.{node_low, node_some}
-use Rattle.view_laws.proofs.memberships.SetTests.{filter_in}
 use Rattle.view_laws.proofs.fences.OwnNodes.{replica_node}
 use Rattle.moment_laws.specs.Moments.{IsMoment, logs_of}
 use Rattle.moment_laws.specs.Places.{ldm_of}
@@ -53,13 +50,6 @@ abbrev IsPlaced : Start → Addressed → Type 0
 IsPlaced start x = is_of_rows x.signal.body ≡ true → IsReached start x
 
 module _ (start : Start) where
-  node_of : (view : View) (node : ℕ) (m : Member) → member_of view node ≡ Some m → m.node ≡ node
-  node_of view node m is =
-      each_get (λ (m : Member). m.node ≡ node) (filter (λ (m : Member). m.node == node) (all_of view)) 0 m
-      (each_from _ (filter (λ (m : Member). m.node == node) (all_of view))
-      (λ m i. eqb-true m.node node (filter_in (λ (m : Member). m.node == node) (all_of view) m i).1))
-      is
-
   -- what comes to the rows of a member is for its node
   node_reached : (h : ℕ) (view : View) (to : Place) (me : Member) → IsIn me (made start)
       → reached (made start) (suc h) view to ≡ ldm_of start me → to.node ≡ me.node

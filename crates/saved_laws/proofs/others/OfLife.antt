@@ -27,6 +27,7 @@ use Rattle.world_views.specs.Machine.{after, step_after}
 use Rattle.view_laws.specs.Runs.{view_after}
 use Rattle.view_laws.specs.Votes.{main_of}
 use Rattle.view_laws.proofs.ballots.MadeSets.{in_either}
+use Rattle.view_laws.proofs.eras.Deciders.{told_view}
 use Rattle.moment_laws.specs.Moments.{IsMoment, current, logs_of}
 use Rattle.moment_laws.specs.Places.{ldm_of, tc_of}
 use Rattle.moment_laws.proofs.MomentHosts.{main_low, tc_started}
@@ -40,7 +41,6 @@ use Rattle.epoch_laws.specs.Alike.{IsAcross}
 use Rattle.epoch_laws.specs.Masters.{IsRightIn}
 use Rattle.epoch_laws.specs.Members.{IsFirst, IsPresident, IsStanding, dih_in, epochs_of, master_in, master_of}
 use Rattle.epoch_laws.specs.Stand.{AllStand}
-use Rattle.epoch_laws.proofs.FallAll.{told_view}
 use Rattle.epoch_laws.proofs.MasterHears.{same_member-is, same_member-self}
 use Rattle.epoch_laws.proofs.MasterSpeaks.{installed}
 use Rattle.epoch_laws.proofs.StandAll.{epochs_stand}
