@@ -32,6 +32,7 @@ use Rattle.outcome_laws.proofs.knowledge.CommitsWereDecided.{in_before, in_turne
 use Rattle.outcome_laws.specs.Counts.{coordinator_member, is_decision}
 use Rattle.outcome_laws.specs.Decided.{IsMarked}
 use Rattle.request_laws.proofs.tokens.HostsApart.{ldm_low}
+use Rattle.request_laws.proofs.routes.ChainsStay.{any_in}
 use Rattle.commit_laws.specs.Commits.{HasWritten}
 use Rattle.commit_laws.specs.Forth.{ForthIsKnownAlways}
 use Rattle.commit_laws.specs.Going.{decided_ops, is_decided}
@@ -42,7 +43,6 @@ use Rattle.commit_laws.specs.Values.{history_at, is_final_entry}
 use Rattle.commit_laws.proofs.markers.AppliedMarks.{marks_of_commit}
 use Rattle.commit_laws.proofs.fates.Committed.{decision_in}
 use Rattle.commit_laws.proofs.forth.DecidedStay.{applied_more, decided_more, ops_same, written_more}
-use Rattle.commit_laws.proofs.views.AtEvents.{any_of}
 use Rattle.commit_laws.proofs.led.Entries.{decision_stays}
 use Rattle.commit_laws.proofs.led.Replicas.{moment_at}
 use Rattle.commit_laws.proofs.links.TakenChains.{commit_kept}
@@ -205,7 +205,7 @@ any_filtered p q (op ∷ ops) is = by (p op) is (any_filtered p q ops)
 
 pub applied_are_final : ForthIsKnownAlways → AllStandAlways → AppliedAreFinal
 applied_are_final forth stand start all end es along v key applied =
-    any_of (λ (b : Entry). same_tx b.tx v) (history_at start end end) own.entry
+    any_in (λ (b : Entry). same_tx b.tx v) own.entry (history_at start end end)
     (in_filter (is_final_entry start end) own.entry (entries_along start end)
     (in_turned own.entry (decisions start end) (decision_stays start all end es along own.entry own.there)) kept)
     (ap (λ t. same_tx t v) own.tx_is ∙ same_tx-self v)

@@ -35,9 +35,10 @@ use Rattle.outcome_laws.proofs.coordinators.Lists.{count_more}
 use Rattle.outcome_laws.specs.Counts.{coordinator_member, is_decision}
 use Rattle.outcome_laws.specs.Once.{marks_in}
 use Rattle.outcome_laws.specs.Outcomes.{AreOnce}
+use Rattle.request_laws.proofs.routes.ChainsStay.{any_in}
 use Rattle.commit_laws.specs.Owed.{AreFresh, DecisionsAreFresh, EntriesAreFinal, IsAlong}
 use Rattle.commit_laws.specs.Values.{decided_at, history_at, is_final, is_final_entry}
-use Rattle.commit_laws.proofs.views.AtEvents.{any_of, some_of}
+use Rattle.commit_laws.proofs.hosts.SomePasses.{passing}
 
 pub any_counts : {A : Type 0} (p : A → Bool) (xs : List A) → list_any p xs ≡ true → 1 ≤ count_by p xs
 any_counts p [] any = absurd (true≢false (sym any))
@@ -213,12 +214,12 @@ entries_final start all end es along z there = by (is_final_entry start end z) r
     by true e true f = refl
     by false e false f = refl
     by true e false f =
-        absurd (true≢false (sym (any_of (λ (b : Entry). same_tx b.tx z.tx) (history_at start end end) z
+        absurd (true≢false (sym (any_in (λ (b : Entry). same_tx b.tx z.tx) z (history_at start end end)
         (in_filter (is_final_entry start end) z (entries_along start end) (in_turned z (decisions start end) inside) e)
         (same_tx-self z.tx)) ∙ f))
     by false e true f =
-        let found = some_of (λ (b : Entry). same_tx b.tx z.tx) (history_at start end end) f in
-        let kept = kept_in (is_final_entry start end) found.one (entries_along start end) found.there in
-        let same = one_entry (decisions start end) found.one z (decisions_once start all end along.moment)
-        (back found.one kept.there) inside found.passes in
+        let found = passing (λ (b : Entry). same_tx b.tx z.tx) (history_at start end end) f in
+        let kept = kept_in (is_final_entry start end) found.item (entries_along start end) found.there in
+        let same = one_entry (decisions start end) found.item z (decisions_once start all end along.moment)
+        (back found.item kept.there) inside found.is in
         sym e ∙ subst (λ w. is_final_entry start end w ≡ true) same kept.passes

@@ -314,7 +314,8 @@ module _ (start : Start) (all : ℕ → List HostStep) (es : List HostStep) (mom
   abbrev first : View
   first = first_view start.shape.nodes
 
-  full_replica : IsIn member (current start (logs_of start es)).full → holds start.shape member.node key ≡ true
+  -- a full member whose node holds a key is a replica of it
+  pub full_replica : IsIn member (current start (logs_of start es)).full → holds start.shape member.node key ≡ true
       → IsReplicaOf start (logs_of start es) key member
   full_replica full has = record { full = full; chained = placed }
     where

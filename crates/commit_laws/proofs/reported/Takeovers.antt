@@ -79,7 +79,6 @@ use Rattle.commit_laws.proofs.fates.Committed.{decided_made}
 use Rattle.commit_laws.proofs.reported.CompleteOthers.{apart_say_none, blocks_say_none, installs_say_none}
 use Rattle.commit_laws.proofs.reported.CompleteWords.{AreNoWords, is_no_word}
 use Rattle.commit_laws.proofs.fates.Forth.{fate_decided}
-use Rattle.commit_laws.proofs.views.AtEvents.{some_of}
 use Rattle.commit_laws.proofs.hosts.Goes.{HostGoes, halts, host_goes, leaves, takes}
 use Rattle.commit_laws.proofs.reported.Rulings.{AreLast, IsLast, SaidBy, TellsAll, goes_on_telling, tells_more}
 use Rattle.commit_laws.proofs.reported.Sent.{CanTell, IsNew, IsPutAt, can_before, comes_now, goes_on_link, new_sent}
@@ -88,6 +87,7 @@ use Rattle.commit_laws.proofs.fates.SpokenHost.{StandsStill, stood_still}
 use Rattle.commit_laws.proofs.fates.SpokenTakeover.{IsAbortingAt}
 use Rattle.commit_laws.proofs.takeover.GoesOn.{stands_on}
 use Rattle.commit_laws.proofs.takeover.Words.{Aborts}
+use Rattle.commit_laws.proofs.hosts.SomePasses.{passing}
 
 -- a transaction whose coordinator is no node of the cluster aborts
 made_sound : (start : Start) (tx : TxId) → IsIn (coordinator_member tx) (made start) → is_tx start.shape tx ≡ true
@@ -118,9 +118,9 @@ unsound_aborts start all es moment tx off = by (fate start (logs_of start es) tx
         led_fate (is_known start (logs_of start es) tx) (is_led_by_full start (logs_of start es) tx)
         (is_forth start (logs_of start es) tx) (is_lost start (logs_of start es) tx)
         (has_trace start (logs_of start es) tx) is in
-        let one = some_of (was_begun_by tx) (current start (logs_of start es)).full full in
-        absurd (not_made (subst (λ (m : Member). IsIn m (made start)) (begun_by tx one.one one.passes)
-        (current_made start all es moment one.one one.there)))
+        let one = passing (was_begun_by tx) (current start (logs_of start es)).full full in
+        absurd (not_made (subst (λ (m : Member). IsIn m (made start)) (begun_by tx one.item one.is)
+        (current_made start all es moment one.item one.there)))
 
 -- a view with a member counts some
 pub has_members : (view : View) (m : Member) → IsIn m view.full → (member_count view == 0) ≡ true → ⊥

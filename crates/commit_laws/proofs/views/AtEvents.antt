@@ -1,9 +1,7 @@
 -- The current view at an event: it stays or rises, and nobody joins it.
-use Rattle.std.proofs.Common.{◌≡◌, ◌⊎◌, ◌∙◌, ◌++◌, ◌||◌, ℕ, Bool, true, false, List, [], ◌∷◌, refl, sym, ap, subst, inl}
+use Rattle.std.proofs.Common.{◌≡◌, ◌⊎◌, ◌∙◌, ◌++◌, ℕ, true, List, [], ◌∷◌, sym, ap, subst, inl}
 use Rattle.std.proofs.Common.{inr}
 use Rattle.std.proofs.lemmas.List.{append-nil}
-use Rattle.std.proofs.lemmas.Bool.{true≢false}
-use Rattle.std.specs.List.{list_any}
 use Rattle.run_theory.specs.Lists.{IsIn}
 use Rattle.run_theory.proofs.Pasts.{each_in}
 use Rattle.sig_core.specs.declared.member.Member.{Member}
@@ -20,36 +18,9 @@ use Rattle.moment_laws.proofs.MomentTurns as moments
 use Rattle.moment_laws.proofs.MomentTurns.{Turn, turn}
 use Rattle.moment_laws.proofs.MomentViews.{moment_installed, moment_less}
 use Rattle.request_laws.proofs.routes.PartsOfTheFirst.{nobody_later}
+use Rattle.request_laws.proofs.routes.ChainsStay.{any_in}
 use Rattle.commit_laws.specs.Traces.{members_now}
-
--- one of a list passes a test
-pub record IsSome {A : Type 0} (test : A → Bool) (xs : List A) : Type 0 where
-  pub one : A
-  pub there : IsIn one xs
-  pub passes : test one ≡ true
-
-pub some_of : {A : Type 0} (test : A → Bool) (xs : List A) → list_any test xs ≡ true → IsSome test xs
-some_of test [] is = absurd (true≢false (sym is))
-some_of {A} test (x ∷ xs) is = by (test x) refl is (some_of test xs)
-  where
-    by : (b : Bool) → test x ≡ b → (b || list_any test xs) ≡ true → (list_any test xs ≡ true → IsSome test xs)
-        → IsSome test (x ∷ xs)
-    by true passes is rest = record { one = x; there = inl refl; passes = passes }
-    by false fails is rest = let more = rest is in record {
-      one = more.one;
-      there = inr more.there;
-      passes = more.passes;
-    }
-
-pub any_of : {A : Type 0} (test : A → Bool) (xs : List A) (x : A) → IsIn x xs → test x ≡ true → list_any test xs ≡ true
-any_of test [] x there passes = absurd there
-any_of test (y ∷ xs) x (inl is) passes =
-    ap (λ z. test z || list_any test xs) (sym is) ∙ ap (λ b. b || list_any test xs) passes
-any_of test (y ∷ xs) x (inr there) passes = or_right (test y) (list_any test xs) (any_of test xs x there passes)
-  where
-    or_right : (a b : Bool) → b ≡ true → (a || b) ≡ true
-    or_right true b is = refl
-    or_right false b is = is
+use Rattle.commit_laws.proofs.hosts.SomePasses.{passing}
 
 -- the members of the current view are full ones, and were made
 module _ (start : Start) (all : ℕ → List HostStep) (es : List HostStep) (moment : IsMoment start all es) where
@@ -94,8 +65,8 @@ module _ (start : Start) (all : ℕ → List HostStep) (e : HostStep) (es : List
     pub led_was : (tx : TxId) → is_coordinated (current start new).full tx ≡ true
         → is_coordinated (current start old).full tx ≡ true
     led_was tx is =
-        let one = some_of (was_begun_by tx) (current start new).full is in
-        any_of (was_begun_by tx) (current start old).full one.one (full_was one.one one.there) one.passes
+        let one = passing (was_begun_by tx) (current start new).full is in
+        any_in (was_begun_by tx) one.item (current start old).full (full_was one.item one.there) one.is
 
     -- and members of the view now were members before
     pub member_was : (member : Member) → IsIn member (members_now start new) → IsIn member (members_now start old)
