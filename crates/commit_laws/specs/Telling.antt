@@ -23,9 +23,6 @@ use Rattle.commit_laws.specs.Takeovers.{takeover_at}
 use Rattle.commit_laws.specs.Traces.{has_marker_at, record_at}
 
 module _ (start : Start) (logs : ℕ → List HostStep) where
-  abbrev number_now : ℕ
-  number_now = (current start logs).number
-
   -- the signal tells, in the current view, that a member has told all
   pub record IsEnd (y : Addressed) : Type 0 where
     pub body : y.signal.body ≡ Takeover LqhTransEnd

@@ -25,10 +25,10 @@ use Rattle.commit_laws.specs.Traces.{has_marker_at, has_trace, is_committed_at, 
 use Rattle.commit_laws.specs.Traces.{is_known, is_marker_of, leave_trace, members_now, record_at, rows_at}
 use Rattle.commit_laws.proofs.commits.Remain.{record_there}
 use Rattle.commit_laws.proofs.fates.Cases.{known_commits, not_both, trace_commits}
-use Rattle.commit_laws.proofs.views.AtEvents.{full_only}
 use Rattle.commit_laws.proofs.forth.Grows.{known_grows}
 use Rattle.commit_laws.proofs.markers.All.{traces_stay}
 use Rattle.commit_laws.proofs.hosts.SomePasses.{passing}
+use Rattle.commit_laws.proofs.records.Replicas.{members_full}
 use Rattle.closing_laws.proofs.settled.Cuts.{goes_on, has_log}
 
 -- a trace of a transaction stays at a member, or the client's side comes to know of its commit
@@ -75,7 +75,7 @@ module _ (start : Start) (all : ℕ → List HostStep) (es : List HostStep) (mom
         not_both (sym (trace_commits (is_known start logs tx) (is_led_by_full start logs tx) (is_forth start logs tx)
         (is_lost start logs tx) (has_trace start logs tx) gone
         (any_in (λ (m : Member). leave_trace tx (rows_at start logs m)) member (members_now start logs)
-        (subst (IsIn member) (sym (full_only start all es moment)) full) left)) ∙ aborting)
+        (subst (IsIn member) (sym (members_full start all es moment)) full) left)) ∙ aborting)
 
     -- nor had it one at a part of the member's log
     pub no_trace : (member : Member) → IsIn member (current start (logs_of start es)).full → (log : List HostStep)

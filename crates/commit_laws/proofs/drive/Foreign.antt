@@ -41,7 +41,6 @@ use Rattle.outcome_laws.proofs.coordinators.Lists.{count_both, count_more}
 use Rattle.request_laws.specs.Blocks.{takeover_after}
 use Rattle.request_laws.specs.Orphans.{AllOrphans, GatheredAre, IsOrphan}
 use Rattle.request_laws.specs.Routed.{layout_in}
-use Rattle.request_laws.specs.Tokens.{sent_along}
 use Rattle.request_laws.proofs.phases.AlongLogs.{coordinator_of}
 use Rattle.request_laws.proofs.routes.Headers.{own_installed}
 use Rattle.request_laws.proofs.routes.Layouts.{IsLaid, tc_enters}
@@ -234,12 +233,6 @@ module _ (start : Start) (all : ℕ → List HostStep) (e : HostStep) (es : List
           by (inr is) =
               let none : count_sent (onward tx place) sends ≡ 0 =
               ap (count_sent (onward tx place)) is in omega (arith, none)
-
--- none of these was sent by the host
-pub record IsForeign (start : Start) (tx : TxId) (number h : ℕ) (log : List HostStep) : Type 0 where
-  pub keys : (drive : Drive) (wk : List ℕ → Bool)
-      → sent_along start (numbered number (goes drive (mine tx wk))) h log ≡ 0
-  pub goes_on : (place : ℕ) → sent_along start (numbered number (onward tx place)) h log ≡ 0
 
 module _ (start : Start) (all : ℕ → List HostStep) (tx : TxId) (number : ℕ) (led : IsLedIn start all tx number) where
   -- an event of another host that coordinates

@@ -38,12 +38,13 @@ use Rattle.commit_laws.specs.Traces.{rows_at}
 use Rattle.commit_laws.proofs.fates.Cases.{forth_commits, known_commits, lost_aborts, none_aborts, not_both}
 use Rattle.commit_laws.proofs.fates.Cases.{trace_commits}
 use Rattle.commit_laws.proofs.fates.Rows.{TakesCommit, trace_comes}
-use Rattle.commit_laws.proofs.views.AtEvents.{led_was, member_was, members_made}
+use Rattle.commit_laws.proofs.views.AtEvents.{led_was}
 use Rattle.commit_laws.proofs.forth.All.{forth_is_known}
 use Rattle.commit_laws.proofs.forth.Grows.{forth_grows, known_grows}
 use Rattle.commit_laws.proofs.fates.LostStays.{lost_stay}
 use Rattle.commit_laws.proofs.markers.All.{traces_stay}
 use Rattle.commit_laws.proofs.hosts.SomePasses.{Passes, passing}
+use Rattle.commit_laws.proofs.records.Replicas.{member_before, member_made}
 
 -- who aborts isn't known; and it is lost where its coordinator is full, and else has no trace
 data Aborts (full lost trace : Bool) : Type 0 where
@@ -140,7 +141,7 @@ module _ (start : Start) (all : ℕ → List HostStep) (e : HostStep) (es : List
       let one = passing (λ (member : Member). leave_trace tx (rows_at start (logs_of start some) member))
       (members_now start (logs_of start some)) traced in
       traced_known (IsForth start (logs_of start some)) tx (rows_at start (logs_of start some) one.item)
-      ((forth_is_known start all some at).rows one.item (members_made start all some at one.item one.there)) one.is
+      ((forth_is_known start all some at).rows one.item (member_made start all some at one.item one.there)) one.is
 
   -- and whoever hasn't has none
   no_trace : is_forth start new tx ≡ false → has_trace start new tx ≡ false
@@ -200,8 +201,8 @@ module _ (start : Start) (all : ℕ → List HostStep) (e : HostStep) (es : List
             gone : (member : Member) → IsIn member (members_now start new)
                 → leave_trace tx (rows_at start new member) ≡ false
             gone member there =
-                let was = member_was start all e es moment member there in
-                let is_made = members_made start all es before member was in
+                let was = member_before start all e es moment member there in
+                let is_made = member_made start all es before member was in
                 trace_comes start all e es moment member is_made tx
                 (none_of (λ (m : Member). leave_trace tx (rows_at start old m)) (members_now start old) none member was)
                 (no_commit member is_made)
@@ -282,7 +283,7 @@ module _ (start : Start) (all : ℕ → List HostStep) (e : HostStep) (es : List
             traced one =
                 which
                 (or_cases (leave_trace tx (rows_at start new one.item)) (is_known start new tx)
-                (traces_stay start all e es moment one.item (members_made start all es before one.item one.there) tx
+                (traces_stay start all e es moment one.item (member_made start all es before one.item one.there) tx
                 one.is))
               where
                 which : (leave_trace tx (rows_at start new one.item) ≡ true) ⊎ (is_known start new tx ≡ true)

@@ -33,7 +33,6 @@ use Rattle.commit_laws.specs.Together.{AllStandAlways}
 use Rattle.commit_laws.specs.Transit.{MomentsHaveTransit}
 use Rattle.commit_laws.specs.Values.{KeysAreLed, is_final}
 use Rattle.commit_laws.proofs.fates.Committed.{decided_made, forth_made}
-use Rattle.commit_laws.proofs.views.AtEvents.{full_was}
 use Rattle.commit_laws.proofs.fates.Decided.{decides_now}
 use Rattle.commit_laws.proofs.forth.All.{forth_is_known}
 use Rattle.commit_laws.proofs.led.Along.{keys_led}
@@ -44,6 +43,7 @@ use Rattle.commit_laws.proofs.led.Replicas.{moment_at, keys_have_primaries, repl
 use Rattle.commit_laws.proofs.led.Rows.{events_lead}
 use Rattle.commit_laws.proofs.fates.LostStays.{lost_stay}
 use Rattle.commit_laws.proofs.settled.OfFullCoordinators.{decided_now, decisions_are_settled}
+use Rattle.commit_laws.proofs.records.Replicas.{full_before}
 
 -- who was given up stays so
 back_past : (start : Start) (all : ℕ → List HostStep) (newer es : List HostStep) → IsMoment start all (newer ++ es)
@@ -133,7 +133,7 @@ module _ (forth : FinalsAreForth) (going : DecidersGoOn) (start : Start) (all : 
   full_old : is_led_by_full start (logs_of start es) tx ≡ true
   full_old =
       any_in (was_begun_by tx) (coordinator_member tx) (current start (logs_of start es)).full
-      (full_was start all e es moment (coordinator_member tx) full_now)
+      (full_before start all e es moment (coordinator_member tx) full_now)
       (λ i. eq-eqb tx.tc tx.tc refl i && eq-eqb tx.start tx.start refl i)
 
   now_of : is_final start end tx ≡ true → IsDecidedNow start e es tx

@@ -1,27 +1,17 @@
 -- No transaction has two records on a key, after every log of the host of the rows.
-use Rattle.std.proofs.Common.{◌≡◌, ℕ, Bool, true, false, filter, map, List, sym, subst}
-use Rattle.std.specs.Prelude.{Option}
+use Rattle.std.proofs.Common.{◌≡◌, ℕ, true, filter, map, List, sym, subst}
 use Rattle.run_theory.specs.Lists.{IsIn}
 use Rattle.sig_core.specs.declared.member.Member.{Member}
-use Rattle.sig_core.specs.declared.member.TxId.{TxId}
-use Rattle.sig_core.specs.declared.op.Answer.{Answer}
-use Rattle.sig_core.specs.declared.op.Answer.TheVariants.{Done, Found, Missing, E626, E630}
-use Rattle.sig_core.specs.declared.op.Op.{Op}
 use Rattle.sig_core.specs.declared.rows.PendingRecord.{PendingRecord}
 use Rattle.sig_core.specs.declared.signal.Signal.{Signal}
-use Rattle.sig_core.specs.declared.signal.chain.RowWork.{RowWork}
-use Rattle.sig_core.specs.declared.signal.chain.RowWork.TheVariants.{Operate, Store}
 use Rattle.sig_core.specs.declared.view.View.{View}
-use Rattle.sig_core.specs.Op.{answer_to, image_of, key_of}
-use Rattle.sig_core.specs.Rows.{is_on, no_rows, prepared}
+use Rattle.sig_core.specs.Rows.{is_on, no_rows}
 use Rattle.lqh_views.specs.Replica.{installed, replica_row}
 use Rattle.lqh_views.specs.State.{ReplicaState}
 use Rattle.lqh_saver.specs.Switching.{given_up, has_position}
 use Rattle.node_core.specs.Fresh.{own_rows}
-use Rattle.key_laws.specs.Records.{AreOnce, found, seen_by, without_epoch}
-use Rattle.key_laws.specs.Replica.{Cell, Replica, at_key}
-use Rattle.key_laws.specs.Replica.{operated, storing, worked}
-use Rattle.key_laws.proofs.RecordLemmas.{once-stored}
+use Rattle.key_laws.specs.Records.{AreOnce, without_epoch}
+use Rattle.key_laws.specs.Replica.{Replica, at_key}
 use Rattle.host_laws.specs.ReplicaLaws.{IsWell}
 use Rattle.world_core.specs.Start.{Start, made}
 use Rattle.world_core.specs.Steps.{HostStep}
@@ -31,25 +21,6 @@ use Rattle.request_laws.specs.Blocks.{rows_after}
 use Rattle.request_laws.specs.Replicas.{event_under}
 use Rattle.request_laws.proofs.replicas.KeyEvents.{installations_keep_well, signals_are_events, signals_keep_well}
 use Rattle.request_laws.proofs.replicas.AlongLogs.{always, first_rows, first_well, given_up_well}
-
-once_storing : (c : Cell) (v : TxId) (key : List ℕ) (image : Option (List ℕ)) (b : Bool) → AreOnce c.pending
-    → AreOnce (storing c v key image b).pending
-once_storing c v key image true once = once
-once_storing c v key image false once = once-stored (prepared v key image) c.pending once
-
-once_operated : (c : Cell) (v : TxId) (op : Op) (refused : Bool) (a : Answer) → AreOnce c.pending
-    → AreOnce (operated c v op refused a).pending
-once_operated c v op refused Done once = once_storing c v (key_of op) (image_of op) refused once
-once_operated c v op refused (Found value) once = once
-once_operated c v op refused Missing once = once
-once_operated c v op refused E626 once = once
-once_operated c v op refused E630 once = once
-
-once_worked : (c : Cell) (v : TxId) (refused : Bool) (w : RowWork) → AreOnce c.pending
-    → AreOnce (worked c v refused w).pending
-once_worked c v refused (Store key image) once = once_storing c v key image refused once
-once_worked c v refused (Operate op) once =
-    once_operated c v op refused (answer_to op (seen_by c.row (found v c.pending))) once
 
 -- rows that are well and have each record once
 record AreSo (s : ReplicaState) : Type 0 where
