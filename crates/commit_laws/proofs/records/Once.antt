@@ -1,5 +1,5 @@
 -- No transaction has two records on a key, after every log of the host of the rows.
-use Rattle.std.proofs.Common.{◌≡◌, ℕ, true, filter, map, List, sym, subst}
+use Rattle.std.proofs.Common.{◌≡◌, ℕ, true, filter, map, List, sym, subst, ◌∷◌}
 use Rattle.run_theory.specs.Lists.{IsIn}
 use Rattle.sig_core.specs.declared.member.Member.{Member}
 use Rattle.sig_core.specs.declared.rows.PendingRecord.{PendingRecord}
@@ -17,10 +17,14 @@ use Rattle.world_core.specs.Start.{Start, made}
 use Rattle.world_core.specs.Steps.{HostStep}
 use Rattle.world_views.proofs.FreshBodies.{none_pending}
 use Rattle.run_laws.proofs.fades.Records.{once_after}
+use Rattle.moment_laws.specs.Moments.{IsMoment, logs_of}
+use Rattle.moment_laws.specs.Places.{ldm_of}
 use Rattle.request_laws.specs.Blocks.{rows_after}
 use Rattle.request_laws.specs.Replicas.{event_under}
 use Rattle.request_laws.proofs.replicas.KeyEvents.{installations_keep_well, signals_are_events, signals_keep_well}
 use Rattle.request_laws.proofs.replicas.AlongLogs.{always, first_rows, first_well, given_up_well}
+use Rattle.commit_laws.proofs.hosts.RowsTurn.{IsBetween, between_so}
+use Rattle.commit_laws.specs.Traces.{rows_at}
 
 -- rows that are well and have each record once
 record AreSo (s : ReplicaState) : Type 0 where
@@ -60,3 +64,12 @@ module _ (start : Start) (member : Member) (there : IsIn member (made start)) (l
 
   pub rows_once : (key : List ℕ) → AreOnce (at_key key (rows_after start member log).lqh).cell.pending
   rows_once = so.once
+
+-- so are those that take the signal of an event
+pub well_between : (start : Start) (all : ℕ → List HostStep) (e : HostStep) (es : List HostStep)
+    (moment : IsMoment start all (e ∷ es)) (member : Member) (there : IsIn member (made start)) (s : ReplicaState)
+    → IsBetween start all e es moment member there s → IsWell s.lqh
+well_between start all e es moment member there s between =
+    let well = rows_well start member there (logs_of start es (ldm_of start member)) in
+    between_so start all e es moment member there (λ s. IsWell s.lqh) s between well
+    (λ view. installations_keep_well (rows_at start (logs_of start es) member) view well)
