@@ -50,8 +50,8 @@ use Rattle.request_laws.specs.Ways.{entry_of}
 use Rattle.request_laws.proofs.phases.TurnSends.{AreSpared, IsSpared}
 use Rattle.request_laws.proofs.phases.Steps.{Walks, begins, coordinator_walks, is_about, left_of, passes, resumes}
 use Rattle.request_laws.proofs.phases.Steps.{stays, turns}
+use Rattle.request_laws.proofs.phases.Turns.{undecided_not}
 use Rattle.commit_laws.proofs.commits.EndTurns.{HasEpoch, before, by_now}
-use Rattle.commit_laws.proofs.fates.LostStays.{undecided_not}
 use Rattle.commit_laws.proofs.forth.Speaks.{gives_epoch}
 
 -- the signal ends a count

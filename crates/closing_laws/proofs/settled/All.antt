@@ -29,7 +29,7 @@ use Rattle.view_laws.proofs.runs.ChosenViews.{one_view}
 use Rattle.view_laws.specs.Runs.{AreOfCluster}
 use Rattle.moment_laws.proofs.MomentMembers.{current_made}
 use Rattle.moment_laws.proofs.MomentRuns.{are_moments}
-use Rattle.moment_laws.proofs.MomentViews.{Passes, current_installed, current_is, first_below, moment_installed}
+use Rattle.moment_laws.proofs.MomentViews.{IsSome, current_installed, current_is, first_below, moment_installed}
 use Rattle.moment_laws.specs.Moments.{IsMoment, current, logs_of}
 use Rattle.moment_laws.specs.Places.{tc_of}
 use Rattle.outcome_laws.proofs.knowledge.CommitsWereDecided.{decided_entry}
@@ -49,7 +49,6 @@ use Rattle.commit_laws.proofs.fates.Committed.{IsDecidedAt, decided_at, forth_ma
 use Rattle.commit_laws.proofs.forth.DecidedStay.{applied_more, forth_decided}
 use Rattle.commit_laws.proofs.fates.Forth.{fate_decided}
 use Rattle.commit_laws.proofs.fates.FinalsForth.{HasFinalEntry, IsFinalBy, applied_forth, by_report, by_write, final_by}
-use Rattle.commit_laws.proofs.hosts.SomePasses.{Passes}
 use Rattle.closing_laws.specs.Closed.{ClosersHaveHeardAll, DurableWereClosed, IsClosedBy, IsOver, WasClosed}
 use Rattle.closing_laws.specs.Ended.{ForgottenAreDone, UncountedAreForgotten}
 use Rattle.closing_laws.specs.Over.{LeavesNone, OverLeavesNone}
@@ -216,7 +215,7 @@ module _ (start : Start) (large : ℕ → List HostStep) (more : AreOfCluster st
           first_is : current start (logs_of start []) ≡ (first_layout start.shape).view
           first_is = by (current start (logs_of start [])) (current_is start (logs_of start []))
             where
-              by : (view : View) → Passes start (logs_of start []) (hosts start) view
+              by : (view : View) → IsSome start (logs_of start []) (hosts start) view
                   → view ≡ (first_layout start.shape).view
               by view (inl first) = first
               by view (inr one) = one.is ∙ started_view start one.host

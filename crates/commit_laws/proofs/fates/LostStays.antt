@@ -107,13 +107,6 @@ module _ (tx : TxId) where
         promise,
       )
 
-pub undecided_not : (phase : Phase) → is_undecided phase ≡ true → is_decided phase ≡ false
-undecided_not Open is = refl
-undecided_not Verifying is = refl
-undecided_not (Committing epoch awaited) is = absurd (true≢false (sym is))
-undecided_not (Completing epoch awaited) is = absurd (true≢false (sym is))
-undecided_not (Aborting why verifying awaited) is = refl
-
 undecided_forth : (phase : Phase) (f b : Bool) → WaySays f b phase → is_undecided phase ≡ true → f ≡ false
 undecided_forth Open f b says is = says.0
 undecided_forth Verifying f b says is = says.0

@@ -17,7 +17,6 @@ use Rattle.sig_core.specs.declared.mark.Mark.TheVariants.{Decided}
 use Rattle.sig_core.specs.declared.member.TxId.{TxId}
 use Rattle.sig_core.specs.Same.{same_tx}
 use Rattle.tc_block.specs.Complete.{one_if}
-use Rattle.world_core.specs.Entries.{entries_in, entry_of}
 use Rattle.world_core.specs.Marks.{has_mark}
 use Rattle.world_core.specs.Start.{Start}
 use Rattle.world_core.specs.Steps.{HostStep}
@@ -28,7 +27,7 @@ use Rattle.moment_laws.specs.Moments.{IsMoment, logs_of}
 use Rattle.moment_laws.specs.Places.{tc_of}
 use Rattle.key_laws.specs.Primary.{ended_too}
 use Rattle.outcome_laws.proofs.knowledge.CommitsWereDecided.{in_turned}
-use Rattle.outcome_laws.proofs.once.DecidedOnce.{decided_few, none_elsewhere, once_each}
+use Rattle.outcome_laws.proofs.once.DecidedOnce.{decided_few, none_elsewhere, once_each, step_entries}
 use Rattle.outcome_laws.proofs.order.EventsBefore.{decisions_past}
 use Rattle.outcome_laws.proofs.order.BeforeInLists.{kept_in}
 use Rattle.outcome_laws.proofs.coordinators.Lists.{count_more}
@@ -134,22 +133,6 @@ pub decisions_fresh : DecisionsAreFresh
 decisions_fresh start all e es moment end =
     fresh_from (decided_at start end es) e.step.marks (λ u any. new_there start all e es moment u end any)
     (λ u. step_few start all e es moment u)
-
--- the decisions of a transaction are the marks of its coordinator's host
-step_entries : (tx : TxId) (h stamp : ℕ) (log : List HostStep) (marks : List Mark) (before : List Entry)
-    → count_by (λ (a : Entry). same_tx a.tx tx) (entries_in h stamp log marks before)
-    ≡ count_by (is_decision tx) marks + count_by (λ (a : Entry). same_tx a.tx tx) before
-step_entries tx h stamp log [] before = omega arith
-step_entries tx h stamp log (Decided u epoch ∷ marks) before =
-    let one = entry_of h stamp log u epoch in
-    omega (
-      arith,
-      step_entries tx h stamp log marks (one ∷ before),
-      count_more (λ (a : Entry). same_tx a.tx tx) one before,
-      count_more (is_decision tx) (Decided u epoch) marks,
-    )
-step_entries tx h stamp log (mark ∷ marks) before =
-    omega (arith, step_entries tx h stamp log marks before, count_more (is_decision tx) mark marks)
 
 decisions_count : (start : Start) (all : ℕ → List HostStep) (es : List HostStep) → IsMoment start all es → (tx : TxId)
     → count_by (λ (a : Entry). same_tx a.tx tx) (decisions start es)

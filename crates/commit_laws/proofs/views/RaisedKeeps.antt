@@ -1,5 +1,5 @@
 -- Where the coordinator of a transaction that goes on is fenced at the current view, as that rises, the transaction
--- keeps to it; and so does one that has its routes in it.
+-- keeps to it.
 use Rattle.std.proofs.Common.{◌≤◌, ◌<◌, ℕ, List, [], ◌∷◌, subst}
 use Rattle.std.proofs.Common.{arith}
 use Rattle.sig_core.specs.declared.member.Member.{Member}

@@ -1,4 +1,4 @@
--- A full member whose node holds a key is a replica of it; it was one before, and begins with the row of the start.
+-- A replica of a key was one before, and begins with the row of the start.
 use Rattle.std.proofs.Common.{◌≡◌, ◌∙◌, ◌++◌, ℕ, true, List, [], ap}
 use Rattle.std.specs.FinMap as map
 use Rattle.run_theory.specs.Lists.{IsIn}

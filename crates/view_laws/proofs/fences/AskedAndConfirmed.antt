@@ -29,10 +29,9 @@ use Rattle.view_laws.proofs.fences.WaitInOrder.{waits_some}
 use Rattle.view_laws.proofs.fences.Confirming.{AreRanked, Confirms, HasRank, confirms, drop_ranked, first_rank, lessens}
 use Rattle.view_laws.proofs.fences.Confirming.{row_confirms, set_ranked, stays}
 use Rattle.qmgr_block.proofs.Outcomes.{is_of_promises}
-use Rattle.qmgr_block.proofs.RowLemmas.{higher_number}
 use Rattle.view_laws.proofs.memberships.RowsAlike.{absent_like, promised_like}
 use Rattle.view_laws.proofs.ballots.MadeSets.{in_either}
-use Rattle.view_laws.proofs.memberships.Steps.{row_steps}
+use Rattle.view_laws.proofs.memberships.Steps.{higher, row_steps}
 use Rattle.view_laws.proofs.memberships.RowChanges.{moves_told_if}
 use Rattle.sig_core.proofs.Firsts.{first_passes}
 
@@ -76,7 +75,7 @@ module _ (s : QmgrState) (host : ℕ) where
   promise_by_does to set true e =
       let k = s.known in
       let l = promising (with_absent k set) set in
-      let above : k.promised.number < set.number = higher_number k set e in
+      let above : k.promised.number < set.number = higher k set e in
       let moves =
       moves_told_if ⊥ k l set (promised_like k set) (omega (arith, above)) (has_more k l) in
       asks set to refl (ap (λ b. if b then 1 else 0) e) (λ c. refl) moves.promised refl moves.silent

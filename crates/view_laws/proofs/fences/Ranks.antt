@@ -12,11 +12,10 @@ use Rattle.sig_core.specs.declared.view.View.{View}
 use Rattle.qmgr_block.specs.Laws.{Event, installs, takes}
 use Rattle.qmgr_block.specs.Qmgr.{qmgr_row}
 use Rattle.qmgr_block.specs.State.{QmgrState}
-use Rattle.qmgr_block.proofs.RowLemmas.{higher_number}
 use Rattle.view_laws.specs.Members.{known_of, state_of}
 use Rattle.view_laws.proofs.memberships.AlongEvents.{steps}
 use Rattle.view_laws.proofs.fences.AskedAndConfirmed.{IsAskedAs, asked_of}
-use Rattle.view_laws.proofs.memberships.Steps.{Asks, Stays, row_installs}
+use Rattle.view_laws.proofs.memberships.Steps.{Asks, Stays, higher, row_installs}
 
 -- of two older parts of a list one is an older part of the other
 pub pasts_compare : {A : Type 0} (xs ys all : List A) → IsPast xs all → IsPast ys all → IsPast xs ys ⊎ IsPast ys xs
@@ -43,7 +42,7 @@ module _ (me : Member) (layout : Layout) where
           → s.known.promised.number ≤ (qmgr_row s x).state.known.promised.number
       by (inl stays) = omega (arith, ap (λ (v : View). v.number) stays.promised)
       by (inr asks) =
-          omega (arith, ap (λ (v : View). v.number) asks.promised, higher_number s.known asks.set asks.may)
+          omega (arith, ap (λ (v : View). v.number) asks.promised, higher s.known asks.set asks.may)
 
   event_rises : (event : Event) (events : List Event)
       → (known_of me layout events).promised.number ≤ (known_of me layout (event ∷ events)).promised.number

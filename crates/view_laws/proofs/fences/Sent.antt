@@ -18,7 +18,6 @@ use Rattle.arbiter_block.specs.Arbiter.{ArbiterState, arbit_if, arbit_row, arbit
 use Rattle.qmgr_block.specs.Laws.{Event, takes}
 use Rattle.qmgr_block.specs.Promise.{fences}
 use Rattle.qmgr_block.specs.Qmgr.{qmgr_row}
-use Rattle.qmgr_block.proofs.RowLemmas.{higher_number}
 use Rattle.world_core.specs.Hosts.{hosts, member_at}
 use Rattle.world_core.specs.Start.{Start, made}
 use Rattle.world_core.specs.Steps.{HostStep}
@@ -40,6 +39,7 @@ use Rattle.view_laws.proofs.votes.Others.{others_answer}
 use Rattle.view_laws.proofs.votes.Parts.{own_node}
 use Rattle.view_laws.proofs.votes.Arbitrators.{arbiters_tell}
 use Rattle.view_laws.proofs.memberships.Proposals.{me_is}
+use Rattle.view_laws.proofs.memberships.Steps.{higher}
 
 fence_told : (body : Body) → is_of_fence body ≡ true → is_told body ≡ true
 fence_told body is = by (is_vote body)
@@ -92,7 +92,7 @@ module _ (layout : Layout) (w : Member) where
   asked_promised events x sent of =
       let before = (known_of w layout events).promised in
       let now = (known_of w layout (takes x ∷ events)).promised in
-      let above : before.number < of.set.number = higher_number (known_of w layout events) of.set of.may in
+      let above : before.number < of.set.number = higher (known_of w layout events) of.set of.may in
       let number : now.number ≡ of.set.number = ap (λ (v : View). v.number) of.promised in
       record {
         set = of.set;

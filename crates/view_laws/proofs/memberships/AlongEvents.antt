@@ -13,13 +13,12 @@ use Rattle.qmgr_block.specs.Install.{adopted, installed_row}
 use Rattle.qmgr_block.specs.Laws.{Event, after, installs, takes}
 use Rattle.qmgr_block.specs.Qmgr.{qmgr_row}
 use Rattle.qmgr_block.specs.State.{QmgrState}
-use Rattle.qmgr_block.proofs.RowLemmas.{higher_number}
 use Rattle.view_laws.specs.Ballots.{Promised}
 use Rattle.view_laws.specs.Kept.{AreOfPromises, AreRising, HaveRisen, IsInstalled, IsLast, IsNumberAsked, PromisesRise}
 use Rattle.view_laws.specs.Kept.{WhatIsConfirmedWasPromised}
 use Rattle.view_laws.specs.Members.{confirmed_by, confirmed_of, effects_at, installed_of, is_adopted, promised_at}
 use Rattle.view_laws.specs.Members.{promises_of, state_of}
-use Rattle.view_laws.proofs.memberships.Steps.{Asks, HasNumber, Stays, Steps, row_installs, row_steps}
+use Rattle.view_laws.proofs.memberships.Steps.{Asks, HasNumber, Stays, Steps, higher, row_installs, row_steps}
 
 -- what a signal does
 pub steps : (s : QmgrState) (x : Signal) → Steps s x.body (qmgr_row s x)
@@ -37,7 +36,7 @@ adopted_rises promised view false e = inl refl
 asks_rises : (s : QmgrState) (x : Signal) (asks : Asks s (qmgr_row s x).state x.body)
     → s.known.promised.number < (qmgr_row s x).state.known.promised.number
 asks_rises s x asks =
-    subst (λ (now : View). s.known.promised.number < now.number) (sym asks.promised) (higher_number s.known asks.set asks.may)
+    subst (λ (now : View). s.known.promised.number < now.number) (sym asks.promised) (higher s.known asks.set asks.may)
 
 event_rises : (s : QmgrState) (event : Event) → Rises s.known.promised (after s event).known.promised
 event_rises s (takes x) = by (steps s x).promise

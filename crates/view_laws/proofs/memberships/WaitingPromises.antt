@@ -21,12 +21,12 @@ use Rattle.qmgr_block.specs.Promise.{may_promise, promise_by, promise_row, promi
 use Rattle.qmgr_block.specs.Qmgr.{membership_table, qmgr_row, qmgr_table}
 use Rattle.qmgr_block.specs.State.{QmgrState}
 use Rattle.qmgr_block.specs.Suspects.{has_more}
-use Rattle.qmgr_block.proofs.RowLemmas.{higher_number}
 use Rattle.view_laws.specs.Ballots.{Promised}
 use Rattle.view_laws.specs.HostEvents.{taken_in}
 use Rattle.view_laws.specs.Members.{promises_of, state_of}
 use Rattle.view_laws.proofs.memberships.RowsAlike.{promised_like}
 use Rattle.view_laws.proofs.memberships.RowChanges.{moves_told_if}
+use Rattle.view_laws.proofs.memberships.Steps.{higher}
 
 -- W number to: what is so of a promise of the number that is to be confirmed to the node
 module _ (W : ℕ → ℕ → Type 0) where
@@ -94,7 +94,7 @@ promise_by_sets : (s : QmgrState) (to : ℕ) (set : View) (may : Bool) → may_p
 promise_by_sets s to set true allowed e =
     let k = s.known in
     let l = promising (with_absent k set) set in
-    let above : k.promised.number < set.number = higher_number k set allowed in
+    let above : k.promised.number < set.number = higher k set allowed in
     (moves_told_if (Unit {0}) k l set (promised_like k set) (omega arith) (has_more k l)).promised
 promise_by_sets s to set false allowed e = absurd (false≢true e)
 
@@ -132,7 +132,7 @@ newest s x older set asks allowed =
     IsIn (record { set = set; adopted = false })
     ((if s.known.promised.number == now.number then [] else record { set = now; adopted = false } ∷ []) ++ older))
     (sym (row_sets s x set asks allowed))
-    (newest_if s.known.promised set older (s.known.promised.number == set.number) refl (higher_number s.known set allowed))
+    (newest_if s.known.promised set older (s.known.promised.number == set.number) refl (higher s.known set allowed))
 
 -- a promise of the number was asked for by a member of the node
 pub record IsPending (me : Member) (layout : Layout) (events : List Event) (number to : ℕ) : Type 0 where
