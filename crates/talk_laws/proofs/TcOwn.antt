@@ -74,7 +74,8 @@ module _ (me : Member) where
   row_own : (s : CoordinatorState) (x : Signal) → IsCoordinatorOf me s
       → Each (OwnTalk me) (coordinator_row s x).effects.sends
   row_own s x of =
-      coordinator_outcomes (λ u t turn. Talks s.tc.node u t x.body turn) (λ step. Each (OwnTalk me) step.effects.sends) s x
+      coordinator_outcomes (λ u t turn. Talks s.tc.node u t x.body turn) (λ step. Each (OwnTalk me) step.effects.sends)
+          s x
       (record {
         calm = record {
           turns = λ u t at split.

@@ -204,7 +204,8 @@ module _ (answered : EachIsAnswered) (start : Start) (was now : ℕ → List Hos
   rolls_arrive : rolled tx (cut (home start tx)).newer ≡ true
   rolls_arrive =
       was_rolled tx (cut (home start tx)).newer
-      (arrives start was now served.before served.since cut (is_wish_back_to tx) 0 (home start tx) (omega arith) home_low
+      (arrives start was now served.before served.since cut (is_wish_back_to tx) 0 (home start tx) (omega arith)
+      home_low
       (omega (
         arith,
         sent_to_append start (is_wish_back_to tx) 0 (home start tx) f.later (f.first ∷ []) (was 0),

@@ -104,44 +104,45 @@ module _ (tx : TxId) where
     pub silent : sends_of (is_stray tx) sends ≡ 0
     pub rolled : IsRolledNow tx true s
 
-  module _ (s : TcState) (body : Body) (sound : IsSound tx s) (was : IsRolledNow tx (not (wish_back_of tx body)) s) where
-    abbrev step : Step TcState
-    step = tc_table s body
+  module _ (s : TcState) (body : Body) (sound : IsSound tx s) (was : IsRolledNow tx (not (wish_back_of tx body)) s)
+    where
+      abbrev step : Step TcState
+      step = tc_table s body
 
-    goes_rolled : TcGoes tx s body step → RolledStep step.state step.effects.sends
-    goes_rolled (takes t same live sends left more) = record {
-      silent = ap (sends_of (is_stray tx)) sends
-          ∙ none_of is_meek (is_stray tx) meek_right (turn_row s body t).step.effects.sends q.sends;
-      rolled = record {
-        rolled = subst (RolledOption true) (sym left) (by (turn_row s body t).over refl);
-        early = omega (arith, was.early, more);
-      };
-    }
-      where
-        fine : is_loose (not (wish_back_of tx body)) t.phase ≡ true
-        fine = subst (RolledOption (not (wish_back_of tx body))) live was.rolled
+      goes_rolled : TcGoes tx s body step → RolledStep step.state step.effects.sends
+      goes_rolled (takes t same live sends left more) = record {
+        silent = ap (sends_of (is_stray tx)) sends
+            ∙ none_of is_meek (is_stray tx) meek_right (turn_row s body t).step.effects.sends q.sends;
+        rolled = record {
+          rolled = subst (RolledOption true) (sym left) (by (turn_row s body t).over refl);
+          early = omega (arith, was.early, more);
+        };
+      }
+        where
+          fine : is_loose (not (wish_back_of tx body)) t.phase ≡ true
+          fine = subst (RolledOption (not (wish_back_of tx body))) live was.rolled
 
-        q : StaysRolled (turn_row s body t)
-        q = rolled_turn s body t (ap (λ r. is_loose (not r) t.phase) (roll_same tx body same) ∙ fine)
+          q : StaysRolled (turn_row s body t)
+          q = rolled_turn s body t (ap (λ r. is_loose (not r) t.phase) (roll_same tx body same) ∙ fine)
 
-        by : (b : Bool) → (turn_row s body t).over ≡ b
-            → RolledOption true (if b then None else Some (turn_row s body t).step.state)
-        by true over = tt
-        by false over = q.phase over
-    goes_rolled (begins number now none more) = absurd (omega (arith, was.early, number))
-    goes_rolled (aside same none more absent) = record {
-      silent = none_stray step.effects.sends none;
-      rolled = record {
-        rolled = subst (RolledOption true) (sym same) (by (wish_back_of tx body) refl);
-        early = omega (arith, was.early, more);
-      };
-    }
-      where
-        by : (b : Bool) → wish_back_of tx body ≡ b → RolledOption true (of_live tx s.live)
-        by false off = subst (λ r. RolledOption (not r) (of_live tx s.live)) off was.rolled
-        by true on =
-            let r = roll_in body on in
-            subst (RolledOption true) (sym (absent r.0 r.1)) tt
+          by : (b : Bool) → (turn_row s body t).over ≡ b
+              → RolledOption true (if b then None else Some (turn_row s body t).step.state)
+          by true over = tt
+          by false over = q.phase over
+      goes_rolled (begins number now none more) = absurd (omega (arith, was.early, number))
+      goes_rolled (aside same none more absent) = record {
+        silent = none_stray step.effects.sends none;
+        rolled = record {
+          rolled = subst (RolledOption true) (sym same) (by (wish_back_of tx body) refl);
+          early = omega (arith, was.early, more);
+        };
+      }
+        where
+          by : (b : Bool) → wish_back_of tx body ≡ b → RolledOption true (of_live tx s.live)
+          by false off = subst (λ r. RolledOption (not r) (of_live tx s.live)) off was.rolled
+          by true on =
+              let r = roll_in body on in
+              subst (RolledOption true) (sym (absent r.0 r.1)) tt
 
   stray_tc : IsOfTc (is_stray tx)
   stray_tc = record { others = others; begins = λ name node. refl }
@@ -210,7 +211,8 @@ module _ (tx : TxId) where
           × OnTc (IsRolledNow tx true) (after start h ((x ∷ newer) ++ e ∷ log))
       next before =
           let r = host_rolled (after start h (newer ++ e ∷ log)) x.step.taken (sound_at start tx h (newer ++ e ∷ log))
-          (weaker_now (not (is_wish_back_to tx x.step.taken.to x.step.taken.body)) (tc_of (after start h (newer ++ e ∷ log)))
+          (weaker_now (not (is_wish_back_to tx x.step.taken.to x.step.taken.body))
+          (tc_of (after start h (newer ++ e ∷ log)))
           before.1) in (
             omega (
               arith,

@@ -158,7 +158,8 @@ module _ (tx who : TxId) where
   none_sent some = absurd (omega (arith, some))
 
   -- a coordinator asks the replicas
-  seeks_only : (s : TcState) (one : TxId) → are_of is_wait_kind (step_of s one (λ t. wait_row one t)).effects.sends ≡ true
+  seeks_only : (s : TcState) (one : TxId)
+      → are_of is_wait_kind (step_of s one (λ t. wait_row one t)).effects.sends ≡ true
   unfolding wait_row
   seeks_only s one = at_place (place_in s one)
     where

@@ -248,7 +248,8 @@ module _ (start : Start) where
           well = well_between start all e es moment member there s between
 
           was : (key : List ℕ) → IsEmptyOr P key s
-          was key = between_so start all e es moment member there (IsEmptyOr P key) s between (placed key) (λ view. placed key)
+          was key = between_so start all e es moment member there (IsEmptyOr P key) s between (placed key)
+              (λ view. placed key)
 
           -- the view in which its rows stood was installed
           stood_installed : WasInstalled start all (view_of_ldm start (logs_of start es) member)

@@ -1,5 +1,6 @@
 -- What is restored of the disks of a life is its history up to the epoch of the latest system slot.
-use Rattle.std.proofs.Common.{◌≡◌, ◌≤◌, ◌<◌, ◌⊎◌, ◌+◌, ◌*◌, ◌==◌, ◌∙◌, ℕ, true, false, List, [], sym, ap, subst, inl, inr}
+use Rattle.std.proofs.Common.{◌≡◌, ◌≤◌, ◌<◌, ◌⊎◌, ◌+◌, ◌*◌, ◌==◌, ◌∙◌, ℕ, true, false, List, [], sym, ap, subst, inl}
+use Rattle.std.proofs.Common.{inr}
 use Rattle.std.proofs.Common.{arith, get_or}
 use Rattle.std.specs.FinMap as map
 use Rattle.std.specs.Prelude.{None, Some, Ok}
