@@ -31,7 +31,7 @@ use Rattle.journal_laws.specs.Events.{behind_all, changed_if, records_behind, re
 use Rattle.journal_laws.specs.Journal.{AreEventsOf, first_rows, lqh_after, outlet_with}
 use Rattle.journal_laws.specs.Saver.{IsStepBy}
 use Rattle.journal_laws.proofs.follow.GivenUp.{newer_records}
-use Rattle.saved_laws.proofs.standing.Records.{older_are, records_more}
+use Rattle.saved_laws.proofs.standing.Records.{older_records, records_more}
 use Rattle.journal_laws.specs.Saver as steps
 
 pub both_records : (newer older : List Redo) → AreRecords newer → AreRecords older → AreRecords (newer ++ older)
@@ -207,8 +207,8 @@ module _ (start : Start) (member : Member) (there : IsIn member (made start)) wh
       records_on log older event of
       ∙ ap (λ front. front ++ records older) added
       ∙ ap (λ back. records_if other (lqh log).rows ++ back)
-      (before (older_are (records_if event (lqh log).rows) (records older) all)
-      (older_are (records_if other (lqh log).rows) (records others) all_others))
+      (before (older_records (records_if event (lqh log).rows) (records older) all)
+      (older_records (records_if other (lqh log).rows) (records others) all_others))
       ∙ sym (records_on log others other of_others)
     where
       all : AreRecords (records_if event (lqh log).rows ++ records older)

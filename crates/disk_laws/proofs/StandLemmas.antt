@@ -24,7 +24,7 @@ use Rattle.journal_laws.specs.Walks.{HasGivenUp}
 use Rattle.journal_laws.proofs.events.FirstRows.{first_orderly, first_pending}
 use Rattle.journal_laws.proofs.replays.Replays.{orderly_behind, replays, replays_more}
 use Rattle.saved_laws.specs.Checkpoints.{StandFor}
-use Rattle.saved_laws.proofs.standing.Records.{older_are}
+use Rattle.saved_laws.proofs.standing.Records.{older_records}
 use Rattle.disk_laws.specs.OnDisk.{StandUntilNow}
 use Rattle.disk_laws.proofs.JournalLemmas.{both_records, logged_behind, records_on}
 use Rattle.disk_laws.proofs.JournalLemmas.{rows_are_behind, same_records}
@@ -167,7 +167,7 @@ module _ (start : Start) (member : Member) (there : IsIn member (made start)) (b
   goes_on = ap all_records is ∙ records_on start member there log older event of
 
   older_are : AreRecords (all_records older)
-  older_are = older_are step_records (all_records older) (subst AreRecords goes_on has_new.records)
+  older_are = older_records step_records (all_records older) (subst AreRecords goes_on has_new.records)
 
   same : all_records was.now ≡ all_records older
   same = same_records start member there log was.now older was.events_of of was.are older_are

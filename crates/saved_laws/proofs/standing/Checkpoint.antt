@@ -34,7 +34,7 @@ use Rattle.saved_laws.proofs.standing.Alike.{AreAlike, alike}
 use Rattle.saved_laws.proofs.standing.FirstRows.{at_rest}
 use Rattle.saved_laws.proofs.standing.Journals.{ends_behind}
 use Rattle.saved_laws.proofs.standing.Parts.{GoesOn, HasPart, goes_on, part_of_log}
-use Rattle.saved_laws.proofs.standing.Records.{older_are}
+use Rattle.saved_laws.proofs.standing.Records.{older_records}
 
 -- which file bytes stand in is told of damage alone
 any_file : (file other saved : ℕ) (bytes : List ℕ) (rows : Rows) → rows_in file saved bytes ≡ Ok rows
@@ -127,7 +127,7 @@ module _ (stands : LocalCheckpointsStand) (lie : PiecesLieInOrder) (start : Star
 
     part_are : AreRecords (records_behind first part.part)
     part_are =
-        older_are (records_behind (rows_behind first part.part) part.newer) (records_behind first part.part)
+        older_records (records_behind (rows_behind first part.part) part.newer) (records_behind first part.part)
         (subst AreRecords (ap (records_behind first) part.is ∙ records_append first part.newer part.part) has.records)
 
     -- what they come to, with those that follow
