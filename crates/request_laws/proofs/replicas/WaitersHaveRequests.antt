@@ -60,7 +60,7 @@ module _ (s : ReplicaState) where
     by_within (Host (Continue Report at)) = inl (goes_on_same (x.view.number == s.lqh.layout.view.number) s.report)
     by_within (Host (Continue Granted at)) = serve_within (is_stale s x)
     by_within (Host (Continue Expired at)) = serve_within (is_stale s x)
-    by_within (Epoch signal) = inl (epoch_same x.member.node signal)
+    by_within (Epoch signal) = inl (epoch_same s x.member.node signal)
     by_within _ = inr refl
 
     pub rows_within : IsWithin (replica_row s x).state.lqh
