@@ -1,6 +1,6 @@
 -- Which decisions are later than an epoch: those of and behind an event that decides in a later one, those of and
 -- behind its closing, and all of a life that begins with a later one.
-use Rattle.std.proofs.Common.{◌≡◌, ◌≤◌, ◌<◌, ◌∙◌, ◌++◌, ℕ, List, ◌∷◌, reverse, refl, sym, ap, subst, inl, inr}
+use Rattle.std.proofs.Common.{◌≡◌, ◌≤◌, ◌<◌, ◌∙◌, ◌++◌, ℕ, List, [], ◌∷◌, reverse, refl, sym, ap, subst, inl, inr}
 use Rattle.std.proofs.Common.{append-nil, append_assoc, arith}
 use Rattle.std.proofs.lemmas.List.{reverse-append}
 use Rattle.run_theory.proofs.Pasts.{each_append, each_in, in_append, in_past, past_less, past_self}
