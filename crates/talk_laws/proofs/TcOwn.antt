@@ -75,7 +75,7 @@ module _ (me : Member) where
       → Each (OwnTalk me) (coordinator_row s x).effects.sends
   row_own s x of =
       coordinator_outcomes (λ u t turn. Talks s.tc.node u t x.body turn) (λ step. Each (OwnTalk me) step.effects.sends)
-          s x
+      s x
       (record {
         calm = record {
           turns = λ u t at split.

@@ -133,7 +133,7 @@ module _ (member : Member) where
       → AreOfMember member (coordinator_row s x).effects.sends
   sends_of_member s x own =
       coordinator_outcomes (λ tx t turn. IsOwnTurn tx turn) (λ step. AreOfMember member step.effects.sends) s x
-          (record {
+      (record {
         calm = record {
           turns = λ tx t at split. turns_own s.tc.node s.tc.layout tx t x.body;
           turned = λ tx t at split turn goes.
