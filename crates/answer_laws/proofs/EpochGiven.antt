@@ -50,6 +50,7 @@ use Rattle.host_laws.proofs.hosts.LinkCounts.{all_three, sent_signals, signals, 
 use Rattle.host_laws.proofs.rows.Sends.{lqh_kinds}
 use Rattle.host_laws.proofs.hosts.SendKinds.{are_of, is_dih_kind, is_lqh_kind, of_kind}
 use Rattle.host_laws.proofs.api.Wishes.{second_fails, sends_of}
+use Rattle.host_laws.proofs.hosts.StartedHosts.{one_part}
 
 -- a host of a coordinator runs nothing else than that and epochs
 pub tc_no_api : (s : Host) → has_tc s ≡ true → has_api s ≡ true → ⊥
@@ -70,11 +71,6 @@ idle_dih (Tc p) _ on off = refl
 idle_dih (Shell s) at on off = absurd (false≢true on)
 idle_dih (Main m) at on off = absurd (false≢true on)
 idle_dih (Ldm s) at on off = absurd (false≢true on)
-
--- epochs are where the coordinator of their node is
-pub epochs_host : (start : Start) (node : ℕ) → host_for start (epochs node) ≡ tc_host start node
-unfolding receiver
-epochs_host start node = refl
 
 module _ (start : Start) (node : ℕ) where
   -- what the host sends to itself, and takes of that
@@ -103,7 +99,7 @@ module _ (start : Start) (node : ℕ) (some : 1 ≤ node) (few_nodes : node ≤ 
   own_place : (log : List HostStep) → here start node (epochs (tc_of (after start h log)).node) ≡ true
   own_place log =
       let of : IsAtNode start h (tc_of (after start h log)) = at_own_node start h log low (on log) in
-      eq-eqb _ _ (epochs_host start (tc_of (after start h log)).node ∙ sym of.is)
+      eq-eqb _ _ (one_part start (tc_of (after start h log)).node ∙ sym of.is)
 
   -- the block of epochs counts, of what its node's coordinator has sent to it, what that has asked for
   pub record SentCounts (log : List HostStep) : Type 0 where
@@ -193,7 +189,7 @@ module _ (start : Start) (node : ℕ) (some : 1 ≤ node) (few_nodes : node ≤ 
           go : (b : Bool) → here start node (epochs (tc_of s).node) ≡ b
               → here start node (epochs (tc_of s).node) ≡ false
           go false q = q
-          go true q = absurd (differs ((at_own_node start k log under runs).is ∙ sym (epochs_host start (tc_of s).node)
+          go true q = absurd (differs ((at_own_node start k log under runs).is ∙ sym (one_part start (tc_of s).node)
               ∙ eqb-true _ _ q))
 
       none : sends_of (at_place (here start node) is_epoch) (step_after start k log e).effects.sends ≡ 0

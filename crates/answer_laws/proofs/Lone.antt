@@ -42,8 +42,8 @@ use Rattle.host_laws.proofs.rows.Leaves.{lqh_waits}
 use Rattle.host_laws.proofs.rows.Operations.{is_lqh}
 use Rattle.host_laws.proofs.rows.Waits.{came_to, hops, is_hop, queued, waiting}
 use Rattle.host_laws.proofs.hosts.SendKinds.{are_of, none_of}
-use Rattle.answer_laws.proofs.TcForth.{HopTurn, answer_came, hop_turn}
-use Rattle.host_laws.proofs.coordinator.Operations.{asks_key}
+use Rattle.answer_laws.proofs.TcForth.{HopTurn, hop_turn}
+use Rattle.host_laws.proofs.coordinator.Operations.{answers_of, asks_key}
 use Rattle.host_laws.specs.Live.{of_live}
 use Rattle.host_laws.proofs.coordinator.Steps.{live_early}
 use Rattle.answer_laws.proofs.Totals.{sent_all, taken_all}
@@ -64,7 +64,7 @@ rows_came tx key to (Chain (LqhKeyReq other what chain at)) e =
 rows_came tx key to _ e = omega arith
 
 answers_came : (tx : TxId) (key : List ℕ) (to : Place) (body : Body) → is_tc to.block ≡ true
-    → answer_came tx key body ≤ one_if (is_hop tx key to body)
+    → answers_of tx key body ≤ one_if (is_hop tx key to body)
 answers_came tx key to (Chain (LqhKeyConf other at answer)) e =
     omega (arith, ap (λ b. one_if (b && (same_tx other tx && same_key at key))) e)
 answers_came tx key to (Chain (LqhKeyRef other at why)) e =
@@ -260,7 +260,7 @@ module _ (start : Start) (tx : TxId) (key : List ℕ) where
           waits : W now ≡ W logs
           waits = omega (arith, waits_now logs now (home start tx) e g, ap (waiting tx key) step.rows)
 
-          taken_now : T logs + answer_came tx key e.step.taken.body ≤ T now
+          taken_now : T logs + answers_of tx key e.step.taken.body ≤ T now
           taken_now = omega (
             arith,
             took logs now (home start tx) e g,

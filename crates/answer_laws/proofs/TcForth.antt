@@ -37,11 +37,12 @@ use Rattle.host_laws.proofs.coordinator.PhaseSends.{part_of}
 use Rattle.host_laws.proofs.hosts.SendKinds.{are_of, none_of, of_append, of_flat, of_kind, of_map}
 use Rattle.run_theory.proofs.Tally.{and_few}
 use Rattle.run_theory.specs.Counts.{one_if}
-use Rattle.host_laws.proofs.coordinator.Operations.{asks_key}
+use Rattle.host_laws.proofs.coordinator.Operations.{answers_of, asks_key}
 use Rattle.host_laws.proofs.coordinator.Turns.{abort_ends, aborted, aborts, all_completed, answers, asked_to, asks}
 use Rattle.host_laws.proofs.coordinator.Turns.{commits, committed, completed, completes, decides, ends, entered_phase}
 use Rattle.host_laws.proofs.coordinator.Turns.{gives_up, GivesUp, goes_on, is_wait_kind, keeps, late, over_not, refused}
 use Rattle.host_laws.proofs.coordinator.Turns.{TurnMove}
+use Rattle.host_laws.proofs.coordinator.Ways.{aborting_apart}
 use Rattle.tc_block.specs.Phases.{is_aborting}
 
 -- neither a request for an operation nor an answer to one
@@ -113,18 +114,12 @@ module _ (node : ℕ) (layout : Layout) (tx : TxId) where
   unfolding entering
   back_entering t phase off = back_parts phase t.touched 0 off
 
--- an answer for the operation
-abbrev pub answer_came : TxId → List ℕ → Body → ℕ
-answer_came tx key (Chain (LqhKeyConf other at answer)) = one_if (same_tx other tx && same_key at key)
-answer_came tx key (Chain (LqhKeyRef other at why)) = one_if (same_tx other tx && same_key at key)
-answer_came tx key _ = 0
-
 module _ (s : TcState) (tx : TxId) (key : List ℕ) (t : Transaction) (body : Body) (turn : Turn) where
   -- what a turn sends for operations on the key
   pub record HopTurn : Type 0 where
     pub opened : turn.over ≡ false → turn.step.state.phase ≡ Open
         → (t.phase ≡ Open) × (one_if (asks_key key t.asked) + hops tx key turn.step.effects.sends ≤ one_if
-        (asks_key key turn.step.state.asked) + answer_came tx key body)
+        (asks_key key turn.step.state.asked) + answers_of tx key body)
     pub few : (hops tx key turn.step.effects.sends ≡ 0)
         ⊎ ((t.phase ≡ Open) × ((asks_key key t.asked ≡ false) × (hops tx key turn.step.effects.sends ≤ 1)))
 
@@ -149,7 +144,7 @@ module _ (s : TcState) (tx : TxId) (key : List ℕ) (t : Transaction) (body : Bo
           ((other.step.state.phase ≡ t.phase) × (other.step.state.asked ≡ t.asked)))) → turn.over ≡ false
           → turn.step.state.phase ≡ Open
           → (t.phase ≡ Open) × (one_if (asks_key key t.asked) + hops tx key turn.step.effects.sends ≤ one_if
-          (asks_key key turn.step.state.asked) + answer_came tx key body)
+          (asks_key key turn.step.state.asked) + answers_of tx key body)
       by (inl o) over p = over_not turn other is o over
       by (inr (inl closed)) over p = absurd (closed (sym (phase_is other is) ∙ p))
       by (inr (inr same)) over p = (
@@ -223,10 +218,10 @@ module _ (s : TcState) (tx : TxId) (key : List ℕ) (t : Transaction) (body : Bo
         few = inl (ap (λ (x : Turn). hops tx key x.step.effects.sends) is);
       }
     where
-      came : one_if (same_key (key_of asked.op) key) ≤ answer_came tx key body
+      came : one_if (same_key (key_of asked.op) key) ≤ answers_of tx key body
       came = omega (
         arith,
-        ap (answer_came tx key) about,
+        ap (answers_of tx key) about,
         ap (λ b. one_if (b && same_key at key)) (same_tx-self tx),
         ap
             (λ k. one_if (same_key k key)) (same_key-is (key_of asked.op) at q.on),
@@ -279,13 +274,6 @@ module _ (s : TcState) (tx : TxId) (key : List ℕ) (t : Transaction) (body : Bo
   given_undecided w (asked_to (inr p) other about is) = ap is_decided p
   given_undecided w (refused other at why asked p about on is) = ap is_decided p
 
-  aborting_undecided : (phase : Phase) → is_aborting phase ≡ true → is_decided phase ≡ false
-  aborting_undecided (Aborting why v k) e = refl
-  aborting_undecided Open e = refl
-  aborting_undecided Verifying e = refl
-  aborting_undecided (Committing epoch k) e = absurd (false≢true e)
-  aborting_undecided (Completing epoch k) e = absurd (false≢true e)
-
   pub back_turn : TurnMove s tx t body turn → BackTurn
   back_turn (keeps sends is kind missed) =
       back_same _ is refl (λ off. of_kind is_wait_kind (is_back tx) (wait_back tx) sends kind)
@@ -293,7 +281,7 @@ module _ (s : TcState) (tx : TxId) (key : List ℕ) (t : Transaction) (body : Bo
       back_same _ is refl (λ off. back_parts s.node s.layout tx t.phase t.touched at off)
   back_turn (asks op about p q fit is) = back_same _ is refl (λ off. refl)
   back_turn (answers at a asked about p q is) = back_same _ is refl (λ off. refl)
-  back_turn (late at asked about p q is) = back_from _ is (aborting_undecided t.phase p)
+  back_turn (late at asked about p q is) = back_from _ is (aborting_apart t.phase p)
       (of_map (is_back tx) (abort_of tx at) (chain_of s.layout at) (λ r. refl))
   back_turn (decides about p q is) = back_from _ is (ap is_decided p) refl
   back_turn (aborts w why gives some is) =

@@ -36,7 +36,7 @@ use Rattle.run_laws.proofs.hosts.AlongSteps.{Goes, along, at_home, at_tc, few_ta
 use Rattle.run_laws.proofs.hosts.AlongSteps.{no_transaction, the_transaction, turn_at, tx_at, goes_cases}
 use Rattle.answer_laws.proofs.EpochCounts.{AreFew, is_epochless}
 use Rattle.answer_laws.proofs.EpochFlow.{at_place, is_conf, is_req}
-use Rattle.answer_laws.proofs.EpochGiven.{DihIs, all_own, dih_is, epochs_host, here, own_sent, own_taken, sent_counts}
+use Rattle.answer_laws.proofs.EpochGiven.{DihIs, all_own, dih_is, here, own_sent, own_taken, sent_counts}
 use Rattle.answer_laws.proofs.EpochGiven.{tc_no_rows}
 use Rattle.answer_laws.proofs.EpochLives.{TurnCounts, asking, ending, gone, is_counted, turn_counts, unchanged}
 use Rattle.host_laws.proofs.hosts.BlocksAlong.{IsHome, at_own_node}
@@ -51,6 +51,7 @@ use Rattle.host_laws.proofs.coordinator.Turns.{TurnMove, abort_ends, aborted, ab
 use Rattle.host_laws.proofs.coordinator.Turns.{commits, committed, completed, completes, decides, ends, entered_phase}
 use Rattle.host_laws.proofs.coordinator.Turns.{gives_up, goes_on, keeps, late, over_not}
 use Rattle.host_laws.proofs.api.Wishes.{is_tc, second_fails, sends_of}
+use Rattle.host_laws.proofs.hosts.StartedHosts.{one_part}
 use Rattle.answer_laws.specs.Answered.{AreQuiet, NoEpochIsAwaited}
 use Rattle.tc_block.specs.Phases.{is_aborting}
 
@@ -291,7 +292,7 @@ module _ (start : Start) (tx : TxId) (some_node : 1 ≤ tx.tc) (few_nodes : tx.t
 
           own_place : here start tx.tc (epochs (tc_of s).node) ≡ true
           own_place =
-              eq-eqb _ _ (epochs_host start (tc_of s).node ∙ sym (at_own_node start at (logs at) low step.runs).is)
+              eq-eqb _ _ (one_part start (tc_of s).node ∙ sym (at_own_node start at (logs at) low step.runs).is)
 
           late_unborn : (tc_of (after start at (now at))).next_seq ≤ tx.seq → reqs (now at) ≡ 0
           late_unborn early = absurd (omega (

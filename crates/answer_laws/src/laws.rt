@@ -65,13 +65,14 @@ pub fn each_is_numbered()
     ensures { EachIsNumbered }
 {}
 
-/// When nothing is under way, each operation that a coordinator's transaction has unanswered waits in the queue of a lock.
+/// When nothing is under way, each operation that a coordinator's transaction has unanswered waits in the queue of a
+/// lock.
 pub fn each_operation_is_queued()
     ensures { EachOperationIsQueued }
 {}
 
-/// When nothing is under way, each transaction whose end isn't reported takes operations, and none is unanswered, or it has
-/// an operation that waits in the queue of a lock.
+/// When nothing is under way, each transaction whose end isn't reported takes operations, and none is unanswered, or it
+/// has an operation that waits in the queue of a lock.
 #[tactic(auto, using(crate::proofs::Answers::each_answered))]
 pub fn each_is_answered()
     ensures { EachIsAnswered }

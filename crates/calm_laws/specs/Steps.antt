@@ -95,7 +95,8 @@ abbrev pub IsForViews : Outgoing → Type 0
 IsForViews send = is_of_views send.to.block ≡ true
 
 -- Host h and its plain one do the same at a signal, but that the host tells memberships of a round of time besides.
-pub record StepAlike (start : Start) (h : ℕ) (given : List ApiReply) (s : host.HostBody) (other : plain.Host) (x : Signal)
+pub record StepAlike (start : Start) (h : ℕ) (given : List ApiReply) (s : host.HostBody) (other : plain.Host)
+    (x : Signal)
     : Type 0
   where
     pub marks : (step_by h s x).effects.marks ≡ (row other x).effects.marks

@@ -19,8 +19,7 @@ use Rattle.sig_core.specs.Same.{same_key}
 use Rattle.sig_core.specs.Work.{work_key}
 use Rattle.row_locks.proofs.LocksLemmas.{key_cmp}
 use Rattle.row_locks.specs.declared.claim.Wait.{Wait}
-use Rattle.row_locks.specs.declared.mode.Lock.{Lock}
-use Rattle.row_locks.specs.declared.mode.Lock.TheVariants.{Granted, Queued}
+use Rattle.row_locks.specs.declared.mode.Lock.TheVariants.{Granted}
 use Rattle.row_locks.specs.declared.queue.TheConstants.{ROUNDS}
 use Rattle.row_locks.specs.Rounds.{expired}
 use Rattle.row_locks.specs.Rows.{RowLock, asked}
@@ -41,9 +40,9 @@ use Rattle.node_core.proofs.DihForms.{dih_marks_each}
 use Rattle.world_core.specs.Machine.{after}
 use Rattle.world_core.specs.Start.{Start}
 use Rattle.world_core.specs.Steps.{HostStep}
-use Rattle.key_laws.proofs.KeyAfter.{served_lock}
+use Rattle.key_laws.proofs.KeyAfter.{asked_lock, served_lock}
 use Rattle.key_laws.proofs.LocksAt.{lock-aged}
-use Rattle.key_laws.specs.Replica.{Replica, asked_by, event_at, expired_by, expires_if, is_let_in, is_refused}
+use Rattle.key_laws.specs.Replica.{Replica, event_at, expired_by, expires_if, is_let_in, is_refused}
 use Rattle.key_laws.specs.Replica.{key_after, serves_if}
 use Rattle.key_laws.specs.Replica as at
 use Rattle.host_laws.proofs.rows.Replicas.{logs_follow}
@@ -93,11 +92,6 @@ module _ (e : HostStep) (log : List HostStep) (key : List ℕ) where
   all_later lock all =
       each_map (λ (w : Wait). HasWaited log w.tx key w.rounds) (λ (w : Wait). HasWaited (e ∷ log) w.tx key w.rounds)
       lock.queue (λ w is. later w.tx w.rounds is) all
-
-  asked_lock : (r : Replica) (now : RowLock) (q : Request) (refused : Bool) (a : Lock)
-      → (asked_by r now q refused a).lock ≡ now
-  asked_lock r now q refused Granted = refl
-  asked_lock r now q refused (Queued ahead) = refl
 
   -- what an event leaves
   abbrev Left : at.Event → Replica → Type 0

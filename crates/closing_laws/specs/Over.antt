@@ -8,9 +8,9 @@ use Rattle.world_core.specs.Steps.{HostStep}
 use Rattle.view_laws.specs.Runs.{view_after}
 use Rattle.moment_laws.specs.Moments.{IsMoment, current, logs_of}
 use Rattle.moment_laws.specs.Places.{ldm_of}
+use Rattle.request_laws.specs.Orphans.{IsOrphan}
 use Rattle.commit_laws.specs.Commits.{IsDone}
 use Rattle.commit_laws.specs.Fates.{commits, fate}
-use Rattle.commit_laws.specs.Takeovers.{IsOrphan}
 use Rattle.closing_laws.specs.Closed.{IsOver}
 
 module _ (start : Start) (logs : ℕ → List HostStep) where

@@ -14,9 +14,10 @@ use Rattle.world_core.specs.Start.{Start}
 use Rattle.world_core.specs.Steps.{Addressed, HostStep}
 use Rattle.view_laws.specs.Order.{sound_machine}
 use Rattle.moment_laws.specs.Moments.{IsMoment, current, logs_of}
+use Rattle.request_laws.specs.Orphans.{IsOrphan}
 use Rattle.commit_laws.specs.Fates.{aborts, fate}
 use Rattle.commit_laws.specs.Gathering.{EndsGathering}
-use Rattle.commit_laws.specs.Takeovers.{IsOrphan, takeover_at}
+use Rattle.commit_laws.specs.Takeovers.{takeover_at}
 use Rattle.commit_laws.specs.Traces.{is_known}
 
 -- these signals tell of the commit of the transaction

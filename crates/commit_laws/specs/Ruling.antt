@@ -15,7 +15,8 @@ use Rattle.view_laws.specs.Order.{sound_machine}
 use Rattle.view_laws.specs.Runs.{view_after}
 use Rattle.moment_laws.specs.Moments.{IsMoment, current, logs_of}
 use Rattle.moment_laws.specs.Places.{tc_of}
-use Rattle.commit_laws.specs.Takeovers.{IsOrphan, takeover_at}
+use Rattle.request_laws.specs.Orphans.{IsOrphan}
+use Rattle.commit_laws.specs.Takeovers.{takeover_at}
 
 -- of whom a signal of chains commits, completes or aborts, of that this is so
 abbrev pub EndsOf : (TxId → Type 0) → Body → Type 0

@@ -3,7 +3,6 @@ use Rattle.std.specs.Prelude.{◌≡◌, ℕ, true, false, List, Option, None, S
 use Rattle.std.specs.List.{slice_get}
 use Rattle.run_theory.specs.Links.{sent}
 use Rattle.run_theory.specs.Lists.{Each, IsIn}
-use Rattle.lqh_block.specs.Views.{is_coordinated}
 use Rattle.sig_core.specs.declared.member.Member.{Member}
 use Rattle.sig_core.specs.declared.member.TxId.{TxId}
 use Rattle.sig_core.specs.declared.signal.Body.{Body}
@@ -23,13 +22,10 @@ use Rattle.view_laws.specs.Runs.{view_after}
 use Rattle.moment_laws.specs.Moments.{current}
 use Rattle.moment_laws.specs.Places.{tc_of}
 use Rattle.request_laws.specs.Blocks.{takeover_after}
+use Rattle.request_laws.specs.Orphans.{IsOrphan}
 use Rattle.commit_laws.specs.Commits.{HasWritten, HasWrittenOne, IsKept}
 use Rattle.commit_laws.specs.Fates.{aborts, commits, fate}
 use Rattle.commit_laws.specs.Traces.{is_known}
-
--- the coordinator of the transaction isn't a full member
-abbrev pub IsOrphan : View → TxId → Type 0
-IsOrphan view tx = is_coordinated view.full tx ≡ false
 
 module _ (start : Start) (logs : ℕ → List HostStep) where
   -- what is told of a transaction: where an epoch is, that it commits, and wrote something

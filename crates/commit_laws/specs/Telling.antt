@@ -17,14 +17,12 @@ use Rattle.world_core.specs.Steps.{Addressed, HostStep}
 use Rattle.view_laws.specs.Order.{sound_machine}
 use Rattle.moment_laws.specs.Moments.{IsMoment, current, logs_of}
 use Rattle.moment_laws.specs.Places.{ldm_of, tc_of}
+use Rattle.request_laws.specs.Orphans.{IsOrphan}
 use Rattle.commit_laws.specs.Gathering.{EndsGathering, IsPreparedSomewhere}
-use Rattle.commit_laws.specs.Takeovers.{IsOrphan, takeover_at}
+use Rattle.commit_laws.specs.Takeovers.{takeover_at}
 use Rattle.commit_laws.specs.Traces.{has_marker_at, record_at}
 
 module _ (start : Start) (logs : ℕ → List HostStep) where
-  abbrev number_now : ℕ
-  number_now = (current start logs).number
-
   -- the signal tells, in the current view, that a member has told all
   pub record IsEnd (y : Addressed) : Type 0 where
     pub body : y.signal.body ≡ Takeover LqhTransEnd

@@ -30,23 +30,9 @@ use Rattle.world_core.specs.Steps.{HostStep}
 use Rattle.journal_laws.specs.Events.{behind_all, changed_if, records_behind, records_if, rows_behind}
 use Rattle.journal_laws.specs.Journal.{AreEventsOf, first_rows, lqh_after, outlet_with}
 use Rattle.journal_laws.specs.Saver.{IsStepBy}
+use Rattle.journal_laws.proofs.follow.GivenUp.{newer_records}
+use Rattle.saved_laws.proofs.standing.Records.{older_records, records_more}
 use Rattle.journal_laws.specs.Saver as steps
-
--- the bytes of newer records follow those of the others
-pub bytes_both : (newer older : List Redo) → log_bytes (newer ++ older) ≡ log_bytes older ++ log_bytes newer
-bytes_both [] older = sym (append-nil (log_bytes older))
-bytes_both (newest ∷ newer) older =
-    ap (λ bytes. bytes ++ bytes_of newest) (bytes_both newer older)
-    ∙ append_assoc (log_bytes older) (log_bytes newer) (bytes_of newest)
-
--- records are newer ones and others
-pub newer_records : (newer older : List Redo) → AreRecords (newer ++ older) → AreRecords newer
-newer_records [] older are = tt
-newer_records (newest ∷ newer) older are = (are.0, newer_records newer older are.1)
-
-pub older_records : (newer older : List Redo) → AreRecords (newer ++ older) → AreRecords older
-older_records [] older are = are
-older_records (newest ∷ newer) older are = older_records newer older are.1
 
 pub both_records : (newer older : List Redo) → AreRecords newer → AreRecords older → AreRecords (newer ++ older)
 both_records [] older one other = other
@@ -63,13 +49,6 @@ logged_behind (Commit tx key epoch) s log = if_logged (redo.Commit tx epoch key)
 logged_behind (Abort tx key) s log = if_logged (redo.Abort tx key) (image_in s tx key) log
 logged_behind (Complete tx key) s log = refl
 logged_behind Step s log = refl
-
--- an event more, or none
-pub records_more : (s : RowsState) (event : Option Event) (older : List Event)
-    → records_behind s (option_to_list event ++ older)
-    ≡ records_if event (rows_behind s older) ++ records_behind s older
-records_more s None older = refl
-records_more s (Some event) older = logged_behind event (rows_behind s older) (records_behind s older)
 
 rows_more : (s : RowsState) (event : Option Event) (older : List Event)
     → rows_behind s (option_to_list event ++ older) ≡ changed_if event (rows_behind s older)

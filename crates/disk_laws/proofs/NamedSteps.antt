@@ -43,10 +43,10 @@ use Rattle.node_restart.specs.Rows.{HasRows, NamesRows, RestoresRows}
 use Rattle.node_restart.proofs.NamingLemmas.{names_keep}
 use Rattle.world_core.specs.Start.{Start, made}
 use Rattle.world_core.specs.Steps.{HostStep}
-use Rattle.request_laws.specs.Blocks.{rows_after}
+use Rattle.request_laws.specs.Blocks.{rows_after, saver_after, saving_after}
 use Rattle.journal_laws.specs.Events.{records_behind}
 use Rattle.journal_laws.specs.Journal.{AreEventsOf, first_rows, lqh_after}
-use Rattle.journal_laws.specs.Saver.{IsToldDone, NotesSaves, SwitchesTo, TellsDone, saver_after, saving_after, written}
+use Rattle.journal_laws.specs.Saver.{IsToldDone, NotesSaves, SwitchesTo, TellsDone, written}
 use Rattle.journal_laws.specs.Walks.{pieces_if}
 use Rattle.saved_laws.specs.Checkpoints.{IsCheckpoint, StandFor}
 use Rattle.disk_laws.specs.Found.{HasSavedRows}
@@ -54,7 +54,9 @@ use Rattle.disk_laws.specs.Laws.{AreSavable}
 use Rattle.disk_laws.specs.Noted.{kept_part}
 use Rattle.disk_laws.specs.OnDisk.{HasLastRows, HasWalked, HaveSerials, StandUntilNow}
 use Rattle.disk_laws.proofs.ImageLemmas.{joined, others_restore}
-use Rattle.disk_laws.proofs.JournalLemmas.{both_records, bytes_both, newer_records, same_records}
+use Rattle.disk_laws.proofs.JournalLemmas.{both_records, same_records}
+use Rattle.journal_laws.proofs.follow.Oldest.{bytes_append}
+use Rattle.journal_laws.proofs.follow.GivenUp.{newer_records}
 use Rattle.disk_laws.proofs.RowsSaved.{goes_nowhere, last_found, left_size, told_longer}
 use Rattle.disk_laws.proofs.SlotNumbers.{HasNumbers, control_numbers}
 use Rattle.disk_laws.proofs.StandLemmas.{stand_same}
@@ -172,10 +174,10 @@ module _ (start : Start) (member : Member) (there : IsIn member (made start)) (b
       one_newest now_stand.0 (newer ++ kept) now_stand.1.are (both_records newer kept newer_are old_stand.1.are)
       (now_stand.1.bytes
       ∙ ap (λ all. drop finished.from (log_bytes all)) has.until_now.is
-      ∙ ap (drop finished.from) (bytes_both newer (records has.events))
+      ∙ ap (drop finished.from) (bytes_append newer (records has.events))
       ∙ drop-append-le finished.from old_bytes (log_bytes newer) old_stand.1.most
       ∙ ap (λ front. front ++ log_bytes newer) (sym old_stand.1.bytes)
-      ∙ sym (bytes_both newer kept))
+      ∙ sym (bytes_append newer kept))
 
   older_are : AreRecords (records older)
   older_are = subst (λ events. AreRecords (records events)) is new.records.records

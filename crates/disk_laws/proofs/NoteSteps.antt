@@ -32,7 +32,7 @@ use Rattle.world_views.specs.Disks.{HasAtMostOneMore}
 use Rattle.world_views.specs.Machine.{has_stopped, stops_by}
 use Rattle.moment_laws.specs.Places.{tc_of}
 use Rattle.disk_world.specs.Keeping.{DurableAt, Kept, NothingNew, calls_of, slots_after}
-use Rattle.journal_laws.specs.Saver.{saver_after}
+use Rattle.request_laws.specs.Blocks.{saver_after}
 use Rattle.disk_laws.specs.Found.{HasLatest}
 use Rattle.disk_laws.specs.Laws.{AreNotable}
 use Rattle.disk_laws.specs.Noted.{WasNoted, is_disk_stop}

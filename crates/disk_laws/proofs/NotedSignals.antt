@@ -40,7 +40,7 @@ same_mask : (a b c d : ℕ) → DurableAt a b ≡ DurableAt c d → b ≡ d
 same_mask a b c d same = cc
 
 -- what is durable by a body is what it says
-body_says : (body : Body) (epoch mask : ℕ) → durable_by body ≡ DurableAt epoch mask
+pub body_says : (body : Body) (epoch mask : ℕ) → durable_by body ≡ DurableAt epoch mask
     → body ≡ Epoch (CopyGciReq epoch mask)
 body_says (Epoch (CopyGciReq other others)) epoch mask is =
     ap (λ (e : ℕ). Epoch (CopyGciReq e others)) (same_epoch other others epoch mask is)
@@ -55,7 +55,7 @@ mask_sound shape x epoch mask sound is =
     (and_parts (is_sender shape x.member && is_view shape x.view) (is_body_sound shape x.body) sound).1
 
 -- what a disk keeps of a host with rows is no epoch that is durable
-no_durable : (saved : ℕ) (redo : OutletState) (it : Todo) (epoch mask : ℕ)
+pub no_durable : (saved : ℕ) (redo : OutletState) (it : Todo) (epoch mask : ℕ)
     → kept_unless saved redo it ≡ DurableAt epoch mask → ⊥
 no_durable saved redo todo.Nothing epoch mask is = cc
 no_durable saved redo (todo.Write piece) epoch mask is = cc

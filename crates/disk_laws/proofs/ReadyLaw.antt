@@ -7,7 +7,6 @@ use Rattle.std.proofs.lemmas.Bool.{eqb-true}
 use Rattle.host_io.specs.Call.{Call}
 use Rattle.redo_log.specs.Replaying.{log_bytes}
 use Rattle.redo_log.specs.Stored.{files_of}
-use Rattle.run_theory.specs.Lists.{IsIn}
 use Rattle.run_theory.proofs.Pasts.{past_self}
 use Rattle.sig_core.specs.declared.member.Member.{Member}
 use Rattle.sig_core.specs.declared.slots.ControlSlot.{ControlSlot}
@@ -28,11 +27,10 @@ use Rattle.node_restart.proofs.StartLaw.{ready_rows}
 use Rattle.node_views.specs.declared.host_body.HostBody as hosts
 use Rattle.lqh_saver.specs.Saver.{fresh_saver}
 use Rattle.lqh_saver.specs.State.{SaverState}
-use Rattle.moment_laws.proofs.MomentHosts.{ldm_started}
-use Rattle.request_laws.specs.Blocks.{rows_after}
-use Rattle.world_core.specs.Start.{Start, made}
+use Rattle.request_laws.specs.Blocks.{rows_after, saver_after}
+use Rattle.world_core.specs.Start.{Start}
 use Rattle.journal_laws.specs.Journal.{lqh_after, outlet_with}
-use Rattle.journal_laws.specs.Saver.{saver_after, saver_in}
+use Rattle.journal_laws.proofs.follow.Follow.{first_saver}
 use Rattle.saved_laws.specs.Checkpoints.{StandFor}
 use Rattle.disk_laws.specs.Laws.{ReadyDisksKeepUp}
 use Rattle.disk_laws.specs.OnDisk.{HasLastRows, HasWalked}
@@ -68,12 +66,6 @@ generation_is generation bytes slot is =
         pick : (less : Bool) → (if less then Some b else Some a) ≡ Some slot → slot.generation ≡ generation
         pick true so = of_own generation other slot (f ∙ so)
         pick false so = of_own generation one slot (e ∙ so)
-
--- the saver of a member's rows as a life begins
-module _ (start : Start) (member : Member) (there : IsIn member (made start)) where
-  first_saver : saver_after start member [] ≡ fresh_saver start.start_epoch 0
-  first_saver =
-      ap (λ (s : hosts.HostBody). saver_in (fresh_saver start.start_epoch 0) s.parts) (ldm_started start member there)
 
 -- the slots name the life behind what was restored
 abbrev AreNamed : Start → Member → Restored → List Call → SlotsInUse → Type 0

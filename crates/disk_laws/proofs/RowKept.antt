@@ -37,10 +37,10 @@ use Rattle.node_restart.proofs.RestoredLaw.{restored}
 use Rattle.world_core.specs.Start.{Start, made}
 use Rattle.world_core.specs.Steps.{HostStep}
 use Rattle.world_views.specs.Machine.{has_stopped, stops_by}
-use Rattle.request_laws.specs.Blocks.{rows_after}
+use Rattle.request_laws.specs.Blocks.{rows_after, saver_after}
 use Rattle.disk_world.specs.Keeping.{Kept, OfCheckpoint, RowsUpTo, redo_from, slots_after}
 use Rattle.journal_laws.specs.Journal.{lqh_after}
-use Rattle.journal_laws.specs.Saver.{saver_after, written, written_by}
+use Rattle.journal_laws.specs.Saver.{written, written_by}
 use Rattle.journal_laws.specs.Walks.{pieces_if}
 use Rattle.disk_laws.specs.Found.{HasSavedRows}
 use Rattle.disk_laws.specs.Laws.{AreSavable}

@@ -41,13 +41,13 @@ use Rattle.world_core.specs.Steps.{HostStep}
 use Rattle.world_views.specs.Disks.{newest_taken}
 use Rattle.world_views.specs.Machine.{after, has_stopped, machine, stops_by}
 use Rattle.moment_laws.specs.Places.{ldm_of}
-use Rattle.request_laws.specs.Blocks.{rows_after}
+use Rattle.request_laws.specs.Blocks.{rows_after, saver_after, saving_after}
 use Rattle.request_laws.proofs.routes.Layouts.{runs_ldm}
 use Rattle.request_laws.proofs.routes.PartSteps.{rows_are}
 use Rattle.disk_world.specs.Keeping.{Kept, OfCheckpoint, calls_of, kept_beside, kept_unless, todo_in}
 use Rattle.journal_laws.specs.Journal.{AreEventsOf, lqh_after}
-use Rattle.journal_laws.specs.Saver.{EndsWalk, IsStepBy, NotesSaves, PassesRows, SwitchesTo, saver_after}
-use Rattle.journal_laws.specs.Saver.{saving_after, todo_at, todo_unless, written, written_by}
+use Rattle.journal_laws.specs.Saver.{EndsWalk, IsStepBy, NotesSaves, PassesRows, SwitchesTo, todo_at, todo_unless}
+use Rattle.journal_laws.specs.Saver.{written, written_by}
 use Rattle.journal_laws.specs.Saver as steps
 use Rattle.journal_laws.specs.Walks.{HasComeTo}
 use Rattle.journal_laws.proofs.events.HostEvents.{saves_noted}

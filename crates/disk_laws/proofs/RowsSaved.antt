@@ -31,17 +31,19 @@ use Rattle.node_restart.proofs.RestoredLaw.{restored}
 use Rattle.node_restart.proofs.SaveLaw.{rows_kept}
 use Rattle.world_core.specs.Start.{Start, made}
 use Rattle.world_core.specs.Steps.{HostStep}
-use Rattle.request_laws.specs.Blocks.{rows_after}
+use Rattle.request_laws.specs.Blocks.{rows_after, saver_after, saving_after}
 use Rattle.disk_world.specs.Keeping.{redo_from}
 use Rattle.journal_laws.specs.Events.{records_behind}
 use Rattle.journal_laws.specs.Journal.{first_rows, lqh_after}
-use Rattle.journal_laws.specs.Saver.{IsToldDone, NotesSaves, saver_after, saving_after}
+use Rattle.journal_laws.specs.Saver.{IsToldDone, NotesSaves}
 use Rattle.disk_laws.specs.Found.{HasSavedRows}
 use Rattle.disk_laws.specs.Laws.{AreSavable}
 use Rattle.disk_laws.specs.Noted.{kept_part}
 use Rattle.disk_laws.specs.OnDisk.{HasLastRows, HaveSerials, StandUntilNow}
 use Rattle.disk_laws.proofs.ImageLemmas.{joined, others_restore}
-use Rattle.disk_laws.proofs.JournalLemmas.{bytes_both, newer_records, same_records}
+use Rattle.disk_laws.proofs.JournalLemmas.{same_records}
+use Rattle.journal_laws.proofs.follow.Oldest.{bytes_append}
+use Rattle.journal_laws.proofs.follow.GivenUp.{newer_records}
 use Rattle.disk_laws.proofs.KeptParts.{kept_is_past}
 use Rattle.disk_laws.proofs.SavedLemmas.{first_saved, saved_along}
 use Rattle.disk_laws.proofs.SlotNumbers.{HasNumbers, control_numbers}
@@ -187,7 +189,7 @@ module _ (start : Start) (member : Member) (there : IsIn member (made start)) (b
         ∙ ap (λ (at : ℕ). drop at (log_bytes (records_behind (first_rows start member) on.until_now.now)))
         (sym on.begins)
         ∙ sym on.until_now.stand.bytes
-        ∙ bytes_both newer has.redo
+        ∙ bytes_append newer has.redo
 
     pub left_size : length outlet.left ≡ length (log_bytes has.redo) + length (log_bytes newer)
     left_size = ap length left_both ∙ length-append (log_bytes has.redo) (log_bytes newer)

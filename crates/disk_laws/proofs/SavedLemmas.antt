@@ -12,14 +12,11 @@ use Rattle.sig_core.specs.declared.view.View.{View}
 use Rattle.sig_core.specs.Step.{Step}
 use Rattle.lqh_saver.specs.State.{saving}
 use Rattle.lqh_saver.proofs.StepLemmas.{saver_rows}
-use Rattle.lqh_views.specs.Replica.{replica_row}
 use Rattle.lqh_views.specs.State.{ReplicaState}
-use Rattle.lqh_views.proofs.Walk.{replica_outcomes}
 use Rattle.node_views.specs.declared.host_body.HostBody as hosts
 use Rattle.node_views.specs.declared.ldm_part.LdmPart.{LdmPart}
 use Rattle.node_views.specs.Parts.{ldm_row}
 use Rattle.node_views.specs.Saving.{saved_by}
-use Rattle.view_laws.proofs.fences.AboveViews.{greater_first}
 use Rattle.moment_laws.specs.PartSteps.{PartEnters, PartTakes, handles, ignores, installs, ldm_kind, remains}
 use Rattle.moment_laws.specs.Places.{ldm_of}
 use Rattle.moment_laws.proofs.MomentHosts.{ldm_started, part_some}
@@ -29,29 +26,13 @@ use Rattle.request_laws.proofs.routes.PartSteps.{own_ldm, rows_are}
 use Rattle.world_core.specs.Start.{Start, made}
 use Rattle.world_core.specs.Steps.{HostStep}
 use Rattle.world_views.specs.Machine.{after, step_after, stops_by, told}
+use Rattle.journal_laws.proofs.events.ReplicaEvents.{saved_rises}
 use Rattle.disk_laws.proofs.StopsKeepSaved.{step_keeps}
-
--- rows note no lesser epoch
-replica_rises : (s : ReplicaState) (x : Signal) → s.saved ≤ (replica_row s x).state.saved
-replica_rises s x =
-    replica_outcomes s x (λ step. s.saved ≤ step.state.saved) (record {
-      passes = λ is. omega arith;
-      stales = λ of_waits stale. omega arith;
-      unasked = λ at is none. omega arith;
-      ignores = λ signal is. omega arith;
-      promises = λ proposal is. omega arith;
-      closes = λ epoch is. omega arith;
-      saves = λ epoch is. greater_first s.saved epoch;
-      states = λ is. omega arith;
-      tells_record = λ r under_way at one is there. omega arith;
-      tells_marker = λ r under_way at m none is there. omega arith;
-      ends = λ r under_way none no_more. omega arith;
-    })
 
 ldm_rises : (p : LdmPart) (x : Signal) (to : BlockId) → p.replica.saved ≤ (ldm_row p to x).state.replica.saved
 unfolding ldm_row
 ldm_rises p x block.Lqh =
-    saver_rows (saving p.replica p.saver) x (λ r. p.replica.saved ≤ r.saved) (omega arith) (replica_rises p.replica x)
+    saver_rows (saving p.replica p.saver) x (λ r. p.replica.saved ≤ r.saved) (omega arith) (saved_rises p.replica x)
     (λ at has. omega arith)
 ldm_rises p x _ = omega arith
 
@@ -91,8 +72,8 @@ module _ (start : Start) (member : Member) (there : IsIn member (made start)) wh
   first_saved =
       ap (λ (s : hosts.HostBody). (rows_in (no_replica start member) s.parts).saved) (ldm_started start member there)
 
-  saved_rises : (log : List HostStep) (e : HostStep) → saved_after log ≤ saved_after (e ∷ log)
-  saved_rises log e =
+  log_rises : (log : List HostStep) (e : HostStep) → saved_after log ≤ saved_after (e ∷ log)
+  log_rises log e =
       let step = own_ldm start member there log e in
       let before : saved_after log ≡ step.own.replica.saved =
       ap (λ (r : ReplicaState). r.saved) (rows_are start member h log refl step.own step.runs) in
@@ -109,7 +90,7 @@ module _ (start : Start) (member : Member) (there : IsIn member (made start)) wh
     where
       by : (newer : List HostStep) → saved_after older ≤ saved_after (newer ++ older)
       by [] = omega arith
-      by (e ∷ newer) = let rises = saved_rises (newer ++ older) e in omega (arith, by newer, rises)
+      by (e ∷ newer) = let rises = log_rises (newer ++ older) e in omega (arith, by newer, rises)
 
   -- and a step that stops the host leaves it
   pub stop_keeps : (log : List HostStep) (e : HostStep)

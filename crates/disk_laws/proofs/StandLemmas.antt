@@ -1,5 +1,5 @@
 -- What stands for all that was until now stands for it one step later, with the records of the step.
-use Rattle.std.proofs.Common.{◌≡◌, ◌∙◌, ◌≤◌, ℕ, ◌+◌, ◌-◌, List, [], ◌∷◌, ◌++◌, length, drop, refl, ap, sym, subst}
+use Rattle.std.proofs.Common.{◌≡◌, ◌∙◌, ◌≤◌, ℕ, ◌+◌, ◌-◌, List, ◌∷◌, ◌++◌, length, drop, ap, sym, subst}
 use Rattle.std.proofs.Common.{arith, append_assoc, drop_at, length-append, option_to_list}
 use Rattle.std.specs.Prelude.{Option, None, Some}
 use Rattle.std.proofs.lemmas.List.{drop-append-le}
@@ -12,7 +12,7 @@ use Rattle.sig_core.specs.declared.slots.SystemSlot.{SystemSlot}
 use Rattle.sig_core.specs.Journal.{OutletState}
 use Rattle.sig_core.specs.Rows.{RowsState}
 use Rattle.sig_core.specs.Table.{Rows}
-use Rattle.local_ckpt.specs.Events.{Event, left_by, logged}
+use Rattle.local_ckpt.specs.Events.{Event, left_by}
 use Rattle.local_ckpt.specs.Laws.{HasPrepares}
 use Rattle.lqh_block.specs.State.{LqhState}
 use Rattle.world_core.specs.Start.{Start, made}
@@ -23,29 +23,13 @@ use Rattle.journal_laws.specs.Journal.{AreEventsOf, HasRecords, first_rows, lqh_
 use Rattle.journal_laws.specs.Walks.{HasGivenUp}
 use Rattle.journal_laws.proofs.events.FirstRows.{first_orderly, first_pending}
 use Rattle.journal_laws.proofs.replays.Replays.{orderly_behind, replays, replays_more}
-use Rattle.journal_laws.proofs.walks.Appending.{rows_append}
 use Rattle.saved_laws.specs.Checkpoints.{StandFor}
+use Rattle.saved_laws.proofs.standing.Records.{older_records}
 use Rattle.disk_laws.specs.OnDisk.{StandUntilNow}
-use Rattle.disk_laws.proofs.JournalLemmas.{both_records, bytes_both, logged_behind, newer_records, older_records}
-use Rattle.disk_laws.proofs.JournalLemmas.{records_on, rows_are_behind, same_records}
-
--- an event's record comes in front of all records before it
-logged_front : (event : Event) (s : RowsState) (newer older : List Redo)
-    → logged event s (newer ++ older) ≡ logged event s newer ++ older
-logged_front event s newer older =
-    logged_behind event s (newer ++ older)
-    ∙ sym (append_assoc (logged event s []) newer older)
-    ∙ sym (ap (λ front. front ++ older) (logged_behind event s newer))
-
--- the records of events are those of the newer ones and those of the others
-records_split : (s : RowsState) (newer older : List Event)
-    → records_behind s (newer ++ older) ≡ records_behind (rows_behind s older) newer ++ records_behind s older
-records_split s [] older = refl
-records_split s (event ∷ newer) older =
-    ap (λ rows. logged event rows (records_behind s (newer ++ older))) (rows_append s newer older)
-    ∙ ap (logged event (rows_behind (rows_behind s older) newer)) (records_split s newer older)
-    ∙ logged_front event (rows_behind (rows_behind s older) newer) (records_behind (rows_behind s older) newer)
-    (records_behind s older)
+use Rattle.disk_laws.proofs.JournalLemmas.{both_records, logged_behind, records_on}
+use Rattle.disk_laws.proofs.JournalLemmas.{rows_are_behind, same_records}
+use Rattle.journal_laws.proofs.follow.Oldest.{bytes_append, records_append}
+use Rattle.journal_laws.proofs.follow.GivenUp.{newer_records}
 
 -- what stands for the records of some events stands for those of others which have the same
 pub stand_same : (start : Start) (member : Member) (before base : Rows) (least position : ℕ)
@@ -82,12 +66,12 @@ module _ (start : Start) (member : Member) (there : IsIn member (made start)) wh
       since = records_behind (rows_behind first given.gone) given.since
 
       whole : records events ≡ since ++ records given.gone
-      whole = ap records given.split ∙ records_split first given.since given.gone
+      whole = ap records given.split ∙ records_append first given.since given.gone
 
       its_bytes : log_bytes kept ≡ log_bytes since
       its_bytes =
           bytes ∙ ap (λ all. drop (lqh log).outlet.flushed (log_bytes all)) whole
-          ∙ ap (drop (lqh log).outlet.flushed) (bytes_both since (records given.gone))
+          ∙ ap (drop (lqh log).outlet.flushed) (bytes_append since (records given.gone))
           ∙ drop_at (log_bytes (records given.gone)) (log_bytes since) (lqh log).outlet.flushed
           (sym given.position)
 
@@ -132,17 +116,17 @@ module _ (start : Start) (member : Member) (there : IsIn member (made start)) wh
 
       bytes : log_bytes (added ++ kept) ≡ drop position (log_bytes (records (option_to_list event ++ now)))
       bytes =
-          bytes_both added kept
+          bytes_append added kept
           ∙ ap (λ front. front ++ log_bytes added) stand.bytes
           ∙ sym (drop-append-le position (log_bytes (records now)) (log_bytes added) stand.most)
-          ∙ ap (drop position) (sym (bytes_both added (records now)))
+          ∙ ap (drop position) (sym (bytes_append added (records now)))
           ∙ sym (ap (λ both. drop position (log_bytes both)) all)
 
       size : length (log_bytes (records (option_to_list event ++ now)))
           ≡ length (log_bytes (records now)) + length (log_bytes added)
       size =
           ap (λ both. length (log_bytes both)) all
-          ∙ ap length (bytes_both added (records now))
+          ∙ ap length (bytes_append added (records now))
           ∙ length-append (log_bytes (records now)) (log_bytes added)
 
       added_are : AreRecords added

@@ -1,6 +1,6 @@
 -- A host goes on, and the disk of its node has what it was to keep of it.
 use Rattle.std.proofs.Common.{◌≡◌, ◌≢◌, ◌⊎◌, ◌∙◌, ℕ, ◌-◌, ◌^◌, ◌≤◌, ◌<◌, ◌==◌, Bool, true, false, List, [], ◌∷◌}
-use Rattle.std.proofs.Common.{get_or, refl, ap, sym, subst, inl, inr, arith}
+use Rattle.std.proofs.Common.{get_or, refl, ap, sym, subst, inl, inr}
 use Rattle.std.specs.List.{list_any}
 use Rattle.std.specs.Prelude.{Option, None}
 use Rattle.std.proofs.lemmas.Bool.{eq-eqb, eqb-true, true≢false}
@@ -26,11 +26,11 @@ use Rattle.world_views.specs.Driven.{IsSound}
 use Rattle.world_views.specs.Machine.{has_stopped, machine, stops_by}
 use Rattle.world_views.specs.World.{Whole, has_stopped_in, stopped}
 use Rattle.moment_laws.specs.Places.{ldm_of, tc_of}
-use Rattle.moment_laws.proofs.MomentHosts.{ldm_member, ldm_number, part_some, tc_apart, tc_low, tc_member}
-use Rattle.view_laws.proofs.runs.FirstMembers.{node_low, node_some}
+use Rattle.moment_laws.proofs.MomentHosts.{ldm_member, part_some, tc_apart, tc_low, tc_member}
 use Rattle.disk_world.specs.Disks.{Disks, HasGoneOn, HasKept, slots_if}
 use Rattle.disk_world.specs.Keeping.{Kept, NothingNew, calls_of, slots_after}
 use Rattle.disk_world.proofs.KeptLemmas.{kept_as}
+use Rattle.request_laws.proofs.tokens.HostsApart.{ldm_low}
 use Rattle.disk_laws.specs.Laws.{AreNotable, AreSavable, StepsAreKept}
 use Rattle.disk_laws.specs.Noted.{WasNoted, is_disk_stop}
 use Rattle.disk_laws.specs.OnDisk.{IsOnDisk, KeepsNoted, KeepsRows, KeepsUp}
@@ -50,13 +50,6 @@ disk_stop stop count marks = ap (list_any is_disk_stop) marks
 stops_so : (stop : HostStep) (count : ℕ) → stop.step.marks ≡ Stopped (Disk count) ∷ []
     → stops_by stop.step.marks ≡ true
 stops_so stop count marks = ap stops_by marks
-
-ldm_low : (start : Start) (member : Member) → IsIn member (made start) → ldm_of start member < hosts start
-ldm_low start member there =
-    let is = ldm_number start member there in
-    let low = node_low start member there in
-    let some = node_some start member there in
-    omega (arith, is, low, some)
 
 module _ (start : Start) (member : Member) (before : Rows) (first : SystemSlot) (w t : Whole) (old new : Disks)
     (counts : List ℕ) (sound : IsSound start w) (there : IsIn member (made start))

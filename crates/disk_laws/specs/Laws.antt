@@ -4,7 +4,7 @@ use Rattle.host_io.specs.Call.{Call}
 use Rattle.host_io.specs.Image.{IsLeft, IsRecord}
 use Rattle.redo_log.specs.Stored.{files_of}
 use Rattle.local_ckpt.specs.Events.{Event}
-use Rattle.request_laws.specs.Blocks.{rows_after}
+use Rattle.request_laws.specs.Blocks.{rows_after, saver_after}
 use Rattle.run_theory.specs.Lists.{IsIn, IsPast}
 use Rattle.sig_core.specs.declared.journal.TheConstants.{JOURNAL_BYTES}
 use Rattle.sig_core.specs.declared.member.Member.{Member}
@@ -27,7 +27,6 @@ use Rattle.moment_laws.specs.Places.{ldm_of, tc_of}
 use Rattle.disk_world.specs.Disks.{Disks, HasGoneOn}
 use Rattle.lqh_saver.specs.declared.stage.Stage.TheVariants.{Walked}
 use Rattle.journal_laws.specs.Journal.{HasRecords, lqh_after}
-use Rattle.journal_laws.specs.Saver.{saver_after}
 use Rattle.journal_laws.specs.Walks.{IsFollowed}
 use Rattle.saved_laws.specs.Checkpoints.{IsCheckpoint}
 use Rattle.disk_laws.specs.Found.{HasLatest, HasSavedRows}

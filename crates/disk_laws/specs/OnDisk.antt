@@ -18,7 +18,7 @@ use Rattle.lqh_saver.specs.declared.stage.Stage.TheVariants.{Resting, Walked, Wa
 use Rattle.lqh_saver.specs.declared.switching.TheConstants.{CHECKPOINTS, POSITIONS}
 use Rattle.redo_log.specs.Replaying.{AreRecords}
 use Rattle.redo_log.specs.Stored.{files_of}
-use Rattle.request_laws.specs.Blocks.{rows_after}
+use Rattle.request_laws.specs.Blocks.{rows_after, saver_after}
 use Rattle.sys_restart.specs.Files.{Files}
 use Rattle.sysfile_core.specs.declared.place.TheConstants.{SYSTEM_FILE}
 use Rattle.world_core.specs.Start.{Start, made}
@@ -34,7 +34,7 @@ use Rattle.node_restart.specs.Rows.{HasRows}
 use Rattle.disk_world.specs.Disks.{Disks}
 use Rattle.journal_laws.specs.Events.{records_behind}
 use Rattle.journal_laws.specs.Journal.{AreEventsOf, first_rows, lqh_after}
-use Rattle.journal_laws.specs.Saver.{IsToldDone, saver_after, written}
+use Rattle.journal_laws.specs.Saver.{IsToldDone, written}
 use Rattle.journal_laws.specs.Walks.{pieces_if}
 use Rattle.saved_laws.specs.Checkpoints.{StandFor}
 use Rattle.disk_laws.specs.Found.{HasLatest, HasSavedRows}

@@ -1,5 +1,5 @@
 -- What a disk keeps of a host that has rows.
-use Rattle.std.proofs.Common.{◌≡◌, ◌∙◌, ℕ, Bool, List, refl, ap, sym, subst}
+use Rattle.std.proofs.Common.{◌≡◌, ◌∙◌, ℕ, Bool, true, false, List, refl, ap, sym, subst}
 use Rattle.std.specs.Prelude.{Option, Some, OnOk, Result, Ok, Err}
 use Rattle.host_io.specs.Call.{Call}
 use Rattle.node_disk.specs.Saving.{name_calls, rows_calls, rows_saved, settle_calls, walk_calls, walk_named}
@@ -15,8 +15,13 @@ use Rattle.sysfile_core.specs.declared.place.TheConstants.{CONTROL_FILE}
 use Rattle.sysfile_core.specs.Runs.{Runs}
 use Rattle.lqh_saver.specs.declared.stage.Todo.{Todo}
 use Rattle.lqh_saver.specs.declared.stage.Todo.TheVariants as todo
-use Rattle.disk_world.specs.Keeping.{Kept, OfCheckpoint, RowsUpTo, calls_of, kept_beside, kept_of, kept_unless, redo_from}
-use Rattle.disk_world.specs.Keeping.{slots_after, todo_in}
+use Rattle.disk_world.specs.Keeping.{Kept, NothingNew, OfCheckpoint, RowsUpTo, calls_of, durable_by, durable_if}
+use Rattle.disk_world.specs.Keeping.{kept_beside, kept_of, kept_unless, redo_from, slots_after, todo_in}
+
+-- what no signal says isn't kept, whether or not it went on to the blocks
+pub unsaid : (goes : Bool) (x : Signal) → durable_by x.body ≡ NothingNew → durable_if goes x ≡ NothingNew
+unsaid true x none = none
+unsaid false x none = refl
 
 redo_is : (log : LogState) (at : ℕ) → bytes_from log at ≡ redo_from (outlet_in log) at
 unfolding bytes_from

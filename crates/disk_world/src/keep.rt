@@ -12,7 +12,7 @@ ghost use Rattle.sig_core.specs.declared.signal.Signal.{Signal as SignalState};
 ghost use Rattle.sys_restart.specs.Answers.{AreSteady};
 ghost use Rattle.sysfile_core.specs.Runs.{Runs};
 ghost use Rattle.disk_world.specs.Disks.{HasFailed, HasKept, disks_with};
-ghost use Rattle.disk_world.specs.Keeping.{Kept, calls_of, durable_if, kept_of, slots_after, todo_in, todo_to};
+ghost use Rattle.disk_world.specs.Keeping.{Kept, calls_of, durable_in, kept_of, slots_after, todo_in, todo_to};
 ghost use Rattle.life_start.specs.Records.{HaveMore};
 
 use host_io::{Disk, Failed};
@@ -72,7 +72,7 @@ fn keep<D: Disk>(
 {
     match (body.redo(), taken) {
         (Some(redo), taken) => keep_rows(disk, slots, body, redo, taken),
-        (None, Some(signal)) => keep_epoch(disk, slots, signal, body.passes(signal)),
+        (None, Some(signal)) => keep_epoch(disk, slots, body, signal),
         (None, None) => Ok(()),
     }
 }
@@ -135,21 +135,23 @@ fn is_savers(signal: &Signal) -> bool
     }
 }
 
-// Keeps the epoch of an order to copy it that went on to the blocks of its host.
+// Keeps the epoch of an order to copy it that went on to the blocks of its host. Whether it did is looked at only
+// where it is one, since this is asked behind each step.
+#[tactic(auto, using(crate::proofs::RowLemmas::unsaid))]
 fn keep_epoch<D: Disk>(
     disk: &mut D,
     slots: &mut NodeSlots,
+    body: &HostBody,
     signal: &Signal,
-    passes: bool,
 ) -> Result<(), Failed>
-    ensures runs { (calls : List Call) → D.told disk.old ≡ Some calls → Runs (calls_of (files_of calls) slots.old (durable_if passes signal.now)) calls (D.told disk.new) (is_ok result) }
-    ensures kept { OnOk result (slots.new ≡ slots_after slots.old (durable_if passes signal.now)) }
+    ensures runs { (calls : List Call) → D.told disk.old ≡ Some calls → Runs (calls_of (files_of calls) slots.old (durable_in body.now (Some signal.now))) calls (D.told disk.new) (is_ok result) }
+    ensures kept { OnOk result (slots.new ≡ slots_after slots.old (durable_in body.now (Some signal.now))) }
     ensures same { OnErr result (slots.new ≡ slots.old) }
     ensures cause { OnErr result (Rose (D.faults disk.old) (D.faults disk.new)) }
     ensures steady { D.faults disk.old ≤ D.faults disk.new }
 {
     match &signal.body {
-        Body::Epoch(EpochSignal::CopyGciReq { epoch, mask }) if passes => {
+        Body::Epoch(EpochSignal::CopyGciReq { epoch, mask }) if body.passes(signal) => {
             slots.save_system(disk, *epoch, *mask)
         }
         _ => Ok(()),

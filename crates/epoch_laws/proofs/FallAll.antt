@@ -1,5 +1,5 @@
 -- Epochs never fall along the decisions in the order of views.
-use Rattle.std.proofs.Common.{◌≡◌, ◌≤◌, ◌<◌, ◌⊎◌, ◌++◌, ℕ, zero, suc, Bool, true, false, cond, filter, reverse, List}
+use Rattle.std.proofs.Common.{◌≡◌, ◌≤◌, ◌<◌, ◌⊎◌, ◌++◌, ℕ, Bool, true, false, cond, filter, reverse, List}
 use Rattle.std.proofs.Common.{[], ◌∷◌, refl, sym, ap, subst, ◌∙◌, inl, inr, arith}
 use Rattle.std.proofs.lemmas.List.{reverse-append}
 use Rattle.run_theory.proofs.Pasts.{each_append, each_in, each_map, each_past}
@@ -11,7 +11,6 @@ use Rattle.sig_core.specs.declared.mark.Mark.TheVariants.{Decided}
 use Rattle.sig_core.specs.declared.member.Member.{Member}
 use Rattle.sig_core.specs.declared.place.Part.TheVariants.{Tc}
 use Rattle.sig_core.specs.declared.view.View.{View}
-use Rattle.sig_core.specs.Step.{Step}
 use Rattle.dih_node.specs.Dih.{fresh_dih}
 use Rattle.dih_node.specs.State.{DihState}
 use Rattle.node_views.specs.declared.host_body.HostBody as node
@@ -21,7 +20,7 @@ use Rattle.world_core.specs.SerialLaw.{AreEpochsOrdered}
 use Rattle.world_core.specs.Start.{Start, made}
 use Rattle.world_core.specs.Steps.{HostStep}
 use Rattle.world_views.specs.Hosts.{started}
-use Rattle.world_views.specs.Machine.{after, machine, step_after, told}
+use Rattle.world_views.specs.Machine.{after, machine, step_after}
 use Rattle.view_laws.specs.Order.{EntriesStandInOrder, by_views, decisions}
 use Rattle.run_theory.specs.Ranks.{in_order}
 use Rattle.view_laws.specs.Runs.{view_after}
@@ -36,6 +35,8 @@ use Rattle.epoch_laws.proofs.DihSends.{IsGivenBy}
 use Rattle.epoch_laws.proofs.FallMarks.{DecidesLow, tc_low}
 use Rattle.moment_laws.proofs.MomentRuns.{are_moments}
 use Rattle.view_laws.proofs.eras.DecisionMarks.{DecidesNone, IsUndecided}
+use Rattle.view_laws.proofs.eras.Deciders.{told_view}
+use Rattle.view_laws.proofs.eras.Entries.{undecided_same}
 use Rattle.epoch_laws.proofs.MarkSteps.{others_decide_none, tc_steps_give}
 use Rattle.moment_laws.proofs.MomentHosts.{TcHost, never_tc, of_none, of_tc, part_some, tc_host_is, tc_member}
 use Rattle.moment_laws.proofs.MomentHosts.{tc_started}
@@ -110,19 +111,9 @@ module _ (h stamp : ℕ) (log : List HostStep) where
       )
   in_down epoch (_ ∷ marks) before all low down = in_down epoch marks before all.1 low down
 
-  in_none : (marks : List Mark) (before : List Entry) → Each IsUndecided marks
-      → entries_in h stamp log marks before ≡ before
-  in_none [] before none = refl
-  in_none (Decided tx given ∷ marks) before none = let no = none.0 in absurd cc
-  in_none (_ ∷ marks) before none = in_none marks before none.1
-
 given_exactly : (s : DihState) (mark : Mark) → IsGivenBy s mark → IsExactly s.current mark
 given_exactly s (Decided tx given) is = is.0
 given_exactly s _ is = tt
-
-pub told_view : (h : ℕ) (t : Step node.HostBody) → (told h t).standing.view ≡ t.state.standing.view
-told_view zero t = refl
-told_view (suc h) t = refl
 
 -- some decision among marks, with what its member gives then
 record HasGiven (s : DihState) (marks : List Mark) : Type 0 where
@@ -161,7 +152,7 @@ module _ (start : Start) (all : ℕ → List HostStep) where
           → AreDown (decisions start (e ∷ es))
       none_down none down =
           subst AreDown
-          (sym (in_none e.host e.step.stamp (e ∷ old e.host) e.step.marks (decisions start es)
+          (sym (undecided_same e.host e.step.stamp (e ∷ old e.host) e.step.marks (decisions start es)
           (subst (Each IsUndecided) (sym (marks_are start all e es moment stand)) none)))
           down
 

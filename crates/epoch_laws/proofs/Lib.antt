@@ -6,7 +6,7 @@ mod FallMarks
 pub mod MarkSteps
 pub mod MasterHears
 pub mod MasterKeeps
-mod MasterKnows
+pub mod MasterKnows
 pub mod MasterMoves
 pub mod MasterResumption
 pub mod MasterRows

@@ -16,6 +16,7 @@ use Rattle.gcp_master.specs.declared.voices.Voice.{Voice}
 use Rattle.gcp_master.specs.Known.{nothing_known}
 use Rattle.gcp_master.specs.Master.{master_row}
 use Rattle.gcp_master.specs.State.{MasterState}
+use Rattle.gcp_master.proofs.Outcomes.{voice_of}
 use Rattle.dih_node.specs.State.{DihState}
 use Rattle.world_core.specs.Start.{Start}
 use Rattle.world_core.specs.Steps.{Addressed, HostStep}
@@ -28,7 +29,7 @@ use Rattle.moment_laws.specs.Moments.{current}
 use Rattle.epoch_laws.specs.Told.{IsAllSilent, IsTrueOf, IsTrueState}
 use Rattle.epoch_laws.proofs.MasterHears.{all_by_one, heard_epochs, once_more}
 use Rattle.epoch_laws.proofs.MasterKnows.{known_more, nothing_is_known}
-use Rattle.epoch_laws.proofs.MasterMoves.{HaveAll, IsLate, IsNew, Moved, known_with, state_body, voice_of, with_one}
+use Rattle.epoch_laws.proofs.MasterMoves.{HaveAll, IsLate, IsNew, Moved, known_with, state_body, with_one}
 use Rattle.epoch_laws.proofs.MasterMoves.{closes, closes_owed, commits, ends, goes_late, hears_finished, hears_prepared}
 use Rattle.epoch_laws.proofs.MasterMoves.{is_ordered, learns, resumes, stays, takes_up}
 use Rattle.epoch_laws.proofs.MasterResumption.{begins_right, goes_on_right}

@@ -14,6 +14,7 @@ use Rattle.gcp_master.specs.Known.{greater, learned, learned_of_epochs, learned_
 use Rattle.gcp_master.specs.Resume.{learned_if}
 use Rattle.gcp_master.specs.State.{MasterState}
 use Rattle.gcp_master.specs.Voices.{is_among}
+use Rattle.gcp_master.proofs.Outcomes.{voice_of}
 use Rattle.dih_node.specs.State.{DihState}
 use Rattle.world_core.specs.Start.{Start}
 use Rattle.world_core.specs.Steps.{HostStep}
@@ -24,17 +25,18 @@ use Rattle.moment_laws.specs.Places.{ldm_of, tc_of}
 use Rattle.moment_laws.specs.Moments.{current}
 use Rattle.epoch_laws.specs.Told.{IsAllSilent, IsAsTold, IsTrueState}
 use Rattle.epoch_laws.proofs.MasterHears.{among_in, among_out}
-use Rattle.epoch_laws.proofs.MasterMoves.{known_with, voice_of, with_one}
+use Rattle.epoch_laws.proofs.MasterMoves.{known_with, with_one}
 
 -- the lesser and the greater of two are on their sides of both, and one of them
-lesser_first : (one other : ℕ) → lesser one other ≤ one
+pub lesser_first : (one other : ℕ) → lesser one other ≤ one
 lesser_first one other = by (nat_lt one other) refl
   where
     by : (b : Bool) → nat_lt one other ≡ b → (if b then one else other) ≤ one
     by true e = omega arith
     by false e = grind (arith, nat_tests)
 
-lesser_second : (one other : ℕ) → lesser one other ≤ other
+-- the lesser of two is at most the second
+pub lesser_second : (one other : ℕ) → lesser one other ≤ other
 lesser_second one other = by (nat_lt one other) refl
   where
     by : (b : Bool) → nat_lt one other ≡ b → (if b then one else other) ≤ other
@@ -48,14 +50,16 @@ greater_first one other = by (nat_lt one other) refl
     by true e = grind (arith, nat_tests)
     by false e = omega arith
 
-greater_second : (one other : ℕ) → other ≤ greater one other
+-- the second is at most the greater
+pub greater_second : (one other : ℕ) → other ≤ greater one other
 greater_second one other = by (nat_lt one other) refl
   where
     by : (b : Bool) → nat_lt one other ≡ b → other ≤ (if b then other else one)
     by true e = omega arith
     by false e = grind (arith, nat_tests)
 
-greater_is : (P : ℕ → Type 0) (one other : ℕ) → P one → P other → P (greater one other)
+-- what is so of both is so of the greater
+pub greater_is : (P : ℕ → Type 0) (one other : ℕ) → P one → P other → P (greater one other)
 greater_is P one other p q = by (nat_lt one other)
   where
     by : (b : Bool) → P (if b then other else one)

@@ -3,7 +3,6 @@ use Rattle.std.proofs.Common.{◌≡◌, ◌<◌, ◌≤◌, ℕ, true, false, L
 use Rattle.run_theory.specs.Lists.{Each}
 use Rattle.sig_core.specs.declared.signal.Body.{Body}
 use Rattle.sig_core.specs.declared.signal.Body.TheVariants.{Epoch}
-use Rattle.sig_core.specs.declared.signal.Signal.{Signal}
 use Rattle.sig_core.specs.declared.signal.epoch.EpochSignal.TheVariants.{GcpNodeFinish, GcpOrd, GcpPrepareConf}
 use Rattle.sig_core.specs.declared.signal.epoch.EpochSignal.TheVariants.{GcpStateConf}
 use Rattle.sig_core.specs.declared.view.View.{View}
@@ -18,10 +17,6 @@ use Rattle.gcp_master.specs.Known.{last_run, nothing_known}
 use Rattle.gcp_master.specs.Resume.{learned_if}
 use Rattle.gcp_master.specs.State.{MasterState}
 use Rattle.gcp_master.specs.Voices.{is_among, is_heard, is_in, voices_of}
-
--- who sent a signal
-abbrev pub voice_of : Signal → Voice
-voice_of x = record { member = x.member; from = x.from }
 
 -- a signal by which a block tells how far it is
 abbrev pub state_body : Told → Body

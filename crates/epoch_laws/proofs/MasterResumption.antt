@@ -20,7 +20,7 @@ use Rattle.moment_laws.specs.Moments.{current}
 use Rattle.epoch_laws.proofs.MasterMoves.{BeginsFrom, GoesOn, from_commit, from_copy, from_prepare, with_none}
 
 -- one member by itself
-sound_next : (s : DihState) → IsSound s → s.current ≤ s.next
+pub sound_next : (s : DihState) → IsSound s → s.current ≤ s.next
 sound_next s sound = by (cases_lt s.current s.next)
   where
     by : (s.current < s.next) ⊎ (s.next ≤ s.current) → s.current ≤ s.next

@@ -23,9 +23,9 @@ use Rattle.gcp_master.specs.State.{MasterState, at_phase, counts}
 use Rattle.gcp_master.specs.Voices.{is_heard, is_in}
 use Rattle.gcp_master.proofs.Outcomes.{BeginOutcomes, Begins, Resumes, a_global, a_micro, at_durable, at_end, beginning}
 use Rattle.gcp_master.proofs.Outcomes.{have_walked, heard_one, master_outcomes, not_owing, nothing_asked, to_commit}
-use Rattle.gcp_master.proofs.Outcomes.{to_copy, to_prepare}
+use Rattle.gcp_master.proofs.Outcomes.{to_copy, to_prepare, voice_of}
 use Rattle.gcp_master.proofs.Walk.{all_heard, listing_state}
-use Rattle.epoch_laws.proofs.MasterMoves.{BeginsFrom, GoesOn, Goes, IsLate, IsNew, Moved, known_with, voice_of}
+use Rattle.epoch_laws.proofs.MasterMoves.{BeginsFrom, GoesOn, Goes, IsLate, IsNew, Moved, known_with}
 use Rattle.epoch_laws.proofs.MasterMoves.{from_commit, from_copy, from_prepare, with_none}
 use Rattle.epoch_laws.proofs.MasterMoves.{closes, closes_owed, commits, ends, goes_late, hears_finished, hears_prepared}
 use Rattle.epoch_laws.proofs.MasterMoves.{is_ordered, learns, resumes, stays, takes_up}

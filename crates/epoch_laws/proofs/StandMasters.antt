@@ -21,6 +21,7 @@ use Rattle.gcp_master.specs.Known.{nothing_known}
 use Rattle.gcp_master.specs.Master.{fresh_master, master_row}
 use Rattle.gcp_master.specs.Resume.{in_view}
 use Rattle.gcp_master.specs.State.{MasterState}
+use Rattle.gcp_master.proofs.Outcomes.{voice_of}
 use Rattle.node_views.specs.Blocks.{parts_entered, parts_row}
 use Rattle.node_views.specs.declared.host_body.HostBody as hosts
 use Rattle.node_views.specs.declared.main_part.MainPart.{MainPart}
@@ -45,7 +46,6 @@ use Rattle.epoch_laws.proofs.MasterKnows.{nothing_is_known}
 use Rattle.epoch_laws.proofs.MasterMoves.{Moved, closes, closes_owed, commits, ends, goes_late, hears_finished}
 use Rattle.epoch_laws.proofs.MasterMoves.{hears_prepared, is_ordered, learns, resumes, stays, takes_up}
 use Rattle.epoch_laws.proofs.MasterMoves as moves
-use Rattle.epoch_laws.proofs.MasterMoves.{voice_of}
 use Rattle.epoch_laws.proofs.MasterRows.{master_goes}
 use Rattle.epoch_laws.proofs.MasterSpeaks.{installed}
 use Rattle.epoch_laws.proofs.MemberStays.{right_stays}

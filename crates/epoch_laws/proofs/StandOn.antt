@@ -17,6 +17,7 @@ use Rattle.gcp_master.specs.declared.phase.Phase.TheVariants.{Committing, Prepar
 use Rattle.gcp_master.specs.declared.voices.Voice.{Voice}
 use Rattle.gcp_master.specs.Master.{fresh_master}
 use Rattle.gcp_master.specs.State.{MasterState}
+use Rattle.gcp_master.proofs.Outcomes.{voice_of}
 use Rattle.world_core.specs.Hosts.{hosts}
 use Rattle.world_core.specs.Start.{Start, made}
 use Rattle.world_core.specs.Steps.{HostStep}
@@ -31,7 +32,7 @@ use Rattle.moment_laws.specs.Places.{tc_of}
 use Rattle.moment_laws.specs.Moments.{IsMoment, current, logs_of}
 use Rattle.epoch_laws.specs.Stand.{AllStand}
 use Rattle.epoch_laws.specs.Told.{IsAllSilent, IsOrdered, IsTrue}
-use Rattle.epoch_laws.proofs.MasterMoves.{Moved, voice_of}
+use Rattle.epoch_laws.proofs.MasterMoves.{Moved}
 use Rattle.epoch_laws.proofs.MasterMoves as moves
 use Rattle.epoch_laws.proofs.MasterRows.{master_goes}
 use Rattle.epoch_laws.proofs.MomentEvents.{MasterDoes, enters, enters_takes, installs, master_does, takes, unmoved}

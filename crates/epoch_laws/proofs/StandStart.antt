@@ -24,6 +24,7 @@ use Rattle.epoch_laws.specs.Members.{IsFirst, IsPresident, dih_in, epochs_of, ma
 use Rattle.moment_laws.specs.Moments.{IsMoment, current, logs_of}
 use Rattle.epoch_laws.specs.Stand.{AllStand}
 use Rattle.epoch_laws.proofs.MasterHears.{same_member-is}
+use Rattle.epoch_laws.proofs.StandMasters.{first_inside}
 use Rattle.moment_laws.proofs.MomentHosts.{tc_started}
 use Rattle.moment_laws.proofs.MomentMembers.{current_made}
 use Rattle.moment_laws.proofs.MomentViews.{IsViewOf, current_is}
@@ -94,7 +95,7 @@ module _ (start : Start) (all : ℕ → List HostStep) (below : start.start_epoc
     where
       by : (view : View) → (view ≡ first) ⊎ IsViewOf start logs (world.hosts start) view → view ≡ first
       by view (inl is) = is
-      by view (inr one) = one.is ∙ started_view start moment.cluster.shape one.host
+      by view (inr one) = one.is ∙ started_view start one.host
 
   right_begun : (member : Member) (president : Bool) → IsRightIn start logs [] (first_phase start.epoch president)
   right_begun member true =
@@ -104,10 +105,6 @@ module _ (start : Start) (all : ℕ → List HostStep) (below : start.start_epoc
   right : (member : Member) → IsIn member (made start) → IsRight start logs (master_of start logs member)
   right member there =
       subst (IsRight start logs) (sym (master_begins member there)) (right_begun member (is_president member first))
-
-  president_made : (members : List Member) (member : Member) → IsFirst member members → IsIn member members
-  president_made [] member is = absurd is
-  president_made (oldest ∷ members) member is = inl is
 
   unordered : (member : Member) → IsIn member (made start) → (IsPresident start logs member → ⊥)
       → (master_of start logs member).phase ≡ Unordered
@@ -125,7 +122,7 @@ module _ (start : Start) (all : ℕ → List HostStep) (below : start.start_epoc
     sound = sound;
     alike = alike;
     president =
-        λ member is stands. right member (full_made member (president_made (current start logs).full member is));
+        λ member is stands. right member (full_made member (first_inside member (current start logs).full is));
     others = λ member there other stands. unordered member there other;
     signals = λ i j. tt;
   }

@@ -1,7 +1,6 @@
 -- What part a host runs it runs along its whole log.
 use Rattle.std.proofs.Common.{◌≡◌, ℕ, List, [], ◌∷◌}
-use Rattle.node_views.specs.declared.main_part.MainPart.{MainPart}
-use Rattle.node_views.specs.declared.parts.Parts.TheVariants.{Main, Tc}
+use Rattle.node_views.specs.declared.parts.Parts.TheVariants.{Tc}
 use Rattle.node_views.specs.declared.tc_part.TcPart.{TcPart}
 use Rattle.world_core.specs.Start.{Start}
 use Rattle.world_core.specs.Steps.{HostStep}
@@ -21,8 +20,3 @@ module _ (start : Start) (h : ℕ) where
       let before = runs_tc p is log in
       let step = tc_steps (after start h log) e.step.taken before.part h before.is in
       record { part = step.part; is = step.is }
-
-  -- a membership and a master
-  pub record RunsMain (log : List HostStep) : Type 0 where
-    pub part : MainPart
-    pub is : (after start h log).parts ≡ Main part

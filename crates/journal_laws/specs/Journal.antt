@@ -7,11 +7,11 @@ use Rattle.sig_core.specs.Journal.{OutletState}
 use Rattle.sig_core.specs.Rows.{RowsState}
 use Rattle.local_ckpt.specs.Events.{Event}
 use Rattle.lqh_block.specs.State.{LqhState}
-use Rattle.request_laws.specs.Blocks.{rows_after}
+use Rattle.request_laws.specs.Blocks.{rows_after, saving_after}
 use Rattle.world_core.specs.Start.{Start}
 use Rattle.world_core.specs.Steps.{HostStep}
 use Rattle.journal_laws.specs.Events.{records_behind}
-use Rattle.journal_laws.specs.Saver.{IsRestOf, IsStepBy, saving_after, todo_at}
+use Rattle.journal_laws.specs.Saver.{IsRestOf, IsStepBy, todo_at}
 
 -- a journal that has given out nothing, and has the bytes of these records, the newest first
 abbrev pub outlet_with : List Redo → OutletState

@@ -6,12 +6,9 @@ use Rattle.lqh_saver.specs.declared.stage.Stage.TheVariants.{Resting, Walked, Wa
 use Rattle.lqh_saver.specs.declared.stage.Todo.{Todo}
 use Rattle.lqh_saver.specs.declared.stage.Todo.TheVariants as todo
 use Rattle.lqh_saver.specs.Redo.{noted, oldest}
-use Rattle.lqh_saver.specs.Saver.{fresh_saver}
-use Rattle.lqh_saver.specs.State.{SaverState, SavingState, saving}
+use Rattle.lqh_saver.specs.State.{SavingState}
 use Rattle.lqh_saver.specs.Switching.{has_position, is_usable, outlet_from}
 use Rattle.lqh_saver.specs.Walking.{finished_of}
-use Rattle.node_views.specs.declared.parts.Parts.{Parts}
-use Rattle.node_views.specs.declared.parts.Parts.TheVariants.{Ldm}
 use Rattle.node_views.specs.WellFormed.{is_well_formed}
 use Rattle.sig_core.specs.declared.member.Member.{Member}
 use Rattle.sig_core.specs.declared.piece.Piece.{Piece}
@@ -24,7 +21,6 @@ use Rattle.sig_core.specs.Rows.{next_place}
 use Rattle.sig_core.specs.Walk.{WalkState, begun, next_piece, stepped}
 use Rattle.disk_world.specs.Keeping.{todo_in}
 use Rattle.moment_laws.specs.Places.{ldm_of}
-use Rattle.request_laws.specs.Blocks.{rows_after}
 use Rattle.world_core.specs.Start.{Start}
 use Rattle.world_core.specs.Steps.{HostStep}
 use Rattle.world_views.specs.Machine.{after, stops_by}
@@ -116,11 +112,6 @@ NotesSaves s t =
     ((t.replica.saved ≡ s.replica.saved) × (t.saver.saved_end ≡ s.saver.saved_end))
     ⊎ ((s.replica.saved < t.replica.saved) × (t.saver.saved_end ≡ end_of t.replica.lqh.outlet))
 
--- the saver that a host runs; of a host that runs none, this one
-abbrev pub saver_in : SaverState → Parts → SaverState
-saver_in other (Ldm p) = p.saver
-saver_in other parts = other
-
 -- the pieces that were written in all, and then what there was to do of a step: a piece at the front of its file begins
 -- a checkpoint
 abbrev pub written_by : Todo → List Piece → List Piece
@@ -138,13 +129,6 @@ todo_unless true it = todo.Nothing
 todo_unless false it = it
 
 module _ (start : Start) (member : Member) where
-  -- the saver of a member's rows behind a log of their host, and the rows with it
-  abbrev pub saver_after : List HostStep → SaverState
-  saver_after log = saver_in (fresh_saver start.start_epoch 0) (after start (ldm_of start member) log).parts
-
-  abbrev pub saving_after : List HostStep → SavingState
-  saving_after log = saving (rows_after start member log) (saver_after log)
-
   -- what there is to be done of a local checkpoint of the newest step of a log
   abbrev pub todo_at : HostStep → List HostStep → Todo
   todo_at e log =

@@ -19,7 +19,8 @@ use Rattle.journal_laws.specs.Checkpoints.{HasPassed, Portions, end_of_walk, rec
 use Rattle.journal_laws.specs.Checkpoints.{whole}
 use Rattle.journal_laws.specs.Events.{AreUpTo, records_behind, rows_behind}
 use Rattle.journal_laws.specs.Journal.{HasRecords, first_rows, lqh_after}
-use Rattle.journal_laws.specs.Saver.{IsToldDone, saver_after, written}
+use Rattle.journal_laws.specs.Saver.{IsToldDone, written}
+use Rattle.request_laws.specs.Blocks.{saver_after}
 
 -- a walk stands as at this moment, but for the epoch that it notes
 abbrev pub IsWalkAt : WalkState → Moment → Type 0

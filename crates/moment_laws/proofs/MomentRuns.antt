@@ -33,7 +33,7 @@ module _ (start : Start) (logs : ℕ → List HostStep) (are : AreOfCluster star
           let low : (view_after start 0 []).number ≤ k =
           acts.greatest 0 [] (past_nil (logs_of start (e ∷ in_order older) 0)) in
           let same : view.number ≡ (view_after start 0 []).number =
-          ap (λ (v : View). v.number) (first ∙ sym (started_view start are.shape 0)) in
+          ap (λ (v : View). v.number) (first ∙ sym (started_view start 0)) in
           omega (arith, low, same)
       by view (inr one) =
           let low : (view_after start one.host (logs_of start (in_order older) one.host)).number ≤ k =

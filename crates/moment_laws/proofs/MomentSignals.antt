@@ -37,7 +37,8 @@ pub record IsClosed (body : Body) : Type 0 where
   pub cause : StopCause
   pub is : body ≡ Host (Closed cause)
 
-neither : (a b : Bool) → a ≡ false → b ≡ true → (a || not b) ≡ false
+-- where one test fails and the other holds
+pub neither : (a b : Bool) → a ≡ false → b ≡ true → (a || not b) ≡ false
 neither true b e f = e
 neither false true e f = refl
 neither false false e f = sym f

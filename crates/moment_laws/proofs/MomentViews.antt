@@ -96,7 +96,7 @@ module _ (start : Start) where
         there = omega arith;
         log = [];
         past = past_nil (all 0);
-        is = sym (started_view start shape 0);
+        is = sym (started_view start 0);
       }
 
       pub current_installed : WasInstalled start all (current start logs)

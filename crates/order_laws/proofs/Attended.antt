@@ -1,5 +1,5 @@
 -- Who waits at a replica holds the key's lock as it asked or is in the queue for it, along every run.
-use Rattle.std.proofs.Common.{◌≡◌, ◌<◌, ℕ, Bool, true, false, List, [], ◌∷◌, length, refl, sym, ap, ◌∙◌}
+use Rattle.std.proofs.Common.{◌≡◌, ◌<◌, ℕ, Bool, true, false, List, [], ◌∷◌, length, sym, ap, ◌∙◌}
 use Rattle.std.proofs.Common.{subst}
 use Rattle.std.specs.Prelude.{Option, None, Some}
 use Rattle.run_theory.proofs.EventCases.{event_keeps}
@@ -13,6 +13,7 @@ use Rattle.row_locks.specs.declared.mode.Lock.TheVariants.{Granted, Queued}
 use Rattle.row_locks.specs.Orderly.{IsOrderly}
 use Rattle.row_locks.specs.Rows.{RowLock, asked, grown_old, released, unlocked, unwaited}
 use Rattle.row_locks.proofs.OrderlyLemmas.{asked_orderly, grown_old_orderly, released_orderly, unwaited_orderly}
+use Rattle.row_locks.proofs.TableLawLemmas.{unlocked_orderly}
 use Rattle.lqh_block.specs.declared.request.Request.{Request}
 use Rattle.lqh_block.specs.Work.{work_mode}
 use Rattle.frag_map.specs.Shape.{IsShape}
@@ -185,21 +186,10 @@ module _ (start : Start) (key : List ℕ) where
       ap (λ (r : Replica). r.waiting)
       (nodes_begin start (node_at (replicas start key) at) key node.from node.to node.holding)
 
-  idle_orderly : IsOrderly unlocked
-  idle_orderly = record {
-    held_once = refl;
-    agreed = refl;
-    waiting_once = refl;
-    held_up = refl;
-    raises_first = refl;
-    in_need = refl;
-    within_rounds = refl;
-  }
-
   pub serving_along : (at : ℕ) → at < length (replicas start key) → (es : List HostStep) → IsRun start es
       → IsServing (at_host start (logs_of start es) key (replica_host start key at))
   serving_along at inside [] run = record {
-    orderly = subst IsOrderly (sym (first_idle at run.shape inside)) idle_orderly;
+    orderly = subst IsOrderly (sym (first_idle at run.shape inside)) unlocked_orderly;
     attended =
         subst (AreAttended (key_in key (started start (replica_host start key at))).lock)
         (sym (first_waits at run.shape inside)) tt;

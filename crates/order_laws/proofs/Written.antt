@@ -77,6 +77,7 @@ use Rattle.run_laws.proofs.hosts.TxTurns.{TcTurn, is_for, tc_turn, turn_each}
 use Rattle.run_laws.proofs.circle.VerifiedSettled.{verified_settled}
 use Rattle.run_laws.proofs.ways.Ways.{given_more}
 use Rattle.run_laws.proofs.transit.Weighing.{in_transit, joins_weigh, none_passes, none_weighs, weigh_none}
+use Rattle.run_laws.proofs.tokens.TouchedLists.{any_done}
 use Rattle.order_laws.specs.LetGo.{has_let_go}
 use Rattle.order_laws.specs.Records.{HasWritten, WhoCommitsHasWritten, has_record}
 use Rattle.order_laws.proofs.Askers.{asker}
@@ -428,10 +429,6 @@ module _ (start : Start) (tx : TxId) where
             verified_written es was.before before_run kept_then was.live (verifying_is was.before.phase waits)
             passed_then
         by more (inr is_so) = more is_so passed_then
-
--- a key with an operation that was answered by `Done` was touched, and is known to be written
-abbrev any_done : List ℕ → List (Op × Answer) → Bool
-any_done key ops = list_any (λ (op : Op × Answer). is_done op.1) (ops_on key ops)
 
 done_touched : (key : List ℕ) (touched : List Touched) (ops : List (Op × Answer))
     → Each (λ (op : Op × Answer). HasTouched touched (key_of op.0)) ops → any_done key ops ≡ true

@@ -19,6 +19,7 @@ use Rattle.api_block.specs.Opened.{has_tx}
 use Rattle.api_views.specs.State.{ClientState}
 use Rattle.tc_block.specs.declared.transaction.Transaction.{Transaction}
 use Rattle.tc_block.specs.Phases.{is_open}
+use Rattle.tc_block.specs.Complete.{one_if}
 use Rattle.tc_views.specs.State.{CoordinatorState}
 use Rattle.tc_views.specs.Laws.{AreOnce}
 use Rattle.dih_node.specs.State.{DihState}
@@ -26,11 +27,6 @@ use Rattle.dih_node.specs.State.{DihState}
 -- the member whose coordinator began a transaction
 abbrev pub coordinator_member : TxId → Member
 coordinator_member tx = record { node = tx.tc; start = tx.start }
-
--- one where the test passes
-abbrev pub one_if : Bool → ℕ
-one_if true = 1
-one_if false = 0
 
 -- the signal tells the client that the transaction has begun
 abbrev pub is_begin : TxId → Body → Bool

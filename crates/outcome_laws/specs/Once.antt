@@ -3,8 +3,8 @@ use Rattle.std.specs.Prelude.{◌+◌, ℕ, Bool, List, [], ◌∷◌}
 use Rattle.std.specs.List.{count_by}
 use Rattle.sig_core.specs.declared.mark.Mark.{Mark}
 use Rattle.sig_core.specs.declared.signal.Body.{Body}
+use Rattle.tc_block.specs.Complete.{one_if}
 use Rattle.world_core.specs.Steps.{HostStep}
-use Rattle.outcome_laws.specs.Counts.{one_if}
 
 abbrev pub takes_in : (Body → Bool) → List HostStep → ℕ
 takes_in p [] = 0

@@ -7,32 +7,24 @@ use Rattle.run_theory.specs.Lists.{IsIn}
 use Rattle.run_theory.specs.Links.{sent_by}
 use Rattle.sig_core.specs.declared.member.Member.{Member}
 use Rattle.sig_core.specs.declared.member.TxId.{TxId}
-use Rattle.sig_core.specs.declared.signal.Body.{Body}
-use Rattle.sig_core.specs.declared.signal.Body.TheVariants.{Chain}
 use Rattle.sig_core.specs.declared.signal.Signal.{Signal}
-use Rattle.sig_core.specs.declared.signal.chain.ChainSignal.TheVariants.{LqhKeyConf, LqhKeyRef, LqhKeyReq}
 use Rattle.sig_core.specs.Same.{same_tx}
 use Rattle.tc_block.specs.declared.transaction.Transaction.{Transaction}
+use Rattle.tc_block.specs.Complete.{one_if}
 use Rattle.lqh_block.specs.declared.request.Request.{Request}
 use Rattle.lqh_views.specs.State.{ReplicaState}
 use Rattle.world_core.specs.Hosts.{hosts}
 use Rattle.world_core.specs.Start.{Start, made}
 use Rattle.world_core.specs.Steps.{Addressed, HostStep}
+use Rattle.run_laws.specs.Tokens.{is_token}
 use Rattle.view_laws.specs.Order.{sound_machine}
 use Rattle.view_laws.specs.Runs.{view_after}
 use Rattle.moment_laws.specs.Moments.{IsMoment, current, logs_of}
 use Rattle.moment_laws.specs.Places.{ldm_of, tc_of}
-use Rattle.outcome_laws.specs.Counts.{coordinator_member, one_if}
+use Rattle.outcome_laws.specs.Counts.{coordinator_member}
 use Rattle.request_laws.specs.Blocks.{coordinator_after, rows_after}
 use Rattle.request_laws.specs.Drives.{asked_in}
 use Rattle.request_laws.specs.Ways.{entry_of, has_gone_back}
-
--- the signal asks a replica for a part of an operation of the transaction, or answers one
-abbrev pub is_token : TxId → Body → Bool
-is_token tx (Chain (LqhKeyReq other work chain at)) = same_tx other tx
-is_token tx (Chain (LqhKeyConf other key answer)) = same_tx other tx
-is_token tx (Chain (LqhKeyRef other key cause)) = same_tx other tx
-is_token tx body = false
 
 -- requests of the transaction that wait at the rows of a node
 abbrev pub count_waiting : TxId → ReplicaState → ℕ

@@ -194,7 +194,7 @@ fn is_right(rt: &HostRuntime, restored: &Restored, size: Size, changes: u64) -> 
     let mut count = 0u64;
     let mut found = 0u64;
     for group in restored.groups.as_slice() {
-        for (_, value) in &group.to_rows(rt.alloc())? {
+        for (_, value) in group.lend_rows(rt.alloc())? {
             count = count.saturating_add(1);
             if *value == changed {
                 found = found.saturating_add(1);

@@ -1,6 +1,6 @@
 -- What is found on the disks of a life is its history up to one epoch. Bits: the mask of members lists their nodes.
 -- Latest and Sources: how the slots and the rows of nodes lead to what is restored, of any disks. Nodes: those of a
--- group. Rows, Copied and Done: what logs say of what is saved, noted and durable, by what was sent (Taken). Left: what
+-- group. Copied and Done: what logs say of what is saved, noted and durable, by what was sent (Taken). Left: what
 -- was told stands on disks. System: the slot from which a life is restarted, and what it lists. All: the law.
 pub mod All
 pub mod Bits
@@ -9,7 +9,6 @@ pub mod Done
 pub mod Latest
 pub mod Left
 pub mod Nodes
-pub mod Rows
 pub mod Sources
 pub mod System
 pub mod Taken

@@ -23,7 +23,8 @@ use Rattle.journal_laws.specs.Asked.{AreOfWords}
 use Rattle.journal_laws.specs.Checkpoints.{ComeToTheSame}
 use Rattle.journal_laws.specs.Events.{records_behind}
 use Rattle.journal_laws.specs.Journal.{AreEventsOf, first_rows, lqh_after}
-use Rattle.journal_laws.specs.Saver.{saver_after, written}
+use Rattle.journal_laws.specs.Saver.{written}
+use Rattle.request_laws.specs.Blocks.{saver_after}
 use Rattle.journal_laws.specs.Walks.{pieces_if}
 
 -- bytes are read as these rows, in whichever file they stand and whichever epoch is saved, from the noted one on

@@ -2,6 +2,7 @@
 ghost use Rattle.std.specs.Prelude.{◌≡◌, ◌≤◌, ◌<◌, ◌+◌, ◌-◌, ◌++◌, List, Some, false, is_ok, IfOk, OnErr, OnOk, length, map, min, take, drop};
 ghost use Rattle.std.specs.FinMap as finmap;
 ghost use Rattle.std.specs.List.{flat_map};
+ghost use Rattle.std.specs.Map.Iter.{deref_pair};
 ghost use Rattle.sig_core.specs.Checkpoint.{row_bytes};
 ghost use Rattle.frag_map.specs.Shape.{IsShape};
 ghost use Rattle.host_io.specs.Call.{Call};
@@ -183,27 +184,27 @@ fn checkpoint_bytes(
 }
 
 // The rows of a node's group, in byte order of their keys.
-fn rows_of_node(
+fn rows_of_node<'a>(
     alloc: Global,
     node: u8,
     shape: &Shape,
-    restored: &Restored,
-) -> Result<Vec<(Key, Value)>, NoMemory>
+    restored: &'a Restored,
+) -> Result<Vec<(&'a Key, &'a Value)>, NoMemory>
     requires { IsShape shape.now }
-    ensures { IfOk result (λ rows. rows.items ≡ finmap.entries (rows_of_node shape.now node restored.now)) }
+    ensures { IfOk result (λ rows. map deref_pair rows.items ≡ finmap.entries (rows_of_node shape.now node restored.now)) }
 {
     let group = group_of(node, shape) as usize;
     let groups = restored.groups.as_slice();
     if group < groups.len() {
-        groups[group].to_rows(alloc)
+        groups[group].lend_rows(alloc)
     } else {
         Ok(Vec::new(alloc))
     }
 }
 
 // Appends rows, each as of the epoch.
-fn put_rows(bytes: &mut Vec<u8>, epoch: u64, rows: &[(Key, Value)]) -> Result<(), NoMemory>
-    ensures { OnOk result (bytes.new.items ≡ bytes.old.items ++ flat_map row_bytes (map (row_at epoch) rows.now)) }
+fn put_rows(bytes: &mut Vec<u8>, epoch: u64, rows: &[(&Key, &Value)]) -> Result<(), NoMemory>
+    ensures { OnOk result (bytes.new.items ≡ bytes.old.items ++ flat_map row_bytes (map (row_at epoch) (map deref_pair rows.now))) }
 {
     for (key, value) in rows {
         put_row2(bytes, key, epoch, value)?;

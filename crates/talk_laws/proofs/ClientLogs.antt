@@ -15,13 +15,13 @@ use Rattle.sig_core.specs.declared.signal.Body.TheVariants.{Client}
 use Rattle.sig_core.specs.declared.signal.client.ClientSignal.TheVariants.{TcCommitReq, TcKeyConf, TcKeyReq}
 use Rattle.sig_core.specs.Same.{same_tx}
 use Rattle.sig_core.specs.Step.{Step}
+use Rattle.tc_block.specs.Complete.{one_if}
 use Rattle.api_block.specs.Opened.{has_tx}
 use Rattle.api_views.specs.Client.{client_row}
 use Rattle.node_views.specs.declared.host_body.HostBody.{HostBody}
 use Rattle.node_views.specs.declared.parts.Parts.{Parts}
 use Rattle.node_views.specs.declared.parts.Parts.TheVariants as part
 use Rattle.outcome_laws.specs.Counts.{count_open, count_sent, count_unwished, is_begin, is_report, is_unwished, is_wish}
-use Rattle.outcome_laws.specs.Counts.{one_if}
 use Rattle.outcome_laws.specs.Once.{takes_in}
 use Rattle.outcome_laws.proofs.client.ReportsAndWishes.{noted_unwished, wishes_few}
 use Rattle.outcome_laws.proofs.once.DecidesAndReports.{IsOfClient, IsShell, client_light, in_client, of_client}
@@ -36,10 +36,11 @@ use Rattle.report_laws.specs.Told.{answer_in}
 use Rattle.world_core.specs.Start.{Start}
 use Rattle.world_core.specs.Steps.{HostStep}
 use Rattle.world_views.specs.Machine.{after, replies_at, step_after}
+use Rattle.host_laws.proofs.coordinator.Keys.{key_of_tx}
 use Rattle.talk_laws.specs.Reports.{opened_after, opened_in}
 use Rattle.talk_laws.specs.Talks.{asked_of, told_of}
 use Rattle.talk_laws.proofs.Among.{AreAmong, among_more}
-use Rattle.talk_laws.proofs.ClientTrack.{ClientTalked, IsPaid, Pays, PaysSo, is_key, news_of, pays_beside, pays_forms}
+use Rattle.talk_laws.proofs.ClientTrack.{ClientTalked, IsPaid, Pays, PaysSo, news_of, pays_beside, pays_forms}
 use Rattle.talk_laws.proofs.Picks.{pick_sends, sent_of, taken_of}
 use Rattle.talk_laws.proofs.ReportsTold.{row_tells}
 use Rattle.talk_laws.proofs.ShellLogs.{is_shell, opened_first, step_talks}
@@ -50,14 +51,14 @@ abbrev pub wished_by : TxId → Body → Option TxId
 wished_by tx (Client (TcCommitReq other)) = if same_tx other tx then Some tx else None
 wished_by tx body = None
 
-pub uncounted_key : (tx : TxId) (body : Body) → is_counted body ≡ false → is_key tx body ≡ false
+pub uncounted_key : (tx : TxId) (body : Body) → is_counted body ≡ false → key_of_tx tx body ≡ false
 uncounted_key tx (Client (TcKeyReq other op)) none = absurd cc
 uncounted_key tx body none = refl
 
 module _ (tx : TxId) where
   -- operations that are asked for, counted and picked
   key_count : (body : Body) (before : List Op)
-      → length (cons_option (asked_by tx body) before) ≡ one_if (is_key tx body) + length before
+      → length (cons_option (asked_by tx body) before) ≡ one_if (key_of_tx tx body) + length before
   key_count (Client (TcKeyReq other op)) before = by (same_tx other tx)
     where
       by : (b : Bool) → length (cons_option (if b then Some op else None) before) ≡ one_if b + length before
@@ -66,14 +67,14 @@ module _ (tx : TxId) where
   key_count body before = omega arith
 
   pub asked_count : (sends : List Outgoing) (before : List Op)
-      → length (asked_in tx sends before) ≡ count_sent (is_key tx) sends + length before
+      → length (asked_in tx sends before) ≡ count_sent (key_of_tx tx) sends + length before
   asked_count [] before = omega arith
   asked_count (one ∷ sends) before =
       omega (
         arith,
         asked_count sends (cons_option (asked_by tx one.body) before),
         key_count one.body before,
-        count_more (λ (sent : Outgoing). is_key tx sent.body) one sends,
+        count_more (λ (sent : Outgoing). key_of_tx tx sent.body) one sends,
       )
 
   asked_picks : (sends : List Outgoing) (before : List Op)
@@ -228,7 +229,7 @@ module _ (tx : TxId) where
             talked = record {
               paid =
                   each_map
-                  (IsPaid tx (count_sent (is_key tx) t.effects.sends + length (asked_of start tx log))
+                  (IsPaid tx (count_sent (key_of_tx tx) t.effects.sends + length (asked_of start tx log))
                   (news_of tx e.step.taken.body replied + length (told_of start tx log)))
                   (IsPaid tx (length (asked_of start tx (e ∷ log))) (length (told_of start tx (e ∷ log))))
                   (opened_after start (e ∷ log)) (λ one paid has. omega (arith, paid has, asked_now, told_now))
@@ -243,7 +244,7 @@ module _ (tx : TxId) where
           }
             where
               asked_now : length (asked_of start tx (e ∷ log))
-                  ≡ count_sent (is_key tx) t.effects.sends + length (asked_of start tx log)
+                  ≡ count_sent (key_of_tx tx) t.effects.sends + length (asked_of start tx log)
               asked_now = asked_count t.effects.sends (asked_of start tx log)
 
               told_now : length (told_of start tx (e ∷ log))

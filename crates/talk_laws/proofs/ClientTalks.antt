@@ -55,15 +55,10 @@ use Rattle.api_views.specs.State.{ClientState}
 use Rattle.world_core.specs.Requests.{request_in}
 use Rattle.api_views.proofs.Outcomes.{ClientOutcomes, IsAsked, client_outcomes, stopped_as}
 use Rattle.api_views.proofs.Walk.{anew_each, asking_each, more_each, rounds_each}
-
--- a signal that asks a coordinator for no operation and no commit
-abbrev pub is_plain : Body → Bool
-is_plain (Client (TcKeyReq tx op)) = false
-is_plain (Client (TcCommitReq tx)) = false
-is_plain other = true
+use Rattle.answer_laws.proofs.ApiSteps.{is_calm}
 
 abbrev pub IsPlain : Outgoing → Type 0
-IsPlain sent = is_plain sent.body ≡ true
+IsPlain sent = is_calm sent.body ≡ true
 
 abbrev pub ArePlain : List Outgoing → Type 0
 ArePlain sends = Each IsPlain sends
@@ -147,7 +142,7 @@ pub record TalkForms (opened : List OpenTransaction) (before : List ApiReply) (b
 all_told : (told : News) (view : View) → ArePlain (telling_all told (everyone view))
 all_told told view = each_mapped IsPlain (telling told) (everyone view) (λ member. by told)
   where
-    by : (news : News) → is_plain (news_body news) ≡ true
+    by : (news : News) → is_calm (news_body news) ≡ true
     by news.Round = refl
     by (news.Committed tx) = refl
 

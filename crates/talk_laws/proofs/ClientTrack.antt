@@ -20,6 +20,7 @@ use Rattle.sig_core.specs.declared.signal.client.ClientSignal.TheVariants.{TcKey
 use Rattle.sig_core.specs.Place.{coordinator_of}
 use Rattle.sig_core.specs.Same.{same_tx}
 use Rattle.sig_core.specs.Step.{to_place}
+use Rattle.tc_block.specs.Complete.{one_if}
 use Rattle.api_block.specs.declared.opened.Doing.{Doing}
 use Rattle.api_block.specs.declared.opened.Doing.TheVariants as doing
 use Rattle.api_block.specs.declared.opened.OpenTransaction.{OpenTransaction}
@@ -27,16 +28,13 @@ use Rattle.api_block.specs.Opened.{answered, asked_for, begins_at, begun as has_
 use Rattle.api_block.specs.Opened.{committing, has_tx}
 use Rattle.api_block.specs.Opened.{is_named, is_tx, operating}
 use Rattle.api_block.proofs.Walk.{own_is}
+use Rattle.host_laws.proofs.coordinator.Keys.{key_of_tx}
+use Rattle.answer_laws.proofs.ApiSteps.{is_calm}
 use Rattle.report_laws.specs.Answered.{answers_among, is_answered}
-use Rattle.outcome_laws.specs.Counts.{count_sent, is_begin, is_committing, is_unwished, is_wish, one_if}
+use Rattle.outcome_laws.specs.Counts.{count_sent, is_begin, is_committing, is_unwished, is_wish}
 use Rattle.outcome_laws.proofs.coordinators.Lists.{count_between, count_more, none_counted, none_passes}
-use Rattle.talk_laws.proofs.ClientTalks.{ArePlain, IsPlain, Talk, TalkForms, is_plain}
+use Rattle.talk_laws.proofs.ClientTalks.{ArePlain, IsPlain, Talk, TalkForms}
 use Rattle.talk_laws.proofs.ShellTalks.{HostForms}
-
--- it asks for an operation of the transaction
-abbrev pub is_key : TxId → Body → Bool
-is_key tx (Client (TcKeyReq other op)) = same_tx other tx
-is_key tx body = false
 
 abbrev pub is_operating : Doing → Bool
 is_operating doing.Operating = true
@@ -46,11 +44,11 @@ is_operating other = false
 abbrev pub news_of : TxId → Body → List ApiReply → ℕ
 news_of tx body replies = if is_answered tx body then length (answers_among replies) else 0
 
-pub plain_key : (tx : TxId) (body : Body) → is_plain body ≡ true → is_key tx body ≡ false
+pub plain_key : (tx : TxId) (body : Body) → is_calm body ≡ true → key_of_tx tx body ≡ false
 plain_key tx (Client (TcKeyReq other op)) plain = absurd cc
 plain_key tx body plain = refl
 
-plain_wish : (tx : TxId) (body : Body) → is_plain body ≡ true → is_wish tx body ≡ false
+plain_wish : (tx : TxId) (body : Body) → is_calm body ≡ true → is_wish tx body ≡ false
 plain_wish tx (Client (TcCommitReq other)) plain = absurd cc
 plain_wish tx body plain = refl
 
@@ -73,15 +71,15 @@ module _ (tx : TxId) where
       (few : one_if (is_begin tx body) + begun ≤ 1)
     where
       pub record Pays (now : List OpenTransaction) (sends : List Outgoing) (replies : List ApiReply) : Type 0 where
-        pub paid : Each (IsPaid (count_sent (is_key tx) sends + asked) (news_of tx body replies + told)) now
-        pub unbegun : one_if (is_begin tx body) + begun ≡ 0 → count_sent (is_key tx) sends + asked ≡ 0
+        pub paid : Each (IsPaid (count_sent (key_of_tx tx) sends + asked) (news_of tx body replies + told)) now
+        pub unbegun : one_if (is_begin tx body) + begun ≡ 0 → count_sent (key_of_tx tx) sends + asked ≡ 0
         pub wished_paid : 1 ≤ count_sent (is_wish tx) sends + wished
-            → count_sent (is_key tx) sends + asked ≤ news_of tx body replies + told
+            → count_sent (key_of_tx tx) sends + asked ≤ news_of tx body replies + told
 
-      no_keys : (sends : List Outgoing) → ArePlain sends → count_sent (is_key tx) sends ≡ 0
+      no_keys : (sends : List Outgoing) → ArePlain sends → count_sent (key_of_tx tx) sends ≡ 0
       no_keys sends plain =
-          none_counted (is_key tx) sends
-          (each_map IsPlain (λ (sent : Outgoing). is_key tx sent.body ≡ false) sends
+          none_counted (key_of_tx tx) sends
+          (each_map IsPlain (λ (sent : Outgoing). key_of_tx tx sent.body ≡ false) sends
           (λ sent is. plain_key tx sent.body is) plain)
 
       no_wishes : (sends : List Outgoing) → ArePlain sends → count_sent (is_wish tx) sends ≡ 0
@@ -90,18 +88,18 @@ module _ (tx : TxId) where
           (each_map IsPlain (λ (sent : Outgoing). is_wish tx sent.body ≡ false) sends
           (λ sent is. plain_wish tx sent.body is) plain)
 
-      more_told : (sends : List Outgoing) (replies : List ApiReply) → count_sent (is_key tx) sends ≡ 0
+      more_told : (sends : List Outgoing) (replies : List ApiReply) → count_sent (key_of_tx tx) sends ≡ 0
           → (t : OpenTransaction) → IsPaid asked told t
-          → IsPaid (count_sent (is_key tx) sends + asked) (news_of tx body replies + told) t
+          → IsPaid (count_sent (key_of_tx tx) sends + asked) (news_of tx body replies + told) t
       more_told sends replies none t paid has = omega (arith, none, paid has)
 
       -- nothing is asked for
       calm : (now : List OpenTransaction) (sends : List Outgoing) (replies : List ApiReply)
-          → count_sent (is_key tx) sends ≡ 0 → count_sent (is_wish tx) sends ≡ 0 → Each (IsPaid asked told) now
+          → count_sent (key_of_tx tx) sends ≡ 0 → count_sent (is_wish tx) sends ≡ 0 → Each (IsPaid asked told) now
           → Pays now sends replies
       calm now sends replies no_key no_wish all = record {
         paid =
-            each_map (IsPaid asked told) (IsPaid (count_sent (is_key tx) sends + asked)
+            each_map (IsPaid asked told) (IsPaid (count_sent (key_of_tx tx) sends + asked)
             (news_of tx body replies + told))
             now (more_told sends replies no_key) all;
         unbegun = λ none. omega (arith, no_key, talked.unbegun (omega (arith, none)));
@@ -151,7 +149,7 @@ module _ (tx : TxId) where
 
           -- of another transaction nothing changes
           other : (sends : List Outgoing) (replies : List ApiReply) → same_tx one tx ≡ false
-              → count_sent (is_key tx) sends ≡ 0 → count_sent (is_wish tx) sends ≡ 0
+              → count_sent (key_of_tx tx) sends ≡ 0 → count_sent (is_wish tx) sends ≡ 0
               → Pays (slice_set opened at u) sends replies
           other sends replies off no_key no_wish =
               calm (slice_set opened at u) sends replies no_key no_wish
@@ -159,12 +157,12 @@ module _ (tx : TxId) where
               (λ has. absurd (let both : true ≡ false = sym has ∙ (has_is ∙ off) in cc)))
 
           key_sent : (op : Op)
-              → count_sent (is_key tx) (to_place (coordinator_of one) (Client (TcKeyReq one op)) ∷ [])
+              → count_sent (key_of_tx tx) (to_place (coordinator_of one) (Client (TcKeyReq one op)) ∷ [])
               ≡ one_if (same_tx one tx)
           key_sent op =
               omega (
                 arith,
-                count_more (λ (sent : Outgoing). is_key tx sent.body)
+                count_more (λ (sent : Outgoing). key_of_tx tx sent.body)
                     (to_place (coordinator_of one) (Client (TcKeyReq one op))) [],
               )
 
@@ -205,11 +203,11 @@ module _ (tx : TxId) where
               by true same =
                   let begins : one_if (is_begin tx body) ≡ 1 = ap one_if (begins_is name is ∙ same) in
                   let none : asked ≡ 0 = talked.unbegun (omega (arith, few, begins)) in
-                  let sent : count_sent (is_key tx) sends ≡ 1 = key_sent op ∙ ap one_if same in
+                  let sent : count_sent (key_of_tx tx) sends ≡ 1 = key_sent op ∙ ap one_if same in
                   let bare : count_by (has_tx tx) opened ≡ 0 = omega (arith, talked.open_few, few, begins) in
                   let all = counted (has_tx tx) in
                   let P : OpenTransaction → Type 0 =
-                  IsPaid (count_sent (is_key tx) sends + asked) (news_of tx body replies + told) in
+                  IsPaid (count_sent (key_of_tx tx) sends + asked) (news_of tx body replies + told) in
                   record {
                     paid =
                         set_is P u (vacuous p _ _ f.front (omega (arith, bare, all)))
@@ -248,9 +246,9 @@ module _ (tx : TxId) where
                 by : (b : Bool) → same_tx one tx ≡ b → Pays (slice_set opened at u) sends replies
                 by false off = other sends replies off (key_sent op ∙ ap one_if off) refl
                 by true same =
-                    let sent : count_sent (is_key tx) sends ≡ 1 = key_sent op ∙ ap one_if same in
+                    let sent : count_sent (key_of_tx tx) sends ≡ 1 = key_sent op ∙ ap one_if same in
                     let P : OpenTransaction → Type 0 =
-                    IsPaid (count_sent (is_key tx) sends + asked) (news_of tx body replies + told) in
+                    IsPaid (count_sent (key_of_tx tx) sends + asked) (news_of tx body replies + told) in
                     let has = ap one_if (item_has same) in
                     let unwished : one_if (is_unwished tx f.item) ≡ 1 =
                     ap (λ b. one_if (b && not (is_committing f.item.doing))) (item_has same)
@@ -274,7 +272,7 @@ module _ (tx : TxId) where
                     }
 
             -- it wishes to commit, or has an answer
-            settles : (sends : List Outgoing) (replies : List ApiReply) → count_sent (is_key tx) sends ≡ 0
+            settles : (sends : List Outgoing) (replies : List ApiReply) → count_sent (key_of_tx tx) sends ≡ 0
                 → count_sent (is_wish tx) sends ≤ one_if (same_tx one tx)
                 → (same_tx one tx ≡ true → asked ≤ news_of tx body replies + told)
                 → Pays (slice_set opened at u) sends replies
@@ -284,7 +282,7 @@ module _ (tx : TxId) where
                 by false off = other sends replies off no_key (omega (arith, wish, ap one_if off))
                 by true same = record {
                   paid =
-                      set_is (IsPaid (count_sent (is_key tx) sends + asked) (news_of tx body replies + told)) u
+                      set_is (IsPaid (count_sent (key_of_tx tx) sends + asked) (news_of tx body replies + told)) u
                       (vacuous p _ _ f.front (omega (arith, alone same))) (λ now. omega (arith, no_key, enough same))
                       (vacuous p _ _ f.back (omega (arith, alone same)));
                   unbegun = λ none. omega (arith, no_key, talked.unbegun (omega (arith, none)));

@@ -13,10 +13,11 @@ use Rattle.sig_core.specs.declared.signal.Body.{Body}
 use Rattle.sig_core.specs.declared.signal.Body.TheVariants.{Epoch}
 use Rattle.sig_core.specs.declared.signal.epoch.EpochSignal.TheVariants.{DiVerifyReq}
 use Rattle.sig_core.specs.Same.{same_tx}
+use Rattle.tc_block.specs.Complete.{one_if}
 use Rattle.world_core.specs.Entries.{else_of, entries, entries_in, entries_of, entry_of, insert, insert_all, is_before}
 use Rattle.world_core.specs.Entries.{ops_of, verified_by}
 use Rattle.world_core.specs.Steps.{HostStep}
-use Rattle.outcome_laws.specs.Counts.{is_asking, one_if}
+use Rattle.outcome_laws.specs.Counts.{is_asking}
 use Rattle.outcome_laws.specs.Once.{takes_in}
 use Rattle.talk_laws.proofs.Picks.{taken_of}
 

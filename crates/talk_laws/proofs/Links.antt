@@ -12,6 +12,7 @@ use Rattle.sig_core.specs.declared.member.Member.{Member}
 use Rattle.sig_core.specs.declared.outs.Outgoing.{Outgoing}
 use Rattle.sig_core.specs.declared.signal.Body.{Body}
 use Rattle.sig_core.specs.declared.signal.Signal.{Signal}
+use Rattle.tc_block.specs.Complete.{one_if}
 use Rattle.node_views.specs.declared.standing.Standing.{Standing}
 use Rattle.world_core.specs.Machine.{counted}
 use Rattle.world_core.specs.Start.{Start, made}
@@ -21,7 +22,6 @@ use Rattle.world_views.specs.Hosts.{reached}
 use Rattle.world_views.specs.Machine.{after, machine, routed_after, sender, sent_count, signals_of, step_after}
 use Rattle.world_views.specs.Sending.{Routed, all_addressed, is_asked, is_kept_back, is_own_work, routed, routed_all}
 use Rattle.world_views.specs.Sending.{routed_if}
-use Rattle.outcome_laws.specs.Counts.{one_if}
 use Rattle.outcome_laws.proofs.once.AlongLogs.{count_on}
 use Rattle.outcome_laws.proofs.coordinators.Lists.{count_more}
 use Rattle.talk_laws.proofs.Among.{AreAmong, among_none, among_same, among_trans}

@@ -21,8 +21,9 @@ use Rattle.world_core.specs.Requests.{request_in}
 use Rattle.world_core.specs.Start.{Start}
 use Rattle.world_core.specs.Steps.{HostStep}
 use Rattle.world_views.specs.Machine.{step_after}
+use Rattle.answer_laws.proofs.ApiSteps.{is_calm}
 use Rattle.talk_laws.specs.Reports.{IsForItsTransaction, IsOpenIn, opened_after}
-use Rattle.talk_laws.proofs.ClientTalks.{ArePlain, IsPlain, Talk, TalkForms, is_plain}
+use Rattle.talk_laws.proofs.ClientTalks.{ArePlain, IsPlain, Talk, TalkForms}
 use Rattle.talk_laws.proofs.ShellLogs.{step_talks}
 use Rattle.talk_laws.proofs.ShellTalks.{HostForms}
 
@@ -34,7 +35,7 @@ module _ (opened : List OpenTransaction) (body : Body) where
   plain_asks : (now : List OpenTransaction) (sends : List Outgoing) → ArePlain sends → Asks now sends [] []
   plain_asks now sends plain =
       each_map IsPlain (IsForItsTransaction now body) sends
-      (λ sent is tx op same. absurd (true≢false (sym is ∙ ap is_plain same))) plain
+      (λ sent is tx op same. absurd (true≢false (sym is ∙ ap is_calm same))) plain
 
   -- one operation of the transaction that stands at a place now
   asks_one : (p : OpenTransaction → Bool) (at : ℕ) (f : IsFocus p opened at) (u : OpenTransaction) (tx : TxId) (op : Op)

@@ -23,8 +23,9 @@ use Rattle.world_core.specs.Requests.{request_in}
 use Rattle.world_core.specs.Start.{Start}
 use Rattle.world_core.specs.Steps.{HostStep}
 use Rattle.world_views.specs.Machine.{step_after}
+use Rattle.answer_laws.proofs.ApiSteps.{is_calm}
 use Rattle.talk_laws.specs.Reports.{opened_after}
-use Rattle.talk_laws.proofs.ClientTalks.{ArePlain, IsPlain, Talk, TalkForms, is_plain}
+use Rattle.talk_laws.proofs.ClientTalks.{ArePlain, IsPlain, Talk, TalkForms}
 use Rattle.talk_laws.proofs.ShellLogs.{opened_first, step_talks}
 use Rattle.talk_laws.proofs.ShellTalks.{HostForms}
 
@@ -50,7 +51,7 @@ module _ (e : HostStep) (log : List HostStep) where
   plain_asks : (sends : List Outgoing) → ArePlain sends → Each (AsksAsRequested e log) sends
   plain_asks sends plain =
       each_map IsPlain (AsksAsRequested e log) sends
-      (λ sent is tx op same. absurd (true≢false (sym is ∙ ap is_plain same))) plain
+      (λ sent is tx op same. absurd (true≢false (sym is ∙ ap is_calm same))) plain
 
   wished : (tx : TxId) → Each (AsksAsRequested e log) (to_place (coordinator_of tx) (Client (TcCommitReq tx)) ∷ [])
   wished tx = ((λ to op is. absurd cc), tt)

@@ -17,22 +17,24 @@ use Rattle.sig_core.specs.declared.signal.client.ClientSignal.TheVariants.{TcCom
 use Rattle.sig_core.specs.Place.{coordinator_of}
 use Rattle.sig_core.specs.Same.{same_tx}
 use Rattle.sig_core.specs.Step.{to_place}
+use Rattle.tc_block.specs.Complete.{one_if}
 use Rattle.api_block.specs.declared.opened.Doing.TheVariants as doing
 use Rattle.api_block.specs.declared.opened.OpenTransaction.{OpenTransaction}
 use Rattle.api_block.specs.Opened.{answered, asked_for, begins_at, begun, begun_operating, behind, committing, has_tx}
 use Rattle.api_block.specs.Opened.{is_named, is_tx, operating}
 use Rattle.api_block.proofs.Walk.{own_is}
-use Rattle.outcome_laws.specs.Counts.{count_sent, one_if}
+use Rattle.outcome_laws.specs.Counts.{count_sent}
 use Rattle.outcome_laws.proofs.coordinators.Lists.{count_between, count_both, count_more}
 use Rattle.report_laws.specs.Answered.{answers_among, is_answered}
 use Rattle.world_core.specs.Start.{Start}
 use Rattle.world_core.specs.Steps.{HostStep}
 use Rattle.world_views.specs.Machine.{replies_at, step_after}
+use Rattle.host_laws.proofs.coordinator.Keys.{key_of_tx}
 use Rattle.talk_laws.specs.Reports.{opened_after}
 use Rattle.talk_laws.specs.Talks.{asked_of, told_of}
 use Rattle.talk_laws.proofs.ClientLogs.{asked_count, news_count}
 use Rattle.talk_laws.proofs.ClientTalks.{IsMuteBehind, Talk, TalkForms}
-use Rattle.talk_laws.proofs.ClientTrack.{is_key, is_operating, news_of}
+use Rattle.talk_laws.proofs.ClientTrack.{is_operating, news_of}
 use Rattle.talk_laws.proofs.ReportsTold.{mute_answers}
 use Rattle.talk_laws.proofs.ShellLogs.{opened_first, step_talks}
 use Rattle.talk_laws.proofs.ShellTalks.{HostForms}
@@ -66,7 +68,7 @@ module _ (tx : TxId) where
   module _ (opened : List OpenTransaction) (body : Body) (asked told : ℕ) (covered : AreCovered opened asked told) where
     abbrev Covers : Talk
     Covers now sends marks replies =
-        AreCovered now (count_sent (is_key tx) sends + asked) (news_of tx body replies + told)
+        AreCovered now (count_sent (key_of_tx tx) sends + asked) (news_of tx body replies + told)
 
     mute_news : (replies : List ApiReply) → IsMuteBehind [] replies → news_of tx body replies ≡ 0
     mute_news replies behind = by (is_answered tx body)
@@ -117,7 +119,7 @@ module _ (tx : TxId) where
             set_is u,
             working u one own does,
             mute_news replies mute,
-            count_more (λ (sent : Outgoing). is_key tx sent.body)
+            count_more (λ (sent : Outgoing). key_of_tx tx sent.body)
                 (to_place (coordinator_of one) (Client (TcKeyReq one op))) [],
           )
 

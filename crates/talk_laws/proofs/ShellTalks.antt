@@ -41,8 +41,9 @@ use Rattle.outcome_laws.proofs.once.Counted.{IsUncounted, is_counted}
 use Rattle.outcome_laws.proofs.knowledge.MarksOfNoOutcome.{IsNoOutcome}
 use Rattle.report_laws.specs.Told.{outcomes_marked}
 use Rattle.world_views.specs.Machine.{own_stop, step_by, step_if}
+use Rattle.answer_laws.proofs.ApiSteps.{is_calm}
 use Rattle.talk_laws.specs.Reports.{opened_in}
-use Rattle.talk_laws.proofs.ClientTalks.{ArePlain, IsPlain, Talk, TalkForms, client_talks, is_plain}
+use Rattle.talk_laws.proofs.ClientTalks.{ArePlain, IsPlain, Talk, TalkForms, client_talks}
 
 -- the marks report no end
 abbrev pub AreUnreported : List Mark → Type 0
@@ -58,7 +59,7 @@ pub record HostForms (opened : List OpenTransaction) (before : List ApiReply) (R
       → R now sends marks replies → R now sends (Installed view ∷ marks) replies
 
 -- what the arbitrator sends and marks
-plain_body : (body : Body) → is_counted body ≡ false → is_plain body ≡ true
+plain_body : (body : Body) → is_counted body ≡ false → is_calm body ≡ true
 plain_body (Client (TcKeyReq tx op)) off = absurd cc
 plain_body (Client (TcCommitReq tx)) off = absurd cc
 plain_body body off = refl

@@ -22,6 +22,7 @@ use Rattle.sig_core.specs.declared.view.View.{View}
 use Rattle.report_laws.specs.Asked.{asked_by}
 use Rattle.frag_map.specs.Layout.{first_layout}
 use Rattle.sig_core.specs.declared.view.Shape.{Shape}
+use Rattle.tc_block.specs.Complete.{one_if}
 use Rattle.dih_node.specs.Orders as dih
 use Rattle.dih_node.specs.Dih.{fresh_dih}
 use Rattle.takeover_block.specs.State.{resting}
@@ -41,7 +42,7 @@ use Rattle.moment_laws.specs.PartSteps.{PartEnters, PartTakes, TcDoes, handles, 
 use Rattle.moment_laws.specs.Places.{tc_of}
 use Rattle.moment_laws.proofs.MomentHosts.{tc_started}
 use Rattle.moment_laws.proofs.PartKinds.{tc_after}
-use Rattle.outcome_laws.specs.Counts.{IsCoordinatorOf, is_unborn, one_if}
+use Rattle.outcome_laws.specs.Counts.{IsCoordinatorOf, is_unborn}
 use Rattle.outcome_laws.proofs.once.Begins.{tc_begins}
 use Rattle.outcome_laws.proofs.once.Counted.{AreUncounted, IsUncounted, is_counted}
 use Rattle.outcome_laws.proofs.once.CoordinatorScale.{IsTcOf, dih_installs_none, dih_none}

@@ -29,6 +29,7 @@ use Rattle.world_core.specs.Hosts.{hosts}
 use Rattle.world_core.specs.Start.{Start, made}
 use Rattle.world_core.specs.Steps.{HostStep}
 use Rattle.world_views.specs.Hosts.{started}
+use Rattle.host_laws.proofs.coordinator.Keys.{key_of_tx}
 use Rattle.view_laws.specs.Runs.{AreOfCluster}
 use Rattle.moment_laws.specs.Places.{tc_of}
 use Rattle.moment_laws.proofs.MomentHosts.{TcHost, of_none, of_tc, tc_host_is}
@@ -42,7 +43,6 @@ use Rattle.outcome_laws.proofs.once.Counted.{count_none, is_counted}
 use Rattle.outcome_laws.proofs.once.CoordinatorScale.{IsTcOf, coordinator_light, of_coordinator}
 use Rattle.outcome_laws.proofs.once.Scales.{AreLight}
 use Rattle.talk_laws.proofs.ClientLogs.{uncounted_key}
-use Rattle.talk_laws.proofs.ClientTrack.{is_key}
 use Rattle.talk_laws.proofs.TcTalks.{AreMute, IsMute, Talks, answers, asks, is_talk, more_mute, operates, rests}
 use Rattle.talk_laws.proofs.TcTalks.{resume_talks, turn_talks}
 
@@ -74,7 +74,8 @@ module _ (me : Member) where
   row_own : (s : CoordinatorState) (x : Signal) → IsCoordinatorOf me s
       → Each (OwnTalk me) (coordinator_row s x).effects.sends
   row_own s x of =
-      coordinator_outcomes (λ u t turn. Talks s.tc.node u t x.body turn) (λ step. Each (OwnTalk me) step.effects.sends) s x
+      coordinator_outcomes (λ u t turn. Talks s.tc.node u t x.body turn) (λ step. Each (OwnTalk me) step.effects.sends)
+      s x
       (record {
         calm = record {
           turns = λ u t at split.
@@ -142,29 +143,29 @@ answered_coordinators : (tx : TxId) (body : Body) → is_coordinators body ≡ f
 answered_coordinators tx (Client (TcKeyConf other answer)) none = absurd cc
 answered_coordinators tx body none = refl
 
-key_apart : (tx : TxId) (me : Member) (body : Body) → IsOwnTalk me body → is_key tx body ≡ false
+key_apart : (tx : TxId) (me : Member) (body : Body) → IsOwnTalk me body → key_of_tx tx body ≡ false
 key_apart tx me (Client (TcKeyReq other op)) own = absurd own
 key_apart tx me body own = refl
 
 module _ (start : Start) (logs : ℕ → List HostStep) (are : AreOfCluster start logs) (tx : TxId) where
   -- no node asks for operations
-  pub nodes_ask_none : (h : ℕ) → h ≢ 0 → sends_in (is_key tx) start h (logs h) ≡ 0
+  pub nodes_ask_none : (h : ℕ) → h ≢ 0 → sends_in (key_of_tx tx) start h (logs h) ≡ 0
   nodes_ask_none zero other = absurd (other refl)
   nodes_ask_none (suc k) other = by (cases_lt (suc k) (hosts start))
     where
-      of_host : TcHost start (suc k) → sends_in (is_key tx) start (suc k) (logs (suc k)) ≡ 0
+      of_host : TcHost start (suc k) → sends_in (key_of_tx tx) start (suc k) (logs (suc k)) ≡ 0
       of_host (of_tc me there at) =
-          subst (λ (h : ℕ). sends_in (is_key tx) start h (logs h) ≡ 0) (sym at)
-          (tc_sends_none me (is_key tx) (uncounted_key tx) (key_apart tx me) start logs are there)
+          subst (λ (h : ℕ). sends_in (key_of_tx tx) start h (logs h) ≡ 0) (sym at)
+          (tc_sends_none me (key_of_tx tx) (uncounted_key tx) (key_apart tx me) start logs are there)
       of_host (of_none none) =
           let is =
-          log_light (of_nobody (is_key tx)) IsBeside (beside_light (is_key tx) (uncounted_key tx)) start (suc k)
+          log_light (of_nobody (key_of_tx tx)) IsBeside (beside_light (key_of_tx tx) (uncounted_key tx)) start (suc k)
           (beside_is start k none) (logs (suc k)) (are.right.local (suc k)) in
           omega (arith, is.below, none_taken (logs (suc k)))
 
-      by : (suc k < hosts start) ⊎ (hosts start ≤ suc k) → sends_in (is_key tx) start (suc k) (logs (suc k)) ≡ 0
+      by : (suc k < hosts start) ⊎ (hosts start ≤ suc k) → sends_in (key_of_tx tx) start (suc k) (logs (suc k)) ≡ 0
       by (inl low) = of_host (tc_host_is start (suc k) low)
-      by (inr high) = nowhere_sends (is_key tx) (uncounted_key tx) start logs are (suc k) high
+      by (inr high) = nowhere_sends (key_of_tx tx) (uncounted_key tx) start logs are (suc k) high
 
   -- and only the host of its coordinator answers them
   pub others_answer_none : (h : ℕ) → h ≢ tc_of start (coordinator_member tx)

@@ -18,12 +18,13 @@ use Rattle.sig_core.specs.Step.{Step, joined, sends_only}
 use Rattle.report_laws.specs.Asked.{asked_by}
 use Rattle.tc_block.specs.State.{TcState}
 use Rattle.tc_block.proofs.EachTurn.{rows_of}
+use Rattle.tc_block.specs.Complete.{one_if}
 use Rattle.tc_views.proofs.Walk.{coordinator_outcomes, inner}
 use Rattle.tc_views.specs.Coordinator.{coordinator_row}
 use Rattle.tc_views.specs.State.{CoordinatorState, go_on_if}
 use Rattle.tc_views.specs.Views.{install_row}
 use Rattle.world_core.specs.Entries.{verified_by}
-use Rattle.outcome_laws.specs.Counts.{IsCoordinatorOf, count_sent, is_asking, one_if}
+use Rattle.outcome_laws.specs.Counts.{IsCoordinatorOf, count_sent, is_asking}
 use Rattle.outcome_laws.proofs.coordinators.BeginsAndAsks.{asks_once}
 use Rattle.outcome_laws.proofs.coordinators.Lists.{count_more, keys_once}
 use Rattle.talk_laws.proofs.Picks.{pick_sends, picked_both}

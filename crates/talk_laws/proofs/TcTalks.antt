@@ -35,6 +35,7 @@ use Rattle.tc_block.specs.declared.touched.Touched.{Touched}
 use Rattle.tc_block.specs.declared.transaction.Transaction.{Transaction}
 use Rattle.tc_block.proofs.EachTurn.{AbortForms, CommittedForms, TurnForms, ready_is}
 use Rattle.tc_views.specs.State.{go_on_if}
+use Rattle.host_laws.proofs.rows.Operations.{left_of}
 
 -- the signal asks for an operation or answers one, or asks for an epoch with them all
 abbrev pub is_talk : Body → Bool
@@ -145,13 +146,9 @@ module _ (node : ℕ) (layout : Layout) (tx : TxId) where
   shut : (t u : Transaction) → is_open u.phase ≡ false → u.ops ≡ t.ops → u.asked ≡ t.asked → Rests t u
   shut t u off ops asked = record { open_is = λ is. absurd cc; ops_are = ops; asked_is = inl asked }
 
-  one_of : (a b : Bool) → (a && b) ≡ true → a ≡ true
-  one_of true b is = refl
-  one_of false b is = absurd cc
-
   opens : (phase : Phase) (asked : Option Asked) (fit : Bool) → (is_ready phase asked && fit) ≡ true
       → is_open phase ≡ true
-  opens phase asked fit is = ap is_open (ready_is phase asked (one_of (is_ready phase asked) fit is)).0
+  opens phase asked fit is = ap is_open (ready_is phase asked (left_of (is_ready phase asked) fit is)).0
 
   pub turn_talks : (t : Transaction) (body : Body)
       → TurnForms node layout tx t body (λ turn. Talks node tx t body turn)

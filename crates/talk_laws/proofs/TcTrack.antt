@@ -30,9 +30,10 @@ use Rattle.tc_block.specs.Turn.{Turn}
 use Rattle.tc_block.specs.declared.phase.Asked.{Asked}
 use Rattle.tc_block.specs.declared.transaction.Transaction.{Transaction}
 use Rattle.tc_block.proofs.LiveSplit.{KeysOnce, Live, Split, once_back, once_front}
+use Rattle.tc_block.specs.Complete.{one_if}
 use Rattle.tc_views.specs.State.{CoordinatorState}
 use Rattle.world_core.specs.Entries.{verified_by}
-use Rattle.outcome_laws.specs.Counts.{is_open_of, is_unborn, may_ask, one_if}
+use Rattle.outcome_laws.specs.Counts.{is_open_of, is_unborn, may_ask}
 use Rattle.outcome_laws.proofs.coordinators.Lists.{count_between, next_is_other, put_last}
 use Rattle.talk_laws.proofs.Among.{AreAmong, among_more, among_same, among_trans}
 use Rattle.talk_laws.proofs.Picks.{cons_more, pick_sends, picked_none}

@@ -21,6 +21,7 @@ use Rattle.sig_core.specs.declared.signal.client.ClientSignal.TheVariants.{TcCom
 use Rattle.sig_core.specs.declared.signal.epoch.EpochSignal.TheVariants.{DiVerifyReq}
 use Rattle.sig_core.specs.Same.{same_tx}
 use Rattle.sig_core.proofs.Keys.{same_tx-self}
+use Rattle.tc_block.specs.Complete.{one_if}
 use Rattle.report_laws.specs.Answered.{is_answered}
 use Rattle.report_laws.specs.Asked.{asked_by}
 use Rattle.talk_laws.proofs.Newest.{newest, newest_is, newest_ops, newest_ops_is}
@@ -31,10 +32,11 @@ use Rattle.world_core.specs.Steps.{HostStep}
 use Rattle.world_views.specs.Hosts.{started}
 use Rattle.world_views.specs.Machine.{machine}
 use Rattle.world_views.specs.Sending.{is_own_work}
+use Rattle.host_laws.proofs.coordinator.Keys.{key_of_tx}
 use Rattle.view_laws.specs.Runs.{AreOfCluster}
 use Rattle.moment_laws.specs.Places.{tc_of}
 use Rattle.moment_laws.proofs.MomentHosts.{TcHost, of_none, of_tc, tc_host_is}
-use Rattle.outcome_laws.specs.Counts.{coordinator_member, is_asking, is_decision, is_wish, one_if}
+use Rattle.outcome_laws.specs.Counts.{coordinator_member, is_asking, is_decision, is_wish}
 use Rattle.outcome_laws.specs.Once.{takes_in}
 use Rattle.outcome_laws.proofs.once.Begins.{asks_elsewhere, begin_once, no_tc_sends, nowhere_sends, only_asks}
 use Rattle.outcome_laws.proofs.once.Begins.{tc_begins}
@@ -47,11 +49,11 @@ use Rattle.outcome_laws.proofs.once.AsksAreWished.{asks_wished}
 use Rattle.outcome_laws.proofs.coordinators.Lists.{count_more}
 use Rattle.outcome_laws.proofs.once.TakenFromLinks.{takes_few}
 use Rattle.outcome_laws.proofs.once.AlongLogs.{link_count, sends_in}
+use Rattle.outcome_laws.proofs.order.ReportsBeforeAsks.{older_counts}
 use Rattle.talk_laws.specs.Talks.{DecidedAsAskedAndTold, asked_of, told_of}
 use Rattle.talk_laws.proofs.Among.{AreAmong, among_all, among_in, among_length, among_same, among_trans}
 use Rattle.talk_laws.proofs.Links.{none_on, takes_among}
 use Rattle.talk_laws.proofs.ClientLogs.{asked_is, client_log, wish_count, wished_by}
-use Rattle.talk_laws.proofs.ClientTrack.{is_key}
 use Rattle.talk_laws.proofs.EntryLogs.{IsEntryOf, entry_log, ops_taken}
 use Rattle.talk_laws.proofs.TcLogs.{TalkedLog, log_talked}
 use Rattle.talk_laws.proofs.TcOwn.{nodes_ask_none, others_answer_none}
@@ -107,10 +109,6 @@ older_log : (start : Start) (h : ℕ) (newer log : List HostStep) → IsLog (mac
 older_log start h [] log is = is
 older_log start h (e ∷ newer) log is = older_log start h newer log is.1
 
-older_takes : (p : Body → Bool) (newer log : List HostStep) → takes_in p log ≤ takes_in p (newer ++ log)
-older_takes p [] log = omega arith
-older_takes p (e ∷ newer) log = omega (arith, older_takes p newer log)
-
 older_taken : {A : Type 0} (f : Body → Option A) (newer log : List HostStep)
     → AreAmong (taken_of f log) (taken_of f (newer ++ log))
 older_taken f [] log = among_same (taken_of f log)
@@ -143,7 +141,7 @@ module _ (tx : TxId) where
   unanswered (Client (TcKeyConf other answer)) off = ap (λ (b : Bool). if b then Some answer else None) off
   unanswered body off = refl
 
-  unkeyed : (body : Body) → is_key tx body ≡ false → asked_by tx body ≡ None
+  unkeyed : (body : Body) → key_of_tx tx body ≡ false → asked_by tx body ≡ None
   unkeyed (Client (TcKeyReq other op)) off = ap (λ (b : Bool). if b then Some op else None) off
   unkeyed body off = refl
 
@@ -180,7 +178,7 @@ module _ (tx : TxId) where
     took h =
         subst (AreAmong (taken_of (asked_by tx) (logs h))) (sym (asked_is tx start (logs 0)))
         (takes_among (asked_by tx) only_asked start 0 logs are.right h
-        (λ i other. link_none (asked_by tx) (is_key tx) unkeyed i h (nodes_ask_none start logs are tx i other)))
+        (λ i other. link_none (asked_by tx) (key_of_tx tx) unkeyed i h (nodes_ask_none start logs are tx i other)))
 
     verified : (h : ℕ) → AreAmong (taken_of (verified_by tx) (logs h)) (sent_of (verified_by tx) start c (logs c))
     verified h =
@@ -282,7 +280,7 @@ module _ (tx : TxId) where
         (omega (
           arith,
           asked_before h a same is,
-          older_takes (is_asking tx) is.past.newer (is.step ∷ is.before),
+          older_counts (is_asking tx) is.past.newer (is.step ∷ is.before),
           ap (takes_in (is_asking tx)) is.past.is,
           takes_few (is_asking tx) (only_asks tx start logs are) start c logs are.right h
               (λ i other. omega (

@@ -1,6 +1,6 @@
 -- What a calm signal tells by its block and its body.
 use Rattle.std.proofs.Common.{◌≡◌, ℕ, zero, suc, [], Bool, true, false, refl, sym, ◌∙◌}
-use Rattle.std.specs.Prelude.{◌%◌, ◌&&◌}
+use Rattle.std.specs.Prelude.{◌%◌}
 use Rattle.std.proofs.lemmas.Bool.{false≢true}
 use Rattle.api_views.specs.Laws.{is_vouched}
 use Rattle.node_core.specs.Requests.{is_request}
@@ -26,22 +26,12 @@ use Rattle.calm_laws.specs.Calm.{is_for_rows, is_in}
 use Rattle.calm_laws.specs.Known.{txs_in}
 use Rattle.calm_laws.specs.Plain.{is_beating, is_main}
 use Rattle.calm_laws.specs.Steps.{is_of_views}
+use Rattle.calm_laws.proofs.plain_steps.Ease.{has_calm_block, takes_calmly}
 
 -- a block of the client's side
 abbrev pub is_client : BlockId → Bool
 is_client block.Api = true
 is_client of = false
-
-both : (a b : Bool) → (a && b) ≡ true → (a ≡ true) × (b ≡ true)
-both true b e = (refl, e)
-both false b e = absurd cc
-
--- the host has the block, and the block takes the body
-pub calm_block : (h : ℕ) (x : Signal) → is_calm h x ≡ true → has_block h x.to.block ≡ true
-calm_block h x calm = (both (has_block h x.to.block) (is_for x.to.block x.body) calm).0
-
-pub calm_body : (h : ℕ) (x : Signal) → is_calm h x ≡ true → is_for x.to.block x.body ≡ true
-calm_body h x calm = (both (has_block h x.to.block) (is_for x.to.block x.body) calm).1
 
 -- no block takes a closing or a cut
 pub no_closing : (of : BlockId) (cause : StopCause) → is_for of (Host (Closed cause)) ≡ false
@@ -138,4 +128,4 @@ pub main_beat : (shape : Shape) (h : ℕ) (x : Signal) → is_beating h ≡ true
 main_beat shape zero x beats calm = absurd (false≢true beats)
 main_beat shape (suc h) x beats calm =
     beat shape x.body
-    (main_takes (part_by (h % 3)) x.to.block x.body beats (calm_block (suc h) x calm) (calm_body (suc h) x calm))
+    (main_takes (part_by (h % 3)) x.to.block x.body beats (has_calm_block (suc h) x calm) (takes_calmly (suc h) x calm))

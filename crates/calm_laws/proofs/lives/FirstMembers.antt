@@ -1,7 +1,7 @@
 -- The members that began the life are in the first view, and signals of theirs are well formed.
 use Rattle.std.proofs.Common.{◌≡◌, ℕ, zero, suc, ◌+◌, ◌/◌, ◌<◌, ◌≤◌, ◌⊎◌, inl, inr, [], ◌∷◌, true, false, refl, ap, ◌∙◌}
 use Rattle.std.proofs.Common.{eq-eqb, arith}
-use Rattle.std.specs.Prelude.{◌==◌, ◌&&◌, ◌||◌, nat_le}
+use Rattle.std.specs.Prelude.{◌&&◌, ◌||◌, nat_le}
 use Rattle.std.specs.List.{list_all, list_any}
 use Rattle.std.proofs.lemmas.Bool.{and_from, cases_lt, or_left, or_right}
 use Rattle.std.proofs.lemmas.Bool.Decides.{nat_tests}
@@ -19,6 +19,7 @@ use Rattle.world_core.proofs.HostNumbers.{members_at}
 use Rattle.world_core.specs.Hosts.{hosts, member_at}
 use Rattle.world_core.specs.Start.{Start, made}
 use Rattle.calm_laws.specs.Alike.{first}
+use Rattle.calm_laws.proofs.lives.WellFormed.{sender_sound}
 
 -- a host behind the shell's is of one of them
 pub member_first : (start : Start) (h : ℕ) → suc h < hosts start
@@ -70,13 +71,6 @@ view_there of =
     and_from (true && are_nodes of (members of.nodes)) true
     (and_from true (are_nodes of (members of.nodes)) refl (all_nodes of of.nodes (omega arith))) refl
 
-sender_there : (start : Start) (h : ℕ) → h < hosts start → is_sender start.shape (member_at (made start) h) ≡ true
-sender_there start zero low = or_right (shape.is_member start.shape nobody) true refl
-sender_there start (suc h) low =
-    ap (is_sender start.shape) (member_first start h low)
-    ∙ or_left (is_node start.shape (h / 3 + 1)) ((h / 3 + 1 == 0) && true)
-    (node_there start.shape (h / 3 + 1) (omega arith) (omega (arith, low)))
-
 -- a signal of the first view, from a host that is there
 pub first_fine : (start : Start) (h : ℕ) (x : Signal) → h < hosts start → x.view ≡ first start
     → x.member ≡ member_at (made start) h → is_body_sound start.shape x.body ≡ true
@@ -85,6 +79,6 @@ unfolding is_well_formed
 first_fine start h x low view member sound =
     and_from (is_sender start.shape x.member && is_view start.shape x.view) (is_body_sound start.shape x.body)
     (and_from (is_sender start.shape x.member) (is_view start.shape x.view)
-    (ap (is_sender start.shape) member ∙ sender_there start h low)
+    (ap (is_sender start.shape) member ∙ sender_sound start h low)
     (ap (is_view start.shape) view ∙ view_there start.shape))
     sound

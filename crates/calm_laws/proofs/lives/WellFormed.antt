@@ -35,7 +35,8 @@ module _ (start : Start) where
   abbrev AreHeaded : List Addressed → Type 0
   AreHeaded xs = Each (λ (x : Addressed). IsHeaded x.signal) xs
 
-  sender_sound : (h : ℕ) → h < hosts start → is_sender start.shape (member_at (made start) h) ≡ true
+  -- who stands at a host is one that may send
+  pub sender_sound : (h : ℕ) → h < hosts start → is_sender start.shape (member_at (made start) h) ≡ true
   sender_sound zero low = refl
   sender_sound (suc h) low =
       let few : h / 3 + 1 ≤ start.shape.nodes = omega (arith, low) in

@@ -35,7 +35,7 @@ use Rattle.calm_laws.proofs.plain_steps.Rounds.{each_besides}
 use Rattle.calm_laws.proofs.plain_steps.SentStep.{IsFineSend, goes_to}
 
 -- the block of a main part
-main_has : (of : Part) (to : BlockId) → is_main of ≡ true → is_in of to ≡ true → to ≡ block.Qmgr
+pub main_has : (of : Part) (to : BlockId) → is_main of ≡ true → is_in of to ≡ true → to ≡ block.Qmgr
 main_has part.Main block.Qmgr main there = refl
 main_has part.Main to main there = absurd (false≢true there)
 main_has of to main there = absurd (false≢true main)

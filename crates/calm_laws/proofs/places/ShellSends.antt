@@ -1,5 +1,5 @@
 -- The API sends to the parts of nodes that have transactions and rows, and to nobody else; and it stops nobody.
-use Rattle.std.proofs.Common.{◌≡◌, false, List, [], ◌∷◌, refl}
+use Rattle.std.proofs.Common.{◌≡◌, false, [], refl}
 use Rattle.run_theory.specs.Lists.{Each}
 use Rattle.sig_core.specs.declared.mark.Mark.{Mark}
 use Rattle.sig_core.specs.declared.signal.Body.{Body}
@@ -10,16 +10,11 @@ use Rattle.api_block.proofs.EachApi.{ApiEach, api_each, opened_any}
 use Rattle.node_views.specs.Row.{is_stop}
 use Rattle.world_views.specs.Machine.{stops_by}
 use Rattle.calm_laws.specs.Steps.{IsPlainSend}
+use Rattle.calm_laws.proofs.plain_steps.Rows.{none_stops}
 
 -- a mark that tells of no stop
 abbrev StopsNobody : Mark → Type 0
 StopsNobody mark = is_stop mark ≡ false
-
-none_stops : (marks : List Mark) → Each StopsNobody marks → stops_by marks ≡ false
-none_stops [] all = refl
-none_stops (mark ∷ more) all =
-    let one : is_stop mark ≡ false = all.0 in
-    rw (one, none_stops more all.1) refl
 
 module _ (s : ApiState) (body : Body) where
   each : ApiEach (λ (t : OpenTransaction). Unit {0}) (IsPlainSend 0) StopsNobody (api_table s body)

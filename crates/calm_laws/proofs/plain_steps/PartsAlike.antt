@@ -26,7 +26,8 @@ pub record PartsAlike (start : Start) (h : ℕ) (one : Step Parts) (other : Step
   pub alike : ArePartsAlike start [] one.state other.state
 
 -- so does its host
-pub step_alike : (start : Start) (h : ℕ) (s : host.HostBody) (other : plain.Host) (x : Signal) → AreAlike start [] s other
+pub step_alike : (start : Start) (h : ℕ) (s : host.HostBody) (other : plain.Host) (x : Signal)
+    → AreAlike start [] s other
     → ComesCalmly start (suc h) x → PartsAlike start h (parts_row s.parts x) (row other x)
     → StepAlike start (suc h) [] s other x
 step_alike start h s other x alike calm parts = record {
@@ -56,7 +57,8 @@ pub record PartsAside (start : Start) (one : Step Parts) (other : plain.Host) : 
   pub alike : ArePartsAlike start [] one.state other
 
 -- so does their host
-pub step_aside : (start : Start) (h : ℕ) (s : host.HostBody) (other : plain.Host) (x : Signal) → AreAlike start [] s other
+pub step_aside : (start : Start) (h : ℕ) (s : host.HostBody) (other : plain.Host) (x : Signal)
+    → AreAlike start [] s other
     → ComesCalmly start (suc h) x → PartsAside start (parts_row s.parts x) other → StepAside start (suc h) s other x
 step_aside start h s other x alike calm parts = record {
   marks = ap (λ (step : Step host.HostBody). step.effects.marks) same ∙ parts.marks;

@@ -139,7 +139,8 @@ rows_mark s body = record {
   expired = λ tx key. refl;
 }
 
-none_stops : (marks : List Mark) → Each GoesOn marks → stops_by marks ≡ false
+-- where no mark is a stop, none stops
+pub none_stops : (marks : List Mark) → Each GoesOn marks → stops_by marks ≡ false
 none_stops [] all = refl
 none_stops (mark ∷ marks) all = or_from (is_stop mark) (stops_by marks) all.0 (none_stops marks all.1)
 

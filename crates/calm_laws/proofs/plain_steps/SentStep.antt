@@ -73,7 +73,7 @@ module _ (start : Start) where
   )
 
   -- signals go in front of those that were there
-  put_append : (j : ℕ) (xs front back : List Addressed)
+  pub put_append : (j : ℕ) (xs front back : List Addressed)
       → put (machine start) j xs (front ++ back) ≡ put (machine start) j xs front ++ back
   put_append j [] front back = refl
   put_append j (x ∷ xs) front back =

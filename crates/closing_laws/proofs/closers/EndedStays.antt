@@ -2,7 +2,7 @@
 -- it reports to be ended has ended.
 use Rattle.std.proofs.Common.{◌≡◌, ◌<◌, ℕ, Bool, true, false, nat_le, nat_lt, List, [], ◌∷◌, ◌++◌, length, refl}
 use Rattle.std.proofs.Common.{subst, arith}
-use Rattle.std.proofs.lemmas.Bool.{leb-false, leb-true, or_from, or_parts}
+use Rattle.std.proofs.lemmas.Bool.{leb-false, or_from, or_parts}
 use Rattle.std.specs.Prelude.{Some, remove}
 use Rattle.run_theory.proofs.Pasts.{each_append}
 use Rattle.run_theory.specs.Lists.{Each}
@@ -23,6 +23,7 @@ use Rattle.epoch_laws.specs.Alike.{IsPast, IsSound}
 use Rattle.epoch_laws.proofs.DihRows.{IsOrderPast, Rises, dih_never_falls, still_past}
 use Rattle.run_theory.proofs.EachSent.{each_removed}
 use Rattle.dih_node.specs.declared.dih.Counted.{Counted}
+use Rattle.commit_laws.proofs.orders.Counts.{le_none}
 use Rattle.closing_laws.specs.Closed.{HasEnded}
 
 -- each that is counted has a later epoch
@@ -35,17 +36,10 @@ later_of epoch (one ∷ counted) none =
     let parts = or_parts (nat_le one.epoch epoch) (is_unfinished counted epoch) none in
     (leb-false one.epoch epoch parts.0, later_of epoch counted parts.1)
 
-not_before : (one epoch : ℕ) → epoch < one → nat_le one epoch ≡ false
-not_before one epoch above = by (nat_le one epoch) refl
-  where
-    by : (b : Bool) → nat_le one epoch ≡ b → b ≡ false
-    by true is = let low = leb-true one epoch is in absurd (omega (arith, low, above))
-    by false is = refl
-
 finished_of : (epoch : ℕ) (counted : List Counted) → AreLater epoch counted → is_unfinished counted epoch ≡ false
 finished_of epoch [] later = refl
 finished_of epoch (one ∷ counted) later =
-    or_from (nat_le one.epoch epoch) (is_unfinished counted epoch) (not_before one.epoch epoch later.0)
+    or_from (nat_le one.epoch epoch) (is_unfinished counted epoch) (le_none one.epoch epoch later.0)
     (finished_of epoch counted later.1)
 
 -- what is counted stays later

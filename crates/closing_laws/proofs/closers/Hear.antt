@@ -15,6 +15,7 @@ use Rattle.gcp_master.specs.declared.phase.Phase.TheVariants.{Unordered, Committ
 use Rattle.gcp_master.specs.declared.voices.Voice.{Voice}
 use Rattle.gcp_master.specs.Master.{fresh_master, master_row}
 use Rattle.gcp_master.specs.State.{MasterState}
+use Rattle.gcp_master.proofs.Outcomes.{voice_of}
 use Rattle.gcp_master.specs.Voices as gcp
 use Rattle.node_views.specs.declared.host_body.HostBody as node
 use Rattle.node_views.specs.declared.main_part.MainPart.{MainPart}
@@ -26,6 +27,8 @@ use Rattle.world_core.specs.Steps.{HostStep}
 use Rattle.world_views.specs.Machine.{after, step_after, told}
 use Rattle.view_laws.specs.Runs.{view_after}
 use Rattle.view_laws.specs.Votes.{main_of}
+use Rattle.view_laws.proofs.ballots.MadeSets.{in_either}
+use Rattle.view_laws.proofs.eras.Deciders.{told_view}
 use Rattle.moment_laws.specs.Moments.{IsMoment, current, logs_of}
 use Rattle.moment_laws.specs.Parts.{IsPassed}
 use Rattle.moment_laws.specs.Places.{ldm_of, tc_of}
@@ -33,14 +36,12 @@ use Rattle.moment_laws.proofs.MomentHosts.{main_low, tc_started}
 use Rattle.moment_laws.proofs.MomentTurns.{current_rises, host_low, old_current, own_behind, taker_stands}
 use Rattle.moment_laws.proofs.MomentViews.{current_above, current_number, moment_less, number_in}
 use Rattle.moment_laws.proofs.PartTaken.{IsTakenNow}
-use Rattle.outcome_laws.proofs.order.BeforeInLists.{in_either}
-use Rattle.epoch_laws.proofs.FallAll.{told_view}
 use Rattle.epoch_laws.specs.Alike.{EachFull}
 use Rattle.epoch_laws.specs.Masters.{EachHeard}
 use Rattle.epoch_laws.specs.Members.{IsFirst, IsPresident, IsStanding, epochs_of, master_in, master_of}
 use Rattle.epoch_laws.specs.Stand.{AllStand}
 use Rattle.epoch_laws.proofs.MasterHears.{all_by_one, same_member-is, same_member-self}
-use Rattle.epoch_laws.proofs.MasterMoves.{HaveAll, voice_of, with_one}
+use Rattle.epoch_laws.proofs.MasterMoves.{HaveAll, with_one}
 use Rattle.epoch_laws.proofs.MasterSpeaks.{installed}
 use Rattle.epoch_laws.proofs.StandAll.{epochs_stand}
 use Rattle.epoch_laws.proofs.StandKinds.{RunsMain, Whose, of_main, of_rows, of_shell, of_tc, runs_main, runs_rows}

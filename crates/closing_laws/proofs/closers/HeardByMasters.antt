@@ -17,6 +17,7 @@ use Rattle.gcp_master.specs.declared.voices.Voice.{Voice}
 use Rattle.gcp_master.specs.Master.{fresh_master, master_row}
 use Rattle.gcp_master.specs.Resume.{in_view}
 use Rattle.gcp_master.specs.State.{MasterState}
+use Rattle.gcp_master.proofs.Outcomes.{voice_of}
 use Rattle.node_views.specs.declared.host_body.HostBody as node
 use Rattle.world_core.specs.Start.{Start, made}
 use Rattle.world_core.specs.Steps.{HostStep}
@@ -28,7 +29,7 @@ use Rattle.moment_laws.proofs.PartTaken.{IsTakenNow}
 use Rattle.epoch_laws.specs.Masters.{EachHeard}
 use Rattle.epoch_laws.specs.Members.{epochs_of, master_in, master_of}
 use Rattle.epoch_laws.specs.Stand.{AllStand}
-use Rattle.epoch_laws.proofs.MasterMoves.{BeginsFrom, IsLate, Moved, voice_of}
+use Rattle.epoch_laws.proofs.MasterMoves.{BeginsFrom, IsLate, Moved}
 use Rattle.epoch_laws.proofs.MasterMoves.{closes, closes_owed, commits, ends, goes_late, hears_finished, hears_prepared}
 use Rattle.epoch_laws.proofs.MasterMoves.{is_ordered, learns, resumes, stays, takes_up}
 use Rattle.epoch_laws.proofs.MasterRows.{master_goes}

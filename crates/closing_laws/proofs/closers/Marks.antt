@@ -14,9 +14,9 @@ use Rattle.gcp_master.specs.declared.voices.Voice.{Voice}
 use Rattle.gcp_master.specs.Master.{master_row}
 use Rattle.gcp_master.specs.Sends.{list_effects, listing}
 use Rattle.gcp_master.specs.State.{MasterState}
-use Rattle.gcp_master.proofs.Outcomes.{heard_one, not_owing}
+use Rattle.gcp_master.proofs.Outcomes.{heard_one, not_owing, voice_of}
 use Rattle.gcp_master.proofs.Walk.{IsClosing, all_heard, is_last, is_over, master_steps}
-use Rattle.epoch_laws.proofs.MasterMoves.{HaveAll, voice_of, with_one}
+use Rattle.epoch_laws.proofs.MasterMoves.{HaveAll, with_one}
 
 -- the last confirmation came, and no takeover is owed; or all were there, and the takeover has ended
 pub data Heard (s : MasterState) (voice : Voice) (body : Body) (run : Run) : Type 0 where

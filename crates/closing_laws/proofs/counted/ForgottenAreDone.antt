@@ -1,8 +1,8 @@
 -- Whoever was committed and is forgotten is done: its coordinator has heard that its last key is completed, or nothing
 -- was written.
-use Rattle.std.proofs.Common.{◌≡◌, ◌≤◌, ◌⊎◌, ◌==◌, ◌∙◌, ◌++◌, ℕ, true, false, List, [], ◌∷◌, arith, inl, inr, refl, sym}
+use Rattle.std.proofs.Common.{◌≡◌, ◌⊎◌, ◌==◌, ◌∙◌, ◌++◌, ℕ, true, false, List, [], ◌∷◌, inl, inr, refl, sym}
 use Rattle.std.proofs.Common.{ap, subst}
-use Rattle.std.proofs.lemmas.Bool.{eqb-true, true≢false}
+use Rattle.std.proofs.lemmas.Bool.{true≢false}
 use Rattle.std.specs.Prelude.{if◌then◌else◌, None, Option, Some}
 use Rattle.run_theory.specs.Links.{sent}
 use Rattle.run_theory.specs.Lists.{IsIn, IsPast}
@@ -25,10 +25,9 @@ use Rattle.sig_core.specs.declared.signal.Signal.{Signal}
 use Rattle.sig_core.specs.declared.signal.chain.ChainSignal.TheVariants.{Completed}
 use Rattle.sig_core.specs.declared.signal.client.ClientSignal.TheVariants.{TcCommitConf}
 use Rattle.sig_core.specs.declared.signal.host.HostSignal.TheVariants.{Closed}
-use Rattle.tc_block.specs.Complete.{one_if, written_count}
+use Rattle.tc_block.specs.Complete.{written_count}
 use Rattle.tc_block.specs.declared.phase.Phase.{Phase}
 use Rattle.tc_block.specs.declared.phase.Phase.TheVariants.{Aborting, Committing, Completing, Open, Verifying}
-use Rattle.tc_block.specs.declared.touched.Touched.{Touched}
 use Rattle.tc_block.specs.declared.transaction.Transaction.{Transaction}
 use Rattle.tc_block.specs.Phases.{is_decided as is_in_commit}
 use Rattle.tc_block.specs.Turn.{Turn}
@@ -61,10 +60,11 @@ use Rattle.request_laws.proofs.phases.Moves.{Comes, begun, changed, same}
 use Rattle.request_laws.proofs.phases.TurnSends.{AreSpared, IsSpared}
 use Rattle.request_laws.proofs.phases.Stands.{coordinators_stand}
 use Rattle.request_laws.proofs.phases.ToldByHosts.{Heard}
-use Rattle.request_laws.proofs.phases.Turns.{Changes, IsDecidedAs, is_commit_told}
+use Rattle.request_laws.proofs.phases.Turns.{Changes, is_commit_told}
 use Rattle.request_laws.proofs.phases.Turns as turns
 use Rattle.request_laws.proofs.phases.Steps.{left_of}
 use Rattle.request_laws.proofs.routes.PartSteps.{TcStep, coordinator_is}
+use Rattle.request_laws.proofs.phases.OneWay.{is_decided_as}
 use Rattle.commit_laws.specs.Commits.{ComesWhenDone, CommitsStand, HasWritten, IsDone}
 use Rattle.commit_laws.specs.Going.{decided_ops, is_decided, is_forth, is_written_by, own_live}
 use Rattle.commit_laws.proofs.settled.All.{all_stand}
@@ -74,8 +74,9 @@ use Rattle.commit_laws.proofs.forth.DecidedStay.{decided_so, forth_decided, ops_
 use Rattle.commit_laws.proofs.drive.Foreign.{between_of, step}
 use Rattle.commit_laws.proofs.commits.EndTurns.{HasEpoch, before, by_now}
 use Rattle.commit_laws.proofs.forth.Speaks.{gives_epoch}
+use Rattle.commit_laws.proofs.answered.Answered.{counted_written}
 use Rattle.closing_laws.specs.Ended.{ForgottenAreDone}
-use Rattle.closing_laws.proofs.counted.Turns.{OverStep, completed, given_up, over_step, unwritten}
+use Rattle.closing_laws.proofs.counted.Turns.{OverStep, completed, given_up, none_some, over_step, unwritten}
 
 -- why it is done
 data HasEnded (start : Start) (logs : ℕ → List HostStep) (tx : TxId) : Type 0 where
@@ -91,19 +92,6 @@ ended_done start logs tx stand (by_last i j y there key is) =
     (each_in (λ (x : Addressed). ComesWhenDone start logs x.signal.body) y (sent (sound_machine start) i j (logs i))
     (stand.done i j) there)
 
--- a key that was written is counted
-counted_written : (touched : List Touched) (u : Touched) → IsIn u touched → u.written ≡ true
-    → (written_count touched == 0) ≡ true → ⊥
-counted_written touched u there is none =
-    let zero = eqb-true (written_count touched) 0 none in omega (arith, zero, some touched there)
-  where
-    some : (touched : List Touched) → IsIn u touched → 1 ≤ written_count touched
-    some [] there = absurd there
-    some (v ∷ touched) (inl is_v) =
-        let first : one_if v.written ≡ 1 = ap one_if (ap (λ (w : Touched). w.written) (sym is_v) ∙ is) in
-        omega (arith, first)
-    some (v ∷ touched) (inr there) = omega (arith, some touched there)
-
 commits_untold : (tx : TxId) (sends : List Outgoing) → AreSpared is_commit_told sends
     → AreSpared (tells_commit tx) sends
 commits_untold tx sends all =
@@ -112,16 +100,6 @@ commits_untold tx sends all =
     by : (body : Body) → is_commit_told body ≡ false → tells_commit tx body ≡ false
     by (Client (TcCommitConf other epoch)) is = absurd (true≢false is)
     by body is = refl
-
-in_commit : (phase : Phase) (epoch : ℕ) → IsDecidedAs phase epoch → is_in_commit phase ≡ true
-in_commit Open epoch is = absurd is
-in_commit Verifying epoch is = absurd is
-in_commit (Committing now awaited) epoch is = refl
-in_commit (Completing now awaited) epoch is = refl
-in_commit (Aborting why verifying awaited) epoch is = absurd is
-
-none_some : (t : Transaction) (o : Option Transaction) → o ≡ None → o ≡ Some t → ⊥
-none_some t o none some = let empty : None ≡ Some t = sym none ∙ some in absurd cc
 
 -- a turn that goes on leaves its transaction
 goes_on : (turn : Turn) → turn.over ≡ false → left_of turn ≡ None → ⊥
@@ -241,7 +219,7 @@ module _ (start : Start) (all : ℕ → List HostStep) (e : HostStep) (es : List
               of_turn u is turn (turns.waits phase on state still) left spared = absurd (goes_on turn on left)
               of_turn u is turn (turns.decides epoch phase body goes) left spared = inr (ap gives_epoch body)
               of_turn u is turn (turns.forth epoch decided goes) left spared =
-                  inl (ap (λ (w : Transaction). is_in_commit w.phase) (sym is) ∙ in_commit u.phase epoch decided)
+                  inl (ap (λ (w : Transaction). is_in_commit w.phase) (sym is) ∙ is_decided_as u.phase epoch decided)
               of_turn u is turn (turns.back off goes) left spared =
                   absurd
                   (true≢false

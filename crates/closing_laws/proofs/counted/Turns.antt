@@ -42,16 +42,16 @@ use Rattle.tc_block.proofs.EachTurn.{AbortForms, TurnFormsAt, rows_at}
 use Rattle.tc_block.proofs.TurnRows.{is_turn, turn_for, turn_with, tx_in}
 use Rattle.tc_views.specs.Coordinator.{coordinator_row}
 use Rattle.tc_views.specs.State.{CoordinatorState, go_on_with}
+use Rattle.view_laws.proofs.ballots.MadeSets.{in_either}
 use Rattle.tc_views.specs.State as views
 use Rattle.outcome_laws.specs.Counts.{IsCoordinatorOf}
-use Rattle.outcome_laws.proofs.order.BeforeInLists.{in_either}
 use Rattle.tc_block.proofs.EachResume as walk
 use Rattle.request_laws.specs.Ways.{entry_of}
 use Rattle.request_laws.proofs.phases.TurnSends.{AreSpared, IsSpared}
 use Rattle.request_laws.proofs.phases.Steps.{Walks, begins, coordinator_walks, is_about, left_of, passes, resumes}
 use Rattle.request_laws.proofs.phases.Steps.{stays, turns}
+use Rattle.request_laws.proofs.phases.Turns.{undecided_not}
 use Rattle.commit_laws.proofs.commits.EndTurns.{HasEpoch, before, by_now}
-use Rattle.commit_laws.proofs.fates.LostStays.{undecided_not}
 use Rattle.commit_laws.proofs.forth.Speaks.{gives_epoch}
 
 -- the signal ends a count
@@ -188,7 +188,8 @@ pub record Forgets (tx : TxId) (s now : CoordinatorState) : Type 0 where
   pub gone : entry_of now tx ≡ None
   pub next : now.tc.next_seq ≡ s.tc.next_seq
 
-none_some : (t : Transaction) (o : Option Transaction) → o ≡ None → o ≡ Some t → ⊥
+-- what is none is not some
+pub none_some : (t : Transaction) (o : Option Transaction) → o ≡ None → o ≡ Some t → ⊥
 none_some t o none some = let nothing : None ≡ Some t = sym none ∙ some in absurd cc
 
 module _ (member : Member) (s : CoordinatorState) (of : IsCoordinatorOf member s) (x : Signal) (tx : TxId) where

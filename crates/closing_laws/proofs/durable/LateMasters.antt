@@ -23,8 +23,9 @@ use Rattle.gcp_master.specs.Voices.{is_among}
 use Rattle.gcp_master.proofs.Outcomes.{BeginOutcomes, Begins, Resumes, a_global, a_micro, at_durable, at_end, beginning}
 use Rattle.gcp_master.proofs.Outcomes.{have_walked, heard_local, heard_one, known_with, master_outcomes, not_owing}
 use Rattle.gcp_master.proofs.Outcomes.{nothing_asked, stopping, telling_local, to_commit, to_copy, to_prepare, walking}
+use Rattle.gcp_master.proofs.Outcomes.{voice_of}
 use Rattle.gcp_master.proofs.Walk.{listing_state}
-use Rattle.epoch_laws.proofs.MasterMoves.{state_body, voice_of}
+use Rattle.epoch_laws.proofs.MasterMoves.{state_body}
 
 -- what is so of the epoch of a run that is closed, and of what a master knows that asks
 abbrev pub IsGood : (ℕ → Type 0) → (Known → Type 0) → Phase → Type 0

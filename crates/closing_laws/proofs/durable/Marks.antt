@@ -15,6 +15,7 @@ use Rattle.gcp_master.specs.declared.phase.Phase.TheVariants.{Unordered, Committ
 use Rattle.gcp_master.specs.declared.voices.Voice.{Voice}
 use Rattle.gcp_master.specs.Master.{fresh_master, master_row}
 use Rattle.gcp_master.specs.State.{MasterState}
+use Rattle.gcp_master.proofs.Outcomes.{voice_of}
 use Rattle.node_views.specs.declared.host_body.HostBody as node
 use Rattle.node_views.specs.declared.main_part.MainPart.{MainPart}
 use Rattle.node_views.specs.declared.parts.Parts.{Parts}
@@ -24,13 +25,12 @@ use Rattle.world_core.specs.Steps.{HostStep}
 use Rattle.world_views.specs.Machine.{after, step_after}
 use Rattle.view_laws.specs.Runs.{view_after}
 use Rattle.view_laws.specs.Votes.{main_of}
+use Rattle.view_laws.proofs.ballots.MadeSets.{in_either}
 use Rattle.moment_laws.specs.Moments.{IsMoment, logs_of}
 use Rattle.moment_laws.specs.Places.{ldm_of, tc_of}
 use Rattle.moment_laws.proofs.MomentTurns.{host_low}
-use Rattle.outcome_laws.proofs.order.BeforeInLists.{in_either}
 use Rattle.epoch_laws.specs.Members.{master_in, master_of}
 use Rattle.epoch_laws.specs.Stand.{AllStand}
-use Rattle.epoch_laws.proofs.MasterMoves.{voice_of}
 use Rattle.epoch_laws.proofs.MasterSpeaks.{installed}
 use Rattle.epoch_laws.proofs.StandKinds.{RunsMain, Whose, of_main, of_rows, of_shell, of_tc, runs_main, runs_rows}
 use Rattle.epoch_laws.proofs.StandKinds.{runs_shell, whose}

@@ -19,6 +19,7 @@ use Rattle.gcp_master.specs.Known.{last_run}
 use Rattle.gcp_master.specs.Master.{first_phase, fresh_master, master_row}
 use Rattle.gcp_master.specs.Resume.{in_view, is_president}
 use Rattle.gcp_master.specs.State.{MasterState}
+use Rattle.gcp_master.proofs.Outcomes.{voice_of}
 use Rattle.node_views.specs.declared.host_body.HostBody as node
 use Rattle.world_core.specs.Start.{Start, made}
 use Rattle.world_core.specs.Steps.{Addressed, HostStep}
@@ -36,7 +37,7 @@ use Rattle.epoch_laws.specs.Stand.{AllStand}
 use Rattle.epoch_laws.specs.Told.{IsTrueOf}
 use Rattle.epoch_laws.proofs.MasterKeeps.{IsBefore, keeps}
 use Rattle.epoch_laws.proofs.MasterMoves.{BeginsFrom, GoesOn, IsLate, IsNew, Moved, from_commit, from_copy}
-use Rattle.epoch_laws.proofs.MasterMoves.{from_prepare, known_with, state_body, voice_of, with_none, with_one}
+use Rattle.epoch_laws.proofs.MasterMoves.{from_prepare, known_with, state_body, with_none, with_one}
 use Rattle.epoch_laws.proofs.MasterMoves.{closes, closes_owed, commits, ends, goes_late, hears_finished, hears_prepared}
 use Rattle.epoch_laws.proofs.MasterMoves.{is_ordered, learns, resumes, stays, takes_up}
 use Rattle.epoch_laws.proofs.MasterRows.{master_goes}

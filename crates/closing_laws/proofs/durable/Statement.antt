@@ -32,11 +32,12 @@ use Rattle.epoch_laws.proofs.MasterSends.{Closes, MaySay}
 use Rattle.epoch_laws.proofs.SentMembership.{OrdersBy}
 use Rattle.epoch_laws.proofs.SentNone.{is_order}
 use Rattle.epoch_laws.proofs.SentRows.{IsOfRowsBy}
+use Rattle.epoch_laws.proofs.MasterKnows.{greater_is}
 use Rattle.closing_laws.specs.Closed.{WasClosed}
 use Rattle.closing_laws.proofs.durable.Noted.{Notes, NotesAt}
 use Rattle.closing_laws.proofs.durable.Reached.{HasReached, reached_moves, reached_stays}
 use Rattle.closing_laws.proofs.durable.Tells.{TellsNoted}
-use Rattle.closing_laws.proofs.durable.WereClosed.{IsKnownTruly, IsNoted, IsToldTruly, greater_one}
+use Rattle.closing_laws.proofs.durable.WereClosed.{IsKnownTruly, IsNoted, IsToldTruly}
 use Rattle.closing_laws.proofs.durable.LateMasters.{IsGood}
 
 module _ (start : Start) (logs : ℕ → List HostStep) where
@@ -79,11 +80,11 @@ module _ (start : Start) (logs : ℕ → List HostStep) where
     dih_noted (Epoch (GcpClosed epoch)) notes moves rises closed said = record {
       noted =
           subst (IsNoted start logs) (sym notes.0)
-          (greater_one (IsNoted start logs) s.closed epoch was.noted (inr said));
+          (greater_is (IsNoted start logs) s.closed epoch was.noted (inr said));
       reached =
           subst (λ n. HasReached n now) (sym notes.0)
           (reached_moves _ s now (Epoch (GcpClosed epoch)) rises moves
-          (greater_one (λ n. HasReached n s) s.closed epoch was.reached (closed epoch said)));
+          (greater_is (λ n. HasReached n s) s.closed epoch was.reached (closed epoch said)));
       least = subst (λ n. start.start_epoch ≤ n) (sym notes.1) was.least;
     }
     dih_noted (Epoch (GcpDone epoch)) notes moves rises closed said =

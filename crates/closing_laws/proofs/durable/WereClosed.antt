@@ -12,26 +12,12 @@ use Rattle.gcp_master.specs.Known.{nothing_known, resumed}
 use Rattle.gcp_master.specs.Numbers.{is_first}
 use Rattle.world_core.specs.Start.{Start}
 use Rattle.world_core.specs.Steps.{HostStep}
+use Rattle.epoch_laws.proofs.MasterKnows.{greater_second, lesser_first, lesser_second}
 use Rattle.closing_laws.specs.Closed.{WasClosed}
 
 -- the epoch was closed, or the life began behind it
 abbrev pub IsNoted : Start → (ℕ → List HostStep) → ℕ → Type 0
 IsNoted start logs epoch = (epoch ≤ start.start_epoch) ⊎ WasClosed start logs epoch
-
--- the lesser of two is neither greater than the one nor than the other
-lesser_first : (one other : ℕ) → lesser one other ≤ one
-lesser_first one other = by (nat_lt one other) refl
-  where
-    by : (b : Bool) → nat_lt one other ≡ b → (if b then one else other) ≤ one
-    by true is = omega arith
-    by false is = ltb-false one other is
-
-lesser_second : (one other : ℕ) → lesser one other ≤ other
-lesser_second one other = by (nat_lt one other) refl
-  where
-    by : (b : Bool) → nat_lt one other ≡ b → (if b then one else other) ≤ other
-    by true is = let below = ltb-true one other is in omega (arith, below)
-    by false is = omega arith
 
 -- and it is one of them
 lesser_one : (P : ℕ → Type 0) (one other : ℕ) → P one → P other → P (lesser one other)
@@ -40,21 +26,6 @@ lesser_one P one other first second = by (nat_lt one other)
     by : (b : Bool) → P (if b then one else other)
     by true = first
     by false = second
-
--- so is the greater, and the other isn't greater than that
-pub greater_one : (P : ℕ → Type 0) (one other : ℕ) → P one → P other → P (greater one other)
-greater_one P one other first second = by (nat_lt one other)
-  where
-    by : (b : Bool) → P (if b then other else one)
-    by true = second
-    by false = first
-
-greater_second : (one other : ℕ) → other ≤ greater one other
-greater_second one other = by (nat_lt one other) refl
-  where
-    by : (b : Bool) → nat_lt one other ≡ b → other ≤ (if b then other else one)
-    by true is = omega arith
-    by false is = ltb-false one other is
 
 -- a master that goes on with the system files knows that each member has noted the epoch as closed, and that one
 -- doesn't know it to be durable

@@ -39,6 +39,7 @@ use Rattle.outcome_laws.proofs.order.BeforeInLists.{kept_in}
 use Rattle.outcome_laws.specs.Counts.{coordinator_member}
 use Rattle.outcome_laws.specs.Decided.{IsMarked}
 use Rattle.epoch_laws.specs.Members.{IsFirst, IsPresident}
+use Rattle.request_laws.proofs.routes.ChainsStay.{any_in}
 use Rattle.commit_laws.proofs.led.Entries.{one_entry}
 use Rattle.commit_laws.specs.Commits.{HasWritten}
 use Rattle.commit_laws.specs.Fates.{Fate, aborts, commits, fate, fate_if, is_led_by_full, undetermined}
@@ -47,7 +48,6 @@ use Rattle.commit_laws.specs.Traces.{IsApplied, has_trace, is_known}
 use Rattle.commit_laws.proofs.fates.Committed.{IsDecidedAt, decided_at, forth_made}
 use Rattle.commit_laws.proofs.forth.DecidedStay.{applied_more, forth_decided}
 use Rattle.commit_laws.proofs.fates.Forth.{fate_decided}
-use Rattle.commit_laws.proofs.views.AtEvents.{any_of}
 use Rattle.commit_laws.proofs.fates.FinalsForth.{HasFinalEntry, IsFinalBy, applied_forth, by_report, by_write, final_by}
 use Rattle.closing_laws.specs.Closed.{ClosersHaveHeardAll, DurableWereClosed, IsClosedBy, IsOver, WasClosed}
 use Rattle.closing_laws.specs.Ended.{ForgottenAreDone, UncountedAreForgotten}
@@ -209,7 +209,7 @@ module _ (start : Start) (large : ℕ → List HostStep) (more : AreOfCluster st
           not_first : current start (logs_of start (e ∷ older)) ≡ (first_layout start.shape).view → ⊥
           not_first same =
               true≢false (sym (ap (λ (v : View). list_any (was_begun_by z.tx) v.full) same
-              ∙ any_of (was_begun_by z.tx) (made start) (coordinator_member z.tx) coordinator_made
+              ∙ any_in (was_begun_by z.tx) (coordinator_member z.tx) (made start) coordinator_made
               (λ i. eq-eqb z.tx.tc z.tx.tc refl i && eq-eqb z.tx.start z.tx.start refl i)) ∙ gone)
 
           first_is : current start (logs_of start []) ≡ (first_layout start.shape).view
@@ -218,7 +218,7 @@ module _ (start : Start) (large : ℕ → List HostStep) (more : AreOfCluster st
               by : (view : View) → IsSome start (logs_of start []) (hosts start) view
                   → view ≡ (first_layout start.shape).view
               by view (inl first) = first
-              by view (inr one) = one.is ∙ started_view start more.shape one.host
+              by view (inr one) = one.is ∙ started_view start one.host
 
           above : (current start (logs_of start [])).number < (current start (logs_of start (e ∷ older))).number
           above =

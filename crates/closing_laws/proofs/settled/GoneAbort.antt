@@ -27,10 +27,10 @@ use Rattle.commit_laws.proofs.markers.AppliedCommits.{applied_commit}
 use Rattle.commit_laws.proofs.forth.DecidedStay.{decided_more, forth_decided, ops_same}
 use Rattle.commit_laws.proofs.fates.Cases.{none_aborts, not_both}
 use Rattle.commit_laws.proofs.fates.Moves.{fates_move}
-use Rattle.commit_laws.proofs.views.AtEvents.{full_only, some_of}
 use Rattle.commit_laws.proofs.forth.KnownComes.{known_commit}
 use Rattle.commit_laws.proofs.led.Replicas.{keys_have_primaries}
-use Rattle.commit_laws.proofs.records.Replicas.{replica_before}
+use Rattle.commit_laws.proofs.records.Replicas.{members_full, replica_before}
+use Rattle.commit_laws.proofs.hosts.SomePasses.{passing}
 use Rattle.closing_laws.proofs.settled.Cuts.{goes_back, goes_on, log_past}
 use Rattle.closing_laws.proofs.settled.KnownAreDone.{IsDoneBefore, done_before}
 use Rattle.closing_laws.proofs.settled.NoTraces.{leaves_one, no_trace}
@@ -162,11 +162,11 @@ module _ (start : Start) (all : ℕ → List HostStep) (es end : List HostStep) 
         by : (b : Bool) → has_trace start (logs_of start also.moment) tx ≡ b → b ≡ false
         by false off = refl
         by true is =
-            let one = some_of (λ (m : Member). leave_trace tx (rows_at start (logs_of start there) m))
+            let one = passing (λ (m : Member). leave_trace tx (rows_at start (logs_of start there) m))
             (members_now start (logs_of start there)) is in
-            absurd (none one.one (subst (IsIn one.one) (full_only start all there here) one.there)
-            (logs_of start there (ldm_of start one.one)) (past_self (logs_of start there (ldm_of start one.one)))
-            one.passes)
+            absurd (none one.item (subst (IsIn one.item) (members_full start all there here) one.there)
+            (logs_of start there (ldm_of start one.item)) (past_self (logs_of start there (ldm_of start one.item)))
+            one.is)
 
     aborts_there : fate start (logs_of start also.moment) tx ≡ aborts
     aborts_there =

@@ -24,15 +24,16 @@ use Rattle.moment_laws.specs.Moments.{IsMoment, logs_of}
 use Rattle.outcome_laws.proofs.knowledge.CommitsWereDecided.{in_turned}
 use Rattle.outcome_laws.proofs.once.DecidedOnce.{decided_once}
 use Rattle.outcome_laws.proofs.order.EventsBefore.{entries_past}
+use Rattle.request_laws.proofs.routes.ChainsStay.{any_in}
 use Rattle.commit_laws.specs.Going.{decided_ops, is_decided, is_written_by}
 use Rattle.commit_laws.specs.Traces.{IsApplied}
 use Rattle.commit_laws.specs.Values.{is_final}
 use Rattle.commit_laws.proofs.settled.All.{all_stand}
-use Rattle.commit_laws.proofs.views.AtEvents.{any_of, some_of}
 use Rattle.commit_laws.proofs.forth.All.{forth_is_known}
 use Rattle.commit_laws.proofs.led.Applied.{HasEntryOf, applied_are_final, entry_of_decided}
 use Rattle.commit_laws.proofs.led.Entries.{entries_final, one_entry}
 use Rattle.commit_laws.proofs.markers.Lists.{in_filter}
+use Rattle.commit_laws.proofs.hosts.SomePasses.{passing}
 use Rattle.closing_laws.proofs.settled.Cuts.{cut_moment, events_of, logs_are}
 
 -- an entry at its place, and those beside it
@@ -112,15 +113,15 @@ pub record WritesOne (ops : List (Op × Answer)) : Type 0 where
 
 pub writes_one : (ops : List (Op × Answer)) → list_any (λ (op : Op × Answer). is_done op.1) ops ≡ true → WritesOne ops
 writes_one ops some =
-    let one = some_of (λ (op : Op × Answer). is_done op.1) ops some in
-    let key = key_of one.one.0 in
+    let one = passing (λ (op : Op × Answer). is_done op.1) ops some in
+    let key = key_of one.item.0 in
     record {
       key = key;
       written =
-          any_of (λ (op : Op × Answer). is_done op.1) (filter (λ (op : Op × Answer). same_key (key_of op.0) key) ops)
-          one.one
-          (in_filter (λ (op : Op × Answer). same_key (key_of op.0) key) one.one ops one.there (same_key-self key))
-          one.passes;
+          any_in (λ (op : Op × Answer). is_done op.1) one.item
+          (filter (λ (op : Op × Answer). same_key (key_of op.0) key) ops)
+          (in_filter (λ (op : Op × Answer). same_key (key_of op.0) key) one.item ops one.there (same_key-self key))
+          one.is;
     }
 
 module _ (start : Start) (small large : ℕ → List HostStep) (less : AreOfCluster start small)

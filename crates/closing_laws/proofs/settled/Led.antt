@@ -27,6 +27,7 @@ use Rattle.request_laws.proofs.phases.GoneWays.{gone_stays}
 use Rattle.request_laws.proofs.phases.Stands.{coordinators_stand}
 use Rattle.request_laws.specs.Phases.{HasGone, WaitsWith}
 use Rattle.request_laws.specs.Ways.{has_gone_back, tells_abort}
+use Rattle.request_laws.proofs.routes.ChainsStay.{any_in}
 use Rattle.epoch_laws.specs.Alike.{EachFull}
 use Rattle.epoch_laws.specs.Members.{epochs_of}
 use Rattle.commit_laws.specs.Commits.{IsDone}
@@ -34,7 +35,7 @@ use Rattle.commit_laws.specs.Fates.{is_led_by_full}
 use Rattle.commit_laws.specs.Going.{is_decided, is_forth, own_live}
 use Rattle.commit_laws.proofs.fates.Committed.{decided_at}
 use Rattle.commit_laws.proofs.fates.Moves.{begun_by}
-use Rattle.commit_laws.proofs.views.AtEvents.{IsSome, any_of, some_of}
+use Rattle.commit_laws.proofs.hosts.SomePasses.{Passes, passing}
 use Rattle.closing_laws.specs.Closed.{HasEnded}
 use Rattle.closing_laws.specs.Ended.{ForgottenAreDone, UncountedAreForgotten, is_counted}
 use Rattle.closing_laws.proofs.settled.CountedAreDecided.{counted_are_decided}
@@ -81,8 +82,8 @@ module _ (uncounted : UncountedAreForgotten) (forgotten : ForgottenAreDone) (sta
 
     full : IsIn (coordinator_member tx) (current start (logs_of start es)).full
     full =
-        let one = some_of (was_begun_by tx) (current start (logs_of start es)).full led in
-        subst (λ (m : Member). IsIn m (current start (logs_of start es)).full) (begun_by tx one.one one.passes)
+        let one = passing (was_begun_by tx) (current start (logs_of start es)).full led in
+        subst (λ (m : Member). IsIn m (current start (logs_of start es)).full) (begun_by tx one.item one.is)
         one.there
 
     there : IsIn (coordinator_member tx) (made start)
@@ -105,25 +106,25 @@ module _ (uncounted : UncountedAreForgotten) (forgotten : ForgottenAreDone) (sta
         counted : List Counted
         counted = (epochs_of start (logs_of start es) me).counted
 
-        never : IsSome (λ (one : Counted). same_tx one.tx tx) (epochs_of start (logs_of start es) me).counted → ⊥
+        never : Passes (λ (one : Counted). same_tx one.tx tx) (epochs_of start (logs_of start es) me).counted → ⊥
         never one =
-            let c = one.one in
+            let c = one.item in
             let there_marked =
             each_in (λ (c : Counted). IsMarked (Decided c.tx c.epoch) (logs_of start es h)) c counted
             (counted_are_decided start all me there es at) one.there in
             let is =
             once c.epoch given
             (marked_past (Decided tx c.epoch) (logs_of start es h) (logs_of start end h) (part h)
-            (subst (λ t. IsMarked (Decided t c.epoch) (logs_of start es h)) (same_tx-is c.tx tx one.passes)
+            (subst (λ t. IsMarked (Decided t c.epoch) (logs_of start es h)) (same_tx-is c.tx tx one.is)
             there_marked))
             marked in
             true≢false
-            (sym (any_of (is_up_to epoch) counted c one.there (le-leb c.epoch epoch (omega (arith, is, low))))
+            (sym (any_in (is_up_to epoch) c counted one.there (le-leb c.epoch epoch (omega (arith, is, low))))
             ∙ its.finished)
 
         by : (b : Bool) → is_counted start (logs_of start es) tx ≡ b → b ≡ false
         by false is = refl
-        by true is = absurd (never (some_of (λ (one : Counted). same_tx one.tx tx) counted is))
+        by true is = absurd (never (passing (λ (one : Counted). same_tx one.tx tx) counted is))
 
     none : own_live start (logs_of start es) tx ≡ None
     none = uncounted start all es at tx there decided uncounted_there

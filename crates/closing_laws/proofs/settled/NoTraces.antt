@@ -17,6 +17,7 @@ use Rattle.moment_laws.proofs.MomentMembers.{current_made}
 use Rattle.moment_laws.specs.Moments.{IsMoment, current, logs_of}
 use Rattle.moment_laws.specs.Places.{ldm_of}
 use Rattle.request_laws.specs.Blocks.{rows_after}
+use Rattle.request_laws.proofs.routes.ChainsStay.{any_in}
 use Rattle.commit_laws.proofs.markers.Traces.{each_fails}
 use Rattle.commit_laws.specs.Fates.{aborts, fate, is_led_by_full}
 use Rattle.commit_laws.specs.Going.{is_forth, is_lost}
@@ -24,10 +25,10 @@ use Rattle.commit_laws.specs.Traces.{has_marker_at, has_trace, is_committed_at, 
 use Rattle.commit_laws.specs.Traces.{is_known, is_marker_of, leave_trace, members_now, record_at, rows_at}
 use Rattle.commit_laws.proofs.commits.Remain.{record_there}
 use Rattle.commit_laws.proofs.fates.Cases.{known_commits, not_both, trace_commits}
-use Rattle.commit_laws.proofs.views.AtEvents.{any_of, full_only}
 use Rattle.commit_laws.proofs.forth.Grows.{known_grows}
 use Rattle.commit_laws.proofs.markers.All.{traces_stay}
-use Rattle.commit_laws.proofs.hosts.SomePasses.{passed, passing}
+use Rattle.commit_laws.proofs.hosts.SomePasses.{passing}
+use Rattle.commit_laws.proofs.records.Replicas.{members_full}
 use Rattle.closing_laws.proofs.settled.Cuts.{goes_on, has_log}
 
 -- a trace of a transaction stays at a member, or the client's side comes to know of its commit
@@ -73,8 +74,8 @@ module _ (start : Start) (all : ℕ → List HostStep) (es : List HostStep) (mom
     untraced member full left =
         not_both (sym (trace_commits (is_known start logs tx) (is_led_by_full start logs tx) (is_forth start logs tx)
         (is_lost start logs tx) (has_trace start logs tx) gone
-        (any_of (λ (m : Member). leave_trace tx (rows_at start logs m)) (members_now start logs) member
-        (subst (IsIn member) (sym (full_only start all es moment)) full) left)) ∙ aborting)
+        (any_in (λ (m : Member). leave_trace tx (rows_at start logs m)) member (members_now start logs)
+        (subst (IsIn member) (sym (members_full start all es moment)) full) left)) ∙ aborting)
 
     -- nor had it one at a part of the member's log
     pub no_trace : (member : Member) → IsIn member (current start (logs_of start es)).full → (log : List HostStep)
@@ -103,7 +104,7 @@ module _ (start : Start) (logs : ℕ → List HostStep) (member : Member) (key :
         let one = passing (is_marker tx key) markers on in
         or_right (list_any (is_committed_of tx) (rows_at start logs member).lqh.rows.pending)
         (list_any (is_marker_of tx) markers)
-        (passed (is_marker_of tx) one.item markers one.there
+        (any_in (is_marker_of tx) one.item markers one.there
         (and_parts (same_tx one.item.tx tx) (same_key one.item.key key) one.is).0)
 
     by_record : (r : PendingRecord) → record_at start logs member key tx ≡ Some r → r.committed ≡ true

@@ -22,6 +22,7 @@ use Rattle.view_laws.proofs.fences.Ranks.{pasts_compare}
 use Rattle.view_laws.proofs.runs.AllSound.{have_orderly}
 use Rattle.view_laws.proofs.runs.ChosenViews.{one_view}
 use Rattle.view_laws.specs.Runs.{view_after}
+use Rattle.view_laws.proofs.eras.Deciders.{told_view}
 use Rattle.moment_laws.proofs.MomentMembers.{current_made}
 use Rattle.moment_laws.proofs.MomentTurns as turns
 use Rattle.moment_laws.proofs.MomentViews.{current_above, moment_installed, moment_less}
@@ -29,7 +30,6 @@ use Rattle.moment_laws.proofs.PartSteps.{step_do}
 use Rattle.moment_laws.specs.Moments.{IsMoment, current, logs_of}
 use Rattle.moment_laws.specs.Parts.{Enters, PartsDo, Takes, enters, leaves, settles, stays, takes}
 use Rattle.moment_laws.specs.Places.{ldm_of}
-use Rattle.epoch_laws.proofs.FallAll.{told_view}
 use Rattle.outcome_laws.proofs.order.EventsBefore.{IsUpTo, events_up_to, moment_before}
 use Rattle.request_laws.proofs.tokens.HostsApart.{ldm_low}
 use Rattle.closing_laws.proofs.settled.Cuts.{log_past}

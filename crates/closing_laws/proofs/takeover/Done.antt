@@ -52,11 +52,12 @@ use Rattle.request_laws.proofs.phases.Stands.{coordinators_stand}
 use Rattle.request_laws.proofs.routes.Entering.{own_full}
 use Rattle.request_laws.proofs.routes.Headers.{sent_so, takeover_fenced}
 use Rattle.request_laws.proofs.routes.PartSteps.{TcStep, takeover_is}
+use Rattle.request_laws.specs.Orphans.{IsOrphan}
 use Rattle.commit_laws.proofs.reported.Takeovers.{has_members}
 use Rattle.commit_laws.specs.Answered.{AllWereCommittedIn, IsAnswered}
 use Rattle.commit_laws.specs.Gathering.{EndsGathering}
 use Rattle.commit_laws.specs.Reported.{AreAttended, GatheringsList, IsListed, IsSaid, aborted, known, told}
-use Rattle.commit_laws.specs.Takeovers.{IsOrphan, takeover_at}
+use Rattle.commit_laws.specs.Takeovers.{takeover_at}
 use Rattle.commit_laws.specs.Together.{FatesMove, Follows}
 use Rattle.commit_laws.specs.Traces.{is_known}
 use Rattle.commit_laws.proofs.settled.All.{all_stand}

@@ -6,9 +6,9 @@ use Rattle.sig_core.specs.declared.member.TxId.{TxId}
 use Rattle.world_core.specs.Start.{Start, made}
 use Rattle.world_core.specs.Steps.{HostStep}
 use Rattle.moment_laws.specs.Moments.{IsMoment, current, logs_of}
+use Rattle.request_laws.specs.Orphans.{IsOrphan}
 use Rattle.commit_laws.specs.Commits.{IsDone}
 use Rattle.commit_laws.specs.Fates.{commits, fate}
-use Rattle.commit_laws.specs.Takeovers.{IsOrphan}
 use Rattle.closing_laws.specs.Closed.{IsOver}
 use Rattle.closing_laws.specs.Over.{OverLeavesNone}
 use Rattle.closing_laws.proofs.takeover.RowsStand.{over_stands}

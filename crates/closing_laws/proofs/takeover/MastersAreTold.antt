@@ -75,7 +75,7 @@ AreOver start logs =
 
 -- what was taken stays taken, and what a link gives is
 module _ (m : Machine HostStep Addressed) where
-  taken_more : (i : ℕ) (log : List HostStep) (e : HostStep) (y : Addressed) → IsIn y (taken m i log)
+  pub taken_more : (i : ℕ) (log : List HostStep) (e : HostStep) (y : Addressed) → IsIn y (taken m i log)
       → IsIn y (taken m i (e ∷ log))
   taken_more i log e y there = by (not (m.asked e) && (m.from (m.signal e) == i))
     where
@@ -83,7 +83,7 @@ module _ (m : Machine HostStep Addressed) where
       by true = inr there
       by false = there
 
-  taken_own : (i : ℕ) (log : List HostStep) (e : HostStep) → m.asked e ≡ false → m.from (m.signal e) ≡ i
+  pub taken_own : (i : ℕ) (log : List HostStep) (e : HostStep) → m.asked e ≡ false → m.from (m.signal e) ≡ i
       → IsIn (m.signal e) (taken m i (e ∷ log))
   taken_own i log e unasked from =
       by (m.asked e) (m.from (m.signal e) == i) unasked (eq-eqb (m.from (m.signal e)) i from)

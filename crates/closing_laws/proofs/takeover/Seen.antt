@@ -11,12 +11,12 @@ use Rattle.world_core.specs.Start.{Start}
 use Rattle.world_core.specs.Steps.{Addressed, HostStep}
 use Rattle.view_laws.specs.Order.{sound_machine}
 use Rattle.moment_laws.specs.Moments.{IsMoment, current, logs_of}
+use Rattle.request_laws.specs.Orphans.{IsOrphan}
 use Rattle.commit_laws.proofs.reported.Takeovers.{led_fate}
 use Rattle.commit_laws.specs.Answered.{AllWereCommittedIn, WasCommittedIn}
 use Rattle.commit_laws.specs.Commits.{ComesFromTheEnd, CommitsStand, HasWritten, IsDone}
 use Rattle.commit_laws.specs.Fates.{Fate, aborts, commits, fate, is_led_by_full, undetermined}
 use Rattle.commit_laws.specs.Going.{is_decided, is_forth, is_lost}
-use Rattle.commit_laws.specs.Takeovers.{IsOrphan}
 use Rattle.commit_laws.specs.Together.{FatesMove}
 use Rattle.commit_laws.specs.Traces.{IsCommittedAtAll, has_trace, is_known}
 use Rattle.commit_laws.proofs.answered.Stays.{committed_stays}

@@ -33,11 +33,11 @@ use Rattle.run_theory.specs.Counts.{one_if}
 use Rattle.run_laws.proofs.hosts.AlongSteps.{live_tx}
 use Rattle.host_laws.proofs.hosts.LinkCounts.{steps}
 use Rattle.answer_laws.proofs.Lives.{live_low}
-use Rattle.host_laws.proofs.api.Wishes.{is_tc, sends_of}
+use Rattle.host_laws.proofs.api.Wishes.{is_tc, second_fails, sends_of}
 use Rattle.answer_laws.specs.Answered.{EachIsAnswered, IsOpenAt}
 use Rattle.host_laws.specs.OpenedAfter.{opened_after, opened_in}
 use Rattle.command_laws.proofs.ends.AbortFirst.{IsAbortAsked, abort_first}
-use Rattle.command_laws.proofs.ends.AbortSteps.{IsLooseNow, LooseOption, is_more_to, is_roll_to, is_wrong, more_of}
+use Rattle.command_laws.proofs.ends.AbortSteps.{IsLooseNow, LooseOption, is_more_to, is_wrong, more_of}
 use Rattle.command_laws.proofs.ends.AbortSteps.{host_run, rolled, wrong_of}
 use Rattle.command_laws.proofs.ends.AbortTurns.{is_loose, is_requested}
 use Rattle.command_laws.proofs.hosts.ApiChanges.{outcome_in}
@@ -58,9 +58,10 @@ use Rattle.command_laws.proofs.ends.Reported.{OutcomeOf, ending_is}
 use Rattle.command_laws.proofs.quiet.Since.{none_taken, sent_since, arrives}
 use Rattle.host_laws.proofs.coordinator.Steps.{live_early}
 use Rattle.command_laws.proofs.operations.TellsSince.{OnTc}
-use Rattle.command_laws.proofs.hosts.Tests.{and_off, none_at}
+use Rattle.command_laws.proofs.hosts.Tests.{none_at}
 use Rattle.command_laws.specs.Aborts.{ReadyAbortsAreAnswered}
 use Rattle.command_laws.specs.Served.{IsServedBetween, named_in, replies_since}
+use Rattle.command_laws.proofs.operations.TellsOnce.{is_wish_back_to}
 
 -- an end that isn't wrong is an abort at the client's request
 pub ends_right : (tx : TxId) (body : Body) (end : Outcome) → outcome_in body ≡ Some (tx, end) → wrong_of tx body ≡ false
@@ -88,7 +89,7 @@ more_less : (tx : TxId) (to : Place) (body : Body)
     → one_if (is_more_to tx to body) ≤ one_if (is_wish_to tx to body) + one_if (is_push_to tx to body)
 more_less tx to (Client (TcKeyReq one op)) = omega arith
 more_less tx to (Client (TcCommitReq one)) = omega arith
-more_less tx to _ = omega (arith, ap one_if (and_off (is_tc to.block) refl))
+more_less tx to _ = omega (arith, ap one_if (second_fails (is_tc to.block) refl))
 
 fewer_sent : (tx : TxId) (sends : List Outgoing)
     → sends_of (is_more_to tx) sends ≤ sends_of (is_wish_to tx) sends + sends_of (is_push_to tx) sends
@@ -103,7 +104,7 @@ fewer_since start tx h (e ∷ newer) log =
     omega (arith, fewer_since start tx h newer log, fewer_sent tx (step_after start h (newer ++ log) e).effects.sends)
 
 more_request : (tx : TxId) (to : Place) (body : Body) → is_request body ≡ true → is_more_to tx to body ≡ false
-more_request tx to body is = and_off (is_tc to.block) (plain body is)
+more_request tx to body is = second_fails (is_tc to.block) (plain body is)
   where
     plain : (b : Body) → is_request b ≡ true → more_of tx b ≡ false
     plain (Client (TcKeyReq one op)) r = cc
@@ -111,7 +112,7 @@ more_request tx to body is = and_off (is_tc to.block) (plain body is)
     plain _ r = refl
 
 more_node : (tx : TxId) (to : Place) (body : Body) → is_node_kind body ≡ true → is_more_to tx to body ≡ false
-more_node tx to body e = and_off (is_tc to.block) (plain body e)
+more_node tx to body e = second_fails (is_tc to.block) (plain body e)
   where
     plain : (b : Body) → is_node_kind b ≡ true → more_of tx b ≡ false
     plain (Client (TcKeyReq one op)) k = cc
@@ -119,12 +120,12 @@ more_node tx to body e = and_off (is_tc to.block) (plain body e)
     plain _ k = refl
 
 -- where the wish came in one of these steps it was asked for
-was_rolled : (tx : TxId) (newer : List HostStep) → 1 ≤ steps (is_roll_to tx) newer → rolled tx newer ≡ true
+was_rolled : (tx : TxId) (newer : List HostStep) → 1 ≤ steps (is_wish_back_to tx) newer → rolled tx newer ≡ true
 was_rolled tx [] some = absurd (omega (arith, some))
-was_rolled tx (e ∷ newer) some = by (is_roll_to tx e.step.taken.to e.step.taken.body) refl (was_rolled tx newer)
+was_rolled tx (e ∷ newer) some = by (is_wish_back_to tx e.step.taken.to e.step.taken.body) refl (was_rolled tx newer)
   where
-    by : (b : Bool) → is_roll_to tx e.step.taken.to e.step.taken.body ≡ b
-        → (1 ≤ steps (is_roll_to tx) newer → rolled tx newer ≡ true) → (if b then true else rolled tx newer) ≡ true
+    by : (b : Bool) → is_wish_back_to tx e.step.taken.to e.step.taken.body ≡ b
+        → (1 ≤ steps (is_wish_back_to tx) newer → rolled tx newer ≡ true) → (if b then true else rolled tx newer) ≡ true
     by true is rest = refl
     by false is rest = rest (omega (arith, some, ap one_if is))
 
@@ -203,10 +204,11 @@ module _ (answered : EachIsAnswered) (start : Start) (was now : ℕ → List Hos
   rolls_arrive : rolled tx (cut (home start tx)).newer ≡ true
   rolls_arrive =
       was_rolled tx (cut (home start tx)).newer
-      (arrives start was now served.before served.since cut (is_roll_to tx) 0 (home start tx) (omega arith) home_low
+      (arrives start was now served.before served.since cut (is_wish_back_to tx) 0 (home start tx) (omega arith)
+      home_low
       (omega (
         arith,
-        sent_to_append start (is_roll_to tx) 0 (home start tx) f.later (f.first ∷ []) (was 0),
+        sent_to_append start (is_wish_back_to tx) 0 (home start tx) f.later (f.first ∷ []) (was 0),
         asked.rolls,
       )))
 

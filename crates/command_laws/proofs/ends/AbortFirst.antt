@@ -25,10 +25,11 @@ use Rattle.host_laws.proofs.api.Begins.{in_middle}
 use Rattle.host_laws.proofs.hosts.LinkCounts.{to_host}
 use Rattle.host_laws.proofs.coordinator.Sends.{eqb-self}
 use Rattle.host_laws.proofs.api.Wishes.{sends_of}
-use Rattle.command_laws.proofs.ends.AbortSteps.{is_more_to, is_roll_to}
+use Rattle.command_laws.proofs.ends.AbortSteps.{is_more_to}
 use Rattle.command_laws.proofs.hosts.Entries.{HasOne, IsNamed, named_found}
 use Rattle.command_laws.proofs.operations.Asks.{AreNamed}
 use Rattle.command_laws.specs.Served.{named_in}
+use Rattle.command_laws.proofs.operations.TellsOnce.{is_wish_back_to}
 
 -- the row where the name is found
 pub abort_found : (s : ApiState) (name : ℕ) (t : OpenTransaction) (tx : TxId) → t.tx ≡ Some tx
@@ -50,7 +51,7 @@ pub record IsAbortAsked (start : Start) (tx : TxId) (name : ℕ) (step : Step Ap
   pub has : HasOne tx (Some name) Ready step.state.opened
   pub named : AreNamed tx step.state.opened
   pub more : sends_of (is_more_to tx) step.effects.sends ≡ 0
-  pub rolls : 1 ≤ sends_of (to_host start (home start tx) (is_roll_to tx)) step.effects.sends
+  pub rolls : 1 ≤ sends_of (to_host start (home start tx) (is_wish_back_to tx)) step.effects.sends
 
 pub abort_first : (start : Start) (s : ApiState) (name : ℕ) (t : OpenTransaction) (tx : TxId)
     → named_in s.opened name ≡ Some t → t.doing ≡ Ready → t.tx ≡ Some tx → AreNamed tx s.opened
@@ -68,7 +69,7 @@ abort_first start s name t tx is ready own were = record {
   named = subst (AreNamed tx) (sym opened) were;
   more = ap (λ (step : Step ApiState). sends_of (is_more_to tx) step.effects.sends) now;
   rolls = subst
-      (λ (step : Step ApiState). 1 ≤ sends_of (to_host start (home start tx) (is_roll_to tx)) step.effects.sends)
+      (λ (step : Step ApiState). 1 ≤ sends_of (to_host start (home start tx) (is_wish_back_to tx)) step.effects.sends)
       (sym now) (counts (home start tx == home start tx) (same_tx tx tx) (eqb-self (home start tx)) (same_tx-self tx));
 }
   where

@@ -42,6 +42,7 @@ use Rattle.command_laws.proofs.hosts.BlockSteps.{tc_host}
 use Rattle.command_laws.proofs.quiet.Since.{sent_since}
 use Rattle.command_laws.proofs.hosts.TcPath.{IsSound, TcGoes, aside, begins, is_told, takes, tc_goes, told_of}
 use Rattle.command_laws.proofs.operations.TellsSince.{OnTc}
+use Rattle.command_laws.proofs.operations.TellsOnce.{is_wish_back_to, wish_back_of}
 
 -- an operation of the transaction, or the wish for its commit
 abbrev pub more_of : TxId → Body → Bool
@@ -51,14 +52,6 @@ more_of tx _ = false
 
 abbrev pub is_more_to : TxId → Place → Body → Bool
 is_more_to tx to body = is_tc to.block && more_of tx body
-
--- the wish for its abort
-abbrev pub roll_of : TxId → Body → Bool
-roll_of tx (Client (TcRollbackReq other)) = same_tx other tx
-roll_of tx _ = false
-
-abbrev pub is_roll_to : TxId → Place → Body → Bool
-is_roll_to tx to body = is_tc to.block && roll_of tx body
 
 -- the report of another end than an abort at the client's request
 abbrev pub wrong_of : TxId → Body → Bool
@@ -109,15 +102,15 @@ module _ (tx : TxId) where
       absurd (let both : false ≡ true = sym off ∙ (ap (λ v. same_tx v tx) same ∙ same_tx-self tx) in cc)
   more_kind _ off same = refl
 
-  pub roll_same : (body : Body) → tx_in body ≡ tx → is_roll body ≡ roll_of tx body
+  pub roll_same : (body : Body) → tx_in body ≡ tx → is_roll body ≡ wish_back_of tx body
   roll_same (Client (TcRollbackReq other)) same = sym (ap (λ v. same_tx v tx) same ∙ same_tx-self tx)
   roll_same _ same = refl
 
-  roll_in : (body : Body) → roll_of tx body ≡ true → tx_in body ≡ tx
+  roll_in : (body : Body) → wish_back_of tx body ≡ true → tx_in body ≡ tx
   roll_in (Client (TcRollbackReq other)) e = same_tx-is other tx e
   roll_in _ e = cc
 
-  roll_turn : (body : Body) → roll_of tx body ≡ true → is_turn body ≡ true
+  roll_turn : (body : Body) → wish_back_of tx body ≡ true → is_turn body ≡ true
   roll_turn (Client (TcRollbackReq other)) e = refl
   roll_turn _ e = cc
 
@@ -133,7 +126,7 @@ module _ (tx : TxId) where
     step = tc_table s body
 
     abbrev then_c : Bool
-    then_c = if roll_of tx body then true else c
+    then_c = if wish_back_of tx body then true else c
 
     at_turn : (t : Transaction) → tx_in body ≡ tx → of_live tx s.live ≡ Some t
         → step.effects.sends ≡ (turn_row s body t).step.effects.sends
@@ -181,9 +174,9 @@ module _ (tx : TxId) where
       silent = none_wrong step.effects.sends none;
       loose = λ at. absurd (omega (arith, (was at).early, number));
     }
-    loose_goes (aside same none more absent) = by (roll_of tx body) refl
+    loose_goes (aside same none more absent) = by (wish_back_of tx body) refl
       where
-        by : (b : Bool) → roll_of tx body ≡ b → LooseStep Home then_c step.state step.effects.sends
+        by : (b : Bool) → wish_back_of tx body ≡ b → LooseStep Home then_c step.state step.effects.sends
         by false off = record {
           silent = none_wrong step.effects.sends none;
           loose = λ at. let old = was at in
@@ -205,21 +198,21 @@ module _ (tx : TxId) where
 
   host_loose : (c : Bool) (g : Host) (x : Signal) → IsSound tx (tc_of g) → is_more_to tx x.to x.body ≡ false
       → (Home : Type 0) → ((t : Transaction) → of_live tx (tc_of g).live ≡ Some t → Home)
-      → (Home → IsLooseNow tx c (tc_of g)) → LooseStep Home (if is_roll_to tx x.to x.body then true else c)
+      → (Home → IsLooseNow tx c (tc_of g)) → LooseStep Home (if is_wish_back_to tx x.to x.body then true else c)
       (tc_of (row g x).state) (row g x).effects.sends
   host_loose c g x sound plain Home home_of was =
       tc_host (λ (step : Step TcState). LooseStep Home
-      (if is_roll_to tx x.to x.body then true else c) step.state step.effects.sends) g x
-      (λ runs at. subst (λ of. LooseStep Home (if is_tc of && roll_of tx x.body then true else c)
+      (if is_wish_back_to tx x.to x.body then true else c) step.state step.effects.sends) g x
+      (λ runs at. subst (λ of. LooseStep Home (if is_tc of && wish_back_of tx x.body then true else c)
       (tc_row (tc_of g) x).state (tc_row (tc_of g) x).effects.sends) (sym at)
       (loose_goes c (tc_of g) x.body sound (ap (λ of. is_tc of && more_of tx x.body) (sym at) ∙ plain) Home home_of was
       (tc_goes tx (tc_of g) x.body sound)))
       (λ effects none off. record {
         silent = none (is_wrong tx) wrong_tc;
-        loose = λ at. by x.to.block (is_roll_to tx x.to x.body) refl off (was at);
+        loose = λ at. by x.to.block (is_wish_back_to tx x.to x.body) refl off (was at);
       })
     where
-      by : (of : BlockId) (b : Bool) → (is_tc of && roll_of tx x.body) ≡ b → (of ≡ block.Tc → has_tc g ≡ false)
+      by : (of : BlockId) (b : Bool) → (is_tc of && wish_back_of tx x.body) ≡ b → (of ≡ block.Tc → has_tc g ≡ false)
           → IsLooseNow tx c (tc_of g) → IsLooseNow tx (if b then true else c) (tc_of g)
       by block.Tc true is off old =
           record {
@@ -232,7 +225,7 @@ module _ (tx : TxId) where
   -- the abort was asked for in one of these steps
   abbrev pub rolled : List HostStep → Bool
   rolled [] = false
-  rolled (e ∷ newer) = if is_roll_to tx e.step.taken.to e.step.taken.body then true else rolled newer
+  rolled (e ∷ newer) = if is_wish_back_to tx e.step.taken.to e.step.taken.body then true else rolled newer
 
   module _ (start : Start) (h : ℕ) (low : h < hosts start) where
     record HostRun (newer log : List HostStep) : Type 0 where

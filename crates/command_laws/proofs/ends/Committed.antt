@@ -22,7 +22,7 @@ use Rattle.world_core.specs.Start.{Start}
 use Rattle.world_core.specs.Steps.{HostStep}
 use Rattle.host_laws.proofs.api.Begins.{in_middle}
 use Rattle.answer_laws.proofs.Begins.{no_begin}
-use Rattle.host_laws.proofs.api.Wishes.{is_tc, sends_of}
+use Rattle.host_laws.proofs.api.Wishes.{is_tc, second_fails, sends_of}
 use Rattle.answer_laws.specs.Answered.{AreQuiet, EachIsAnswered, IsOpenAt, is_answered_by}
 use Rattle.host_laws.specs.OpenedAfter.{opened_after, opened_in}
 use Rattle.command_laws.proofs.ends.CommitFirst.{IsAsked, commit_first}
@@ -35,7 +35,7 @@ use Rattle.command_laws.proofs.hosts.BlockSteps.{api_seen}
 use Rattle.command_laws.proofs.hosts.Pushes.{calm_since, node_pushes}
 use Rattle.command_laws.proofs.ends.Reported.{reported}
 use Rattle.command_laws.proofs.quiet.Since.{none_taken, sent_since}
-use Rattle.command_laws.proofs.hosts.Tests.{and_off, none_at}
+use Rattle.command_laws.proofs.hosts.Tests.{none_at}
 use Rattle.command_laws.specs.Served.{CommitsAreCommitted, IsServedBetween, IsToldCommitted, named_in}
 
 -- at quiet no transaction is beginning
@@ -53,7 +53,7 @@ cut_at_first was now later first is cut zero = record {
 cut_at_first was now later first is cut (suc h) = cut (suc h)
 
 request_pushes_none : (tx : TxId) (to : Place) (body : Body) → is_request body ≡ true → is_push_to tx to body ≡ false
-request_pushes_none tx to body is = and_off (is_tc to.block) (plain body is)
+request_pushes_none tx to body is = second_fails (is_tc to.block) (plain body is)
   where
     plain : (b : Body) → is_request b ≡ true → push_of tx b ≡ false
     plain (Client (TcKeyReq one op)) r = cc

@@ -25,7 +25,7 @@ use Rattle.world_core.specs.Hosts.{home}
 use Rattle.world_core.specs.Machine.{after}
 use Rattle.world_core.specs.Start.{Start}
 use Rattle.world_core.specs.Steps.{HostStep}
-use Rattle.host_laws.proofs.api.Wishes.{is_tc}
+use Rattle.host_laws.proofs.api.Wishes.{is_tc, second_fails}
 use Rattle.command_laws.proofs.hosts.ApiChanges.{outcome_in}
 use Rattle.command_laws.proofs.ends.Committed.{cut_at_first}
 use Rattle.command_laws.proofs.operations.EarlyRun.{no_bad}
@@ -37,12 +37,12 @@ use Rattle.command_laws.proofs.hosts.Pushes.{node_since}
 use Rattle.command_laws.proofs.ends.Reported.{OutcomeOf, ending_is}
 use Rattle.command_laws.proofs.quiet.Since.{none_taken, sent_since}
 use Rattle.command_laws.proofs.operations.TellsSince.{OnTc}
-use Rattle.command_laws.proofs.hosts.Tests.{and_off, none_at}
+use Rattle.command_laws.proofs.hosts.Tests.{none_at}
 use Rattle.command_laws.proofs.hosts.Told.{told_since}
 use Rattle.command_laws.specs.Served.{IsServedBetween, is_refusal, replies_since}
 
 request_plain_wish : (tx : TxId) (to : Place) (body : Body) → is_request body ≡ true → is_wish_to tx to body ≡ false
-request_plain_wish tx to body is = and_off (is_tc to.block) (plain body is)
+request_plain_wish tx to body is = second_fails (is_tc to.block) (plain body is)
   where
     plain : (b : Body) → is_request b ≡ true → wish_of tx b ≡ false
     plain (Client (TcCommitReq one)) r = cc

@@ -34,7 +34,7 @@ use Rattle.host_laws.proofs.hosts.SendKinds.{none_of}
 use Rattle.host_laws.proofs.coordinator.Moves.{same_tx-is}
 use Rattle.host_laws.proofs.api.Wishes.{is_tc, sends_of}
 use Rattle.run_laws.proofs.hosts.AlongSteps.{first_none}
-use Rattle.command_laws.proofs.ends.AbortSteps.{is_roll_to, roll_of, roll_same}
+use Rattle.command_laws.proofs.ends.AbortSteps.{roll_same}
 use Rattle.command_laws.proofs.ends.AbortTurns.{is_loose, is_requested}
 use Rattle.command_laws.proofs.hosts.BlockSteps.{tc_host}
 use Rattle.command_laws.proofs.quiet.Homes.{sound_at}
@@ -43,6 +43,7 @@ use Rattle.command_laws.proofs.ends.RolledTurns.{IsWished, StaysRolled, is_meek,
 use Rattle.command_laws.proofs.quiet.Since.{sent_since}
 use Rattle.command_laws.proofs.hosts.TcPath.{IsSound, TcGoes, aside, begins, is_told, takes, tc_goes, told_of}
 use Rattle.command_laws.proofs.operations.TellsSince.{OnTc}
+use Rattle.command_laws.proofs.operations.TellsOnce.{is_wish_back_to, wish_back_of}
 
 -- an answer, or the report of another end than an abort at the client's request
 abbrev pub stray_of : TxId → Body → Bool
@@ -94,7 +95,7 @@ module _ (tx : TxId) where
       by true told rest = absurd (omega (arith, none, ap one_if told))
       by false told rest = omega (arith, rest, ap one_if (told_right x.body told))
 
-  roll_in : (body : Body) → roll_of tx body ≡ true → (is_turn body ≡ true) × (tx_in body ≡ tx)
+  roll_in : (body : Body) → wish_back_of tx body ≡ true → (is_turn body ≡ true) × (tx_in body ≡ tx)
   roll_in (Client (TcRollbackReq other)) e = (refl, same_tx-is other tx e)
   roll_in _ e = cc
 
@@ -103,44 +104,45 @@ module _ (tx : TxId) where
     pub silent : sends_of (is_stray tx) sends ≡ 0
     pub rolled : IsRolledNow tx true s
 
-  module _ (s : TcState) (body : Body) (sound : IsSound tx s) (was : IsRolledNow tx (not (roll_of tx body)) s) where
-    abbrev step : Step TcState
-    step = tc_table s body
+  module _ (s : TcState) (body : Body) (sound : IsSound tx s) (was : IsRolledNow tx (not (wish_back_of tx body)) s)
+    where
+      abbrev step : Step TcState
+      step = tc_table s body
 
-    goes_rolled : TcGoes tx s body step → RolledStep step.state step.effects.sends
-    goes_rolled (takes t same live sends left more) = record {
-      silent = ap (sends_of (is_stray tx)) sends
-          ∙ none_of is_meek (is_stray tx) meek_right (turn_row s body t).step.effects.sends q.sends;
-      rolled = record {
-        rolled = subst (RolledOption true) (sym left) (by (turn_row s body t).over refl);
-        early = omega (arith, was.early, more);
-      };
-    }
-      where
-        fine : is_loose (not (roll_of tx body)) t.phase ≡ true
-        fine = subst (RolledOption (not (roll_of tx body))) live was.rolled
+      goes_rolled : TcGoes tx s body step → RolledStep step.state step.effects.sends
+      goes_rolled (takes t same live sends left more) = record {
+        silent = ap (sends_of (is_stray tx)) sends
+            ∙ none_of is_meek (is_stray tx) meek_right (turn_row s body t).step.effects.sends q.sends;
+        rolled = record {
+          rolled = subst (RolledOption true) (sym left) (by (turn_row s body t).over refl);
+          early = omega (arith, was.early, more);
+        };
+      }
+        where
+          fine : is_loose (not (wish_back_of tx body)) t.phase ≡ true
+          fine = subst (RolledOption (not (wish_back_of tx body))) live was.rolled
 
-        q : StaysRolled (turn_row s body t)
-        q = rolled_turn s body t (ap (λ r. is_loose (not r) t.phase) (roll_same tx body same) ∙ fine)
+          q : StaysRolled (turn_row s body t)
+          q = rolled_turn s body t (ap (λ r. is_loose (not r) t.phase) (roll_same tx body same) ∙ fine)
 
-        by : (b : Bool) → (turn_row s body t).over ≡ b
-            → RolledOption true (if b then None else Some (turn_row s body t).step.state)
-        by true over = tt
-        by false over = q.phase over
-    goes_rolled (begins number now none more) = absurd (omega (arith, was.early, number))
-    goes_rolled (aside same none more absent) = record {
-      silent = none_stray step.effects.sends none;
-      rolled = record {
-        rolled = subst (RolledOption true) (sym same) (by (roll_of tx body) refl);
-        early = omega (arith, was.early, more);
-      };
-    }
-      where
-        by : (b : Bool) → roll_of tx body ≡ b → RolledOption true (of_live tx s.live)
-        by false off = subst (λ r. RolledOption (not r) (of_live tx s.live)) off was.rolled
-        by true on =
-            let r = roll_in body on in
-            subst (RolledOption true) (sym (absent r.0 r.1)) tt
+          by : (b : Bool) → (turn_row s body t).over ≡ b
+              → RolledOption true (if b then None else Some (turn_row s body t).step.state)
+          by true over = tt
+          by false over = q.phase over
+      goes_rolled (begins number now none more) = absurd (omega (arith, was.early, number))
+      goes_rolled (aside same none more absent) = record {
+        silent = none_stray step.effects.sends none;
+        rolled = record {
+          rolled = subst (RolledOption true) (sym same) (by (wish_back_of tx body) refl);
+          early = omega (arith, was.early, more);
+        };
+      }
+        where
+          by : (b : Bool) → wish_back_of tx body ≡ b → RolledOption true (of_live tx s.live)
+          by false off = subst (λ r. RolledOption (not r) (of_live tx s.live)) off was.rolled
+          by true on =
+              let r = roll_in body on in
+              subst (RolledOption true) (sym (absent r.0 r.1)) tt
 
   stray_tc : IsOfTc (is_stray tx)
   stray_tc = record { others = others; begins = λ name node. refl }
@@ -152,19 +154,19 @@ module _ (tx : TxId) where
       others to _ e = refl
 
   host_rolled : (g : Host) (x : Signal) → IsSound tx (tc_of g)
-      → IsRolledNow tx (not (is_roll_to tx x.to x.body)) (tc_of g)
+      → IsRolledNow tx (not (is_wish_back_to tx x.to x.body)) (tc_of g)
       → RolledStep (tc_of (row g x).state) (row g x).effects.sends
   host_rolled g x sound was =
       tc_host (λ (step : Step TcState). RolledStep step.state step.effects.sends) g x
       (λ runs at. goes_rolled (tc_of g) x.body sound
-      (subst (λ of. IsRolledNow tx (not (is_tc of && roll_of tx x.body)) (tc_of g)) at was)
+      (subst (λ of. IsRolledNow tx (not (is_tc of && wish_back_of tx x.body)) (tc_of g)) at was)
       (tc_goes tx (tc_of g) x.body sound))
       (λ effects none off. record {
         silent = none (is_stray tx) stray_tc;
-        rolled = by x.to.block (is_roll_to tx x.to x.body) refl off was;
+        rolled = by x.to.block (is_wish_back_to tx x.to x.body) refl off was;
       })
     where
-      by : (of : BlockId) (b : Bool) → (is_tc of && roll_of tx x.body) ≡ b → (of ≡ block.Tc → has_tc g ≡ false)
+      by : (of : BlockId) (b : Bool) → (is_tc of && wish_back_of tx x.body) ≡ b → (of ≡ block.Tc → has_tc g ≡ false)
           → IsRolledNow tx (not b) (tc_of g) → IsRolledNow tx true (tc_of g)
       by block.Tc true is off old =
           record {
@@ -190,7 +192,7 @@ module _ (tx : TxId) where
 
   -- from the step on that takes the wish for the abort
   pub rolled_since : (start : Start) (h : ℕ) (newer log : List HostStep) (e : HostStep)
-      → is_roll_to tx e.step.taken.to e.step.taken.body ≡ true → OnTc (IsRolledNow tx false) (after start h log)
+      → is_wish_back_to tx e.step.taken.to e.step.taken.body ≡ true → OnTc (IsRolledNow tx false) (after start h log)
       → (sent_since start (is_stray tx) h (newer ++ e ∷ []) log ≡ 0)
       × OnTc (IsRolledNow tx true) (after start h (newer ++ e ∷ log))
   rolled_since start h [] log e roll was =
@@ -209,7 +211,8 @@ module _ (tx : TxId) where
           × OnTc (IsRolledNow tx true) (after start h ((x ∷ newer) ++ e ∷ log))
       next before =
           let r = host_rolled (after start h (newer ++ e ∷ log)) x.step.taken (sound_at start tx h (newer ++ e ∷ log))
-          (weaker_now (not (is_roll_to tx x.step.taken.to x.step.taken.body)) (tc_of (after start h (newer ++ e ∷ log)))
+          (weaker_now (not (is_wish_back_to tx x.step.taken.to x.step.taken.body))
+          (tc_of (after start h (newer ++ e ∷ log)))
           before.1) in (
             omega (
               arith,

@@ -33,7 +33,7 @@ use Rattle.host_laws.proofs.rows.Operations.{left_of}
 use Rattle.host_laws.proofs.rows.Sends.{lqh_kinds}
 use Rattle.host_laws.proofs.hosts.SendKinds.{are_of, is_dih_kind, is_lqh_kind, is_tc_kind, none_of, of_kind}
 use Rattle.host_laws.proofs.coordinator.Sends.{tc_only}
-use Rattle.host_laws.proofs.api.Wishes.{is_tc, sends_of}
+use Rattle.host_laws.proofs.api.Wishes.{is_tc, second_fails, sends_of}
 use Rattle.host_laws.specs.OpenedAfter.{opened_in}
 use Rattle.command_laws.proofs.hosts.ApiChanges.{ApiChange, answers, api_changes, commits, ends, is_news_kind, refuses}
 use Rattle.command_laws.proofs.hosts.ApiChanges.{rests, starts, waits}
@@ -42,7 +42,6 @@ use Rattle.command_laws.proofs.ends.FirmHosts.{is_push_to, push_of}
 use Rattle.command_laws.proofs.hosts.HostKinds.{node_runs_none}
 use Rattle.command_laws.proofs.hosts.BlockSteps.{api_host}
 use Rattle.command_laws.proofs.quiet.Since.{sent_since}
-use Rattle.command_laws.proofs.hosts.Tests.{and_off}
 
 -- all but what the API asks coordinators for
 abbrev pub is_node_kind : Body → Bool
@@ -108,7 +107,7 @@ node_since start test fails h (e ∷ newer) log =
 no_push_node : (tx : TxId) (to : Place) (body : Body) → is_node_kind body ≡ true → is_push_to tx to body ≡ false
 no_push_node tx to (Client (TcKeyReq one op)) e = cc
 no_push_node tx to (Client (TcRollbackReq one)) e = cc
-no_push_node tx to body e = and_off (is_tc to.block) (plain body e)
+no_push_node tx to body e = second_fails (is_tc to.block) (plain body e)
   where
     plain : (b : Body) → is_node_kind b ≡ true → push_of tx b ≡ false
     plain (Client (TcKeyReq one op)) k = cc
@@ -121,7 +120,7 @@ node_pushes start tx h newer log = node_since start (is_push_to tx) (no_push_nod
 
 module _ (tx : TxId) where
   no_push_news : (to : Place) (body : Body) → is_news_kind body ≡ true → is_push_to tx to body ≡ false
-  no_push_news to body e = and_off (is_tc to.block) (plain body e)
+  no_push_news to body e = second_fails (is_tc to.block) (plain body e)
     where
       plain : (b : Body) → is_news_kind b ≡ true → push_of tx b ≡ false
       plain (Client (TcKeyReq one op)) k = cc

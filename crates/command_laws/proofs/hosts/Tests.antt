@@ -1,14 +1,9 @@
 -- Tests put together.
 use Rattle.std.proofs.Common.{◌≡◌, Bool, true, false, refl}
-use Rattle.std.specs.Prelude.{◌&&◌}
 use Rattle.sig_core.specs.declared.place.Place.{Place}
 use Rattle.sig_core.specs.declared.signal.Body.{Body}
 use Rattle.node_core.specs.Requests.{is_request}
 use Rattle.world_core.specs.Steps.{HostStep}
-
-pub and_off : (a : Bool) {b : Bool} → b ≡ false → (a && b) ≡ false
-and_off true p = p
-and_off false p = refl
 
 -- a test that no request passes, and no signal of this step, isn't passed there
 pub none_at : (test : Place → Body → Bool)

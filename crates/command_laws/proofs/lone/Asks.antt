@@ -45,7 +45,7 @@ use Rattle.host_laws.proofs.hosts.SendKinds.{are_of, none_of}
 use Rattle.host_laws.proofs.coordinator.Keys.{is_key, key_of_tx}
 use Rattle.host_laws.proofs.coordinator.Lives.{is_start, start_of}
 use Rattle.host_laws.proofs.coordinator.Moves.{same_tx-is}
-use Rattle.host_laws.proofs.api.Wishes.{is_api, is_tc, sends_of}
+use Rattle.host_laws.proofs.api.Wishes.{is_api, is_tc, second_fails, sends_of}
 use Rattle.host_laws.specs.OpenedAfter.{opened_in}
 use Rattle.command_laws.proofs.hosts.ApiChanges.{ApiChange, GoesOnAs, alone, answers, api_changes, commits, ends, idle}
 use Rattle.command_laws.proofs.hosts.ApiChanges.{is_news_kind, is_row_reply, refuses, rests, starts, told, waits}
@@ -54,7 +54,6 @@ use Rattle.host_laws.proofs.hosts.BlocksAlong.{replies_are}
 use Rattle.command_laws.proofs.hosts.BlockSteps.{api_host}
 use Rattle.command_laws.proofs.quiet.Since.{sent_since}
 use Rattle.command_laws.proofs.operations.TellsOnce.{is_wish_back_to, wish_back_of}
-use Rattle.command_laws.proofs.hosts.Tests.{and_off}
 
 -- the answer of an operation alone
 abbrev pub is_lone : ApiReply → Bool
@@ -204,7 +203,7 @@ lone_since start (e ∷ later) log plain = by (lone_since start later log plain.
 module _ (tx : TxId) where
   none_news : (to : Place) (body : Body) → is_news_kind body ≡ true
       → (is_wish_back_to tx to body ≡ false) × (is_key tx to body ≡ false)
-  none_news to body e = (and_off (is_tc to.block) (wish body e), and_off (is_tc to.block) (key body e))
+  none_news to body e = (second_fails (is_tc to.block) (wish body e), second_fails (is_tc to.block) (key body e))
     where
       wish : (b : Body) → is_news_kind b ≡ true → wish_back_of tx b ≡ false
       wish (Client (TcRollbackReq one)) k = cc

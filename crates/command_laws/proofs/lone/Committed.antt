@@ -39,7 +39,7 @@ use Rattle.host_laws.proofs.rows.Operations.{right_of}
 use Rattle.run_theory.proofs.Tally.{tally_append, tally_in}
 use Rattle.host_laws.proofs.coordinator.Keys.{answer_of, is_asked, is_key, key_of_tx}
 use Rattle.host_laws.proofs.coordinator.Lives.{is_keyed, is_start}
-use Rattle.host_laws.proofs.api.Wishes.{is_api, is_tc}
+use Rattle.host_laws.proofs.api.Wishes.{is_api, is_tc, second_fails}
 use Rattle.run_theory.specs.Counts.{tally}
 use Rattle.host_laws.specs.OpenedAfter.{opened_after, opened_in}
 use Rattle.answer_laws.proofs.Lives.{once_started}
@@ -58,7 +58,7 @@ use Rattle.command_laws.proofs.ends.Reported.{reported}
 use Rattle.command_laws.proofs.quiet.Since.{few_taken, front_nil, none_taken, sent_since, taken_since, taken_is}
 use Rattle.command_laws.proofs.operations.TellsOnce.{IsOneOfThree, is_wish_back_to, wish_back_of}
 use Rattle.command_laws.proofs.operations.TellsSince.{away_since, shell_since, since_none, tells_since}
-use Rattle.command_laws.proofs.hosts.Tests.{and_off, none_at}
+use Rattle.command_laws.proofs.hosts.Tests.{none_at}
 use Rattle.command_laws.proofs.operations.TurnTells.{is_reply}
 use Rattle.command_laws.specs.Served.{IsAnsweredAlone, IsCommittedAlone, IsServedBetween, LoneAreCommitted}
 
@@ -70,14 +70,14 @@ request_plain_key tx to body is = plain body (right_of (is_tc to.block) (key_of_
     plain _ e = cc
 
 no_key_node : (tx : TxId) (to : Place) (body : Body) → is_node_kind body ≡ true → is_key tx to body ≡ false
-no_key_node tx to body e = and_off (is_tc to.block) (plain body e)
+no_key_node tx to body e = second_fails (is_tc to.block) (plain body e)
   where
     plain : (b : Body) → is_node_kind b ≡ true → key_of_tx tx b ≡ false
     plain (Client (TcKeyReq one op)) k = cc
     plain _ k = refl
 
 no_wish_node : (tx : TxId) (to : Place) (body : Body) → is_node_kind body ≡ true → is_wish_back_to tx to body ≡ false
-no_wish_node tx to body e = and_off (is_tc to.block) (plain body e)
+no_wish_node tx to body e = second_fails (is_tc to.block) (plain body e)
   where
     plain : (b : Body) → is_node_kind b ≡ true → wish_back_of tx b ≡ false
     plain (Client (TcRollbackReq one)) k = cc
@@ -85,7 +85,7 @@ no_wish_node tx to body e = and_off (is_tc to.block) (plain body e)
 
 request_plain_wish : (tx : TxId) (to : Place) (body : Body) → is_request body ≡ true
     → is_wish_back_to tx to body ≡ false
-request_plain_wish tx to body is = and_off (is_tc to.block) (plain body is)
+request_plain_wish tx to body is = second_fails (is_tc to.block) (plain body is)
   where
     plain : (b : Body) → is_request b ≡ true → wish_back_of tx b ≡ false
     plain (Client (TcRollbackReq one)) r = cc

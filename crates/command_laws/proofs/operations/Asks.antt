@@ -36,7 +36,7 @@ use Rattle.host_laws.proofs.api.Begins.{each_at, each_changed, each_less, in_mid
 use Rattle.host_laws.proofs.rows.Operations.{left_of}
 use Rattle.host_laws.proofs.hosts.SendKinds.{none_of}
 use Rattle.host_laws.proofs.coordinator.Moves.{same_tx-is}
-use Rattle.host_laws.proofs.api.Wishes.{is_tc, sends_of}
+use Rattle.host_laws.proofs.api.Wishes.{is_tc, second_fails, sends_of}
 use Rattle.run_theory.specs.Counts.{one_if}
 use Rattle.host_laws.specs.OpenedAfter.{opened_in}
 use Rattle.command_laws.proofs.hosts.ApiChanges.{ApiChange, IsOneOf, answers, api_changes, commits, ends, is_news_kind}
@@ -46,7 +46,6 @@ use Rattle.command_laws.proofs.hosts.Entries.{HasOne, IsNamed, NoneBegins, named
 use Rattle.command_laws.proofs.hosts.BlockSteps.{api_host}
 use Rattle.command_laws.proofs.hosts.Pushes.{change_calm, is_node_kind}
 use Rattle.command_laws.proofs.quiet.Since.{sent_since}
-use Rattle.command_laws.proofs.hosts.Tests.{and_off}
 use Rattle.command_laws.specs.Served.{named_in}
 
 module _ (tx : TxId) where
@@ -60,7 +59,7 @@ module _ (tx : TxId) where
     pub named : Each HasName opened
 
   pub no_wish_news : (to : Place) (body : Body) → is_news_kind body ≡ true → is_wish_to tx to body ≡ false
-  no_wish_news to body e = and_off (is_tc to.block) (plain body e)
+  no_wish_news to body e = second_fails (is_tc to.block) (plain body e)
     where
       plain : (b : Body) → is_news_kind b ≡ true → wish_of tx b ≡ false
       plain (Client (TcCommitReq one)) k = cc
@@ -68,7 +67,7 @@ module _ (tx : TxId) where
       plain _ k = refl
 
   pub no_wish_node : (to : Place) (body : Body) → is_node_kind body ≡ true → is_wish_to tx to body ≡ false
-  no_wish_node to body e = and_off (is_tc to.block) (plain body e)
+  no_wish_node to body e = second_fails (is_tc to.block) (plain body e)
     where
       plain : (b : Body) → is_node_kind b ≡ true → wish_of tx b ≡ false
       plain (Client (TcCommitReq one)) k = cc

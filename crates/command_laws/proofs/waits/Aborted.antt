@@ -49,7 +49,7 @@ use Rattle.run_laws.proofs.hosts.AlongSteps.{live_tx}
 use Rattle.answer_laws.proofs.Lives.{live_low}
 use Rattle.command_laws.proofs.ends.AbortAnswered.{ends_right}
 use Rattle.command_laws.proofs.ends.AbortFirst.{abort_found}
-use Rattle.command_laws.proofs.ends.AbortSteps.{is_roll_to, wrong_of}
+use Rattle.command_laws.proofs.ends.AbortSteps.{wrong_of}
 use Rattle.command_laws.proofs.ends.AbortTurns.{is_loose}
 use Rattle.command_laws.proofs.hosts.BlockSteps.{api_seen}
 use Rattle.command_laws.proofs.ends.Committed.{cut_at_first}
@@ -68,6 +68,7 @@ use Rattle.command_laws.proofs.quiet.Since.{none_taken, sent_since}
 use Rattle.command_laws.proofs.operations.TellsSince.{OnTc, away_since}
 use Rattle.command_laws.specs.Aborts.{HasOperation, IsAbortHeard, WaitingAbortsAreHeard}
 use Rattle.command_laws.specs.Served.{IsHeldUp, IsServedBetween, replies_since}
+use Rattle.command_laws.proofs.operations.TellsOnce.{is_wish_back_to}
 
 stray_wrong : (tx : TxId) (body : Body) → stray_of tx body ≡ false → wrong_of tx body ≡ false
 stray_wrong tx (Client (TcCommitConf other epoch)) e = e
@@ -151,10 +152,10 @@ module _ (start : Start) (was now : ℕ → List HostStep) (request : ApiReq) (c
       (sym (cut (home start tx)).is ∙ home_log
       ∙ sym (append_assoc taken_so.newer (taken_so.step ∷ []) (was (home start tx))))
 
-  is_roll_taken : is_roll_to tx taken_so.step.step.taken.to taken_so.step.step.taken.body ≡ true
+  is_roll_taken : is_wish_back_to tx taken_so.step.step.taken.to taken_so.step.step.taken.body ≡ true
   is_roll_taken =
-      subst (λ to. is_roll_to tx to taken_so.step.step.taken.body ≡ true) (sym taken_so.to)
-      (subst (λ body. is_roll_to tx (coordinator_of tx) body ≡ true) (sym taken_so.body) (same_tx-self tx))
+      subst (λ to. is_wish_back_to tx to taken_so.step.step.taken.body ≡ true) (sym taken_so.to)
+      (subst (λ body. is_wish_back_to tx (coordinator_of tx) body ≡ true) (sym taken_so.body) (same_tx-self tx))
 
   rolled_was : OnTc (IsRolledNow tx false) (after start (home start tx) (was (home start tx)))
   rolled_was =

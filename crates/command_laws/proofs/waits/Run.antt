@@ -45,7 +45,8 @@ use Rattle.command_laws.proofs.waits.Hosts.{NodeHolds, ShellHolds, node_next, no
 use Rattle.command_laws.proofs.waits.Rows.{is_other, is_wait_of}
 use Rattle.command_laws.specs.Served.{IsHeldUpAt}
 
-is_asked_in : (body : Body) → is_request body ≡ true → length (option_to_list (request_in body)) ≡ 1
+-- of a request one is asked
+pub is_asked_in : (body : Body) → is_request body ≡ true → length (option_to_list (request_in body)) ≡ 1
 is_asked_in (Host (Continue (Request request) at)) e = refl
 is_asked_in _ e = cc
 

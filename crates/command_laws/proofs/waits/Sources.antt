@@ -46,6 +46,7 @@ use Rattle.host_laws.proofs.hosts.SendKinds.{are_of, is_dih_kind, is_lqh_kind, i
 use Rattle.host_laws.proofs.coordinator.Moves.{same_tx-is}
 use Rattle.host_laws.proofs.coordinator.Sends.{tc_kinds}
 use Rattle.host_laws.proofs.api.Wishes.{is_api, is_tc, sends_of}
+use Rattle.host_laws.proofs.coordinator.Turns.{is_wait_kind}
 use Rattle.answer_laws.specs.Answered.{AreQuiet}
 use Rattle.command_laws.proofs.hosts.HostSends.{IsNotOfApi, IsOfTc, api_silent, is_other_kind, not_of_api, not_of_dih}
 use Rattle.command_laws.proofs.hosts.HostSends.{not_of_lqh}
@@ -97,10 +98,6 @@ finds_who tx who _ = false
 abbrev pub is_finding_who : TxId → TxId → Place → Body → Bool
 is_finding_who tx who to body = is_tc to.block && finds_who tx who body
 
-abbrev is_seek : Body → Bool
-is_seek (Client (LqhWaitReq tx key)) = true
-is_seek _ = false
-
 module _ (tx who : TxId) where
   tells_in : (a : Bool) (body : Body) → tells_who tx who body ≡ false → (a && tells_who tx who body) ≡ false
   tells_in true body e = e
@@ -130,10 +127,10 @@ module _ (tx who : TxId) where
       plain (Client (LqhWaitConf one ahead)) k = cc
       plain _ k = refl
 
-  no_tell_seek : (to : Place) (body : Body) → is_seek body ≡ true → is_telling_who tx who to body ≡ false
+  no_tell_seek : (to : Place) (body : Body) → is_wait_kind body ≡ true → is_telling_who tx who to body ≡ false
   no_tell_seek to body e = tells_in (is_api to.block) body (plain body e)
     where
-      plain : (b : Body) → is_seek b ≡ true → tells_who tx who b ≡ false
+      plain : (b : Body) → is_wait_kind b ≡ true → tells_who tx who b ≡ false
       plain (Client (TcWaitConf one ahead)) k = cc
       plain _ k = refl
 
@@ -161,20 +158,21 @@ module _ (tx who : TxId) where
   none_sent some = absurd (omega (arith, some))
 
   -- a coordinator asks the replicas
-  seeks_only : (s : TcState) (one : TxId) → are_of is_seek (step_of s one (λ t. wait_row one t)).effects.sends ≡ true
+  seeks_only : (s : TcState) (one : TxId)
+      → are_of is_wait_kind (step_of s one (λ t. wait_row one t)).effects.sends ≡ true
   unfolding wait_row
   seeks_only s one = at_place (place_in s one)
     where
-      turn : (t : Transaction) (o : Option Asked) → are_of is_seek (wait_by one t o).effects.sends ≡ true
+      turn : (t : Transaction) (o : Option Asked) → are_of is_wait_kind (wait_by one t o).effects.sends ≡ true
       turn t None = refl
-      turn t (Some asked) = of_map is_seek _ asked.chain (λ m. refl)
+      turn t (Some asked) = of_map is_wait_kind _ asked.chain (λ m. refl)
 
       at_value : (at : ℕ) (t : Option Transaction)
-          → are_of is_seek (step_value s (λ t. wait_row one t) at t).effects.sends ≡ true
+          → are_of is_wait_kind (step_value s (λ t. wait_row one t) at t).effects.sends ≡ true
       at_value at None = refl
       at_value at (Some t) = turn t t.asked
 
-      at_place : (at : Option ℕ) → are_of is_seek (step_place s (λ t. wait_row one t) at).effects.sends ≡ true
+      at_place : (at : Option ℕ) → are_of is_wait_kind (step_place s (λ t. wait_row one t) at).effects.sends ≡ true
       at_place None = refl
       at_place (Some at) = at_value at (slice_get (values_of s.live) at)
 
@@ -191,7 +189,7 @@ module _ (tx who : TxId) where
       absurd (omega (
         arith,
         some,
-        none_of is_seek (is_telling_who tx who) no_tell_seek
+        none_of is_wait_kind (is_telling_who tx who) no_tell_seek
             (step_of s one (λ t. wait_row one t)).effects.sends (seeks_only s one),
       ))
   tc_told s (Client (LqhWaitReq one key)) own some = none_sent some

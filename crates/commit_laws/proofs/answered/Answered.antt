@@ -82,7 +82,7 @@ use Rattle.commit_laws.proofs.forth.Epochs.{dih_installs_speak, dih_speaks}
 use Rattle.commit_laws.proofs.forth.Speaks.{Anyone, AreSpoken, Speaks}
 
 -- a key that was written is counted
-counted_written : (touched : List Touched) (u : Touched) → IsIn u touched → u.written ≡ true
+pub counted_written : (touched : List Touched) (u : Touched) → IsIn u touched → u.written ≡ true
     → (written_count touched == 0) ≡ true → ⊥
 counted_written touched u there is none =
     let nothing = eqb-true (written_count touched) 0 none in omega (arith, nothing, some touched there)

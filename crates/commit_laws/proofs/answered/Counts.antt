@@ -13,10 +13,10 @@ use Rattle.sig_core.specs.declared.signal.Signal.{Signal}
 use Rattle.sig_core.specs.declared.signal.chain.ChainSignal.TheVariants.{Committed}
 use Rattle.sig_core.specs.Same.{same_key, same_tx}
 use Rattle.tc_block.specs.declared.touched.Touched.{Touched}
+use Rattle.tc_block.specs.Complete.{one_if}
 use Rattle.world_core.specs.Start.{Start}
 use Rattle.world_core.specs.Steps.{HostStep}
 use Rattle.view_laws.specs.Order.{sound_machine}
-use Rattle.outcome_laws.specs.Counts.{one_if}
 use Rattle.request_laws.proofs.routes.BesideRows.{is_of_rows}
 use Rattle.request_laws.specs.Tokens.{taken_along}
 use Rattle.commit_laws.proofs.drive.Kinds.{comes, committing, numbered}

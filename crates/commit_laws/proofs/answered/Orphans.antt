@@ -29,6 +29,7 @@ use Rattle.takeover_block.specs.Rule.{is_at_work}
 use Rattle.takeover_block.specs.Sends.{front_sends, key_sends, stage_sends}
 use Rattle.takeover_block.specs.State.{TakeoverState}
 use Rattle.tc_block.specs.declared.touched.Touched.{Touched}
+use Rattle.tc_block.specs.Complete.{one_if}
 use Rattle.world_core.specs.Hosts.{hosts}
 use Rattle.world_core.specs.Start.{Start, made}
 use Rattle.world_core.specs.Steps.{HostStep}
@@ -40,7 +41,7 @@ use Rattle.moment_laws.specs.Moments.{IsMoment, logs_of}
 use Rattle.moment_laws.specs.Places.{tc_of}
 use Rattle.moment_laws.proofs.MomentHosts.{tc_low}
 use Rattle.moment_laws.proofs.MomentViews.{moment_less}
-use Rattle.outcome_laws.specs.Counts.{count_sent, one_if}
+use Rattle.outcome_laws.specs.Counts.{count_sent}
 use Rattle.outcome_laws.proofs.coordinators.Lists.{count_both}
 use Rattle.request_laws.specs.Blocks.{takeover_after}
 use Rattle.request_laws.specs.Tokens.{all_sent, sent_along, taken_along}

@@ -16,11 +16,11 @@ use Rattle.sig_core.specs.declared.signal.chain.ChainSignal.TheVariants.{Committ
 use Rattle.sig_core.specs.Same.{same_key, same_tx}
 use Rattle.row_records.proofs.KeyLemmas.{same as same_key-is}
 use Rattle.sig_core.proofs.TxLemmas.{same_tx-is}
+use Rattle.tc_block.specs.Complete.{one_if}
 use Rattle.world_core.specs.Hosts.{hosts}
 use Rattle.world_core.specs.Start.{Start}
 use Rattle.world_core.specs.Steps.{Addressed, HostStep}
 use Rattle.view_laws.specs.Order.{sound_machine}
-use Rattle.outcome_laws.specs.Counts.{one_if}
 use Rattle.outcome_laws.proofs.coordinators.Lists.{count_more}
 use Rattle.request_laws.specs.Tokens.{all_sent, sent_along}
 use Rattle.commit_laws.specs.Answered.{WasCommittedIn}

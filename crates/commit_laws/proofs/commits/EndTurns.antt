@@ -44,8 +44,8 @@ use Rattle.tc_block.proofs.TurnRows.{turn_for, turn_with}
 use Rattle.tc_views.specs.Coordinator.{coordinator_row}
 use Rattle.tc_views.specs.State as views
 use Rattle.tc_views.specs.State.{CoordinatorState, go_on_with}
+use Rattle.view_laws.proofs.ballots.MadeSets.{in_either}
 use Rattle.outcome_laws.specs.Counts.{IsCoordinatorOf}
-use Rattle.outcome_laws.proofs.order.BeforeInLists.{in_either}
 use Rattle.tc_block.proofs.EachResume as walk
 use Rattle.request_laws.specs.Ways.{entry_of}
 use Rattle.request_laws.proofs.phases.TurnSends.{AreSpared, IsSpared}

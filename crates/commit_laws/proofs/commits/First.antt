@@ -1,5 +1,5 @@
 -- What stands of commits before the first event: there are none.
-use Rattle.std.proofs.Common.{◌≡◌, ◌∙◌, ℕ, false, filter, map, List, [], refl, sym, ap}
+use Rattle.std.proofs.Common.{◌≡◌, ◌∙◌, ℕ, false, filter, map, List, [], sym, ap}
 use Rattle.std.proofs.lemmas.Bool.{true≢false}
 use Rattle.std.specs.Prelude.{None, Some}
 use Rattle.std.specs.List.{list_any}
@@ -20,7 +20,7 @@ use Rattle.moment_laws.proofs.MomentHosts.{ldm_started}
 use Rattle.request_laws.specs.Blocks.{no_replica, rows_in}
 use Rattle.commit_laws.specs.Commits.{CommitsStand, LeavesTraceOn, committed_there, marked_there}
 use Rattle.commit_laws.specs.Traces.{has_marker_at, record_at}
-use Rattle.commit_laws.proofs.records.Once.{none_put}
+use Rattle.world_views.proofs.FreshBodies.{none_pending}
 use Rattle.commit_laws.proofs.records.Replicas.{member_made}
 
 module _ (start : Start) where
@@ -33,7 +33,7 @@ module _ (start : Start) where
         ap (λ (s : node.HostBody). found tx (at_key key (rows_in (no_replica start member) s.parts).lqh).cell.pending)
         (ldm_started start member there)
         ∙ ap (λ (xs : List PendingRecord). found tx (map without_epoch (filter (is_on key) xs)))
-        (none_put no_rows (own_rows start.shape member.node start.rows) start.start_epoch refl)
+        (none_pending no_rows (own_rows start.shape member.node start.rows) start.start_epoch)
 
     no_marker : has_marker_at start none member key tx ≡ false
     no_marker =

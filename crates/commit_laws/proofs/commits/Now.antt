@@ -9,7 +9,6 @@ use Rattle.run_theory.specs.Lists.{IsIn}
 use Rattle.run_theory.proofs.Runs.{log_of-own}
 use Rattle.run_theory.proofs.EventCases.{event_cases}
 use Rattle.frag_map.specs.Layout.{chain_of}
-use Rattle.outcome_laws.proofs.knowledge.CommitsWereDecided.{in_front}
 use Rattle.sig_core.specs.declared.mark.Mark.TheVariants.{Applied}
 use Rattle.sig_core.specs.declared.member.Member.{Member}
 use Rattle.sig_core.specs.declared.member.TxId.{TxId}
@@ -20,6 +19,7 @@ use Rattle.key_laws.specs.Records.{as_committed}
 use Rattle.world_core.specs.Start.{Start, made}
 use Rattle.world_core.specs.Steps.{Addressed, HostStep}
 use Rattle.world_views.specs.Machine.{machine}
+use Rattle.view_laws.proofs.ballots.MadeSets.{in_front}
 use Rattle.moment_laws.specs.Moments.{IsMoment, current, logs_of}
 use Rattle.moment_laws.specs.Places.{ldm_of}
 use Rattle.moment_laws.proofs.MomentViews.{current_number, moment_less}

@@ -37,7 +37,7 @@ use Rattle.outcome_laws.specs.Counts.{coordinator_member}
 use Rattle.request_laws.specs.Replicas.{event_by}
 use Rattle.request_laws.specs.Routed.{IsGivenUp, IsRoutedSignal, WasAskedIn, WasDrivenIn, layout_in}
 use Rattle.request_laws.specs.Routes.{IsCommitRouted, IsCompletionRouted, IsRouted, IsRequestRouted}
-use Rattle.request_laws.proofs.replicas.KeyEvents.{installations_keep_well, signals_are_events}
+use Rattle.request_laws.proofs.replicas.KeyEvents.{signals_are_events}
 use Rattle.request_laws.proofs.routes.All.{signals_are_routed}
 use Rattle.request_laws.proofs.routes.BesideRows.{is_of_rows}
 use Rattle.request_laws.proofs.routes.Headers.{chain_fenced, header_is}
@@ -47,9 +47,9 @@ use Rattle.commit_laws.specs.Traces.{IsReplicaOf, record_at, replica_at, rows_at
 use Rattle.commit_laws.specs.Whole.{CommitsGoWhole, GoesWhole}
 use Rattle.commit_laws.proofs.records.KeyGoes.{TakesNow}
 use Rattle.commit_laws.proofs.records.Moves.{found_own, now_by}
-use Rattle.commit_laws.proofs.records.Once.{rows_once, rows_well}
+use Rattle.commit_laws.proofs.records.Once.{rows_once, well_between}
 use Rattle.commit_laws.proofs.records.Replicas.{chain_replica, replica_made}
-use Rattle.commit_laws.proofs.hosts.RowsTurn.{IsBetween, as_was, entered}
+use Rattle.commit_laws.proofs.hosts.RowsTurn.{between_so}
 use Rattle.commit_laws.proofs.links.TakenChains.{chain_current, chain_told}
 
 -- what stands at a place is one of the list
@@ -100,17 +100,10 @@ module _ (start : Start) (all : ℕ → List HostStep) (e : HostStep) (es : List
 
     pub as_before : (P : ReplicaState → Type 0) → P (rows_at start old member)
         → ((view : View) → P (installed (rows_at start old member) view)) → P takes.rows
-    as_before P here set = by takes.between
-      where
-        by : IsBetween start all e es moment member there s → P s
-        by (as_was is stood) = subst P (sym is) here
-        by (entered view is) = subst P (sym is) (set view)
+    as_before P = between_so start all e es moment member there P s takes.between
 
     pub well : IsWell takes.rows.lqh
-    well =
-        as_before (λ s. IsWell s.lqh) (rows_well start member there (old (ldm_of start member)))
-        (λ view. installations_keep_well (rows_at start old member) view
-        (rows_well start member there (old (ldm_of start member))))
+    well = well_between start all e es moment member there s takes.between
 
     pub cell_before : (key : List ℕ) → (at_key key takes.rows.lqh).cell ≡ (replica_at start old member key).cell
     cell_before key =

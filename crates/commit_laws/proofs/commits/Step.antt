@@ -1,5 +1,5 @@
 -- An event keeps what stands of commits.
-use Rattle.std.proofs.Common.{◌≡◌, ◌≢◌, ◌≤◌, ◌<◌, ◌⊎◌, ◌==◌, ◌||◌, ◌∙◌, ℕ, zero, suc, Bool, true, false, length, List}
+use Rattle.std.proofs.Common.{◌≡◌, ◌≢◌, ◌≤◌, ◌⊎◌, ◌||◌, ◌∙◌, ℕ, Bool, true, false, List}
 use Rattle.std.proofs.Common.{[], ◌∷◌, refl, sym, ap, subst, arith, inl, inr}
 use Rattle.std.proofs.lemmas.Bool.{cases_eq, true≢false}
 use Rattle.std.specs.Prelude.{Option, None, Some}
@@ -31,6 +31,7 @@ use Rattle.node_views.specs.WellFormed.{is_well_formed}
 use Rattle.key_laws.specs.Records.{found}
 use Rattle.key_laws.specs.Replica.{at_key}
 use Rattle.takeover_block.specs.declared.stage.Stage.{Stage}
+use Rattle.takeover_block.proofs.LawLemmas.{least_of}
 use Rattle.takeover_block.specs.declared.stage.Stage.TheVariants as stage
 use Rattle.world_core.specs.Start.{Start, made}
 use Rattle.world_core.specs.Steps.{Addressed, HostStep}
@@ -76,16 +77,7 @@ use Rattle.commit_laws.proofs.hosts.RowsTurn.{IsBetween, IsTakenAt, rows_each}
 use Rattle.commit_laws.proofs.hosts.SaverGoes.{of_saver}
 use Rattle.commit_laws.proofs.links.TakenChains.{chain_told}
 use Rattle.commit_laws.proofs.markers.Traces.{alone_now, complete_done, written_now}
-
--- a place with a member is within the list
-place_low : (xs : List Member) (place : ℕ) (m : Member) → slice_get xs place ≡ Some m → place < length xs
-place_low [] place m is = absurd cc
-place_low (x ∷ xs) zero m is = omega arith
-place_low (x ∷ xs) (suc place) m is = omega (arith, place_low xs place m is)
-
-not_first : (at : ℕ) → (at == 0) ≡ false → 1 ≤ at
-not_first zero off = absurd (true≢false off)
-not_first (suc at) off = omega arith
+use Rattle.commit_laws.proofs.led.Begins.{place_inside}
 
 -- a closing tells of nothing
 pub not_closing : (signal : ClientSignal) (body : Body) → body ≡ Client signal → IsClosed body → ⊥
@@ -242,7 +234,7 @@ module _ (forth : ForthIsKnownAlways) (remembered : CommitsAreRemembered) (ackno
             let was =
             written_before start all e es moment tx key
             (decided_of tx (gone_of tx key epoch chain one.at one.body_is)) written in
-            let some = not_first one.at one.behind in
+            let some = least_of one.at one.behind in
             let front_is = one.front_is in
             from_here forth remembered acknowledged whole start all e es moment follows.stood me there takes tx key
             epoch
@@ -303,7 +295,7 @@ module _ (forth : ForthIsKnownAlways) (remembered : CommitsAreRemembered) (ackno
 
       owner_new : (body : Body) → IsOwnersWord start old me body → NewWord body
       owner_new (Chain (Commit tx key epoch chain at)) last = λ written place member less is.
-          let low = place_low chain place member is in
+          let low = place_inside chain place member is in
           absurd (omega (arith, last, less, low))
       owner_new (Chain (Committed tx key)) is = absurd is
       owner_new (Chain (Completed tx key)) is = absurd is

@@ -27,12 +27,12 @@ use Rattle.world_core.specs.Start.{Start, made}
 use Rattle.world_core.specs.Steps.{HostStep}
 use Rattle.world_views.specs.Machine.{step_after}
 use Rattle.view_laws.specs.Runs.{view_after}
+use Rattle.view_laws.proofs.ballots.MadeSets.{in_either}
 use Rattle.moment_laws.specs.Moments.{IsMoment, logs_of}
 use Rattle.moment_laws.specs.PartSteps.{PartTakes, handles, ignores, tc_kind}
 use Rattle.moment_laws.specs.Places.{tc_of}
 use Rattle.moment_laws.proofs.MomentTurns.{own_log}
 use Rattle.outcome_laws.specs.Counts.{coordinator_member}
-use Rattle.outcome_laws.proofs.order.BeforeInLists.{in_either}
 use Rattle.request_laws.specs.Blocks.{coordinator_after}
 use Rattle.request_laws.specs.Phases.{CoordinatorStands, SaysIn, SaysOf}
 use Rattle.request_laws.specs.Routed.{AllRouted, IsGivenUp, WasAskedIn, WasDrivenIn, layout_in, view_of_tc}

@@ -34,8 +34,8 @@ use Rattle.tc_block.proofs.TurnRows.{turn_for, turn_with}
 use Rattle.tc_views.specs.Coordinator.{coordinator_row}
 use Rattle.tc_views.specs.State.{CoordinatorState, go_on_if, go_on_with}
 use Rattle.run_laws.proofs.routes.Sends.{each_flat_of}
+use Rattle.view_laws.proofs.ballots.MadeSets.{in_either}
 use Rattle.outcome_laws.specs.Counts.{IsCoordinatorOf}
-use Rattle.outcome_laws.proofs.order.BeforeInLists.{in_either}
 use Rattle.request_laws.specs.Ways.{entry_of}
 use Rattle.request_laws.proofs.phases.TurnSends.{IsSpared}
 use Rattle.request_laws.proofs.phases.Steps.{Walks, begins, coordinator_walks, is_about, left_of, passes, resumes}

@@ -1,13 +1,13 @@
 -- Of the items of a list that pass a test there is one, which is the first to pass another: when it is taken out none
 -- is left.
-use Rattle.std.proofs.Common.{◌≡◌, ◌≤◌, ◌+◌, ◌∙◌, Bool, true, false, cond, filter, List, [], ◌∷◌, sym, ap, arith}
+use Rattle.std.proofs.Common.{◌≡◌, ◌+◌, ◌∙◌, Bool, true, false, List, [], ◌∷◌, sym, ap, arith}
 use Rattle.std.proofs.lemmas.Bool.{true≢false}
 use Rattle.std.specs.List.{count_by}
 use Rattle.std.specs.Prelude.{if◌then◌else◌, Some}
 use Rattle.run_theory.proofs.Pasts.{each_map}
 use Rattle.run_theory.specs.Lists.{Each}
 use Rattle.sig_core.specs.Firsts.{drop_first, first}
-use Rattle.outcome_laws.specs.Counts.{one_if}
+use Rattle.tc_block.specs.Complete.{one_if}
 use Rattle.outcome_laws.proofs.coordinators.Lists.{count_more, none_passes}
 
 module _ {A : Type 0} (t p : A → Bool) (q : A) (own : t q ≡ true) where
@@ -44,13 +44,3 @@ module _ {A : Type 0} (t p : A → Bool) (q : A) (own : t q ≡ true) where
             (λ passes. absurd (omega (arith, one, count_more t x xs, ap one_if passes, some))),
             more is (omega (arith, one, count_more t x xs, some)),
           )
-
--- no more pass a test among those that pass another
-pub filter_fewer : {A : Type 0} (t f : A → Bool) (xs : List A) → count_by t (filter f xs) ≤ count_by t xs
-filter_fewer t f [] = omega (arith)
-filter_fewer {A} t f (x ∷ xs) = by (f x) (filter_fewer t f xs)
-  where
-    by : (b : Bool) → count_by t (filter f xs) ≤ count_by t xs
-        → count_by t (cond b (x ∷ filter f xs) (filter f xs)) ≤ count_by t (x ∷ xs)
-    by true more = omega (arith, more, count_more t x xs, count_more t x (filter f xs))
-    by false more = omega (arith, more, count_more t x xs)

@@ -17,6 +17,7 @@ use Rattle.sig_core.specs.declared.place.BlockId.TheVariants as block
 use Rattle.sig_core.specs.declared.signal.Body.{Body}
 use Rattle.sig_core.specs.declared.signal.Signal.{Signal}
 use Rattle.sig_core.specs.declared.view.View.{View}
+use Rattle.tc_block.specs.Complete.{one_if}
 use Rattle.lqh_block.specs.Views.{is_coordinated}
 use Rattle.tc_views.specs.State.{CoordinatorState}
 use Rattle.tc_views.specs.Views.{install_row}
@@ -34,13 +35,12 @@ use Rattle.moment_laws.specs.Moments.{IsMoment, logs_of}
 use Rattle.moment_laws.specs.PartSteps.{PartEnters, PartTakes, handles, ignores, installs, ldm_kind, remains, tc_kind}
 use Rattle.moment_laws.specs.Places.{ldm_of, tc_of}
 use Rattle.moment_laws.proofs.MomentViews.{moment_less}
-use Rattle.outcome_laws.specs.Counts.{IsCoordinatorOf, coordinator_member, count_sent, one_if}
+use Rattle.outcome_laws.specs.Counts.{IsCoordinatorOf, coordinator_member, count_sent}
 use Rattle.outcome_laws.proofs.coordinators.BeginsAndAsks.{coordinator_of_installed}
 use Rattle.outcome_laws.proofs.coordinators.Lists.{count_both, count_more}
 use Rattle.request_laws.specs.Blocks.{takeover_after}
 use Rattle.request_laws.specs.Orphans.{AllOrphans, GatheredAre, IsOrphan}
 use Rattle.request_laws.specs.Routed.{layout_in}
-use Rattle.request_laws.specs.Tokens.{sent_along}
 use Rattle.request_laws.proofs.phases.AlongLogs.{coordinator_of}
 use Rattle.request_laws.proofs.routes.Headers.{own_installed}
 use Rattle.request_laws.proofs.routes.Layouts.{IsLaid, tc_enters}
@@ -233,12 +233,6 @@ module _ (start : Start) (all : ℕ → List HostStep) (e : HostStep) (es : List
           by (inr is) =
               let none : count_sent (onward tx place) sends ≡ 0 =
               ap (count_sent (onward tx place)) is in omega (arith, none)
-
--- none of these was sent by the host
-pub record IsForeign (start : Start) (tx : TxId) (number h : ℕ) (log : List HostStep) : Type 0 where
-  pub keys : (drive : Drive) (wk : List ℕ → Bool)
-      → sent_along start (numbered number (goes drive (mine tx wk))) h log ≡ 0
-  pub goes_on : (place : ℕ) → sent_along start (numbered number (onward tx place)) h log ≡ 0
 
 module _ (start : Start) (all : ℕ → List HostStep) (tx : TxId) (number : ℕ) (led : IsLedIn start all tx number) where
   -- an event of another host that coordinates

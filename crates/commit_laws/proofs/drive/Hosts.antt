@@ -18,6 +18,7 @@ use Rattle.sig_core.specs.declared.signal.Body.TheVariants.{Chain}
 use Rattle.sig_core.specs.declared.signal.chain.ChainSignal.TheVariants.{Committed, Completed}
 use Rattle.sig_core.specs.declared.signal.Signal.{Signal}
 use Rattle.sig_core.specs.declared.view.View.{View}
+use Rattle.tc_block.specs.Complete.{one_if}
 use Rattle.dih_node.specs.Dih.{dih_row}
 use Rattle.dih_node.specs.Orders as dih
 use Rattle.takeover_block.specs.Takeover.{takeover_row}
@@ -49,7 +50,7 @@ use Rattle.moment_laws.proofs.MomentTurns.{stands_behind}
 use Rattle.moment_laws.proofs.MomentViews.{current_number}
 use Rattle.moment_laws.proofs.PartKinds.{ldm_is}
 use Rattle.moment_laws.proofs.PartTaken.{handled_now}
-use Rattle.outcome_laws.specs.Counts.{count_sent, one_if}
+use Rattle.outcome_laws.specs.Counts.{count_sent}
 use Rattle.outcome_laws.proofs.coordinators.Lists.{count_more, none_counted}
 use Rattle.request_laws.proofs.routes.BesideRows.{epochs_aside, epochs_install_aside, is_of_rows}
 use Rattle.request_laws.proofs.routes.Hosts.{IsBeside, beside_sends}

@@ -7,7 +7,7 @@ use Rattle.sig_core.specs.declared.signal.Body.{Body}
 use Rattle.sig_core.specs.declared.signal.Body.TheVariants.{Chain}
 use Rattle.sig_core.specs.declared.signal.chain.ChainSignal.TheVariants.{Commit, Committed, Complete, Completed}
 use Rattle.sig_core.specs.declared.signal.Signal.{Signal}
-use Rattle.outcome_laws.specs.Counts.{one_if}
+use Rattle.tc_block.specs.Complete.{one_if}
 use Rattle.request_laws.proofs.routes.BesideRows.{is_of_rows}
 
 -- what is done to keys

@@ -20,9 +20,10 @@ use Rattle.tc_block.specs.declared.phase.Phase.TheVariants.{Committing, Completi
 use Rattle.tc_block.specs.declared.touched.Touched.{Touched}
 use Rattle.tc_block.specs.Part.{part_effects, rest_if}
 use Rattle.tc_block.specs.Sends.{commit_of, complete_if, complete_of, front_sends, key_sends, phase_sends, reported}
+use Rattle.tc_block.specs.Complete.{one_if}
 use Rattle.row_records.proofs.KeyLemmas.{same as same_keys}
 use Rattle.run_laws.specs.Keyed.{AreApart}
-use Rattle.outcome_laws.specs.Counts.{count_sent, one_if}
+use Rattle.outcome_laws.specs.Counts.{count_sent}
 use Rattle.outcome_laws.proofs.coordinators.Lists.{count_both, count_more, none_counted, one_few, second_few}
 use Rattle.commit_laws.proofs.drive.Kinds.{Drive, Keys, committing, completing, goes}
 

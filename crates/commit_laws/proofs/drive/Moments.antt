@@ -10,6 +10,7 @@ use Rattle.host_laws.proofs.hosts.Sums.{total_add, total_same, total_zero}
 use Rattle.sig_core.specs.declared.member.Member.{Member}
 use Rattle.sig_core.specs.declared.signal.Signal.{Signal}
 use Rattle.frag_map.specs.Replicas.{first_start}
+use Rattle.tc_block.specs.Complete.{one_if}
 use Rattle.world_core.specs.Hosts.{hosts}
 use Rattle.world_core.specs.Start.{Start, made}
 use Rattle.world_core.specs.Steps.{Addressed, HostStep}
@@ -22,7 +23,6 @@ use Rattle.moment_laws.specs.Places.{tc_of}
 use Rattle.moment_laws.proofs.MomentHosts.{tc_number}
 use Rattle.moment_laws.proofs.MomentTurns.{host_low, other_log, own_log}
 use Rattle.moment_laws.proofs.MomentViews.{current_number, moment_less}
-use Rattle.outcome_laws.specs.Counts.{one_if}
 use Rattle.outcome_laws.proofs.coordinators.Lists.{count_more, none_counted}
 use Rattle.request_laws.specs.Tokens.{all_sent, all_taken, sent_along, total_of}
 use Rattle.request_laws.proofs.routes.BesideRows.{is_of_rows}

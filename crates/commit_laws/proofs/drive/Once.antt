@@ -15,6 +15,7 @@ use Rattle.sig_core.specs.declared.signal.Body.TheVariants.{Chain}
 use Rattle.sig_core.specs.declared.signal.chain.ChainSignal.TheVariants.{Commit, Committed, Complete, Completed}
 use Rattle.sig_core.specs.declared.signal.Signal.{Signal}
 use Rattle.sig_core.specs.declared.view.View.{View}
+use Rattle.tc_block.specs.Complete.{one_if}
 use Rattle.lqh_block.specs.Views.{is_coordinated, was_begun_by}
 use Rattle.world_core.specs.Hosts.{hosts}
 use Rattle.world_core.specs.Start.{Start, made}
@@ -26,7 +27,7 @@ use Rattle.view_laws.proofs.runs.ChosenViews.{one_view}
 use Rattle.moment_laws.specs.Moments.{IsMoment, logs_of}
 use Rattle.moment_laws.specs.Places.{tc_of}
 use Rattle.moment_laws.proofs.MomentViews.{moment_less}
-use Rattle.outcome_laws.specs.Counts.{coordinator_member, one_if}
+use Rattle.outcome_laws.specs.Counts.{coordinator_member}
 use Rattle.outcome_laws.proofs.coordinators.Lists.{count_more}
 use Rattle.request_laws.specs.Tokens.{all_sent, sent_along}
 use Rattle.request_laws.proofs.routes.Headers.{own_installed}

@@ -1,6 +1,6 @@
 -- Takeovers commit each key of a transaction that is left in a view once at most there, and complete it once at most,
 -- where one of them is ordered once.
-use Rattle.std.proofs.Common.{◌≡◌, ◌≢◌, ◌≤◌, ◌+◌, ◌*◌, ◌==◌, ◌++◌, ◌∙◌, ℕ, zero, suc, Bool, true, false, List, [], ◌∷◌}
+use Rattle.std.proofs.Common.{◌≡◌, ◌≢◌, ◌≤◌, ◌+◌, ◌*◌, ◌==◌, ◌∙◌, ℕ, zero, suc, Bool, true, false, List, [], ◌∷◌}
 use Rattle.std.proofs.Common.{refl, sym, ap, arith, subst}
 use Rattle.std.proofs.lemmas.Bool.{eq-eqb, eqb-true, true≢false}
 use Rattle.std.specs.Prelude.{◌-◌}
@@ -25,7 +25,7 @@ use Rattle.moment_laws.specs.Places.{tc_of}
 use Rattle.moment_laws.proofs.MomentHosts.{tc_number}
 use Rattle.moment_laws.proofs.MomentViews.{moment_less}
 use Rattle.request_laws.specs.Tokens.{sent_along, taken_along, total_of}
-use Rattle.request_laws.proofs.tokens.FirstInView.{node_of, total_of_same}
+use Rattle.request_laws.proofs.tokens.FirstInView.{node_of, total_of_last, total_of_same}
 use Rattle.commit_laws.specs.Once.{KeysAreDrivenOnce}
 use Rattle.commit_laws.proofs.drive.Foreign.{installed, unseen_none}
 use Rattle.commit_laws.proofs.drive.Kinds.{goes, numbered}
@@ -74,11 +74,6 @@ module _ (orders : OrdersAreOnce) (start : Start) (all : ℕ → List HostStep) 
         (λ before at. next e es moment me there at (before at)) (tc_of start me)
         (λ same. ruled es (moment_less start all e es moment) me there) refl
 
--- a sum over the hosts of coordinators is a part of the sum over all
-last_member : (ms : List Member) (m : Member) (f : Member → ℕ) → total_of (ms ++ m ∷ []) f ≡ total_of ms f + f m
-last_member [] m f = omega arith
-last_member (x ∷ ms) m f = omega (arith, last_member ms m f)
-
 members_few : (n : ℕ) (f : ℕ → ℕ)
     → total_of (members n) (λ m. f (suc ((m.node - 1) * 3 + 1))) ≤ total (suc (n * 3)) f
 members_few zero f = omega arith
@@ -87,7 +82,7 @@ members_few (suc n) f =
     let more : suc (suc n * 3) ≡ suc (suc (suc (suc (n * 3)))) = omega arith in
     omega (
       arith,
-      last_member (members n) (node_of (n + 1)) (λ m. f (suc ((m.node - 1) * 3 + 1))),
+      total_of_last (members n) (node_of (n + 1)) (λ m. f (suc ((m.node - 1) * 3 + 1))),
       members_few n f,
       ap f here,
       ap (λ k. total k f) more,

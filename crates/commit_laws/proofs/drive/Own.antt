@@ -21,6 +21,7 @@ use Rattle.sig_core.specs.declared.view.View.{View}
 use Rattle.frag_map.specs.Layout.{Layout}
 use Rattle.lqh_block.specs.Views.{is_coordinated}
 use Rattle.tc_block.specs.declared.transaction.Transaction.{Transaction}
+use Rattle.tc_block.specs.Complete.{one_if}
 use Rattle.tc_views.specs.State.{CoordinatorState}
 use Rattle.tc_views.specs.Views.{install_row}
 use Rattle.node_views.specs.declared.parts.Parts.TheVariants as part
@@ -46,7 +47,7 @@ use Rattle.moment_laws.proofs.MomentTurns.{host_low, own_log}
 use Rattle.moment_laws.proofs.MomentViews.{moment_less}
 use Rattle.moment_laws.proofs.PartKinds.{tc_is}
 use Rattle.moment_laws.proofs.PartTaken.{IsTakenNow, handled_now}
-use Rattle.outcome_laws.specs.Counts.{IsCoordinatorOf, coordinator_member, count_sent, is_unborn, one_if}
+use Rattle.outcome_laws.specs.Counts.{IsCoordinatorOf, coordinator_member, count_sent, is_unborn}
 use Rattle.request_laws.specs.Blocks.{coordinator_after}
 use Rattle.request_laws.specs.Routed.{layout_in}
 use Rattle.request_laws.specs.Tokens.{all_sent, all_taken, sent_along, taken_along}

@@ -25,6 +25,7 @@ use Rattle.sig_core.specs.Rows.{record_state}
 use Rattle.sig_core.specs.Chain.{node_at}
 use Rattle.sig_core.specs.Place.{coordinator_of, rows_of}
 use Rattle.sig_core.specs.Step.{Step, to_place}
+use Rattle.tc_block.specs.Complete.{one_if}
 use Rattle.lqh_block.proofs.EachLqh.{RequestSends, lqh_sends_each}
 use Rattle.lqh_block.specs.declared.request.Marker.{Marker}
 use Rattle.lqh_block.specs.declared.request.Request.{Request}
@@ -42,10 +43,11 @@ use Rattle.lqh_views.specs.State.{ReplicaState}
 use Rattle.lqh_views.proofs.AddressLemmas.{same-body}
 use Rattle.lqh_saver.specs.Saver.{saver_row}
 use Rattle.lqh_saver.specs.State.{SavingState}
-use Rattle.outcome_laws.specs.Counts.{count_sent, one_if}
+use Rattle.outcome_laws.specs.Counts.{count_sent}
 use Rattle.outcome_laws.proofs.coordinators.Lists.{count_more, none_counted}
 use Rattle.commit_laws.proofs.hosts.SaverGoes.{IsOfSaver, of_saver, saver_lists}
 use Rattle.commit_laws.proofs.drive.Kinds.{Drive, Keys, committing, completing, either, goes}
+use Rattle.commit_laws.proofs.drive.Turns.{drives_key}
 
 either_less : (b : Bool) → one_if (b || false) ≤ one_if b
 either_less true = omega arith
@@ -75,12 +77,6 @@ module _ (drive : Drive) (w : Keys) where
       by completing true = refl
       by committing false = refl
       by completing false = refl
-
-  -- what no commit and no completion makes the rows send
-  abbrev passes_on : Body → Bool
-  passes_on (Chain (Commit tx key epoch chain at)) = true
-  passes_on (Chain (Complete tx key chain at)) = true
-  passes_on body = false
 
   -- such signals of rows are none of them
   abbrev is_plain : Body → Bool
@@ -112,7 +108,7 @@ module _ (drive : Drive) (w : Keys) where
     passes = λ image next is. refl;
   }
 
-  others_plain : (s : LqhState) (body : Body) → passes_on body ≡ false
+  others_plain : (s : LqhState) (body : Body) → drives_key body ≡ false
       → Each Plain (lqh_table s body).effects.sends
   others_plain s body other =
       lqh_sends_each Plain s body (record {
@@ -131,8 +127,8 @@ module _ (drive : Drive) (w : Keys) where
         dumps = λ at rows next is. refl;
       })
     where
-      never : (b : Body) → body ≡ b → passes_on b ≡ true → ⊥
-      never b is own = true≢false (sym own ∙ (ap passes_on (sym is) ∙ other))
+      never : (b : Body) → body ≡ b → drives_key b ≡ true → ⊥
+      never b is own = true≢false (sym own ∙ (ap drives_key (sym is) ∙ other))
 
   plain_none : (sends : List Outgoing) → Each Plain sends → count_sent (either drive w) sends ≡ 0
   plain_none sends all =

@@ -41,7 +41,7 @@ use Rattle.moment_laws.proofs.MomentHosts.{tc_started}
 use Rattle.moment_laws.proofs.MomentTurns.{host_low, own_log}
 use Rattle.moment_laws.proofs.PartKinds.{tc_is}
 use Rattle.moment_laws.proofs.PartTaken.{IsTakenNow, handled_now}
-use Rattle.outcome_laws.specs.Counts.{coordinator_member, one_if}
+use Rattle.outcome_laws.specs.Counts.{coordinator_member}
 use Rattle.outcome_laws.proofs.coordinators.Lists.{count_both}
 use Rattle.request_laws.specs.Blocks.{takeover_after, takeover_in}
 use Rattle.request_laws.specs.Tokens.{all_taken, sent_along, taken_along}
@@ -62,6 +62,7 @@ use Rattle.commit_laws.proofs.drive.Parts.{AreOff, aside_off, away_off, other_of
 use Rattle.commit_laws.proofs.drive.Rulings.{Rules, awaits, counted, rules_once}
 use Rattle.commit_laws.proofs.drive.Takeover.{Adds, less_rules, takeover_drives}
 use Rattle.sig_core.specs.Step.{Step, stay}
+use Rattle.tc_block.specs.Complete.{one_if}
 
 -- the signal orders a takeover
 abbrev pub is_order : Body → Bool

@@ -14,10 +14,11 @@ use Rattle.takeover_block.specs.declared.stage.Stage.TheVariants.{Aborting, Comm
 use Rattle.takeover_block.specs.Keys.{has_key, with_key, with_key_if}
 use Rattle.takeover_block.specs.Sends.{abort_at, commit_along, complete_along, front_sends, key_sends, key_sends_along}
 use Rattle.takeover_block.specs.Sends.{stage_sends}
-use Rattle.outcome_laws.specs.Counts.{count_sent, one_if}
+use Rattle.outcome_laws.specs.Counts.{count_sent}
 use Rattle.outcome_laws.proofs.coordinators.Lists.{count_both, count_more, none_counted, one_few, second_few}
 use Rattle.run_theory.proofs.EachSent.{each_mapped}
 use Rattle.run_theory.proofs.Pasts.{each_append}
+use Rattle.tc_block.specs.Complete.{one_if}
 use Rattle.commit_laws.proofs.drive.Kinds.{Drive, Keys, committing, completing, goes}
 use Rattle.commit_laws.proofs.drive.Lists.{mine, only}
 

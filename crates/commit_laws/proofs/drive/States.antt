@@ -18,8 +18,9 @@ use Rattle.tc_block.specs.declared.phase.Phase.TheVariants.{Committing, Completi
 use Rattle.tc_block.specs.declared.transaction.Transaction.{Transaction}
 use Rattle.tc_block.specs.Part.{part_effects}
 use Rattle.tc_block.specs.Phases.{is_aborting, is_decided}
+use Rattle.tc_block.specs.Complete.{one_if}
 use Rattle.run_laws.specs.Keyed.{AreApart}
-use Rattle.outcome_laws.specs.Counts.{count_sent, one_if}
+use Rattle.outcome_laws.specs.Counts.{count_sent}
 use Rattle.outcome_laws.proofs.coordinators.Lists.{none_counted}
 use Rattle.run_theory.proofs.Pasts.{each_map}
 use Rattle.commit_laws.proofs.drive.Kinds.{Drive, comes, committing, completing, goes}

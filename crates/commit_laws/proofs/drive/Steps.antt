@@ -20,14 +20,14 @@ use Rattle.tc_block.specs.declared.phase.Phase.{Phase}
 use Rattle.tc_block.specs.declared.phase.Phase.TheVariants.{Aborting, Committing, Completing, Open, Verifying}
 use Rattle.tc_block.specs.declared.touched.Touched.{Touched}
 use Rattle.tc_block.specs.declared.transaction.Transaction.{Transaction}
-use Rattle.tc_block.specs.Complete.{written_count}
+use Rattle.tc_block.specs.Complete.{one_if, written_count}
 use Rattle.tc_block.specs.Part.{part_effects}
 use Rattle.tc_block.specs.Phases.{is_aborting, is_decided}
 use Rattle.tc_block.specs.Resume.{rechained, redriven}
 use Rattle.tc_block.specs.Sends.{entering, go_on_if, phase_sends}
 use Rattle.tc_block.specs.Turn.{Turn, at_phase, going}
 use Rattle.run_laws.specs.Keyed.{AreApart}
-use Rattle.outcome_laws.specs.Counts.{count_sent, one_if}
+use Rattle.outcome_laws.specs.Counts.{count_sent}
 use Rattle.request_laws.proofs.phases.Steps.{left_of}
 use Rattle.commit_laws.proofs.drive.Kinds.{Drive, comes, committing, completing, goes}
 use Rattle.commit_laws.proofs.drive.Lists.{any, commits_length, commits_of, commits_plain, commits_same, completions_of}

@@ -21,6 +21,7 @@ use Rattle.sig_core.specs.Portion.{rest_if}
 use Rattle.sig_core.specs.Same.{same_tx}
 use Rattle.sig_core.specs.Step.{Step, sends_only}
 use Rattle.frag_map.specs.Layout.{Layout}
+use Rattle.tc_block.specs.Complete.{one_if}
 use Rattle.takeover_block.specs.declared.gathered.Gathered.{Gathered}
 use Rattle.takeover_block.specs.declared.stage.Stage.{Stage}
 use Rattle.takeover_block.specs.declared.stage.Stage.TheVariants.{Aborting, Committing, Completing, Gathering, Resting}
@@ -34,7 +35,6 @@ use Rattle.takeover_block.specs.Sends.{stage_left, stage_sends, told_aborted, to
 use Rattle.takeover_block.specs.State.{TakeoverState, with_gathered}
 use Rattle.takeover_block.specs.Takeover.{takeover_row}
 use Rattle.takeover_block.proofs.EachTakeover.{takeover_each}
-use Rattle.outcome_laws.specs.Counts.{one_if}
 use Rattle.outcome_laws.proofs.coordinators.Lists.{count_both, count_more, none_counted}
 use Rattle.commit_laws.proofs.drive.Kinds.{Drive, committing, completing, goes}
 use Rattle.commit_laws.proofs.drive.Lists.{mine, only, portion_more, taken_less}

@@ -29,10 +29,10 @@ use Rattle.tc_block.specs.Doom.{is_among}
 use Rattle.tc_block.specs.Phases.{is_decided}
 use Rattle.tc_block.specs.Resume.{task_if, task_of, tasks_in, verdict_by, verdict_of}
 use Rattle.tc_block.proofs.LiveSplit.{KeysOnce, Live}
+use Rattle.tc_block.specs.Complete.{one_if}
 use Rattle.tc_views.specs.Coordinator.{calm_unless, coordinator_row, coordinator_table, is_to_fail}
 use Rattle.tc_views.specs.State.{CoordinatorState, within}
 use Rattle.tc_views.specs.Views.{fence_row, install_row, resume_by, resume_if, resume_row, tasks_if}
-use Rattle.outcome_laws.specs.Counts.{one_if}
 use Rattle.outcome_laws.proofs.coordinators.Lists.{count_both, count_more}
 use Rattle.commit_laws.proofs.drive.Turns.{is_redrive}
 

@@ -15,7 +15,7 @@ use Rattle.sig_core.specs.declared.portion.TheConstants.{PORTION}
 use Rattle.sig_core.specs.declared.signal.Body.{Body}
 use Rattle.sig_core.specs.declared.signal.Body.TheVariants.{Chain, Client, Epoch, Host}
 use Rattle.sig_core.specs.declared.signal.chain.ChainSignal.TheVariants.{Commit, Committed, Complete, Completed}
-use Rattle.sig_core.specs.declared.signal.client.ClientSignal.TheVariants.{TcCommitConf, TcKeyConf}
+use Rattle.sig_core.specs.declared.signal.client.ClientSignal.TheVariants.{TcKeyConf}
 use Rattle.sig_core.specs.declared.signal.epoch.EpochSignal.TheVariants.{DiVerifyConf}
 use Rattle.sig_core.specs.declared.signal.host.HostSignal.TheVariants.{Continue}
 use Rattle.sig_core.specs.declared.signal.host.Work.TheVariants as work
@@ -44,6 +44,7 @@ use Rattle.tc_block.specs.Sends.{waits_of}
 use Rattle.tc_block.specs.Turn.{Turn, asking, at_phase, ending, going}
 use Rattle.tc_block.proofs.EachTurn.{AbortForms, TurnFormsAt, ready_is}
 use Rattle.request_laws.proofs.phases.TurnSends.{AreSpared}
+use Rattle.request_laws.proofs.phases.Turns.{is_commit_told}
 
 -- the signal commits or completes a key
 abbrev pub drives_key : Body → Bool
@@ -64,13 +65,8 @@ DriveNoKey = AreSpared drives_key
 abbrev pub DriveNone : List Outgoing → Type 0
 DriveNone = AreSpared drives
 
--- the signal confirms a commit to the client
-abbrev pub confirms : Body → Bool
-confirms (Client (TcCommitConf tx epoch)) = true
-confirms body = false
-
 abbrev pub ConfirmNone : List Outgoing → Type 0
-ConfirmNone = AreSpared confirms
+ConfirmNone = AreSpared is_commit_told
 
 pub none_no_key : (sends : List Outgoing) → DriveNone sends → DriveNoKey sends
 none_no_key sends all =

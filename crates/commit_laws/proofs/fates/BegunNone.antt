@@ -32,7 +32,7 @@ use Rattle.request_laws.proofs.replicas.AlongLogs.{first_rows}
 use Rattle.request_laws.proofs.tokens.HostsApart.{ldm_no_tc}
 use Rattle.commit_laws.specs.Traces.{record_at}
 use Rattle.commit_laws.proofs.parts.Home.{BegunHaveNone}
-use Rattle.commit_laws.proofs.records.Once.{none_put}
+use Rattle.world_views.proofs.FreshBodies.{none_pending}
 use Rattle.commit_laws.proofs.fates.RowsUnasked.{record_was}
 use Rattle.commit_laws.proofs.fates.CoordinatorUnasked.{IsUnborn, begun_unborn, never_asked, unborn_before}
 
@@ -41,7 +41,7 @@ pub first_none : (start : Start) (member : Member) (key : List ℕ) (tx : TxId)
     → found tx (at_key key (first_rows start member).lqh).cell.pending ≡ None
 first_none start member key tx =
     ap (λ (xs : List PendingRecord). found tx (map without_epoch (filter (is_on key) xs)))
-    (none_put no_rows (own_rows start.shape member.node start.rows) start.start_epoch refl)
+    (none_pending no_rows (own_rows start.shape member.node start.rows) start.start_epoch)
 
 module _ (start : Start) (all : ℕ → List HostStep) (tx : TxId) (there : IsIn (coordinator_member tx) (made start))
   where

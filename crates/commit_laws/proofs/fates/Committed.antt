@@ -25,11 +25,13 @@ use Rattle.lqh_views.specs.State.{ReplicaState}
 use Rattle.node_views.specs.Fence.{is_fenced}
 use Rattle.node_views.specs.WellFormed.{is_well_formed}
 use Rattle.host_laws.proofs.coordinator.OfLive.{each_found}
+use Rattle.host_laws.proofs.rows.Operations.{true_and}
 use Rattle.world_core.specs.Hosts.{hosts}
 use Rattle.world_core.specs.Marks.{has_mark}
 use Rattle.world_core.specs.Start.{Start, made}
 use Rattle.world_core.specs.Steps.{HostStep}
 use Rattle.world_views.specs.Sending.{is_own_work}
+use Rattle.run_laws.specs.Tokens.{is_token}
 use Rattle.view_laws.specs.Runs.{view_after}
 use Rattle.moment_laws.specs.Moments.{IsMoment, logs_of}
 use Rattle.moment_laws.specs.Places.{ldm_of, tc_of}
@@ -41,7 +43,7 @@ use Rattle.outcome_laws.specs.Counts.{coordinator_member, is_decision}
 use Rattle.outcome_laws.specs.Decided.{IsMarked}
 use Rattle.outcome_laws.proofs.coordinators.Lists.{none_passes}
 use Rattle.request_laws.specs.Phases.{CoordinatorStands, HasGone, IsGivenWith, SaysIn, WaitsWith}
-use Rattle.request_laws.specs.Tokens.{IsAlone, IsQuiet, count_waiting, has_asked, is_token, may_go, number_now}
+use Rattle.request_laws.specs.Tokens.{IsAlone, IsQuiet, count_waiting, has_asked, may_go, number_now}
 use Rattle.request_laws.specs.Ways.{has_gone_forth}
 use Rattle.request_laws.proofs.phases.Stands.{coordinators_stand}
 use Rattle.request_laws.proofs.tokens.Alone.{quiet_unless_asked, taken_alone}
@@ -208,10 +210,6 @@ module _ (start : Start) (all : ℕ → List HostStep) (e : HostStep) (es : List
     asked_off false work true e f = refl
     asked_off false work false e f = absurd (true≢false (sym f))
 
-    both_true : (a b : Bool) → a ≡ true → b ≡ true → (a && b) ≡ true
-    both_true true b is other = other
-    both_true false b is other = absurd (true≢false (sym is))
-
     pub token_alone : IsTakenNow start all e es moment block.Lqh → is_token tx e.step.taken.body ≡ true
         → IsAlone start (logs_of start es) tx now_number
     unfolding is_fenced
@@ -220,7 +218,7 @@ module _ (start : Start) (all : ℕ → List HostStep) (e : HostStep) (es : List
         let plain = token_plain tx x.body is in
         taken_alone start all e es moment tx own
         (asked_off (x.from.0 == e.host) (is_own_work x.body) (is_well_formed start.shape x) plain.0 taken.sound)
-        (both_true (is_token tx x.body) (x.view.number == now_number) is
+        (true_and (is_token tx x.body) (x.view.number == now_number) is
         (eq-eqb x.view.number now_number (taken.fresh (plain.1 x))))
 
     waits_none : (number : ℕ) → number ≡ now_number

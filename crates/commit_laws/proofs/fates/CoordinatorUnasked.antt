@@ -15,13 +15,14 @@ use Rattle.host_laws.proofs.coordinator.OfLive.{each_found}
 use Rattle.world_core.specs.Start.{Start, made}
 use Rattle.world_core.specs.Steps.{HostStep}
 use Rattle.world_views.specs.Machine.{step_after}
+use Rattle.run_laws.specs.Tokens.{is_token}
 use Rattle.view_laws.specs.Runs.{view_after}
 use Rattle.moment_laws.specs.Places.{tc_of}
 use Rattle.outcome_laws.proofs.coordinators.Lists.{none_passes}
 use Rattle.outcome_laws.specs.Counts.{coordinator_member, count_sent, is_unborn}
 use Rattle.request_laws.specs.Blocks.{coordinator_after}
 use Rattle.request_laws.specs.Drives.{is_request, was_sent_in}
-use Rattle.request_laws.specs.Tokens.{has_asked, is_token}
+use Rattle.request_laws.specs.Tokens.{has_asked}
 use Rattle.request_laws.specs.Ways.{entry_of, has_gone_back, is_sent}
 use Rattle.request_laws.proofs.phases.AlongLogs.{coordinator_comes, coordinator_of}
 use Rattle.request_laws.proofs.phases.Moves.{Comes, begun, changed, same}

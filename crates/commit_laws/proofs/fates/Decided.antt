@@ -32,6 +32,7 @@ use Rattle.outcome_laws.specs.Counts.{coordinator_member, is_decision}
 use Rattle.outcome_laws.specs.Known.{IsDecidedIf}
 use Rattle.request_laws.specs.Blocks.{rows_after}
 use Rattle.request_laws.proofs.tokens.HostsApart.{ldm_no_tc}
+use Rattle.request_laws.proofs.routes.ChainsStay.{any_in}
 use Rattle.commit_laws.specs.Commits.{IsKept}
 use Rattle.commit_laws.specs.Fates.{aborts, commits, fate, fate_if, is_led_by_full}
 use Rattle.commit_laws.specs.Forth.{ForthIsKnownAlways, IsForth}
@@ -43,7 +44,7 @@ use Rattle.commit_laws.specs.Traces.{leave_trace, members_now, rows_at}
 use Rattle.commit_laws.proofs.fates.Committed.{IsCalm, decided_calm, decided_made, decision_in, forth_calm}
 use Rattle.commit_laws.proofs.forth.DecidedStay.{forth_decided}
 use Rattle.commit_laws.proofs.fates.LostStays.{lost_stay}
-use Rattle.commit_laws.proofs.hosts.SomePasses.{passed, passing}
+use Rattle.commit_laws.proofs.hosts.SomePasses.{passing}
 use Rattle.commit_laws.proofs.records.Replicas.{full_before, member_made}
 
 -- which is told of a transaction that doesn't abort
@@ -234,7 +235,7 @@ module _ (forth : ForthIsKnownAlways) where
             full_was : is_led_by_full start new tx ≡ true → is_led_by_full start old tx ≡ true
             full_was is =
                 let one = passing (was_begun_by tx) (current start new).full is in
-                passed (was_begun_by tx) one.item (current start old).full
+                any_in (was_begun_by tx) one.item (current start old).full
                 (full_before start all e es moment one.item one.there) one.is
 
             lost_not_forth : is_lost start new tx ≡ true → is_forth start new tx ≡ false

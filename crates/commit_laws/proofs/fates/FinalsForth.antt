@@ -50,11 +50,11 @@ use Rattle.commit_laws.specs.Traces.{IsApplied}
 use Rattle.commit_laws.specs.Values.{history_at, is_final, is_final_entry}
 use Rattle.commit_laws.proofs.markers.AppliedMarks.{marks_of_commit}
 use Rattle.commit_laws.proofs.forth.DecidedStay.{applied_more}
-use Rattle.commit_laws.proofs.views.AtEvents.{some_of}
 use Rattle.commit_laws.proofs.forth.All.{forth_is_known}
 use Rattle.commit_laws.proofs.forth.Client.{IsToldOf, by_coordinator, by_takeover}
 use Rattle.commit_laws.proofs.hosts.MarkReasons.{HasReason, RunsIf, marks_have_reasons}
 use Rattle.commit_laws.proofs.links.TakenChains.{chain_told}
+use Rattle.commit_laws.proofs.hosts.SomePasses.{passing}
 
 -- whoever is said to run rows does
 runs_any : (A : Type 0) (T : TxId → Type 0) → A → (parts : Parts) → RunsIf A T parts
@@ -120,9 +120,9 @@ module _ (start : Start) (all : ℕ → List HostStep) (e : HostStep) (es : List
     -- what is reported now has gone forth
     reported_now : (v : TxId) → list_any (is_reported v) e.step.marks ≡ true → F v
     reported_now v is =
-        let one = some_of (is_reported v) e.step.marks is in
-        by one.one one.passes
-        (each_in (HasReason (RunsRows start e.host) F) one.one e.step.marks reasons one.there)
+        let one = passing (is_reported v) e.step.marks is in
+        by one.item one.is
+        (each_in (HasReason (RunsRows start e.host) F) one.item e.step.marks reasons one.there)
       where
         by : (mark : Mark) → is_reported v mark ≡ true → HasReason (RunsRows start e.host) F mark → F v
         by (Reported other (Committed epoch)) is has = subst F (same_tx-is other v is) has
@@ -136,9 +136,9 @@ module _ (start : Start) (all : ℕ → List HostStep) (e : HostStep) (es : List
 
     applied_now : (v : TxId) → list_any (is_applied v) e.step.marks ≡ true → AppliesNow v
     applied_now v is =
-        let one = some_of (is_applied v) e.step.marks is in
-        by one.one one.passes
-        (each_in (HasReason (RunsRows start e.host) F) one.one e.step.marks reasons one.there) one.there
+        let one = passing (is_applied v) e.step.marks is in
+        by one.item one.is
+        (each_in (HasReason (RunsRows start e.host) F) one.item e.step.marks reasons one.there) one.there
       where
         by : (mark : Mark) → is_applied v mark ≡ true → HasReason (RunsRows start e.host) F mark
             → IsIn mark e.step.marks → AppliesNow v
@@ -239,11 +239,11 @@ pub record HasFinalEntry (start : Start) (end : List HostStep) (v : TxId) : Type
 pub final_entry : (start : Start) (end : List HostStep) (v : TxId) → is_final start end v ≡ true
     → HasFinalEntry start end v
 final_entry start end v is =
-    let one = some_of (λ (b : Entry). same_tx b.tx v) (history_at start end end) is in
+    let one = passing (λ (b : Entry). same_tx b.tx v) (history_at start end end) is in
     record {
-      entry = one.one;
-      tx_is = same_tx-is one.one.tx v one.passes;
-      kept = left_passes (is_final_entry start end) one.one (entries_along start end) one.there;
+      entry = one.item;
+      tx_is = same_tx-is one.item.tx v one.is;
+      kept = left_passes (is_final_entry start end) one.item (entries_along start end) one.there;
     }
 
 -- it wrote, and was applied on some key; or it didn't, and was reported

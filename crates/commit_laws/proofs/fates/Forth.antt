@@ -16,10 +16,10 @@ use Rattle.world_core.specs.Steps.{HostStep}
 use Rattle.moment_laws.specs.Moments.{IsMoment, current, logs_of}
 use Rattle.moment_laws.proofs.MomentViews.{moment_less}
 use Rattle.outcome_laws.specs.Known.{IsDecidedIf}
+use Rattle.request_laws.specs.Orphans.{IsOrphan}
 use Rattle.commit_laws.specs.Fates.{aborts, commits, fate, is_led_by_full}
 use Rattle.commit_laws.specs.Forth.{ForthIsKnown, IsForth}
 use Rattle.commit_laws.specs.Going.{is_decided, is_forth, is_lost}
-use Rattle.commit_laws.specs.Takeovers.{IsOrphan}
 use Rattle.commit_laws.specs.Together.{FatesMove}
 use Rattle.commit_laws.specs.Traces.{has_trace, is_committed_of, is_known, is_marker_of, leave_trace, members_now}
 use Rattle.commit_laws.specs.Traces.{rows_at}

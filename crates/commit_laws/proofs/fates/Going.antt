@@ -50,9 +50,9 @@ use Rattle.commit_laws.specs.Parts.{IsHale}
 use Rattle.commit_laws.specs.Traces.{has_trace, is_known}
 use Rattle.commit_laws.proofs.fates.Committed.{IsCalm}
 use Rattle.commit_laws.proofs.fates.Moves.{begun_by}
-use Rattle.commit_laws.proofs.views.AtEvents.{some_of}
 use Rattle.commit_laws.proofs.records.KeyStays.{worker_of}
 use Rattle.commit_laws.proofs.records.Attended.{under_is}
+use Rattle.commit_laws.proofs.hosts.SomePasses.{passing}
 
 -- who isn't lost at a full coordinator, and hasn't gone forth, doesn't abort
 not_aborting : (known forth lost trace : Bool) → forth ≡ false → lost ≡ false
@@ -73,8 +73,8 @@ module _ (start : Start) (all : ℕ → List HostStep) (es : List HostStep) (mom
 
     pub hale_full : IsIn (coordinator_member tx) (current start (logs_of start es)).full
     hale_full =
-        let one = some_of (was_begun_by tx) (current start logs).full hale.full in
-        subst (λ m. IsIn m (current start logs).full) (begun_by tx one.one one.passes) one.there
+        let one = passing (was_begun_by tx) (current start logs).full hale.full in
+        subst (λ m. IsIn m (current start logs).full) (begun_by tx one.item one.is) one.there
 
     pub hale_made : IsIn (coordinator_member tx) (made start)
     hale_made = current_made start all es moment member hale_full

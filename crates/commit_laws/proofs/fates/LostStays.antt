@@ -36,6 +36,7 @@ use Rattle.node_views.specs.WellFormed.{is_well_formed}
 use Rattle.world_core.specs.Start.{Start, made}
 use Rattle.world_core.specs.Steps.{HostStep}
 use Rattle.world_views.specs.Machine.{machine, step_after}
+use Rattle.host_laws.proofs.coordinator.Ways.{aborting_apart}
 use Rattle.moment_laws.specs.Places.{tc_of}
 use Rattle.moment_laws.proofs.MomentHosts.{part_some}
 use Rattle.moment_laws.specs.Moments.{logs_of}
@@ -56,7 +57,7 @@ use Rattle.request_laws.proofs.phases.Turns.{Changes, IsStill}
 use Rattle.request_laws.proofs.phases.Steps.{left_of}
 use Rattle.request_laws.proofs.phases.OneWay.{WaySays, commits_untold, goes_one_way, sent_before, sent_behind}
 use Rattle.request_laws.proofs.phases.OneWay.{at_decided, at_aborting}
-use Rattle.request_laws.proofs.phases.OneWay.{is_decided_as, aborting_not_decided}
+use Rattle.request_laws.proofs.phases.OneWay.{is_decided_as}
 use Rattle.commit_laws.specs.Lost.{LostStay}
 use Rattle.commit_laws.proofs.fates.LostDoomed.{Dooms, IsPromise, IsThere, IsUndecidedThere, row_dooms, takes_no_epoch}
 
@@ -105,13 +106,6 @@ module _ (tx : TxId) where
         },
         promise,
       )
-
-pub undecided_not : (phase : Phase) → is_undecided phase ≡ true → is_decided phase ≡ false
-undecided_not Open is = refl
-undecided_not Verifying is = refl
-undecided_not (Committing epoch awaited) is = absurd (true≢false (sym is))
-undecided_not (Completing epoch awaited) is = absurd (true≢false (sym is))
-undecided_not (Aborting why verifying awaited) is = refl
 
 undecided_forth : (phase : Phase) (f b : Bool) → WaySays f b phase → is_undecided phase ≡ true → f ≡ false
 undecided_forth Open f b says is = says.0
@@ -295,7 +289,7 @@ module _ (start : Start) (member : Member) (there : IsIn member (made start)) (t
 
         goes_back : turns.Back tx t turn → (over : Bool) → turn.over ≡ over → Remains
         goes_back goes false on =
-            stays_by turn.step.state (on_some on) (aborting_not_decided turn.step.state.phase (goes.on on))
+            stays_by turn.step.state (on_some on) (aborting_apart turn.step.state.phase (goes.on on))
             (no_commit goes.commits)
         goes_back goes true over = record {
           forth =

@@ -27,6 +27,7 @@ use Rattle.moment_laws.proofs.MomentViews.{current_number, moment_less}
 use Rattle.outcome_laws.specs.Counts.{coordinator_member}
 use Rattle.request_laws.proofs.routes.BesideRows.{is_of_rows}
 use Rattle.request_laws.proofs.routes.Headers.{chain_fenced, told_of}
+use Rattle.request_laws.proofs.routes.ChainsStay.{any_in}
 use Rattle.commit_laws.specs.Fates.{aborts, commits, fate, fate_if, is_led_by_full}
 use Rattle.commit_laws.specs.Forth.{IsForth}
 use Rattle.commit_laws.specs.Going.{is_forth, is_lost}
@@ -37,11 +38,13 @@ use Rattle.commit_laws.specs.Traces.{rows_at}
 use Rattle.commit_laws.proofs.fates.Cases.{forth_commits, known_commits, lost_aborts, none_aborts, not_both}
 use Rattle.commit_laws.proofs.fates.Cases.{trace_commits}
 use Rattle.commit_laws.proofs.fates.Rows.{TakesCommit, trace_comes}
-use Rattle.commit_laws.proofs.views.AtEvents.{IsSome, any_of, led_was, member_was, members_made, some_of}
+use Rattle.commit_laws.proofs.views.AtEvents.{led_was}
 use Rattle.commit_laws.proofs.forth.All.{forth_is_known}
 use Rattle.commit_laws.proofs.forth.Grows.{forth_grows, known_grows}
 use Rattle.commit_laws.proofs.fates.LostStays.{lost_stay}
 use Rattle.commit_laws.proofs.markers.All.{traces_stay}
+use Rattle.commit_laws.proofs.hosts.SomePasses.{Passes, passing}
+use Rattle.commit_laws.proofs.records.Replicas.{member_before, member_made}
 
 -- who aborts isn't known; and it is lost where its coordinator is full, and else has no trace
 data Aborts (full lost trace : Bool) : Type 0 where
@@ -91,16 +94,16 @@ traced_known F tx s known traced = by (list_any (is_committed_of tx) s.lqh.rows.
         → (b || list_any (is_marker_of tx) s.lqh.markers) ≡ true
         → F tx
     by true some is =
-        let one = some_of (is_committed_of tx) s.lqh.rows.pending some in
-        let parts = and_parts (same_tx one.one.tx tx) one.one.committed one.passes in
-        let all = each_in (λ (r : PendingRecord). IsDecidedIf (λ one epoch. F one) F r r.committed) one.one
+        let one = passing (is_committed_of tx) s.lqh.rows.pending some in
+        let parts = and_parts (same_tx one.item.tx tx) one.item.committed one.is in
+        let all = each_in (λ (r : PendingRecord). IsDecidedIf (λ one epoch. F one) F r r.committed) one.item
         s.lqh.rows.pending known.records one.there in
-        subst F (same_tx-is one.one.tx tx parts.0)
-        (subst (IsDecidedIf (λ one epoch. F one) F one.one) parts.1 all)
+        subst F (same_tx-is one.item.tx tx parts.0)
+        (subst (IsDecidedIf (λ one epoch. F one) F one.item) parts.1 all)
     by false none is =
-        let one = some_of (is_marker_of tx) s.lqh.markers is in
-        subst F (same_tx-is one.one.tx tx one.passes)
-        (each_in (λ (m : Marker). F m.tx) one.one s.lqh.markers known.markers one.there)
+        let one = passing (is_marker_of tx) s.lqh.markers is in
+        subst F (same_tx-is one.item.tx tx one.is)
+        (each_in (λ (m : Marker). F m.tx) one.item s.lqh.markers known.markers one.there)
 
 -- the member whose coordinator began it
 pub begun_by : (tx : TxId) (m : Member) → was_begun_by tx m ≡ true → m ≡ coordinator_member tx
@@ -114,7 +117,7 @@ none_of test xs none x there = by (test x) refl
   where
     by : (b : Bool) → test x ≡ b → b ≡ false
     by false is = refl
-    by true is = absurd (true≢false (sym (any_of test xs x there is) ∙ none))
+    by true is = absurd (true≢false (sym (any_in test x xs there is) ∙ none))
 
 module _ (start : Start) (all : ℕ → List HostStep) (e : HostStep) (es : List HostStep)
     (follows : Follows start all e es)
@@ -135,10 +138,10 @@ module _ (start : Start) (all : ℕ → List HostStep) (e : HostStep) (es : List
   traced_forth : (some : List HostStep) → IsMoment start all some → has_trace start (logs_of start some) tx ≡ true
       → is_forth start (logs_of start some) tx ≡ true
   traced_forth some at traced =
-      let one = some_of (λ (member : Member). leave_trace tx (rows_at start (logs_of start some) member))
+      let one = passing (λ (member : Member). leave_trace tx (rows_at start (logs_of start some) member))
       (members_now start (logs_of start some)) traced in
-      traced_known (IsForth start (logs_of start some)) tx (rows_at start (logs_of start some) one.one)
-      ((forth_is_known start all some at).rows one.one (members_made start all some at one.one one.there)) one.passes
+      traced_known (IsForth start (logs_of start some)) tx (rows_at start (logs_of start some) one.item)
+      ((forth_is_known start all some at).rows one.item (member_made start all some at one.item one.there)) one.is
 
   -- and whoever hasn't has none
   no_trace : is_forth start new tx ≡ false → has_trace start new tx ≡ false
@@ -151,9 +154,9 @@ module _ (start : Start) (all : ℕ → List HostStep) (e : HostStep) (es : List
   -- a coordinator that is full was made
   coordinator_made : is_led_by_full start old tx ≡ true → IsIn (coordinator_member tx) (made start)
   coordinator_made full =
-      let one = some_of (was_begun_by tx) (current start old).full full in
-      subst (λ (m : Member). IsIn m (made start)) (begun_by tx one.one one.passes)
-      (current_made start all es before one.one one.there)
+      let one = passing (was_begun_by tx) (current start old).full full in
+      subst (λ (m : Member). IsIn m (made start)) (begun_by tx one.item one.is)
+      (current_made start all es before one.item one.there)
 
   -- at an event at which a transaction aborts no member comes to have a trace of it
   module _ (aborting : fate start old tx ≡ aborts) where
@@ -192,14 +195,14 @@ module _ (start : Start) (all : ℕ → List HostStep) (e : HostStep) (es : List
         by false is = refl
         by true is =
             let one =
-            some_of (λ (member : Member). leave_trace tx (rows_at start new member)) (members_now start new) is in
-            absurd (true≢false (sym one.passes ∙ gone one.one one.there))
+            passing (λ (member : Member). leave_trace tx (rows_at start new member)) (members_now start new) is in
+            absurd (true≢false (sym one.is ∙ gone one.item one.there))
           where
             gone : (member : Member) → IsIn member (members_now start new)
                 → leave_trace tx (rows_at start new member) ≡ false
             gone member there =
-                let was = member_was start all e es moment member there in
-                let is_made = members_made start all es before member was in
+                let was = member_before start all e es moment member there in
+                let is_made = member_made start all es before member was in
                 trace_comes start all e es moment member is_made tx
                 (none_of (λ (m : Member). leave_trace tx (rows_at start old m)) (members_now start old) none member was)
                 (no_commit member is_made)
@@ -273,23 +276,23 @@ module _ (start : Start) (all : ℕ → List HostStep) (e : HostStep) (es : List
             (is_lost start new tx)
             (has_trace start new tx) (led_same ∙ full) (forth_grows start e es tx forth)
         by (by_trace full trace) =
-            traced (some_of (λ (m : Member). leave_trace tx (rows_at start old m)) (members_now start old) trace)
+            traced (passing (λ (m : Member). leave_trace tx (rows_at start old m)) (members_now start old) trace)
           where
-            traced : IsSome (λ (m : Member). leave_trace tx (rows_at start old m)) (members_now start old)
+            traced : Passes (λ (m : Member). leave_trace tx (rows_at start old m)) (members_now start old)
                 → fate start new tx ≡ commits
             traced one =
                 which
-                (or_cases (leave_trace tx (rows_at start new one.one)) (is_known start new tx)
-                (traces_stay start all e es moment one.one (members_made start all es before one.one one.there) tx
-                one.passes))
+                (or_cases (leave_trace tx (rows_at start new one.item)) (is_known start new tx)
+                (traces_stay start all e es moment one.item (member_made start all es before one.item one.there) tx
+                one.is))
               where
-                which : (leave_trace tx (rows_at start new one.one) ≡ true) ⊎ (is_known start new tx ≡ true)
+                which : (leave_trace tx (rows_at start new one.item) ≡ true) ⊎ (is_known start new tx ≡ true)
                     → fate start new tx ≡ commits
                 which (inl is) =
                     trace_commits (is_known start new tx) (is_led_by_full start new tx) (is_forth start new tx)
                     (is_lost start new tx) (has_trace start new tx) (led_same ∙ full)
-                    (any_of (λ (m : Member). leave_trace tx (rows_at start new m)) (members_now start new) one.one
-                    (subst (IsIn one.one) (ap (λ (v : View). v.full ++ v.starting) (sym same)) one.there) is)
+                    (any_in (λ (m : Member). leave_trace tx (rows_at start new m)) one.item (members_now start new)
+                    (subst (IsIn one.item) (ap (λ (v : View). v.full ++ v.starting) (sym same)) one.there) is)
                 which (inr known) =
                     known_commits (is_known start new tx) (is_led_by_full start new tx) (is_forth start new tx)
                     (is_lost start new tx) (has_trace start new tx) known

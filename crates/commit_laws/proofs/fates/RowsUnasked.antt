@@ -19,6 +19,7 @@ use Rattle.lqh_views.specs.State.{ReplicaState}
 use Rattle.key_laws.specs.Records.{as_committed, if_committed, unless_committed}
 use Rattle.world_core.specs.Start.{Start, made}
 use Rattle.world_core.specs.Steps.{HostStep}
+use Rattle.run_laws.specs.Tokens.{is_token}
 use Rattle.view_laws.specs.Runs.{view_after}
 use Rattle.moment_laws.specs.Moments.{IsMoment, current, logs_of}
 use Rattle.moment_laws.specs.Places.{ldm_of}
@@ -26,7 +27,6 @@ use Rattle.moment_laws.proofs.MomentViews.{moment_less}
 use Rattle.moment_laws.proofs.PartTaken.{IsTakenNow}
 use Rattle.request_laws.specs.Routed.{AllRouted, IsGivenUp, IsRoutedSignal, WasAskedIn, WasDrivenIn, layout_in}
 use Rattle.request_laws.specs.Routes.{IsRouted}
-use Rattle.request_laws.specs.Tokens.{is_token}
 use Rattle.request_laws.proofs.routes.All.{signals_are_routed}
 use Rattle.request_laws.proofs.routes.BesideRows.{is_of_rows}
 use Rattle.request_laws.proofs.routes.Headers.{chain_fenced, header_is, told_of}

@@ -29,6 +29,7 @@ use Rattle.request_laws.specs.Ways.{entry_of, is_at, is_sent, tells_abort, tells
 use Rattle.request_laws.proofs.phases.OneWay.{sent_before}
 use Rattle.commit_laws.proofs.fates.SpokenWords.{AreSpoken, IsSpoken, Speaks}
 use Rattle.request_laws.proofs.phases.Steps.{is_about, left_of}
+use Rattle.request_laws.proofs.routes.ChainsStay.{any_in}
 use Rattle.step_forms.specs.Does.{IsWord}
 use Rattle.frag_map.specs.Layout.{Layout}
 use Rattle.tc_block.specs.Abort.{rolled_back}
@@ -39,7 +40,6 @@ use Rattle.tc_views.proofs.Walk.{coordinator_installed_each, coordinator_words}
 use Rattle.sig_core.specs.declared.mark.Mark.{Mark}
 use Rattle.commit_laws.proofs.forth.Coordinator.{own_is}
 use Rattle.commit_laws.proofs.hosts.CoordinatorSends.{is_beside, sent_by}
-use Rattle.commit_laws.proofs.hosts.SomePasses.{passed}
 
 -- it is in such a phase before a turn, or behind it, or its client is told as it ends
 pub data ByTurn (p : Phase → Bool) (told : TxId → Body → Bool) (tx : TxId) (t : Transaction) (turn : Turn) : Type 0
@@ -87,7 +87,7 @@ module _ (node : ℕ) (layout : Layout) (tx : TxId) (t : Transaction) (body : Bo
           phased is_aborting tells_abort turn (Aborting why verifying awaited) in_phase refl;
       leaves = λ turn over inside. tt;
       rolls_back = λ turn why given over inside is.
-          telling (passed (λ (o : Outgoing). tells_abort tx o.body) (rolled_back tx why) turn.step.effects.sends inside
+          telling (any_in (λ (o : Outgoing). tells_abort tx o.body) (rolled_back tx why) turn.step.effects.sends inside
           (same_tx-self tx));
     };
     operates = λ op is can inside. tt;

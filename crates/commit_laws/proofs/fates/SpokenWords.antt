@@ -1,7 +1,6 @@
 -- What signals say of aborts and of commits.
 use Rattle.std.proofs.Common.{◌≡◌, false, List}
 use Rattle.run_theory.specs.Lists.{Each}
-use Rattle.run_theory.proofs.Pasts.{each_map}
 use Rattle.sig_core.specs.declared.member.TxId.{TxId}
 use Rattle.sig_core.specs.declared.outs.Outgoing.{Outgoing}
 use Rattle.sig_core.specs.declared.signal.Body.{Body}
@@ -9,7 +8,7 @@ use Rattle.sig_core.specs.declared.signal.Body.TheVariants.{Chain, Client}
 use Rattle.sig_core.specs.declared.signal.chain.ChainSignal.TheVariants.{Abort, Aborted, Commit, Committed, Complete}
 use Rattle.sig_core.specs.declared.signal.chain.ChainSignal.TheVariants.{Completed}
 use Rattle.sig_core.specs.declared.signal.client.ClientSignal.TheVariants.{TcKeyFailRef, TcRollbackRep, ViewRep}
-use Rattle.outcome_laws.proofs.knowledge.TellsNothing.{AreUntold, IsUntold, is_tale}
+use Rattle.outcome_laws.proofs.knowledge.TellsNothing.{is_tale}
 use Rattle.commit_laws.specs.Fates.{Fate, aborts, commits}
 use Rattle.commit_laws.specs.Speaks.{SaysAbort, SaysCommit}
 
@@ -38,10 +37,6 @@ module _ (A C : TxId → Type 0) where
   untold_speaks (Client signal) none = absurd cc
   untold_speaks (Chain signal) none = absurd cc
   untold_speaks body none = tt
-
-  pub untold_speak : (sends : List Outgoing) → AreUntold sends → AreSpoken sends
-  untold_speak sends none =
-      each_map IsUntold IsSpoken sends (λ sent is. untold_speaks sent.body is) none
 
 -- where one is so of whoever the other is so of, a signal that speaks of the other does of the one
 module _ (A C B D : TxId → Type 0) (one : (tx : TxId) → A tx → B tx) (other : (tx : TxId) → C tx → D tx) where

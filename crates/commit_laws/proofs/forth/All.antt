@@ -45,7 +45,7 @@ use Rattle.moment_laws.proofs.MomentHosts.{HasNoTc, TcHost, of_none, of_tc, part
 use Rattle.moment_laws.proofs.MomentSignals.{EachSent, sent_next, taken_told}
 use Rattle.moment_laws.proofs.MomentTurns.{host_low}
 use Rattle.moment_laws.proofs.MomentViews.{moment_less}
-use Rattle.outcome_laws.proofs.knowledge.Moments.{not_closed, not_own}
+use Rattle.outcome_laws.proofs.knowledge.Moments.{is_host, not_closed, not_own}
 use Rattle.outcome_laws.specs.Counts.{coordinator_member}
 use Rattle.outcome_laws.specs.Known.{IsDecidedIf, RowsKnow, TakeoverKnows}
 use Rattle.outcome_laws.proofs.knowledge.Hosts.{HasNoShell, never_shell}
@@ -53,6 +53,7 @@ use Rattle.outcome_laws.proofs.knowledge.OwnAsks.{AreSo, others_so, so_effects}
 use Rattle.outcome_laws.proofs.knowledge.HostSteps.{step_keeps}
 use Rattle.request_laws.specs.Blocks.{no_replica, rows_in, takeover_in}
 use Rattle.request_laws.specs.Ways.{has_gone_forth, is_sent}
+use Rattle.request_laws.proofs.routes.ChainsStay.{any_in}
 use Rattle.commit_laws.specs.Forth.{ForthIsKnownAlways, IsForth}
 use Rattle.commit_laws.specs.Traces.{has_sent, is_acknowledgement, is_known}
 use Rattle.commit_laws.proofs.forth.Gone.{PartsKnow, SaysForth, tc_forth}
@@ -60,12 +61,7 @@ use Rattle.commit_laws.proofs.forth.Grows.{forth_grows, known_grows}
 use Rattle.commit_laws.proofs.forth.Parts.{Fits, SpeakIn, step_speaks, told_fit}
 use Rattle.commit_laws.proofs.forth.Speaks.{Anyone, AreSpoken, Of, Speaks, rows_grow, speaks_grow, takeover_grows}
 use Rattle.commit_laws.proofs.forth.Speaks.{tells_forth}
-use Rattle.commit_laws.proofs.hosts.SomePasses.{passed, passing}
-
--- a signal of the hosts themselves
-abbrev is_host : Body → Bool
-is_host (Host signal) = true
-is_host body = false
+use Rattle.commit_laws.proofs.hosts.SomePasses.{passing}
 
 host_speaks : (F A : TxId → Type 0) (body : Body) → is_host body ≡ true → Speaks F A body
 host_speaks F A (Host signal) is = tt
@@ -295,7 +291,7 @@ module _ (start : Start) where
           knowing = says.knowing;
           speaking = each_from _ sends (λ o there.
               upgraded F A o.body
-              (λ tx is. now_sent tx (passed (λ (y : Outgoing). is_acknowledgement tx y.body) o sends there is))
+              (λ tx is. now_sent tx (any_in (λ (y : Outgoing). is_acknowledgement tx y.body) o sends there is))
               (each_in (λ (y : Outgoing). Speaks F F y.body) o sends says.speaking there));
           known = known_own;
         }

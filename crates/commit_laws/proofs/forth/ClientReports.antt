@@ -15,6 +15,7 @@ use Rattle.sig_core.specs.declared.signal.Signal.{Signal}
 use Rattle.sig_core.specs.declared.signal.client.ClientSignal.TheVariants.{TcCommitConf, TcKeyFailConf}
 use Rattle.sig_core.specs.Step.{Step, stay}
 use Rattle.sig_core.proofs.Keys.{same_tx-self}
+use Rattle.tc_block.specs.Complete.{one_if}
 use Rattle.api_block.specs.Api.{api_table}
 use Rattle.api_block.specs.declared.members.News.TheVariants as news
 use Rattle.api_block.specs.declared.members.TheConstants.{TOLD}
@@ -27,7 +28,7 @@ use Rattle.api_block.proofs.WhereFound.{where_found}
 use Rattle.api_views.specs.Client.{client_row, client_table, is_known as is_vouched, vouched_table}
 use Rattle.api_views.specs.Members.{noted}
 use Rattle.api_views.specs.State.{ClientState, within}
-use Rattle.outcome_laws.specs.Counts.{is_report, one_if}
+use Rattle.outcome_laws.specs.Counts.{is_report}
 use Rattle.outcome_laws.proofs.coordinators.Lists.{count_more}
 use Rattle.request_laws.specs.Ways.{is_sent}
 use Rattle.commit_laws.specs.Traces.{is_acknowledgement}

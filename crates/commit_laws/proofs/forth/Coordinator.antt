@@ -31,6 +31,7 @@ use Rattle.request_laws.specs.Ways.{entry_of, is_at, is_sent, tells_commit}
 use Rattle.request_laws.proofs.phases.OneWay.{sent_before}
 use Rattle.commit_laws.proofs.forth.Speaks.{AreSpoken, Speaks}
 use Rattle.request_laws.proofs.phases.Steps.{is_about, left_of}
+use Rattle.request_laws.proofs.routes.ChainsStay.{any_in}
 use Rattle.step_forms.specs.Does.{IsWord}
 use Rattle.frag_map.specs.Layout.{Layout}
 use Rattle.tc_block.specs.declared.phase.Phase.TheVariants.{Committing, Completing}
@@ -40,7 +41,6 @@ use Rattle.tc_views.specs.Words.{is_coordinator_word}
 use Rattle.tc_views.proofs.Walk.{coordinator_installed_each, coordinator_words}
 use Rattle.sig_core.specs.declared.mark.Mark.{Mark}
 use Rattle.commit_laws.proofs.hosts.CoordinatorSends.{is_beside, sent_by}
-use Rattle.commit_laws.proofs.hosts.SomePasses.{passed}
 
 -- the signal commits the transaction, completes it, or tells its client of the commit
 abbrev pub drives_forth : TxId → Body → Bool
@@ -88,7 +88,7 @@ module _ (node : ℕ) (layout : Layout) (tx : TxId) (t : Transaction) (body : Bo
       confirmed turn epoch (at_completion awaited in_phase) inside =
           phased turn (Completing epoch awaited) in_phase refl
       confirmed turn epoch (at_end over) inside =
-          telling (passed (λ (o : Outgoing). tells_commit tx o.body) (reported tx epoch) turn.step.effects.sends inside
+          telling (any_in (λ (o : Outgoing). tells_commit tx o.body) (reported tx epoch) turn.step.effects.sends inside
           (same_tx-self tx))
 
 -- it is decided before a step, or behind it, or its client is told

@@ -39,16 +39,11 @@ use Rattle.moment_laws.proofs.MomentViews.{moment_less}
 use Rattle.outcome_laws.proofs.knowledge.TellsNothing.{AreUntold, IsUntold, is_tale}
 use Rattle.outcome_laws.proofs.knowledge.Parts.{arbiter_tells_nothing}
 use Rattle.outcome_laws.proofs.knowledge.HostSteps.{IsOfEffects, step_keeps}
+use Rattle.outcome_laws.proofs.once.DecidesAndReports.{IsShell}
 use Rattle.request_laws.specs.Ways.{is_sent}
 use Rattle.commit_laws.specs.Traces.{is_acknowledgement, is_known}
 use Rattle.commit_laws.proofs.forth.Client.{Answers, IsToldOf, by_coordinator, by_takeover, client_acknowledges}
 use Rattle.commit_laws.proofs.hosts.SomePasses.{passing}
-
--- where the client's side acknowledges a commit it takes a well formed signal that tells it of that
--- the shell's host
-abbrev pub IsShell : Parts → Type 0
-IsShell (Shell p) = Unit {0}
-IsShell parts = ⊥
 
 module _ (x : Signal) (Well : Type 0) where
   abbrev pub Owes : Body → Type 0

@@ -1,10 +1,9 @@
 -- A transaction of whose commit the client's side knows has begun, and it begins once.
-use Rattle.std.proofs.Common.{◌≡◌, ◌≤◌, ◌++◌, ℕ, true, List, [], ◌∷◌, inl, inr, refl, sym, ap, subst, arith}
+use Rattle.std.proofs.Common.{◌≡◌, ◌≤◌, ◌++◌, ℕ, true, List, [], ◌∷◌, refl, sym, subst, arith}
 use Rattle.run_theory.specs.Links.{sent}
 use Rattle.run_theory.specs.Lists.{IsPast}
 use Rattle.run_theory.proofs.Links.{log_past}
 use Rattle.run_theory.proofs.Pasts.{each_in}
-use Rattle.sig_core.proofs.Keys.{same_tx-self}
 use Rattle.sig_core.specs.declared.mark.Mark.TheVariants.{Decided}
 use Rattle.sig_core.specs.declared.member.TxId.{TxId}
 use Rattle.world_core.specs.Start.{Start}
@@ -14,8 +13,8 @@ use Rattle.world_views.specs.Machine.{after, machine}
 use Rattle.view_laws.specs.Order.{sound_machine}
 use Rattle.moment_laws.specs.Moments.{IsMoment, logs_of}
 use Rattle.moment_laws.specs.Places.{tc_of}
-use Rattle.outcome_laws.specs.Counts.{coordinator_member, count_open, is_begin, is_report, one_if}
-use Rattle.outcome_laws.specs.Decided.{HasToldOfBegin, IsBegun, IsDecided}
+use Rattle.outcome_laws.specs.Counts.{coordinator_member, count_open, is_begin, is_report}
+use Rattle.outcome_laws.specs.Decided.{IsBegun, IsDecided}
 use Rattle.outcome_laws.specs.Know.{TellsTruly}
 use Rattle.outcome_laws.specs.Once.{takes_in}
 use Rattle.outcome_laws.specs.Tells.{IsRightMark, Tells}
@@ -26,6 +25,7 @@ use Rattle.outcome_laws.proofs.once.AlongLogs.{log_light}
 use Rattle.outcome_laws.proofs.once.DecidesAndReports.{IsShell, client_light, in_client, of_client, reports_client}
 use Rattle.outcome_laws.proofs.once.CoordinatorScale.{no_body}
 use Rattle.outcome_laws.proofs.once.ReportedOnce.{shell_begins}
+use Rattle.outcome_laws.proofs.order.ReportsBeforeAsks.{begun_counts}
 use Rattle.commit_laws.specs.Traces.{is_known}
 use Rattle.commit_laws.proofs.forth.Client.{IsToldOf, by_coordinator, by_takeover}
 use Rattle.commit_laws.proofs.forth.KnownTold.{WasTold, known_told}
@@ -34,12 +34,6 @@ takes_older : (tx : TxId) (newer log : List HostStep)
     → takes_in (is_begin tx) log ≤ takes_in (is_begin tx) (newer ++ log)
 takes_older tx [] log = omega arith
 takes_older tx (e ∷ newer) log = let rest = takes_older tx newer log in omega (arith, rest)
-
-begin_counts : (tx : TxId) (log : List HostStep) → HasToldOfBegin tx log → 1 ≤ takes_in (is_begin tx) log
-begin_counts tx [] told = absurd told
-begin_counts tx (e ∷ log) (inl one) =
-    omega (arith, ap one_if (ap (is_begin tx) one.is), ap one_if (same_tx-self tx))
-begin_counts tx (e ∷ log) (inr older) = let rest = begin_counts tx log older in omega (arith, rest)
 
 module _ (start : Start) (all : ℕ → List HostStep) (es : List HostStep) (moment : IsMoment start all es) (tx : TxId)
   where
@@ -72,7 +66,7 @@ module _ (start : Start) (all : ℕ → List HostStep) (es : List HostStep) (mom
                 of_decided epoch (subst (Tells (IsDecided start logs) (IsBegun start logs)) same truly)
 
     pub begun_some : is_known start (logs_of start es) tx ≡ true → 1 ≤ takes_in (is_begin tx) (logs_of start es 0)
-    begun_some is = begin_counts tx (logs 0) (begun is)
+    begun_some is = begun_counts tx (logs 0) (begun is)
 
     pub begun_once : takes_in (is_begin tx) (logs_of start es 0) ≤ 1
     begun_once =

@@ -34,12 +34,14 @@ use Rattle.outcome_laws.proofs.knowledge.TellsNothing.{AreUntold, IsUntold}
 use Rattle.outcome_laws.proofs.knowledge.Parts.{arbiter_tells_nothing}
 use Rattle.request_laws.specs.Ways.{is_sent}
 use Rattle.request_laws.proofs.routes.PartsOfTheFirst.{nobody_later}
+use Rattle.request_laws.proofs.routes.ChainsStay.{any_in}
 use Rattle.commit_laws.specs.Fates.{is_led_by_full}
 use Rattle.commit_laws.specs.Traces.{is_acknowledgement}
 use Rattle.commit_laws.proofs.commits.Step.{not_closing}
-use Rattle.commit_laws.proofs.views.AtEvents.{any_of, led_was, some_of}
+use Rattle.commit_laws.proofs.views.AtEvents.{led_was}
 use Rattle.commit_laws.proofs.forth.OwnTellers.{IsOfOwn, IsToldByOwn, own_tellers}
 use Rattle.commit_laws.proofs.hosts.ShellSees.{IsSeeing, did, noted_sees, seeing}
+use Rattle.commit_laws.proofs.hosts.SomePasses.{passing}
 
 -- what tells nothing acknowledges nothing
 pub untold_off : (tx : TxId) (sends : List Outgoing) → AreUntold sends → is_sent (is_acknowledgement tx) sends ≡ false
@@ -68,8 +70,8 @@ module _ (tx : TxId) where
       by : (is_among view.full (coordinator_member tx) ≡ true)
           ⊎ (is_among view.starting (coordinator_member tx) ≡ true) → is_coordinated view.full tx ≡ true
       by (inl among) =
-          let one = some_of (same_member (coordinator_member tx)) view.full among in
-          any_of (was_begun_by tx) view.full one.one one.there (same_begun one.one one.passes)
+          let one = passing (same_member (coordinator_member tx)) view.full among in
+          any_in (was_begun_by tx) one.item view.full one.there (same_begun one.item one.is)
       by (inr among) =
           absurd (true≢false (sym among ∙ ap (λ ms. is_among ms (coordinator_member tx)) none))
 

@@ -4,7 +4,6 @@ use Rattle.std.proofs.Common.{inr, refl, sym, ap, arith, subst}
 use Rattle.std.proofs.lemmas.Bool.{cases_eq, cases_lt, true≢false}
 use Rattle.std.specs.Prelude.{Option, None, Some, remove, slice_get}
 use Rattle.run_theory.specs.Counts.{total}
-use Rattle.outcome_laws.specs.Counts.{one_if}
 use Rattle.run_theory.specs.Lists.{IsIn}
 use Rattle.run_theory.proofs.EventCases.{event_cases}
 use Rattle.commit_laws.proofs.hosts.OwnTaken.{tc_taken}
@@ -17,6 +16,7 @@ use Rattle.sig_core.specs.declared.signal.Signal.{Signal}
 use Rattle.sig_core.specs.declared.signal.takeover.TakeoverSignal.TheVariants.{TakeoverOrd}
 use Rattle.sig_core.specs.declared.view.View.{View}
 use Rattle.sig_core.specs.Step.{Step}
+use Rattle.tc_block.specs.Complete.{one_if}
 use Rattle.lqh_block.specs.Views.{is_coordinated}
 use Rattle.takeover_block.specs.declared.gathered.Gathered.{Gathered}
 use Rattle.takeover_block.specs.declared.stage.Stage.{Stage}
@@ -48,8 +48,9 @@ use Rattle.request_laws.specs.Tokens.{all_taken, taken_along}
 use Rattle.request_laws.proofs.routes.PartSteps.{TcStep, own_tc, takeover_is}
 use Rattle.request_laws.proofs.tokens.RowHosts.{test_taken}
 use Rattle.request_laws.proofs.tokens.FirstInView.{all_taken_more, taken_now}
+use Rattle.request_laws.specs.Orphans.{IsOrphan}
 use Rattle.commit_laws.specs.Ruling.{AllRest, NoneRuled}
-use Rattle.commit_laws.specs.Takeovers.{IsOrphan, takeover_at}
+use Rattle.commit_laws.specs.Takeovers.{takeover_at}
 use Rattle.commit_laws.proofs.drive.Kinds.{numbered}
 use Rattle.commit_laws.proofs.drive.Ordered.{ruled}
 use Rattle.commit_laws.proofs.drive.Ruled.{OrdersAreOnce, is_order, plain}

@@ -19,6 +19,7 @@ use Rattle.sig_core.specs.Place.{takeover}
 use Rattle.sig_core.specs.Portion.{rest_if}
 use Rattle.sig_core.specs.Step.{Step}
 use Rattle.frag_map.specs.Layout.{Layout, chain_of}
+use Rattle.tc_block.specs.Complete.{one_if}
 use Rattle.lqh_views.specs.WholeReports.{asks}
 use Rattle.takeover_block.specs.declared.gathered.Gathered.{Gathered}
 use Rattle.takeover_block.specs.declared.stage.Stage.{Stage}
@@ -30,7 +31,6 @@ use Rattle.takeover_block.specs.State.{TakeoverState, with_gathered}
 use Rattle.takeover_block.proofs.EachTakeover.{is_gathering}
 use Rattle.view_laws.specs.Sets.{AreApart, IsApart}
 use Rattle.view_laws.proofs.words.Sent.{AreOf, IsOf, portion_kinds}
-use Rattle.outcome_laws.specs.Counts.{one_if}
 use Rattle.outcome_laws.proofs.coordinators.Lists.{count_both, count_more}
 use Rattle.commit_laws.proofs.drive.Lists.{portion_more, taken_less}
 use Rattle.commit_laws.proofs.gathering.Words.{AskNone, asks_at}

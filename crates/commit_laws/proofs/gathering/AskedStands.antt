@@ -17,6 +17,7 @@ use Rattle.sig_core.specs.declared.signal.takeover.TakeoverSignal.TheVariants.{L
 use Rattle.sig_core.specs.declared.view.View.{View}
 use Rattle.sig_core.specs.Step.{Step}
 use Rattle.frag_map.specs.Layout.{Layout, first_layout}
+use Rattle.tc_block.specs.Complete.{one_if}
 use Rattle.lqh_views.specs.WholeReports.{ends}
 use Rattle.takeover_block.specs.declared.stage.Stage.{Stage}
 use Rattle.takeover_block.specs.declared.stage.Stage.TheVariants.{Aborting, Committing, Completing, Gathering, Resting}
@@ -46,7 +47,6 @@ use Rattle.moment_laws.proofs.MomentMembers.{full_apart}
 use Rattle.moment_laws.proofs.MomentTurns.{host_low, own_log}
 use Rattle.moment_laws.proofs.PartKinds.{tc_is}
 use Rattle.moment_laws.proofs.PartTaken.{IsTakenNow, handled_now}
-use Rattle.outcome_laws.specs.Counts.{one_if}
 use Rattle.outcome_laws.proofs.coordinators.Lists.{count_both}
 use Rattle.request_laws.specs.Blocks.{takeover_after, takeover_in}
 use Rattle.request_laws.specs.Tokens.{sent_along, taken_along}

@@ -21,6 +21,7 @@ use Rattle.sig_core.specs.declared.signal.Signal.{Signal}
 use Rattle.sig_core.specs.declared.signal.takeover.TakeoverSignal.TheVariants.{LqhTransEnd}
 use Rattle.sig_core.specs.declared.view.View.{View}
 use Rattle.frag_map.specs.Layout.{Layout}
+use Rattle.tc_block.specs.Complete.{one_if}
 use Rattle.lqh_views.specs.WholeReports.{ends}
 use Rattle.takeover_block.specs.Gather.{member_count}
 use Rattle.node_views.specs.WellFormed.{is_well_formed}
@@ -37,7 +38,6 @@ use Rattle.moment_laws.specs.Places.{ldm_of, tc_of}
 use Rattle.moment_laws.proofs.MomentHosts.{tc_low}
 use Rattle.moment_laws.proofs.MomentMembers.{current_made}
 use Rattle.moment_laws.proofs.MomentViews.{moment_installed, moment_less, moment_within}
-use Rattle.outcome_laws.specs.Counts.{one_if}
 use Rattle.outcome_laws.proofs.coordinators.Lists.{none_counted}
 use Rattle.request_laws.specs.Tokens.{sent_along, taken_along}
 use Rattle.request_laws.proofs.routes.Hosts.{PartHost, beside_sends, coordinates, is_beside, keeps_rows, part_host}

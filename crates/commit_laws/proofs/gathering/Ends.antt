@@ -18,6 +18,7 @@ use Rattle.sig_core.specs.declared.signal.Body.TheVariants.{Takeover}
 use Rattle.sig_core.specs.declared.signal.Signal.{Signal}
 use Rattle.sig_core.specs.declared.signal.takeover.TakeoverSignal.TheVariants.{LqhTransReq}
 use Rattle.sig_core.specs.declared.view.View.{View}
+use Rattle.tc_block.specs.Complete.{one_if}
 use Rattle.lqh_views.specs.Replica.{replica_row}
 use Rattle.lqh_views.specs.State.{ReplicaState}
 use Rattle.lqh_views.specs.WholeReports.{asks, ends}
@@ -42,7 +43,7 @@ use Rattle.moment_laws.proofs.MomentMembers.{all_full}
 use Rattle.moment_laws.proofs.MomentTurns.{other_log}
 use Rattle.moment_laws.proofs.MomentViews.{current_number, moment_less}
 use Rattle.moment_laws.proofs.PartTaken.{IsTakenNow}
-use Rattle.outcome_laws.specs.Counts.{count_sent, one_if}
+use Rattle.outcome_laws.specs.Counts.{count_sent}
 use Rattle.outcome_laws.proofs.coordinators.Lists.{none_counted}
 use Rattle.request_laws.specs.Blocks.{no_replica, rows_after, rows_in}
 use Rattle.request_laws.specs.Tokens.{sent_along, taken_along}

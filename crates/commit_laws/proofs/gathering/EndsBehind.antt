@@ -23,8 +23,8 @@ use Rattle.moment_laws.specs.Moments.{IsMoment, current, logs_of}
 use Rattle.moment_laws.specs.Places.{ldm_of, tc_of}
 use Rattle.moment_laws.proofs.MomentMembers.{current_made}
 use Rattle.moment_laws.proofs.MomentViews.{moment_less}
+use Rattle.request_laws.specs.Orphans.{IsOrphan}
 use Rattle.commit_laws.specs.Ruling.{NoneRuled}
-use Rattle.commit_laws.specs.Takeovers.{IsOrphan}
 use Rattle.commit_laws.specs.Telling.{EndsComeBehind, IsAmong, IsEnd}
 use Rattle.commit_laws.specs.Traces.{has_marker_at, record_at, rows_at}
 use Rattle.commit_laws.proofs.gathering.Alone.{none_ruled}

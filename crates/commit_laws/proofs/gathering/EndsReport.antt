@@ -8,6 +8,7 @@ use Rattle.sig_core.specs.declared.signal.Body.TheVariants.{Takeover}
 use Rattle.sig_core.specs.declared.signal.Signal.{Signal}
 use Rattle.sig_core.specs.declared.signal.takeover.TakeoverSignal.TheVariants.{LqhTransReq}
 use Rattle.sig_core.specs.Step.{Step}
+use Rattle.tc_block.specs.Complete.{one_if}
 use Rattle.lqh_block.specs.declared.request.Marker.{Marker}
 use Rattle.lqh_views.specs.declared.report.Report.{Report}
 use Rattle.lqh_views.specs.Replica.{replica_by, replica_row}
@@ -16,7 +17,7 @@ use Rattle.lqh_views.specs.Report.{telling, told_record_if}
 use Rattle.lqh_views.specs.State.{ReplicaState}
 use Rattle.lqh_views.specs.WholeReports.{asks, ends, whole}
 use Rattle.lqh_views.proofs.ReportSteps.{GoesOn, Rests, step_kind}
-use Rattle.outcome_laws.specs.Counts.{count_sent, one_if}
+use Rattle.outcome_laws.specs.Counts.{count_sent}
 use Rattle.outcome_laws.proofs.coordinators.Lists.{none_counted}
 
 -- reports that are under way

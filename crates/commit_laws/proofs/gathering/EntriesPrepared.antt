@@ -47,9 +47,10 @@ use Rattle.request_laws.proofs.routes.BesideRows.{is_of_rows}
 use Rattle.request_laws.proofs.routes.Headers.{takeover_fenced, told_of}
 use Rattle.request_laws.proofs.orphans.TakeoversOfOrphans.{takeovers_are_of_orphans}
 use Rattle.request_laws.proofs.routes.PartSteps.{TcStep, own_tc, takeover_is}
+use Rattle.request_laws.specs.Orphans.{IsOrphan}
 use Rattle.commit_laws.specs.Gathering.{EndsGathering, IsPreparedSomewhere}
 use Rattle.commit_laws.specs.Ruling.{NoneRuled}
-use Rattle.commit_laws.specs.Takeovers.{IsOrphan, takeover_at}
+use Rattle.commit_laws.specs.Takeovers.{takeover_at}
 use Rattle.commit_laws.proofs.gathering.Alone.{none_ruled}
 use Rattle.commit_laws.proofs.gathering.PreparedTold.{IsPreparedIf, TellsPrepared, none_before, prepared_stays}
 use Rattle.commit_laws.proofs.gathering.PreparedTold.{prepared_told}

@@ -19,19 +19,21 @@ use Rattle.world_core.specs.Steps.{HostStep}
 use Rattle.moment_laws.specs.Moments.{IsMoment, current, logs_of}
 use Rattle.moment_laws.specs.Places.{ldm_of}
 use Rattle.moment_laws.proofs.MomentViews.{moment_less}
+use Rattle.request_laws.specs.Orphans.{IsOrphan}
+use Rattle.request_laws.proofs.routes.ChainsStay.{any_in}
 use Rattle.commit_laws.proofs.gathering.TellingsGathered.{closing_runs}
 use Rattle.commit_laws.specs.Fates.{is_led_by_full}
 use Rattle.commit_laws.specs.Gathering.{EndsGathering}
 use Rattle.commit_laws.specs.Going.{is_forth, is_lost}
 use Rattle.commit_laws.specs.Reported.{GatheringsList, IsListed, IsSaid, aborted, known}
-use Rattle.commit_laws.specs.Takeovers.{IsOrphan, takeover_at}
+use Rattle.commit_laws.specs.Takeovers.{takeover_at}
 use Rattle.commit_laws.specs.Telling.{AllHaveEnded, EndsComeBehind, OrdersComeFirst, TellingsAreGathered}
 use Rattle.commit_laws.specs.Traces.{has_marker_at, has_trace, is_committed_of, is_known, is_marker_of, leave_trace}
 use Rattle.commit_laws.specs.Traces.{members_now, rows_at}
 use Rattle.commit_laws.proofs.fates.Cases.{none_aborts}
 use Rattle.commit_laws.proofs.gathering.Whole.{fronted, tells}
 use Rattle.commit_laws.proofs.markers.All.{commits_are_remembered}
-use Rattle.commit_laws.proofs.hosts.SomePasses.{passed, passing}
+use Rattle.commit_laws.proofs.hosts.SomePasses.{passing}
 use Rattle.commit_laws.proofs.records.Replicas.{member_made, members_full}
 use Rattle.commit_laws.proofs.gathering.TellingsNoted.{tellings_noted}
 use Rattle.commit_laws.proofs.gathering.TellingsPlaced.{tellings_are_for_takeovers}
@@ -105,7 +107,7 @@ module _ (behind : EndsComeBehind) (ended : AllHaveEnded) (told : TellingsAreGat
         by (inr markers) =
             let m = passing (is_marker_of tx) (rows_at start old one).lqh.markers markers in
             inr (marked one full m.item.key
-            (passed (is_marker tx m.item.key) m.item (rows_at start old one).lqh.markers m.there
+            (any_in (is_marker tx m.item.key) m.item (rows_at start old one).lqh.markers m.there
             (ap (λ b. b && same_key m.item.key m.item.key) m.is ∙ same_key-self m.item.key)))
 
     listed : IsSaid start (logs_of start es) tx [] ⊎ IsListed tx (takeover_at start (logs_of start es) member).gathered

@@ -14,7 +14,7 @@ use Rattle.moment_laws.specs.Moments.{IsMoment, current, logs_of}
 use Rattle.outcome_laws.specs.Counts.{coordinator_member}
 use Rattle.request_laws.specs.Routed.{WasAskedIn}
 use Rattle.request_laws.proofs.orphans.ReportsOfOrphans.{coordinated}
-use Rattle.commit_laws.specs.Takeovers.{IsOrphan}
+use Rattle.request_laws.specs.Orphans.{IsOrphan}
 use Rattle.commit_laws.proofs.records.KeyGoes.{KeyGoes}
 use Rattle.commit_laws.proofs.fates.RowsUnasked.{unasked_goes}
 

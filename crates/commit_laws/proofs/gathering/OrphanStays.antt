@@ -17,8 +17,8 @@ use Rattle.moment_laws.proofs.MomentViews.{current_number, moment_less}
 use Rattle.moment_laws.proofs.PartTaken.{IsTakenNow}
 use Rattle.request_laws.proofs.routes.BesideRows.{is_of_rows}
 use Rattle.request_laws.proofs.routes.Headers.{chain_fenced, told_of}
+use Rattle.request_laws.specs.Orphans.{IsOrphan}
 use Rattle.commit_laws.specs.Ruling.{EndsOf, NoneRuled}
-use Rattle.commit_laws.specs.Takeovers.{IsOrphan}
 use Rattle.commit_laws.specs.Traces.{has_marker_at, record_at}
 use Rattle.commit_laws.proofs.records.KeyGoes.{IsMarkedNow, RecordGoes, is_aborted, is_committed, is_completed}
 use Rattle.commit_laws.proofs.records.KeyGoes.{record_stays}

@@ -52,8 +52,9 @@ use Rattle.request_laws.proofs.routes.Headers.{chain_fenced, sent_so, told_of}
 use Rattle.request_laws.proofs.routes.Hosts.{PartHost, coordinates, is_beside, keeps_rows, part_host}
 use Rattle.request_laws.proofs.orphans.ReportsOfOrphans.{coordinated}
 use Rattle.request_laws.proofs.routes.PartSteps.{LdmStep, TcStep, coordinator_is, ldm_step, own_tc, takeover_is}
+use Rattle.request_laws.specs.Orphans.{IsOrphan}
 use Rattle.commit_laws.specs.Ruling.{AllRest, EndsOf, NoneRuled, OrphansGoOn}
-use Rattle.commit_laws.specs.Takeovers.{IsOrphan, takeover_at}
+use Rattle.commit_laws.specs.Takeovers.{takeover_at}
 use Rattle.commit_laws.proofs.takeover.Rests.{rests_quiet}
 use Rattle.commit_laws.proofs.fates.SpokenAside.{beside_speaks, epochs_install_speak, epochs_speak}
 use Rattle.commit_laws.proofs.fates.SpokenCoordinator.{coordinator_installs_speak, coordinator_speaks}

@@ -45,9 +45,9 @@ use Rattle.request_laws.proofs.routes.Headers.{sent_so}
 use Rattle.request_laws.proofs.routes.Hosts.{PartHost, beside_sends, coordinates, is_beside, keeps_rows, part_host}
 use Rattle.request_laws.proofs.routes.PartSteps.{TcStep, tc_step}
 use Rattle.request_laws.proofs.tokens.HostsApart.{ldm_low}
+use Rattle.request_laws.specs.Orphans.{IsOrphan}
 use Rattle.commit_laws.specs.Gathering.{IsPreparedSomewhere}
 use Rattle.commit_laws.specs.Ruling.{NoneRuled}
-use Rattle.commit_laws.specs.Takeovers.{IsOrphan}
 use Rattle.commit_laws.specs.Traces.{record_at, rows_at}
 use Rattle.commit_laws.proofs.gathering.OrphanStays.{record_same}
 use Rattle.commit_laws.proofs.records.Once.{rows_once}

@@ -45,8 +45,8 @@ use Rattle.moment_laws.proofs.MomentViews.{current_above, current_number, moment
 use Rattle.request_laws.specs.Blocks.{no_replica, rows_after, rows_in}
 use Rattle.request_laws.proofs.routes.Layouts.{rows_laid, rows_layout}
 use Rattle.request_laws.proofs.tokens.HostsApart.{ldm_low}
+use Rattle.request_laws.specs.Orphans.{IsOrphan}
 use Rattle.commit_laws.specs.Ruling.{NoneRuled}
-use Rattle.commit_laws.specs.Takeovers.{IsOrphan}
 use Rattle.commit_laws.specs.Traces.{rows_at}
 use Rattle.commit_laws.proofs.links.Puts.{stopped_same}
 use Rattle.commit_laws.proofs.links.TakeoverTold.{AreBehind, HasTold, IsShut, stay_behind, still_behind, told_comes}

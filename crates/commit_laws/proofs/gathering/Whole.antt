@@ -20,8 +20,9 @@ use Rattle.world_views.specs.Machine.{cause_in, machine}
 use Rattle.view_laws.specs.Order.{sound_machine}
 use Rattle.moment_laws.specs.Moments.{IsMoment, current, logs_of}
 use Rattle.moment_laws.specs.Places.{ldm_of, tc_of}
+use Rattle.request_laws.specs.Orphans.{IsOrphan}
 use Rattle.commit_laws.specs.Gathering.{AllIsTold, EndsGathering, GatheringsAreWhole}
-use Rattle.commit_laws.specs.Takeovers.{IsOrphan, takeover_at}
+use Rattle.commit_laws.specs.Takeovers.{takeover_at}
 use Rattle.commit_laws.specs.Telling.{AllHaveEnded, EndsComeBehind, HasEnded, IsAmong, IsGathered, TellingsAreGathered}
 use Rattle.commit_laws.specs.Traces.{has_marker_at, record_at}
 

@@ -23,9 +23,9 @@ use Rattle.tc_block.proofs.TurnRows.{turn_for}
 use Rattle.tc_block.proofs.TurnSends.{TurnSends, resume_row_sends, turn_for_sends}
 use Rattle.tc_views.specs.Coordinator.{coordinator_row}
 use Rattle.tc_views.specs.State.{CoordinatorState, go_on_if, go_on_with}
+use Rattle.view_laws.proofs.ballots.MadeSets.{in_either}
 use Rattle.outcome_laws.specs.Counts.{IsCoordinatorOf}
 use Rattle.request_laws.specs.Ways.{entry_of}
-use Rattle.request_laws.proofs.phases.Events.{in_either}
 use Rattle.request_laws.proofs.phases.Steps.{Walks, begins, coordinator_walks, is_about, left_of, passes, resumes}
 use Rattle.request_laws.proofs.phases.Steps.{stays}
 use Rattle.request_laws.proofs.phases.Steps.{turns}

@@ -6,10 +6,10 @@ use Rattle.run_theory.specs.Lists.{Each, IsIn}
 use Rattle.run_theory.proofs.Links.{put_each}
 use Rattle.run_theory.proofs.Pasts.{each_from, each_in, each_map}
 use Rattle.sig_core.specs.declared.signal.Signal.{Signal}
+use Rattle.tc_block.specs.Complete.{one_if}
 use Rattle.world_core.specs.Start.{Start}
 use Rattle.world_core.specs.Steps.{Addressed, HostStep}
 use Rattle.view_laws.specs.Order.{sound_machine}
-use Rattle.outcome_laws.specs.Counts.{one_if}
 use Rattle.outcome_laws.proofs.coordinators.Lists.{count_more}
 use Rattle.request_laws.specs.Tokens.{sent_along}
 

@@ -48,22 +48,23 @@ module _ (start : Start) (all : ℕ → List HostStep) (e : HostStep) (es : List
   decided : is_decided start (logs_of start (e ∷ es)) tx ≡ true
   decided = decided_now start all e es moment tx (decided_mark tx epoch e.step.marks there)
 
-  own : IsIn member (made start)
-  own = decided_made start all (e ∷ es) moment tx decided
+  -- who decides was made, and its host does so
+  pub decider_made : IsIn member (made start)
+  decider_made = decided_made start all (e ∷ es) moment tx decided
 
-  home : e.host ≡ tc_of start member
-  home =
+  pub decider_home : e.host ≡ tc_of start member
+  decider_home =
       (decides_now forth_is_known start all e es moment tx decided
       (new_there start all e es moment tx [] (decided_mark tx epoch e.step.marks there))).at
 
   marks_are : e.step.marks ≡ (step_after start (tc_of start member) log e).effects.marks
   marks_are =
       let happens : Happens (sound_machine start) es e = moment.run.1 in
-      subst (λ h. e.step.marks ≡ (step_after start h (logs_of start es h) e).effects.marks) home
+      subst (λ h. e.step.marks ≡ (step_after start h (logs_of start es h) e).effects.marks) decider_home
       happens.step.fits.marks
 
-  runs : IsRun start member own log
-  runs = runs_tc start member own log
+  runs : IsRun start member decider_made log
+  runs = runs_tc start member decider_made log
 
   goes_on : stops_by e.step.marks ≡ false
   goes_on = by (tc_goes start (tc_of start member) log e runs.own runs.runs)

@@ -57,7 +57,8 @@ pub data HostGoes (shape : Shape) (parts : Parts) (view : View) (x : Signal) (st
       → step.state.standing.view ≡ seen → step.effects.sends ≡ front ++ (parts_row between x).effects.sends
       → HostGoes shape parts view x step
 
-any_behind : (p : Mark → Bool) (xs ys : List Mark) → list_any p ys ≡ true → list_any p (xs ++ ys) ≡ true
+-- what one of the later passes, one of all passes
+pub any_behind : (p : Mark → Bool) (xs ys : List Mark) → list_any p ys ≡ true → list_any p (xs ++ ys) ≡ true
 any_behind p [] ys is = is
 any_behind p (x ∷ xs) ys is = by (p x) (any_behind p xs ys is)
   where

@@ -45,10 +45,9 @@ use Rattle.view_laws.specs.HostEvents.{block_events, counted_events, entering_ev
 use Rattle.view_laws.specs.HostEvents.{headed_events, installing, is_handled, passed_events, sound_events, taking}
 use Rattle.view_laws.proofs.eras.Parts.{entered_bare}
 use Rattle.view_laws.proofs.follow.Memberships.{settles_on}
-use Rattle.view_laws.proofs.ballots.MadeSets.{in_front}
+use Rattle.view_laws.proofs.ballots.MadeSets.{in_either, in_front}
 use Rattle.view_laws.proofs.memberships.Outstanding.{Does, does_answer, does_hear, does_propose, does_rest, does_settle}
 use Rattle.view_laws.proofs.memberships.Outstanding.{is_settling, table_does}
-use Rattle.outcome_laws.proofs.order.BeforeInLists.{in_either}
 use Rattle.gcp_master.specs.Words.{is_master_mark}
 use Rattle.gcp_master.proofs.Walk.{master_words}
 use Rattle.step_forms.specs.Does.{IsAmong}
@@ -63,7 +62,8 @@ InstallsNone mark = is_installation mark ≡ false
 none_installed : (marks : List Mark) → Each InstallsNone marks → (view : View) → IsIn (Installed view) marks → ⊥
 none_installed marks none view there = true≢false (each_in InstallsNone (Installed view) marks none there)
 
-one_mark : (set view : View) → Installed view ≡ Installed set → view ≡ set
+-- the mark of a view is of no other
+pub one_mark : (set view : View) → Installed view ≡ Installed set → view ≡ set
 one_mark set view same = cc (same)
 
 one_event : (set view : View) → installs view ≡ installs set → view ≡ set

@@ -14,6 +14,7 @@ use Rattle.sig_core.specs.declared.place.Part.TheVariants as kind
 use Rattle.sig_core.specs.Step.{Effects}
 use Rattle.node_views.specs.Words.{parts_marks}
 use Rattle.commit_laws.proofs.hosts.Words.{OfKind, host_marks_each}
+use Rattle.commit_laws.proofs.hosts.SomePasses.{passing}
 use Rattle.node_views.specs.declared.parts.Parts.{Parts}
 use Rattle.node_views.specs.declared.parts.Parts.TheVariants.{Ldm, Main, Shell, Tc}
 use Rattle.world_core.specs.Hosts.{member_at, part_by}
@@ -23,7 +24,6 @@ use Rattle.world_core.specs.Start.{Start, made}
 use Rattle.world_core.specs.Steps.{HostStep}
 use Rattle.world_views.specs.Hosts.{part_started, started}
 use Rattle.world_views.specs.Machine.{machine, step_after}
-use Rattle.commit_laws.proofs.views.AtEvents.{some_of}
 
 abbrev IsNoReport : Mark → Type 0
 IsNoReport (Reported tx outcome) = ⊥
@@ -61,8 +61,8 @@ module _ (start : Start) (k : ℕ) where
 
   none_new : (v : TxId) (marks : List Mark) → Each IsNoReport marks → list_any (is_reported v) marks ≡ true → ⊥
   none_new v marks none any =
-      let one = some_of (is_reported v) marks any in
-      by one.one one.passes (each_in IsNoReport one.one marks none one.there)
+      let one = passing (is_reported v) marks any in
+      by one.item one.is (each_in IsNoReport one.item marks none one.there)
     where
       by : (mark : Mark) → is_reported v mark ≡ true → IsNoReport mark → ⊥
       by (Reported other outcome) is none = none

@@ -68,6 +68,12 @@ module _ (start : Start) (all : ℕ → List HostStep) (e : HostStep) (es : List
       as_was : s ≡ rows_at start old member → view_after start h (e ∷ old h) ≡ view_after start h (old h) → IsBetween s
       entered : (view : View) → s ≡ installed (rows_at start old member) view → IsBetween s
 
+    -- what is so of the rows as they were, and with each other view, is so of those that take the signal
+    pub between_so : (P : ReplicaState → Type 0) (s : ReplicaState) → IsBetween s → P (rows_at start old member)
+        → ((view : View) → P (installed (rows_at start old member) view)) → P s
+    between_so P s (as_was is stood) here set = subst P (sym is) here
+    between_so P s (entered view is) here set = subst P (sym is) (set view)
+
     -- what the host of the rows sends is what these send, or nothing; and its marks are theirs, among some that mark
     -- nothing to be applied
     pub record IsTakenAt (s : ReplicaState) : Type 0 where

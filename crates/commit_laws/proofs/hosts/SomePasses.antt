@@ -1,6 +1,6 @@
 -- Which entries of a list pass a test, where some entry does.
-use Rattle.std.proofs.Common.{◌≡◌, ◌∙◌, ◌||◌, Bool, true, false, List, [], ◌∷◌, refl, sym, ap, inl, inr}
-use Rattle.std.proofs.lemmas.Bool.{or_left, or_right, true≢false}
+use Rattle.std.proofs.Common.{◌≡◌, ◌||◌, Bool, true, false, List, [], ◌∷◌, refl, sym, inl, inr}
+use Rattle.std.proofs.lemmas.Bool.{true≢false}
 use Rattle.std.specs.List.{list_any}
 use Rattle.run_theory.specs.Lists.{IsIn}
 
@@ -18,8 +18,3 @@ passing p (x ∷ xs) some = by (p x) refl some (passing p xs)
         → Passes p (x ∷ xs)
     by true own some rest = record { item = x; there = inl refl; is = own }
     by false off some rest = let one = rest some in record { item = one.item; there = inr one.there; is = one.is }
-
-pub passed : {A : Type 0} (p : A → Bool) (x : A) (xs : List A) → IsIn x xs → p x ≡ true → list_any p xs ≡ true
-passed p x [] there own = absurd there
-passed p x (y ∷ xs) (inl same) own = or_left (p y) (list_any p xs) (ap p (sym same) ∙ own)
-passed p x (y ∷ xs) (inr there) own = or_right (p y) (list_any p xs) (passed p x xs there own)

@@ -31,6 +31,7 @@ use Rattle.moment_laws.specs.Places.{tc_of}
 use Rattle.outcome_laws.specs.Counts.{coordinator_member, is_decision}
 use Rattle.outcome_laws.proofs.knowledge.DecidedAtOwnHost.{AreDecidedHere, IsDecidedHere, all_own}
 use Rattle.outcome_laws.proofs.order.EventsBefore.{moment_before}
+use Rattle.outcome_laws.proofs.knowledge.CommitsWereDecided.{in_before}
 use Rattle.moment_laws.proofs.MomentViews.{moment_less}
 use Rattle.key_laws.specs.Backup.{IsLedUnlessSpoilt}
 use Rattle.key_laws.specs.BackupEvents.{backup_of}
@@ -78,13 +79,6 @@ decided_among (Decided tx epoch ∷ marks) decided v =
     turned false true c = refl
     turned false false c = refl
 decided_among (mark ∷ marks) decided v = decided_among marks decided v
-
-in_decisions : (h stamp : ℕ) (log : List HostStep) (z : Entry) (marks : List Mark) (before : List Entry) → IsIn z before
-    → IsIn z (entries_in h stamp log marks before)
-in_decisions h stamp log z [] before there = there
-in_decisions h stamp log z (Decided tx epoch ∷ marks) before there =
-    in_decisions h stamp log z marks (entry_of h stamp log tx epoch ∷ before) (inr there)
-in_decisions h stamp log z (mark ∷ marks) before there = in_decisions h stamp log z marks before there
 
 module _ (owed : AreOwed) (start : Start) (all : ℕ → List HostStep) (end : List HostStep)
     (moment : IsMoment start all end)
@@ -217,7 +211,7 @@ module _ (owed : AreOwed) (start : Start) (all : ℕ → List HostStep) (end : L
         (λ v k there. among v k (inr there)) inside fresh.1
         (one_good decided list good tx epoch (among tx epoch (inl refl))
         (inside (entry tx epoch)
-        (in_decisions e.host e.step.stamp log (entry tx epoch) marks (entry tx epoch ∷ list) (inl refl))) fresh.0)
+        (in_before e.host e.step.stamp log (entry tx epoch) marks (entry tx epoch ∷ list) (inl refl))) fresh.0)
     all_good (mark ∷ marks) decided list among inside fresh good =
         all_good marks decided list (λ v k there. among v k (inr there)) inside fresh good
 

@@ -28,10 +28,11 @@ use Rattle.view_laws.specs.Order.{decisions, entries_along}
 use Rattle.moment_laws.proofs.MomentViews.{moment_less}
 use Rattle.moment_laws.specs.Moments.{IsMoment, logs_of}
 use Rattle.moment_laws.specs.Places.{ldm_of, tc_of}
-use Rattle.outcome_laws.proofs.knowledge.CommitsWereDecided.{in_turned}
+use Rattle.outcome_laws.proofs.knowledge.CommitsWereDecided.{in_before, in_turned}
 use Rattle.outcome_laws.specs.Counts.{coordinator_member, is_decision}
 use Rattle.outcome_laws.specs.Decided.{IsMarked}
 use Rattle.request_laws.proofs.tokens.HostsApart.{ldm_low}
+use Rattle.request_laws.proofs.routes.ChainsStay.{any_in}
 use Rattle.commit_laws.specs.Commits.{HasWritten}
 use Rattle.commit_laws.specs.Forth.{ForthIsKnownAlways}
 use Rattle.commit_laws.specs.Going.{decided_ops, is_decided}
@@ -42,7 +43,6 @@ use Rattle.commit_laws.specs.Values.{history_at, is_final_entry}
 use Rattle.commit_laws.proofs.markers.AppliedMarks.{marks_of_commit}
 use Rattle.commit_laws.proofs.fates.Committed.{decision_in}
 use Rattle.commit_laws.proofs.forth.DecidedStay.{applied_more, decided_more, ops_same, written_more}
-use Rattle.commit_laws.proofs.views.AtEvents.{any_of}
 use Rattle.commit_laws.proofs.led.Entries.{decision_stays}
 use Rattle.commit_laws.proofs.led.Replicas.{moment_at}
 use Rattle.commit_laws.proofs.links.TakenChains.{commit_kept}
@@ -93,20 +93,12 @@ applied_past start all (e ∷ newer) es moment v key applied =
     applied_more start all e (newer ++ es) moment v key
     (applied_past start all newer es (moment_less start all e (newer ++ es) moment) v key applied)
 
--- entries stay
-entry_stays : (h stamp : ℕ) (log : List HostStep) (z : Entry) (marks : List Mark) (list : List Entry) → IsIn z list
-    → IsIn z (entries_in h stamp log marks list)
-entry_stays h stamp log z [] list there = there
-entry_stays h stamp log z (Decided u n ∷ marks) list there =
-    entry_stays h stamp log z marks (entry_of h stamp log u n ∷ list) (inr there)
-entry_stays h stamp log z (mark ∷ marks) list there = entry_stays h stamp log z marks list there
-
 -- the entry of a decision
 entry_there : (h stamp : ℕ) (log : List HostStep) (v : TxId) (epoch : ℕ) (marks : List Mark) (before : List Entry)
     → IsIn (Decided v epoch) marks → IsIn (entry_of h stamp log v epoch) (entries_in h stamp log marks before)
 entry_there h stamp log v epoch [] before there = absurd there
 entry_there h stamp log v epoch (Decided tx k ∷ marks) before (inl same) =
-    entry_stays h stamp log (entry_of h stamp log v epoch) marks (entry_of h stamp log tx k ∷ before)
+    in_before h stamp log (entry_of h stamp log v epoch) marks (entry_of h stamp log tx k ∷ before)
     (inl (λ i. entry_of h stamp log (tx_of (same i)) (epoch_of (same i))))
   where
     tx_of : Mark → TxId
@@ -162,7 +154,7 @@ entry_of_decided start all (e ∷ es) moment v is =
         record {
           entry = old.entry;
           there =
-              entry_stays e.host e.step.stamp (e ∷ logs_of start es e.host) old.entry e.step.marks
+              in_before e.host e.step.stamp (e ∷ logs_of start es e.host) old.entry e.step.marks
               (decisions start es) old.there;
           tx_is = old.tx_is;
           ops_is = old.ops_is ∙ sym (ops_same start all e es moment v was);
@@ -213,7 +205,7 @@ any_filtered p q (op ∷ ops) is = by (p op) is (any_filtered p q ops)
 
 pub applied_are_final : ForthIsKnownAlways → AllStandAlways → AppliedAreFinal
 applied_are_final forth stand start all end es along v key applied =
-    any_of (λ (b : Entry). same_tx b.tx v) (history_at start end end) own.entry
+    any_in (λ (b : Entry). same_tx b.tx v) own.entry (history_at start end end)
     (in_filter (is_final_entry start end) own.entry (entries_along start end)
     (in_turned own.entry (decisions start end) (decision_stays start all end es along own.entry own.there)) kept)
     (ap (λ t. same_tx t v) own.tx_is ∙ same_tx-self v)

@@ -37,9 +37,10 @@ first_current start all moment = by (current start (logs_of start [])) (current_
   where
     by : (view : View) → IsSome start (logs_of start []) (hosts start) view → view ≡ (first_layout start.shape).view
     by view (inl first) = first
-    by view (inr one) = one.is ∙ started_view start moment.cluster.shape one.host
+    by view (inr one) = one.is ∙ started_view start one.host
 
-place_inside : (xs : List Member) (at : ℕ) (x : Member) → slice_get xs at ≡ Some x → at < length xs
+-- a place that is found is inside
+pub place_inside : (xs : List Member) (at : ℕ) (x : Member) → slice_get xs at ≡ Some x → at < length xs
 place_inside [] at x there = absurd cc
 place_inside (y ∷ xs) zero x there = omega arith
 place_inside (y ∷ xs) (suc at) x there = let less = place_inside xs at x there in omega (arith, less)

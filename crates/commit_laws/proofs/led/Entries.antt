@@ -16,7 +16,7 @@ use Rattle.sig_core.specs.declared.mark.Mark.{Mark}
 use Rattle.sig_core.specs.declared.mark.Mark.TheVariants.{Decided}
 use Rattle.sig_core.specs.declared.member.TxId.{TxId}
 use Rattle.sig_core.specs.Same.{same_tx}
-use Rattle.world_core.specs.Entries.{entries_in, entry_of}
+use Rattle.tc_block.specs.Complete.{one_if}
 use Rattle.world_core.specs.Marks.{has_mark}
 use Rattle.world_core.specs.Start.{Start}
 use Rattle.world_core.specs.Steps.{HostStep}
@@ -27,16 +27,17 @@ use Rattle.moment_laws.specs.Moments.{IsMoment, logs_of}
 use Rattle.moment_laws.specs.Places.{tc_of}
 use Rattle.key_laws.specs.Primary.{ended_too}
 use Rattle.outcome_laws.proofs.knowledge.CommitsWereDecided.{in_turned}
-use Rattle.outcome_laws.proofs.once.DecidedOnce.{decided_few, none_elsewhere, once_each}
+use Rattle.outcome_laws.proofs.once.DecidedOnce.{decided_few, none_elsewhere, once_each, step_entries}
 use Rattle.outcome_laws.proofs.order.EventsBefore.{decisions_past}
 use Rattle.outcome_laws.proofs.order.BeforeInLists.{kept_in}
 use Rattle.outcome_laws.proofs.coordinators.Lists.{count_more}
-use Rattle.outcome_laws.specs.Counts.{coordinator_member, is_decision, one_if}
+use Rattle.outcome_laws.specs.Counts.{coordinator_member, is_decision}
 use Rattle.outcome_laws.specs.Once.{marks_in}
 use Rattle.outcome_laws.specs.Outcomes.{AreOnce}
+use Rattle.request_laws.proofs.routes.ChainsStay.{any_in}
 use Rattle.commit_laws.specs.Owed.{AreFresh, DecisionsAreFresh, EntriesAreFinal, IsAlong}
 use Rattle.commit_laws.specs.Values.{decided_at, history_at, is_final, is_final_entry}
-use Rattle.commit_laws.proofs.views.AtEvents.{any_of, some_of}
+use Rattle.commit_laws.proofs.hosts.SomePasses.{passing}
 
 pub any_counts : {A : Type 0} (p : A → Bool) (xs : List A) → list_any p xs ≡ true → 1 ≤ count_by p xs
 any_counts p [] any = absurd (true≢false (sym any))
@@ -133,22 +134,6 @@ decisions_fresh start all e es moment end =
     fresh_from (decided_at start end es) e.step.marks (λ u any. new_there start all e es moment u end any)
     (λ u. step_few start all e es moment u)
 
--- the decisions of a transaction are the marks of its coordinator's host
-step_entries : (tx : TxId) (h stamp : ℕ) (log : List HostStep) (marks : List Mark) (before : List Entry)
-    → count_by (λ (a : Entry). same_tx a.tx tx) (entries_in h stamp log marks before)
-    ≡ count_by (is_decision tx) marks + count_by (λ (a : Entry). same_tx a.tx tx) before
-step_entries tx h stamp log [] before = omega arith
-step_entries tx h stamp log (Decided u epoch ∷ marks) before =
-    let one = entry_of h stamp log u epoch in
-    omega (
-      arith,
-      step_entries tx h stamp log marks (one ∷ before),
-      count_more (λ (a : Entry). same_tx a.tx tx) one before,
-      count_more (is_decision tx) (Decided u epoch) marks,
-    )
-step_entries tx h stamp log (mark ∷ marks) before =
-    omega (arith, step_entries tx h stamp log marks before, count_more (is_decision tx) mark marks)
-
 decisions_count : (start : Start) (all : ℕ → List HostStep) (es : List HostStep) → IsMoment start all es → (tx : TxId)
     → count_by (λ (a : Entry). same_tx a.tx tx) (decisions start es)
     ≡ marks_in (is_decision tx) (logs_of start es (tc_of start (coordinator_member tx)))
@@ -212,12 +197,12 @@ entries_final start all end es along z there = by (is_final_entry start end z) r
     by true e true f = refl
     by false e false f = refl
     by true e false f =
-        absurd (true≢false (sym (any_of (λ (b : Entry). same_tx b.tx z.tx) (history_at start end end) z
+        absurd (true≢false (sym (any_in (λ (b : Entry). same_tx b.tx z.tx) z (history_at start end end)
         (in_filter (is_final_entry start end) z (entries_along start end) (in_turned z (decisions start end) inside) e)
         (same_tx-self z.tx)) ∙ f))
     by false e true f =
-        let found = some_of (λ (b : Entry). same_tx b.tx z.tx) (history_at start end end) f in
-        let kept = kept_in (is_final_entry start end) found.one (entries_along start end) found.there in
-        let same = one_entry (decisions start end) found.one z (decisions_once start all end along.moment)
-        (back found.one kept.there) inside found.passes in
+        let found = passing (λ (b : Entry). same_tx b.tx z.tx) (history_at start end end) f in
+        let kept = kept_in (is_final_entry start end) found.item (entries_along start end) found.there in
+        let same = one_entry (decisions start end) found.item z (decisions_once start all end along.moment)
+        (back found.item kept.there) inside found.is in
         sym e ∙ subst (λ w. is_final_entry start end w ≡ true) same kept.passes

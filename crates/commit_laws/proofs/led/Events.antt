@@ -150,7 +150,7 @@ fair_lead decided final (ages (Some tx)) r ready tidy fair =
     (expiries_hold_on (grown_old r.lock) tx (grown_old_orderly r.lock ready.orderly))
 
 -- who stays holds the lock as before
-left_enough : (stays : TxId → Bool) (u : TxId) (mode : Mode) (hs : List Holder) → stays u ≡ true
+pub left_enough : (stays : TxId → Bool) (u : TxId) (mode : Mode) (hs : List Holder) → stays u ≡ true
     → holds_enough u mode hs ≡ true → holds_enough u mode (filter (λ (h : Holder). stays h.tx) hs) ≡ true
 left_enough stays u mode [] on is = absurd cc
 left_enough stays u mode (h ∷ hs) on is =

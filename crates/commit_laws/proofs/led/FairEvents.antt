@@ -38,6 +38,7 @@ use Rattle.world_core.specs.Marks.{has_mark}
 use Rattle.world_core.specs.Start.{Start, made}
 use Rattle.world_core.specs.Steps.{Addressed, HostStep}
 use Rattle.world_views.specs.Machine.{machine}
+use Rattle.run_laws.specs.Tokens.{is_token}
 use Rattle.view_laws.proofs.eras.SoundLogs.{each_filter}
 use Rattle.view_laws.specs.Runs.{view_after}
 use Rattle.moment_laws.specs.Moments.{IsMoment, logs_of}
@@ -47,10 +48,11 @@ use Rattle.moment_laws.proofs.MomentViews.{current_above, moment_less}
 use Rattle.outcome_laws.specs.Counts.{coordinator_member, is_decision}
 use Rattle.outcome_laws.specs.Known.{IsDecidedIf}
 use Rattle.request_laws.specs.Replicas.{event_under}
-use Rattle.request_laws.specs.Tokens.{count_waiting, is_token, may_go, number_now, waiting_at}
+use Rattle.request_laws.specs.Tokens.{count_waiting, may_go, number_now, waiting_at}
 use Rattle.request_laws.proofs.routes.PartSteps.{ldm_step, tc_step}
 use Rattle.request_laws.proofs.tokens.Alone.{waiting_alone}
 use Rattle.request_laws.proofs.tokens.HostsApart.{ldm_low}
+use Rattle.request_laws.proofs.routes.ChainsStay.{any_in}
 use Rattle.commit_laws.specs.Commits.{ComesWhenDone}
 use Rattle.commit_laws.specs.Forth.{ForthIsKnownAlways, IsForth}
 use Rattle.commit_laws.specs.Going.{is_back, is_decided, is_forth}
@@ -63,7 +65,6 @@ use Rattle.commit_laws.specs.Values.{decided_at, is_final}
 use Rattle.commit_laws.proofs.fates.Committed.{calm_stops, decided_calm, decided_made, forth_calm, token_alone}
 use Rattle.commit_laws.proofs.commits.Places.{cell_before}
 use Rattle.commit_laws.proofs.forth.DecidedStay.{decided_more}
-use Rattle.commit_laws.proofs.views.AtEvents.{any_of}
 use Rattle.commit_laws.proofs.records.KeyGoes.{TakesNow}
 use Rattle.commit_laws.proofs.led.Entries.{any_counts}
 use Rattle.commit_laws.proofs.led.Replicas.{moment_at}
@@ -223,7 +224,7 @@ module _ (forth : ForthIsKnownAlways) (stand : AllStandAlways) (forward : Finals
             some : 1 ≤ count_waiting q.tx (rows_at start old member)
             some =
                 any_counts (λ (one : Request). same_tx one.tx q.tx) (rows_at start old member).lqh.waiting
-                (any_of (λ (one : Request). same_tx one.tx q.tx) (rows_at start old member).lqh.waiting q
+                (any_in (λ (one : Request). same_tx one.tx q.tx) q (rows_at start old member).lqh.waiting
                 (subst (λ (s : ReplicaState). IsIn q s.lqh.waiting) is inside) (same_tx-self q.tx))
 
             counted : 1 ≤ waiting_at start old q.tx (number_now start old) member

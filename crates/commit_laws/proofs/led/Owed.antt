@@ -23,6 +23,7 @@ use Rattle.outcome_laws.specs.Counts.{coordinator_member}
 use Rattle.request_laws.proofs.phases.GoneWays.{gone_stays}
 use Rattle.request_laws.proofs.phases.Stands.{coordinators_stand}
 use Rattle.request_laws.specs.Ways.{has_gone_back, tells_abort}
+use Rattle.request_laws.proofs.routes.ChainsStay.{any_in}
 use Rattle.commit_laws.specs.Fates.{is_led_by_full}
 use Rattle.commit_laws.specs.Going.{is_back, is_decided, is_forth, is_lost}
 use Rattle.commit_laws.specs.Owed.{AbortedAreNotFinal, DecidersGoOn, FinalsAreDecidedNow, FinalsAreForth}
@@ -32,7 +33,6 @@ use Rattle.commit_laws.specs.Together.{AllStandAlways}
 use Rattle.commit_laws.specs.Transit.{MomentsHaveTransit}
 use Rattle.commit_laws.specs.Values.{KeysAreLed, is_final}
 use Rattle.commit_laws.proofs.fates.Committed.{decided_made, forth_made}
-use Rattle.commit_laws.proofs.views.AtEvents.{any_of, full_was}
 use Rattle.commit_laws.proofs.fates.Decided.{decides_now}
 use Rattle.commit_laws.proofs.forth.All.{forth_is_known}
 use Rattle.commit_laws.proofs.led.Along.{keys_led}
@@ -43,6 +43,7 @@ use Rattle.commit_laws.proofs.led.Replicas.{moment_at, keys_have_primaries, repl
 use Rattle.commit_laws.proofs.led.Rows.{events_lead}
 use Rattle.commit_laws.proofs.fates.LostStays.{lost_stay}
 use Rattle.commit_laws.proofs.settled.OfFullCoordinators.{decided_now, decisions_are_settled}
+use Rattle.commit_laws.proofs.records.Replicas.{full_before}
 
 -- who was given up stays so
 back_past : (start : Start) (all : ℕ → List HostStep) (newer es : List HostStep) → IsMoment start all (newer ++ es)
@@ -131,8 +132,8 @@ module _ (forth : FinalsAreForth) (going : DecidersGoOn) (start : Start) (all : 
 
   full_old : is_led_by_full start (logs_of start es) tx ≡ true
   full_old =
-      any_of (was_begun_by tx) (current start (logs_of start es)).full (coordinator_member tx)
-      (full_was start all e es moment (coordinator_member tx) full_now)
+      any_in (was_begun_by tx) (coordinator_member tx) (current start (logs_of start es)).full
+      (full_before start all e es moment (coordinator_member tx) full_now)
       (λ i. eq-eqb tx.tc tx.tc refl i && eq-eqb tx.start tx.start refl i)
 
   now_of : is_final start end tx ≡ true → IsDecidedNow start e es tx

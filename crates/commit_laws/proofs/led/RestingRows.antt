@@ -72,6 +72,7 @@ use Rattle.commit_laws.proofs.records.Replicas.{turn_in}
 use Rattle.commit_laws.proofs.hosts.RowsTurn.{IsBetween, IsTakenAt, RowsGo, enter, rest, rows_go, take}
 use Rattle.commit_laws.proofs.commits.RowsPrepare.{Ends, completes_it, done_ends, gives_up, record_marked}
 use Rattle.commit_laws.proofs.links.TakenChains.{IsKeptForth, chain_told, complete_kept}
+use Rattle.commit_laws.proofs.hosts.Goes.{any_behind}
 
 -- a write of the key was prepared in this log, and isn't done with
 pub record IsUnfinished (key : List ℕ) (v : TxId) (log : List HostStep) : Type 0 where
@@ -101,15 +102,6 @@ unapplied_undone v key (mark ∷ marks) none =
     one : (m : Mark) → is_row_mark m ≡ false → is_done_mark v key m ≡ false
     one (Done tx own) off = absurd (true≢false off)
     one m off = refl
-
-any_behind : (test : Mark → Bool) (front marks : List Mark) → list_any test marks ≡ true
-    → list_any test (front ++ marks) ≡ true
-any_behind test [] marks is = is
-any_behind test (m ∷ front) marks is = by (test m) (any_behind test front marks is)
-  where
-    by : (b : Bool) → list_any test (front ++ marks) ≡ true → (b || list_any test (front ++ marks)) ≡ true
-    by true more = refl
-    by false more = more
 
 none_both : (test : Mark → Bool) (front marks : List Mark) → list_any test front ≡ false
     → list_any test marks ≡ false → list_any test (front ++ marks) ≡ false
@@ -322,7 +314,8 @@ module _ (start : Start) (all : ℕ → List HostStep) (es : List HostStep) (mom
   abbrev first : View
   first = first_view start.shape.nodes
 
-  full_replica : IsIn member (current start (logs_of start es)).full → holds start.shape member.node key ≡ true
+  -- a full member whose node holds a key is a replica of it
+  pub full_replica : IsIn member (current start (logs_of start es)).full → holds start.shape member.node key ≡ true
       → IsReplicaOf start (logs_of start es) key member
   full_replica full has = record { full = full; chained = placed }
     where

@@ -14,17 +14,16 @@ use Rattle.run_theory.specs.Links.{put, sent, sent_by}
 use Rattle.run_theory.specs.Lists.{Each, IsIn, IsPast}
 use Rattle.run_theory.specs.Machine.{Machine}
 use Rattle.sig_core.specs.declared.signal.Signal.{Signal}
+use Rattle.tc_block.specs.Complete.{one_if}
 use Rattle.host_laws.proofs.hosts.Sums.{total_zero}
 use Rattle.world_core.specs.Hosts.{hosts}
 use Rattle.world_core.specs.Start.{Start}
 use Rattle.world_core.specs.Steps.{Addressed, HostStep}
 use Rattle.run_laws.specs.Transit.{taken_by}
 use Rattle.run_laws.proofs.transit.Lists.{tally_joined}
-use Rattle.run_laws.proofs.transit.Weighing.{joined_each}
 use Rattle.view_laws.specs.Order.{sound_machine}
 use Rattle.moment_laws.specs.Moments.{IsMoment, logs_of}
 use Rattle.moment_laws.proofs.MomentViews.{moment_less}
-use Rattle.outcome_laws.specs.Counts.{one_if}
 use Rattle.outcome_laws.proofs.coordinators.Lists.{count_more}
 use Rattle.request_laws.specs.Tokens.{all_sent, all_taken}
 use Rattle.request_laws.proofs.tokens.Rows.{one_same}
@@ -84,14 +83,6 @@ module _ (start : Start) where
             subst (Each P) (sym t.left)
             (each_append P t.front t.back (each_before P t.front (taken_by e ∷ t.back) parts)
             (each_after P t.front (taken_by e ∷ t.back) parts).1)
-
-    -- so what is told of all that was sent is told of what is in transit
-    pub each_transit : (es : List HostStep) (xs : List Addressed) → AreInTransit start es xs → EachSent es → Each P xs
-    each_transit [] xs none all = subst (Each P) (sym none) tt
-    each_transit (e ∷ es) xs (before, (rest, passes)) all =
-        subst (Each P) (sym passes.is)
-        (joined_each P (sent_by n e.host (logs_of start es e.host) e) passes.between (event_sent e es all)
-        (takes_less e before passes.between passes.takes (each_transit es before rest (sent_before e es all))))
 
     -- and of the signal that an event takes from a link, but for closings
     pub each_taken : (e : HostStep) (before between : List Addressed) → Takes start e before between

@@ -31,6 +31,7 @@ use Rattle.moment_laws.proofs.MomentHosts.{ldm_started}
 use Rattle.moment_laws.proofs.MomentSignals.{taken_told}
 use Rattle.moment_laws.proofs.MomentViews.{moment_less}
 use Rattle.request_laws.specs.Blocks.{no_replica, rows_after, rows_in}
+use Rattle.request_laws.proofs.routes.ChainsStay.{any_in}
 use Rattle.commit_laws.specs.Forth.{IsForth}
 use Rattle.commit_laws.specs.Markers.{CommitsAreRemembered, TracesStay}
 use Rattle.commit_laws.specs.Traces.{is_committed_of, is_known, is_marker_of, leave_trace, rows_at}
@@ -39,7 +40,7 @@ use Rattle.commit_laws.proofs.forth.Grows.{known_grows}
 use Rattle.commit_laws.proofs.forth.Speaks.{Speaks}
 use Rattle.commit_laws.proofs.markers.Lists.{AreKept, Remember, Remembers, all_stay}
 use Rattle.commit_laws.proofs.markers.Steps.{rows_step}
-use Rattle.commit_laws.proofs.hosts.SomePasses.{Passes, passed, passing}
+use Rattle.commit_laws.proofs.hosts.SomePasses.{Passes, passing}
 
 module _ (start : Start) (all : ℕ → List HostStep) (e : HostStep) (es : List HostStep)
     (moment : IsMoment start all (e ∷ es)) (member : Member) (there : IsIn member (made start))
@@ -99,7 +100,7 @@ module _ (start : Start) (all : ℕ → List HostStep) (e : HostStep) (es : List
               or_left (leave_trace tx (rows_at start new member)) (K tx)
               (or_right (list_any (is_committed_of tx) (rows_at start new member).lqh.rows.pending)
               (list_any (is_marker_of tx) (rows_at start new member).lqh.markers)
-              (passed (is_marker_of tx) m (rows_at start new member).lqh.markers stays
+              (any_in (is_marker_of tx) m (rows_at start new member).lqh.markers stays
               (ap (λ v. same_tx v tx) own ∙ same_tx-self tx)))
           by (inr known) =
               or_right (leave_trace tx (rows_at start new member)) (K tx) (subst (λ v. K v ≡ true) own known)

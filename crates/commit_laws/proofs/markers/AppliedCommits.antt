@@ -18,10 +18,10 @@ use Rattle.commit_laws.specs.Together.{AllStandAlways}
 use Rattle.commit_laws.specs.Traces.{IsApplied, has_marker_at, has_trace, is_committed_at, is_committed_by, is_known}
 use Rattle.commit_laws.specs.Traces.{members_now, record_at}
 use Rattle.commit_laws.proofs.fates.Cases.{known_commits}
-use Rattle.commit_laws.proofs.views.AtEvents.{full_only}
 use Rattle.commit_laws.proofs.forth.All.{forth_is_known}
 use Rattle.commit_laws.proofs.led.Replicas.{keys_have_primaries}
 use Rattle.commit_laws.proofs.markers.Traces.{marker_commits, record_commits}
+use Rattle.commit_laws.proofs.records.Replicas.{members_full}
 
 module _ (stand : AllStandAlways) (start : Start) (all : ℕ → List HostStep) (es : List HostStep)
     (moment : IsMoment start all es) (tx : TxId) (key : List ℕ) (applied : IsApplied start (logs_of start es) tx key)
@@ -36,7 +36,7 @@ module _ (stand : AllStandAlways) (start : Start) (all : ℕ → List HostStep) 
     member = primary.primary
 
     among : IsIn member (members_now start logs)
-    among = subst (IsIn member) (sym (full_only start all es moment)) primary.replica.full
+    among = subst (IsIn member) (sym (members_full start all es moment)) primary.replica.full
 
     committed : is_committed_at start logs member key tx ≡ true
     committed = (stand start all es moment).commits.applied tx key applied member primary.replica

@@ -5,8 +5,7 @@ use Rattle.std.proofs.Common.{inl, inr}
 use Rattle.std.proofs.lemmas.Bool.{eqb-true, true≢false}
 use Rattle.std.specs.Prelude.{Option, None, Some}
 use Rattle.run_theory.specs.Lists.{Each, IsIn}
-use Rattle.run_theory.proofs.Pasts.{each_in}
-use Rattle.outcome_laws.proofs.knowledge.CommitsWereDecided.{in_front}
+use Rattle.run_theory.proofs.Pasts.{each_in, in_append}
 use Rattle.sig_core.specs.declared.mark.Mark.{Mark}
 use Rattle.sig_core.specs.declared.mark.Mark.TheVariants.{Applied}
 use Rattle.sig_core.specs.declared.member.Member.{Member}
@@ -24,9 +23,9 @@ use Rattle.lqh_views.specs.State.{ReplicaState}
 use Rattle.key_laws.specs.Records.{found}
 use Rattle.key_laws.specs.Replica.{Cell}
 use Rattle.key_laws.proofs.EpochLemmas.{state_found}
-use Rattle.outcome_laws.proofs.order.BeforeInLists.{in_either}
 use Rattle.world_core.specs.Start.{Start, made}
 use Rattle.world_core.specs.Steps.{HostStep}
+use Rattle.view_laws.proofs.ballots.MadeSets.{in_either, in_front}
 use Rattle.moment_laws.specs.Moments.{IsMoment, logs_of}
 use Rattle.moment_laws.specs.Places.{ldm_of}
 use Rattle.commit_laws.specs.Traces.{record_at}
@@ -81,10 +80,6 @@ commit_marks s x tx key epoch chain about committed there =
     ap (λ body. (replica_by s x body).effects.marks) about
     ∙ (ap (λ body. (lqh_table s.lqh body).effects.marks) about ∙ ap (applied_marks tx key) there)
 
-in_back : {A : Type 0} (x : A) (xs ys : List A) → IsIn x ys → IsIn x (xs ++ ys)
-in_back x [] ys there = there
-in_back x (y ∷ xs) ys there = inr (in_back x xs ys there)
-
 module _ (start : Start) (all : ℕ → List HostStep) (e : HostStep) (es : List HostStep)
     (moment : IsMoment start all (e ∷ es)) (member : Member) (there : IsIn member (made start)) (tx : TxId)
     (key : List ℕ)
@@ -103,7 +98,7 @@ module _ (start : Start) (all : ℕ → List HostStep) (e : HostStep) (es : List
         → record_at start (logs_of start es) member key tx ≡ Some own → IsIn (Applied tx key) e.step.marks
     applied_marked takes epoch chain about own is =
         subst (IsIn (Applied tx key)) (sym takes.taken.marks_are)
-        (in_back (Applied tx key) takes.taken.front
+        (in_append (Applied tx key) takes.taken.front
         ((replica_row takes.rows e.step.taken).effects.marks ++ takes.taken.back)
         (in_front (Applied tx key) (replica_row takes.rows e.step.taken).effects.marks takes.taken.back
         (subst (IsIn (Applied tx key))

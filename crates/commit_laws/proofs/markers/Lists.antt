@@ -9,7 +9,6 @@ use Rattle.run_theory.specs.Lists.{Each, IsIn}
 use Rattle.run_theory.proofs.EachSent.{each_removed, each_set}
 use Rattle.run_theory.proofs.Focus.{taken_at}
 use Rattle.run_theory.proofs.Pasts.{each_append, each_map, in_append}
-use Rattle.outcome_laws.proofs.knowledge.CommitsWereDecided.{in_front}
 use Rattle.sig_core.specs.declared.member.TxId.{TxId}
 use Rattle.sig_core.specs.declared.rows.PendingRecord.{PendingRecord}
 use Rattle.sig_core.specs.declared.signal.Body.{Body}
@@ -37,7 +36,9 @@ use Rattle.lqh_block.specs.Wait.{acknowledged, is_other}
 use Rattle.row_records.proofs.KeyLemmas.{same as same_key-is}
 use Rattle.lqh_block.proofs.LqhForms.{Applies, GivesUp, LqhForms, lqh_forms, perform_forms}
 use Rattle.lqh_views.proofs.ListsKept.{both}
-use Rattle.commit_laws.proofs.hosts.SomePasses.{passed, passing}
+use Rattle.view_laws.proofs.ballots.MadeSets.{in_front}
+use Rattle.request_laws.proofs.routes.ChainsStay.{any_in}
+use Rattle.commit_laws.proofs.hosts.SomePasses.{passing}
 
 pub in_filter : {A : Type 0} (p : A → Bool) (x : A) (xs : List A) → IsIn x xs → p x ≡ true → IsIn x (filter p xs)
 in_filter p x [] there is = absurd there
@@ -69,7 +70,7 @@ module _ (K : TxId → Bool) where
     where
       found : (m : Marker) → is_marker r.tx r.key m ≡ true → IsIn m after ⊎ (K m.tx ≡ true)
           → (list_any (is_marker r.tx r.key) after || K r.tx) ≡ true
-      found m is (inl there) = or_left _ (K r.tx) (passed (is_marker r.tx r.key) m after there is)
+      found m is (inl there) = or_left _ (K r.tx) (any_in (is_marker r.tx r.key) m after there is)
       found m is (inr known) =
           or_right (list_any (is_marker r.tx r.key) after) (K r.tx)
           (subst (λ tx. K tx ≡ true) (same_tx-is m.tx r.tx (both (same_tx m.tx r.tx) (same_key m.key r.key) is).0)
@@ -101,7 +102,7 @@ module _ (K : TxId → Bool) where
           → list_any (is_marker tx key) (commit.marked_if markers (marker_of tx key epoch) b) ≡ true
       by true is = is
       by false off =
-          passed (is_marker tx key) (marker_of tx key epoch) (markers ++ marker_of tx key epoch ∷ [])
+          any_in (is_marker tx key) (marker_of tx key epoch) (markers ++ marker_of tx key epoch ∷ [])
           (in_append (marker_of tx key epoch) markers (marker_of tx key epoch ∷ []) (inl refl)) own
 
   -- all commits of rows are marked

@@ -28,6 +28,7 @@ use Rattle.outcome_laws.specs.Counts.{coordinator_member}
 use Rattle.request_laws.specs.Blocks.{rows_after}
 use Rattle.request_laws.specs.Ways.{has_gone_forth}
 use Rattle.request_laws.proofs.tokens.HostsApart.{ldm_no_tc}
+use Rattle.request_laws.proofs.routes.ChainsStay.{any_in}
 use Rattle.commit_laws.proofs.records.KeptRows.{some_is}
 use Rattle.commit_laws.specs.Commits.{ComesWhenDone, HasWritten, IsDone, LeavesTraceOn, committed_there, marked_there}
 use Rattle.commit_laws.specs.Fates.{aborts, commits, fate, fate_if, is_led_by_full}
@@ -43,7 +44,7 @@ use Rattle.commit_laws.proofs.commits.Remain.{record_there}
 use Rattle.commit_laws.proofs.forth.DecidedStay.{forth_decided, written_more}
 use Rattle.commit_laws.proofs.records.KeyGoes.{IsMarkedNow, KeyGoes, RecordGoes, TakesNow, is_aborted, is_committed}
 use Rattle.commit_laws.proofs.records.KeyGoes.{is_completed, key_goes, record_stays}
-use Rattle.commit_laws.proofs.hosts.SomePasses.{passed, passing}
+use Rattle.commit_laws.proofs.hosts.SomePasses.{passing}
 use Rattle.commit_laws.proofs.records.Moves.{now_by}
 use Rattle.commit_laws.proofs.records.Replicas.{member_before, member_made}
 use Rattle.commit_laws.proofs.links.TakenChains.{abort_aborts, chain_told, commit_kept}
@@ -79,7 +80,7 @@ module _ (forth : ForthIsKnownAlways) where
       traced gone left =
           commits_traced (is_known start logs tx) (is_led_by_full start logs tx) (is_forth start logs tx)
           (is_lost start logs tx) (has_trace start logs tx) gone
-          (passed (λ (m : Member). leave_trace tx (rows_at start logs m)) member (members_now start logs) among left)
+          (any_in (λ (m : Member). leave_trace tx (rows_at start logs m)) member (members_now start logs) among left)
 
       -- whoever has a marker at a member commits
       pub marker_commits : has_marker_at start (logs_of start es) member key tx ≡ true
@@ -93,7 +94,7 @@ module _ (forth : ForthIsKnownAlways) where
           left : list_any (is_marker_of tx) (rows_at start logs member).lqh.markers ≡ true
           left =
               let one = passing (is_marker tx key) (rows_at start logs member).lqh.markers on in
-              passed (is_marker_of tx) one.item (rows_at start logs member).lqh.markers one.there
+              any_in (is_marker_of tx) one.item (rows_at start logs member).lqh.markers one.there
               (and_parts (same_tx one.item.tx tx) (same_key one.item.key key) one.is).0
 
       -- and so does whoever has a committed record there

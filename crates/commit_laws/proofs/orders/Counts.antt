@@ -17,7 +17,7 @@ use Rattle.sig_core.specs.declared.signal.host.Work.TheVariants.{Members}
 use Rattle.sig_core.specs.declared.signal.takeover.TakeoverSignal.TheVariants.{TakeoverOrd}
 use Rattle.sig_core.specs.Place.{membership}
 use Rattle.sig_core.specs.Portion.{rest_if}
-use Rattle.outcome_laws.specs.Counts.{one_if}
+use Rattle.tc_block.specs.Complete.{one_if}
 use Rattle.outcome_laws.proofs.once.Counted.{count_none}
 use Rattle.outcome_laws.proofs.coordinators.Lists.{count_both, count_more, one_few}
 use Rattle.commit_laws.proofs.orders.Words.{AreQuiet, IsQuiet, is_membership, is_ordering}
@@ -84,7 +84,8 @@ le_is a b low = grind (arith, nat_tests)
 le_one : (a b : ℕ) → a ≤ b → one_if (nat_le a b) ≡ 1
 le_one a b low = ap one_if (le_is a b low)
 
-le_none : (a b : ℕ) → b < a → nat_le a b ≡ false
+-- a greater number is not at most a lesser
+pub le_none : (a b : ℕ) → b < a → nat_le a b ≡ false
 le_none a b above = grind (arith, nat_tests)
 
 module _ (node : ℕ) (front : List Outgoing) (order : Outgoing) (back : List Outgoing) (first : AreQuiet front)

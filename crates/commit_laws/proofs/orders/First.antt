@@ -7,13 +7,13 @@ use Rattle.run_theory.proofs.Runs.{logs_of_run}
 use Rattle.run_theory.specs.Links.{taken}
 use Rattle.run_theory.specs.Lists.{IsIn}
 use Rattle.run_theory.specs.Machine.{Machine}
-use Rattle.outcome_laws.specs.Counts.{one_if}
 use Rattle.sig_core.specs.declared.member.Member.{Member}
 use Rattle.sig_core.specs.declared.member.TxId.{TxId}
 use Rattle.sig_core.specs.declared.signal.Body.TheVariants.{Host, Takeover}
 use Rattle.sig_core.specs.declared.signal.Signal.{Signal}
 use Rattle.sig_core.specs.declared.signal.host.HostSignal.TheVariants.{Closed}
 use Rattle.sig_core.specs.declared.signal.takeover.TakeoverSignal.TheVariants.{LqhTransConf, TakeoverOrd}
+use Rattle.tc_block.specs.Complete.{one_if}
 use Rattle.node_views.specs.WellFormed.{is_well_formed}
 use Rattle.world_core.specs.Start.{Start, made}
 use Rattle.world_core.specs.Steps.{Addressed, HostStep}

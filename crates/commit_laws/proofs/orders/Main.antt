@@ -34,10 +34,10 @@ use Rattle.node_views.specs.declared.main_part.MainPart.{MainPart}
 use Rattle.node_views.specs.Parts.{main_entered, main_row, main_settled}
 use Rattle.qmgr_block.proofs.Settles.{settles_may}
 use Rattle.qmgr_block.specs.Settle.{may_settle}
-use Rattle.outcome_laws.specs.Counts.{one_if}
 use Rattle.view_laws.proofs.memberships.AlongEvents.{steps}
 use Rattle.view_laws.proofs.memberships.Steps.{row_installs}
 use Rattle.frag_map.specs.Layout.{Layout}
+use Rattle.tc_block.specs.Complete.{one_if}
 use Rattle.commit_laws.proofs.orders.Counts.{count_orders, portion_counts, quiet_none}
 use Rattle.commit_laws.proofs.orders.Master.{master_orders_none}
 use Rattle.commit_laws.proofs.orders.Membership.{is_going_on, membership_orders_none}

@@ -66,8 +66,8 @@ module _ (come_rightly : ViewsComeRightly) (start : Start) (is_shape : IsShape s
   first_ahead : AreAhead (log_of (machine start) [])
   first_ahead = record {
     views = λ h low me there is.
-        let own = ap (λ (v : View). v.number) (started_view start is_shape h) in
-        let main = ap (λ (v : View). v.number) (started_view start is_shape (main_of start me)) in
+        let own = ap (λ (v : View). v.number) (started_view start h) in
+        let main = ap (λ (v : View). v.number) (started_view start (main_of start me)) in
         omega (arith, own, main);
     young = λ me there. tt;
   }

@@ -21,6 +21,7 @@ use Rattle.sig_core.specs.declared.signal.host.Work.TheVariants.{Members}
 use Rattle.sig_core.specs.declared.signal.Signal.{Signal}
 use Rattle.sig_core.specs.declared.signal.takeover.TakeoverSignal.TheVariants.{TakeoverOrd}
 use Rattle.sig_core.specs.declared.view.View.{View}
+use Rattle.tc_block.specs.Complete.{one_if}
 use Rattle.qmgr_block.specs.Install.{is_oldest_of}
 use Rattle.qmgr_block.specs.Sets.{members_of}
 use Rattle.world_core.specs.Hosts.{hosts}
@@ -39,7 +40,6 @@ use Rattle.moment_laws.specs.Moments.{IsMoment, logs_of}
 use Rattle.moment_laws.proofs.MomentTurns.{host_low}
 use Rattle.moment_laws.proofs.MomentViews.{moment_less}
 use Rattle.outcome_laws.proofs.coordinators.Lists.{one_few}
-use Rattle.outcome_laws.specs.Counts.{one_if}
 use Rattle.request_laws.specs.Tokens.{all_sent, all_taken, sent_along, taken_along}
 use Rattle.request_laws.proofs.routes.Headers.{event_past, own_installed}
 use Rattle.request_laws.proofs.tokens.SumsOverHosts.{few_taken}

@@ -14,8 +14,9 @@ use Rattle.world_core.specs.Steps.{HostStep}
 use Rattle.world_views.specs.Machine.{after, step_after}
 use Rattle.moment_laws.specs.PartSteps.{ldm_kind, shell_kind, tc_kind}
 use Rattle.moment_laws.proofs.PartKinds.{shell_after}
+use Rattle.outcome_laws.proofs.once.DecidesAndReports.{IsShell}
 use Rattle.request_laws.proofs.routes.PartSteps.{ldm_step, tc_step}
-use Rattle.commit_laws.proofs.forth.KnownTold.{IsShell, runs_shell}
+use Rattle.commit_laws.proofs.forth.KnownTold.{runs_shell}
 use Rattle.commit_laws.proofs.orders.Aside.{shell_orders_none, tc_enters_order_none, tc_orders_none}
 use Rattle.commit_laws.proofs.orders.Hosts.{coordinates, is_client, keeps_rows}
 use Rattle.commit_laws.proofs.orders.Once.{OthersAreQuiet}

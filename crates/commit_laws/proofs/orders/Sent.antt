@@ -8,6 +8,7 @@ use Rattle.sig_core.specs.declared.member.Member.{Member}
 use Rattle.sig_core.specs.declared.outs.Outgoing.{Outgoing}
 use Rattle.sig_core.specs.declared.place.Place.{Place}
 use Rattle.sig_core.specs.declared.signal.Body.{Body}
+use Rattle.tc_block.specs.Complete.{one_if}
 use Rattle.node_views.specs.declared.standing.Standing.{Standing}
 use Rattle.world_core.specs.Machine.{counted}
 use Rattle.world_core.specs.Start.{Start, made}
@@ -17,7 +18,6 @@ use Rattle.world_views.specs.Hosts.{reached}
 use Rattle.world_views.specs.Machine.{after, sender, sent_count, signals_of, step_after, stops_by}
 use Rattle.world_views.specs.Sending.{Routed, addressed, all_addressed, is_kept_back, routed, routed_all, routed_if}
 use Rattle.view_laws.specs.Order.{is_sound, sound_machine}
-use Rattle.outcome_laws.specs.Counts.{one_if}
 use Rattle.outcome_laws.proofs.coordinators.Lists.{count_more}
 
 module _ (q : Place → Body → Bool) where

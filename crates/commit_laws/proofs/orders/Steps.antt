@@ -17,6 +17,7 @@ use Rattle.sig_core.specs.declared.signal.host.HostSignal.TheVariants.{Continue}
 use Rattle.sig_core.specs.declared.signal.host.Work.TheVariants.{Members}
 use Rattle.sig_core.specs.declared.signal.Signal.{Signal}
 use Rattle.sig_core.specs.declared.view.View.{View}
+use Rattle.tc_block.specs.Complete.{one_if}
 use Rattle.qmgr_block.specs.declared.known.Known.{Known}
 use Rattle.qmgr_block.specs.Install.{installing, is_oldest, is_oldest_of}
 use Rattle.qmgr_block.specs.Sets.{members_of}
@@ -42,7 +43,6 @@ use Rattle.view_laws.proofs.memberships.Steps.{row_installs}
 use Rattle.moment_laws.specs.Parts.{Enters, PartsDo, Takes, enters, leaves, settles, stays, takes}
 use Rattle.moment_laws.proofs.MomentHosts.{part_some}
 use Rattle.moment_laws.proofs.PartSteps.{after_do}
-use Rattle.outcome_laws.specs.Counts.{one_if}
 use Rattle.outcome_laws.proofs.coordinators.Lists.{count_both}
 use Rattle.commit_laws.proofs.orders.Counts.{count_orders, is_counted}
 use Rattle.commit_laws.proofs.orders.Main.{enters_counts, enters_none, goes_from, installing_is, main_counts, main_me}

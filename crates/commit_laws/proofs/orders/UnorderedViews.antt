@@ -3,7 +3,6 @@
 use Rattle.std.proofs.Common.{◌≡◌, ◌≢◌, ◌≤◌, ◌⊎◌, ◌∙◌, ℕ, false, List, [], ◌∷◌, inl, inr, refl, sym, ap, arith, subst}
 use Rattle.std.proofs.lemmas.Bool.{true≢false}
 use Rattle.std.specs.Prelude.{None}
-use Rattle.outcome_laws.specs.Counts.{one_if}
 use Rattle.run_theory.specs.Lists.{Each, IsIn}
 use Rattle.run_theory.proofs.Pasts.{each_from, each_in, each_map}
 use Rattle.run_theory.proofs.Runs.{log_of-own}
@@ -23,6 +22,7 @@ use Rattle.sig_core.specs.declared.signal.takeover.TakeoverSignal.TheVariants.{L
 use Rattle.sig_core.specs.declared.view.View.{View}
 use Rattle.sig_core.specs.Step.{Step, stay}
 use Rattle.frag_map.specs.Layout.{first_layout}
+use Rattle.tc_block.specs.Complete.{one_if}
 use Rattle.lqh_views.specs.Replica.{replica_row}
 use Rattle.lqh_views.specs.State.{ReplicaState}
 use Rattle.takeover_block.specs.declared.stage.Stage.TheVariants.{Resting}

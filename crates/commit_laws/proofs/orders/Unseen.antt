@@ -8,6 +8,7 @@ use Rattle.run_theory.proofs.Pasts.{each_map}
 use Rattle.run_theory.proofs.Links.{sent_by_each}
 use Rattle.sig_core.specs.declared.signal.Signal.{Signal}
 use Rattle.sig_core.specs.declared.view.View.{View}
+use Rattle.tc_block.specs.Complete.{one_if}
 use Rattle.world_core.specs.Start.{Start}
 use Rattle.world_core.specs.Steps.{Addressed, HostStep}
 use Rattle.world_views.specs.Machine.{signals_of}
@@ -15,7 +16,6 @@ use Rattle.view_laws.specs.Order.{is_sound, sound_machine}
 use Rattle.view_laws.specs.Runs.{view_after}
 use Rattle.view_laws.proofs.eras.SoundLogs.{each_filter}
 use Rattle.view_laws.proofs.follow.Senders.{each_sent}
-use Rattle.outcome_laws.specs.Counts.{one_if}
 use Rattle.outcome_laws.proofs.coordinators.Lists.{count_more}
 
 module _ (start : Start) (h : ℕ) (log : List HostStep) (e : HostStep) (number : ℕ) (q : Signal → Bool)

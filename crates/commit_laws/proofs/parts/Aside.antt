@@ -13,6 +13,7 @@ use Rattle.world_core.specs.Start.{Start, made}
 use Rattle.world_core.specs.Steps.{Addressed, HostStep}
 use Rattle.world_views.specs.Hosts.{started}
 use Rattle.world_views.specs.Machine.{machine, step_after}
+use Rattle.run_laws.specs.Tokens.{is_token}
 use Rattle.moment_laws.specs.Moments.{IsMoment, current, logs_of}
 use Rattle.moment_laws.specs.Places.{ldm_of, tc_of}
 use Rattle.moment_laws.proofs.MomentHosts.{ldm_started}
@@ -21,7 +22,6 @@ use Rattle.outcome_laws.proofs.coordinators.Lists.{none_passes}
 use Rattle.outcome_laws.specs.Counts.{coordinator_member, count_sent}
 use Rattle.request_laws.specs.Blocks.{coordinator_after}
 use Rattle.request_laws.specs.Drives.{asked_in}
-use Rattle.request_laws.specs.Tokens.{is_token}
 use Rattle.request_laws.specs.Ways.{entry_of}
 use Rattle.request_laws.proofs.routes.Hosts.{IsBeside, PartHost, beside_sends, coordinates, is_beside, keeps_rows}
 use Rattle.request_laws.proofs.routes.Hosts.{part_host}

@@ -27,6 +27,7 @@ use Rattle.tc_block.specs.declared.phase.Asked.{Asked}
 use Rattle.tc_block.specs.declared.transaction.Transaction.{Transaction}
 use Rattle.tc_block.specs.Doom.{is_undecided}
 use Rattle.tc_block.specs.Operate.{fresh}
+use Rattle.tc_block.specs.Complete.{one_if}
 use Rattle.row_records.proofs.KeyLemmas as index
 use Rattle.lqh_block.specs.declared.request.Request.{Request}
 use Rattle.lqh_views.specs.State.{ReplicaState}
@@ -36,6 +37,7 @@ use Rattle.world_core.specs.History.{is_done}
 use Rattle.run_laws.proofs.circle.OthersStay.{filter-end}
 use Rattle.run_laws.specs.Transit.{joined}
 use Rattle.run_laws.proofs.transit.Weighing.{joined_each}
+use Rattle.run_laws.specs.Tokens.{is_token}
 use Rattle.world_core.specs.Start.{Start, made}
 use Rattle.world_core.specs.Steps.{Addressed, HostStep}
 use Rattle.world_views.specs.Machine.{machine, step_after}
@@ -48,12 +50,12 @@ use Rattle.moment_laws.proofs.MomentMembers.{current_made}
 use Rattle.moment_laws.proofs.MomentViews.{moment_less}
 use Rattle.moment_laws.proofs.PartKinds.{tc_is}
 use Rattle.moment_laws.proofs.PartTaken.{IsTakenNow, handled_now}
-use Rattle.outcome_laws.specs.Counts.{coordinator_member, count_sent, one_if}
+use Rattle.outcome_laws.specs.Counts.{coordinator_member, count_sent}
 use Rattle.outcome_laws.proofs.coordinators.Lists.{count_both, count_more, none_passes}
 use Rattle.request_laws.specs.Blocks.{coordinator_after, rows_after}
 use Rattle.request_laws.specs.Drives.{asked_in}
 use Rattle.request_laws.specs.Routed.{layout_in}
-use Rattle.request_laws.specs.Tokens.{IsAlone, has_asked, is_token, number_now}
+use Rattle.request_laws.specs.Tokens.{IsAlone, has_asked, number_now}
 use Rattle.request_laws.specs.Ways.{entry_of, has_gone_back}
 use Rattle.request_laws.proofs.routes.Headers.{chain_fenced}
 use Rattle.request_laws.proofs.tokens.Alone.{taken_alone}

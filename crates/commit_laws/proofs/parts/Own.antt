@@ -21,6 +21,7 @@ use Rattle.lqh_views.specs.State.{ReplicaState}
 use Rattle.key_laws.specs.Replica.{at_key}
 use Rattle.run_laws.specs.Transit.{joined}
 use Rattle.run_laws.proofs.transit.Weighing.{joined_each}
+use Rattle.run_laws.specs.Tokens.{is_token}
 use Rattle.world_core.specs.Start.{Start, made}
 use Rattle.world_core.specs.Steps.{Addressed, HostStep}
 use Rattle.world_views.specs.Machine.{signals_of, step_after}
@@ -33,7 +34,6 @@ use Rattle.moment_laws.specs.Places.{ldm_of}
 use Rattle.outcome_laws.specs.Counts.{coordinator_member}
 use Rattle.request_laws.specs.Blocks.{rows_after}
 use Rattle.request_laws.specs.Drives.{asked_in, is_request}
-use Rattle.request_laws.specs.Tokens.{is_token}
 use Rattle.request_laws.specs.Ways.{is_sent}
 use Rattle.commit_laws.specs.Fates.{is_led_by_full}
 use Rattle.commit_laws.specs.Going.{is_lost, own_live, own_log}

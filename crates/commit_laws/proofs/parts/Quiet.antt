@@ -17,11 +17,12 @@ use Rattle.tc_block.specs.declared.transaction.Transaction.{Transaction}
 use Rattle.lqh_block.specs.declared.request.Request.{Request}
 use Rattle.world_core.specs.Start.{Start, made}
 use Rattle.world_core.specs.Steps.{Addressed, HostStep}
+use Rattle.run_laws.specs.Tokens.{is_token}
 use Rattle.view_laws.specs.Runs.{view_after}
 use Rattle.moment_laws.specs.Moments.{IsMoment, current, logs_of}
 use Rattle.moment_laws.specs.Places.{ldm_of}
 use Rattle.outcome_laws.proofs.coordinators.Lists.{none_passes}
-use Rattle.request_laws.specs.Tokens.{IsQuiet, count_waiting, is_token, is_token_in, number_now}
+use Rattle.request_laws.specs.Tokens.{IsQuiet, count_waiting, is_token_in, number_now}
 use Rattle.request_laws.proofs.tokens.Alone.{quiet_unless_asked}
 use Rattle.commit_laws.specs.Parts.{IsHale, Tells, Told, answers, part_if, part_of, performs, refuses}
 use Rattle.commit_laws.specs.Traces.{rows_at}

@@ -34,6 +34,7 @@ use Rattle.key_laws.proofs.LockHolding.{requests_hold_on}
 use Rattle.run_laws.specs.Routes.{IsWorkAt}
 use Rattle.run_laws.specs.Transit.{joined}
 use Rattle.run_laws.proofs.transit.Weighing.{joined_each}
+use Rattle.run_laws.specs.Tokens.{is_token}
 use Rattle.world_core.specs.Start.{Start, made}
 use Rattle.world_core.specs.Steps.{Addressed, HostStep}
 use Rattle.world_views.specs.Machine.{machine}
@@ -47,7 +48,7 @@ use Rattle.outcome_laws.proofs.coordinators.Lists.{none_passes}
 use Rattle.request_laws.specs.Blocks.{rows_after}
 use Rattle.request_laws.specs.Replicas.{event_by}
 use Rattle.request_laws.specs.Routed.{layout_in}
-use Rattle.request_laws.specs.Tokens.{IsAlone, count_waiting, is_token, is_token_in, number_now}
+use Rattle.request_laws.specs.Tokens.{IsAlone, count_waiting, is_token_in, number_now}
 use Rattle.request_laws.proofs.replicas.KeyEvents.{signals_are_events}
 use Rattle.request_laws.proofs.routes.Headers.{chain_fenced}
 use Rattle.request_laws.proofs.tokens.Alone.{taken_alone}

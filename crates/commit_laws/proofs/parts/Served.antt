@@ -36,6 +36,7 @@ use Rattle.key_laws.specs.Replica.{served_by, serves, serves_if}
 use Rattle.key_laws.proofs.KeyAfter.{first_here}
 use Rattle.key_laws.proofs.Waiting.{each-first_item}
 use Rattle.run_laws.proofs.transit.Weighing.{joined_each}
+use Rattle.run_laws.specs.Tokens.{is_token}
 use Rattle.world_core.specs.Start.{Start, made}
 use Rattle.world_core.specs.Steps.{Addressed, HostStep}
 use Rattle.world_views.specs.Machine.{machine}
@@ -49,12 +50,13 @@ use Rattle.request_laws.specs.Blocks.{rows_after}
 use Rattle.request_laws.specs.Replicas.{event_by, event_if}
 use Rattle.request_laws.specs.Routed.{IsGivenUp, WasAskedIn, WasDrivenIn, layout_in}
 use Rattle.request_laws.specs.Routes.{IsRequestRouted, WaitsRouted}
-use Rattle.request_laws.specs.Tokens.{WaitsAlone, count_waiting, is_token, is_token_in, number_now, waiting_at}
+use Rattle.request_laws.specs.Tokens.{WaitsAlone, count_waiting, is_token_in, number_now, waiting_at}
 use Rattle.request_laws.proofs.replicas.KeyEvents.{signals_are_events}
 use Rattle.request_laws.proofs.routes.All.{signals_are_routed}
 use Rattle.request_laws.proofs.routes.Places.{rows_know_node}
 use Rattle.request_laws.proofs.tokens.Alone.{waiting_alone}
 use Rattle.request_laws.proofs.tokens.HostsApart.{ldm_same}
+use Rattle.request_laws.proofs.tokens.RowHosts.{filter_count}
 use Rattle.commit_laws.specs.Fates.{is_led_by_full}
 use Rattle.commit_laws.specs.Parts.{IsHale, PartsStand, Tells, Told, part_of, performs}
 use Rattle.commit_laws.specs.Together.{Follows}
@@ -71,7 +73,7 @@ use Rattle.commit_laws.proofs.parts.Quiet.{closing_off, no_part, not_and}
 use Rattle.commit_laws.proofs.records.Replicas.{chain_replica, replica_made}
 use Rattle.commit_laws.proofs.hosts.RowsTurn.{IsBetween, IsTakenAt, as_was, entered}
 use Rattle.commit_laws.proofs.links.TransitCounts.{none_in_transit, takes_less}
-use Rattle.commit_laws.proofs.drive.Counts.{filter_fewer, first_alone, first_dropped}
+use Rattle.commit_laws.proofs.drive.Counts.{first_alone, first_dropped}
 
 module _ (start : Start) (all : ℕ → List HostStep) (e : HostStep) (es : List HostStep)
     (follows : Follows start all e es) (xs left : List Addressed) (transit : AreInTransit start es xs)
@@ -245,7 +247,7 @@ module _ (start : Start) (all : ℕ → List HostStep) (e : HostStep) (es : List
           dropped = first_dropped is_own (is_let_in r.lock) q own_is r.waiting let_in
 
           fewer : count_by is_own r.waiting ≤ count_by is_own s.lqh.waiting
-          fewer = filter_fewer is_own (asks_for key) s.lqh.waiting
+          fewer = filter_count is_own (asks_for key) s.lqh.waiting
 
       other_none : same_key (work_key q.work) key ≡ false → NoneWaits r
       other_none off =

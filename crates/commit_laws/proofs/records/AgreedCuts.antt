@@ -21,12 +21,12 @@ use Rattle.moment_laws.proofs.MomentRuns.{are_moments, logs_in_views}
 use Rattle.moment_laws.specs.Moments.{logs_of}
 use Rattle.moment_laws.specs.Places.{tc_of}
 use Rattle.outcome_laws.specs.Counts.{coordinator_member}
+use Rattle.request_laws.proofs.routes.ChainsStay.{any_in}
 use Rattle.commit_laws.proofs.led.CutsLegal.{history_in_views}
 use Rattle.commit_laws.specs.Cuts.{IsAnsweredOn, RecordsAgree}
 use Rattle.commit_laws.specs.Going.{is_back, is_forth, is_lost, own_coordinator}
 use Rattle.commit_laws.specs.Values.{history_at, is_final}
 use Rattle.commit_laws.proofs.fates.Committed.{forth_made}
-use Rattle.commit_laws.proofs.views.AtEvents.{any_of}
 use Rattle.commit_laws.proofs.fates.FinalsForth.{finals_are_forth}
 use Rattle.commit_laws.proofs.fates.LostStays.{lost_along, lost_next}
 use Rattle.commit_laws.proofs.records.Agreed.{records_agree_always}
@@ -48,7 +48,7 @@ module _ (start : Start) (logs : ℕ → List HostStep) (are : AreOfCluster star
   module _ (tx : TxId) (entry : Entry) (inside : IsIn entry (history (hosts start) logs)) (own : entry.tx ≡ tx) where
     final : is_final start events tx ≡ true
     final =
-        any_of (λ (b : Entry). same_tx b.tx tx) (history_at start events events) entry
+        any_in (λ (b : Entry). same_tx b.tx tx) entry (history_at start events events)
         (subst (IsIn entry) (sym (history_in_views start logs are)) inside)
         (ap (λ (v : TxId). same_tx v tx) own ∙ same_tx-self tx)
 

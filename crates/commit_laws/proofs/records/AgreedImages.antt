@@ -24,9 +24,9 @@ use Rattle.moment_laws.proofs.MomentViews.{moment_less}
 use Rattle.outcome_laws.specs.Counts.{coordinator_member}
 use Rattle.request_laws.specs.Blocks.{no_replica, rows_in}
 use Rattle.request_laws.specs.Routed.{WasAskedIn}
+use Rattle.request_laws.proofs.routes.ChainsStay.{any_in}
 use Rattle.commit_laws.specs.Traces.{record_at}
 use Rattle.commit_laws.proofs.fates.BegunNone.{first_none}
-use Rattle.commit_laws.proofs.views.AtEvents.{any_of}
 use Rattle.commit_laws.proofs.records.KeyGoes.{RecordGoes, is_aborted, is_committed, is_completed, record_stays}
 use Rattle.commit_laws.proofs.records.Moves.{now_by}
 use Rattle.commit_laws.proofs.records.Replicas.{full_in, self}
@@ -129,7 +129,7 @@ module _ (start : Start) (all : ℕ → List HostStep) (tx : TxId) (key : List �
       → list_any (is_member (coordinator_member tx)) (made start) ≡ false
       → WasAskedIn start (logs_of start es) (current start (logs_of start (e ∷ es))) tx → ⊥
   not_asked e es moment off was =
-      true≢false (sym (any_of (is_member (coordinator_member tx)) (made start) (coordinator_member tx)
+      true≢false (sym (any_in (is_member (coordinator_member tx)) (coordinator_member tx) (made start)
       (current_made start all (e ∷ es) moment (coordinator_member tx) was.full) (self (coordinator_member tx))) ∙ off)
 
   pub record_made : (es : List HostStep) → IsMoment start all es → (member : Member) → IsIn member (made start)

@@ -27,19 +27,16 @@ use Rattle.node_views.specs.declared.host_body.HostBody as node
 use Rattle.key_laws.specs.PrimaryEvents.{NoneOf}
 use Rattle.key_laws.specs.Replica.{Event, Replica, aborts, asks, asks_for, at_key, commits, completes, event_at}
 use Rattle.key_laws.specs.Replica.{expires, expires_if, if_on, is_refused, rests, serves, serves_if}
-use Rattle.host_laws.specs.ReplicaLaws.{IsWell}
 use Rattle.world_core.specs.Start.{Start, made}
 use Rattle.world_core.specs.Steps.{Addressed, HostStep}
+use Rattle.run_laws.specs.Tokens.{is_token}
 use Rattle.view_laws.proofs.eras.SoundLogs.{each_filter}
 use Rattle.moment_laws.specs.Moments.{IsMoment, logs_of}
-use Rattle.moment_laws.specs.Places.{ldm_of}
 use Rattle.moment_laws.proofs.MomentHosts.{ldm_started}
 use Rattle.moment_laws.proofs.MomentViews.{moment_less}
 use Rattle.request_laws.specs.Blocks.{no_replica, rows_in}
 use Rattle.request_laws.specs.Replicas.{event_by, event_if, event_under}
-use Rattle.request_laws.specs.Tokens.{is_token}
 use Rattle.request_laws.specs.Waiting.{AreAttended, IsOneByOne}
-use Rattle.request_laws.proofs.replicas.KeyEvents.{installations_keep_well}
 use Rattle.request_laws.proofs.replicas.Waits.{installed_are_attended, signals_keep_attended}
 use Rattle.commit_laws.specs.Forth.{ForthIsKnownAlways, IsForth, TellsForth}
 use Rattle.commit_laws.specs.Going.{is_forth}
@@ -47,8 +44,9 @@ use Rattle.commit_laws.specs.Traces.{replica_at, rows_at}
 use Rattle.commit_laws.proofs.fates.Committed.{alone_waits, calm_idle, forth_calm}
 use Rattle.commit_laws.proofs.commits.Places.{asker_made}
 use Rattle.commit_laws.proofs.records.KeyGoes.{TakesNow}
-use Rattle.commit_laws.proofs.records.Once.{rows_well}
-use Rattle.commit_laws.proofs.hosts.RowsTurn.{IsBetween, IsTakenAt, RowsGo, as_was, enter, entered, rest, rows_go, take}
+use Rattle.commit_laws.proofs.records.Once.{well_between}
+use Rattle.commit_laws.proofs.hosts.RowsTurn.{IsBetween, IsTakenAt, RowsGo, enter, rest, rows_go, take}
+use Rattle.commit_laws.proofs.hosts.RowsTurn.{between_so}
 use Rattle.commit_laws.proofs.links.TakenChains.{chain_told}
 
 -- the event of a signal is that within a view, or none
@@ -156,31 +154,17 @@ module _ (forth : ForthIsKnownAlways) (start : Start) (all : ℕ → List HostSt
           by (inl is) = subst (IsOneByOne r) (sym is) tt
           by (inr is) = subst (IsOneByOne r) (sym is) (one_event x.body refl)
 
-      well_between : IsWell s.lqh
-      well_between = by between
-        where
-          by : IsBetween start all e es moment member there s → IsWell s.lqh
-          by (as_was is stood) =
-              subst (λ (s : ReplicaState). IsWell s.lqh) (sym is)
-              (rows_well start member there (old (ldm_of start member)))
-          by (entered view is) =
-              subst (λ (s : ReplicaState). IsWell s.lqh) (sym is)
-              (installations_keep_well (rows_at start old member) view
-              (rows_well start member there (old (ldm_of start member))))
-
       -- it is so of the rows before they take the signal
       pub attended_between : AreAttended (replica_at start old member key) → AreAttended r
-      attended_between was = by between
-        where
-          by : IsBetween start all e es moment member there s → AreAttended (at_key key s.lqh)
-          by (as_was is stood) = subst (λ (s : ReplicaState). AreAttended (at_key key s.lqh)) (sym is) was
-          by (entered view is) =
-              subst (λ (s : ReplicaState). AreAttended (at_key key s.lqh)) (sym is)
-              (installed_are_attended (rows_at start old member) view key)
+      attended_between was =
+          between_so start all e es moment member there (λ s. AreAttended (at_key key s.lqh)) s between was
+          (λ view. installed_are_attended (rows_at start old member) view key)
 
       taken_attended : AreAttended (replica_at start old member key)
           → AreAttended (at_key key (replica_row s x).state.lqh)
-      taken_attended was = signals_keep_attended s x key well_between one_by_one (attended_between was)
+      taken_attended was =
+          signals_keep_attended s x key (well_between start all e es moment member there s between) one_by_one
+          (attended_between was)
 
   pub rows_attended : (es : List HostStep) → IsMoment start all es → (member : Member) → IsIn member (made start)
       → (key : List ℕ) → AreAttended (replica_at start (logs_of start es) member key)

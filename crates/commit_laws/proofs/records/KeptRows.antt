@@ -23,6 +23,7 @@ use Rattle.world_core.specs.Steps.{HostStep}
 use Rattle.moment_laws.specs.Moments.{IsMoment, current, logs_of}
 use Rattle.moment_laws.proofs.MomentViews.{moment_less}
 use Rattle.request_laws.specs.Routed.{layout_in}
+use Rattle.request_laws.proofs.routes.ChainsStay.{any_in}
 use Rattle.commit_laws.specs.Commits.{HasWritten, HoldsImage, IsKept, by_marker, by_record}
 use Rattle.commit_laws.specs.Forth.{ForthIsKnownAlways}
 use Rattle.commit_laws.specs.Going.{decided_ops, image_by, is_decided, is_written_by}
@@ -37,7 +38,6 @@ use Rattle.commit_laws.proofs.records.Images.{image_is}
 use Rattle.commit_laws.proofs.fates.Decided.{DecidesNow, decides_now, kept_before, kept_calm, rows_same}
 use Rattle.commit_laws.proofs.records.KeyGoes.{IsAcknowledged, KeyGoes, RecordGoes, TakesNow, is_aborted, is_committed}
 use Rattle.commit_laws.proofs.records.KeyGoes.{is_completed, key_goes, record_stays}
-use Rattle.commit_laws.proofs.hosts.SomePasses.{passed}
 use Rattle.commit_laws.proofs.records.Moves.{now_by}
 use Rattle.commit_laws.proofs.records.Replicas.{full_in, replica_before, replica_made, self}
 use Rattle.commit_laws.proofs.links.TakenChains.{abort_aborts}
@@ -154,11 +154,11 @@ module _ (forth : ForthIsKnownAlways) (remembered : CommitsAreRemembered) (ackno
           })
           by false full c chained =
               nowhere (λ replica.
-              true≢false (sym (passed (is_member member) member (current start old).full replica.full (self member))
+              true≢false (sym (any_in (is_member member) member (current start old).full replica.full (self member))
               ∙ full))
           by true full false chained =
               nowhere (λ replica.
-              true≢false (sym (passed (is_member member) member (chain_of (layout_in start (current start old)) key)
+              true≢false (sym (any_in (is_member member) member (chain_of (layout_in start (current start old)) key)
               replica.chained (self member)) ∙ chained))
 
     -- one that was decided, and kept, before

@@ -19,20 +19,19 @@ use Rattle.lqh_views.specs.Replica.{installed, replica_row}
 use Rattle.lqh_views.specs.State.{ReplicaState}
 use Rattle.key_laws.specs.Records.{AreOnce, as_committed, found, if_committed, unless_committed}
 use Rattle.key_laws.specs.Replica.{at_key}
-use Rattle.host_laws.specs.ReplicaLaws.{IsWell}
 use Rattle.world_core.specs.Start.{Start, made}
 use Rattle.world_core.specs.Steps.{HostStep}
 use Rattle.moment_laws.specs.Moments.{IsMoment, logs_of}
 use Rattle.moment_laws.specs.Places.{ldm_of}
 use Rattle.moment_laws.proofs.PartTaken.{IsTakenNow}
-use Rattle.request_laws.proofs.replicas.KeyEvents.{installations_keep_well}
 use Rattle.commit_laws.specs.Traces.{has_marker_at, record_at, rows_at}
 use Rattle.commit_laws.proofs.fates.Committed.{IsCalm, calm_idle}
 use Rattle.commit_laws.proofs.markers.Moves.{CommitsPrepared, MarkerMoves, marker_moves}
 use Rattle.commit_laws.proofs.records.Moves.{IsIdle, RecordMoves, aborts, commits, completes, now_by, record_moves}
 use Rattle.commit_laws.proofs.records.Moves.{stays}
-use Rattle.commit_laws.proofs.records.Once.{rows_once, rows_well}
-use Rattle.commit_laws.proofs.hosts.RowsTurn.{IsBetween, IsTakenAt, RowsGo, as_was, enter, entered, rest, rows_go, take}
+use Rattle.commit_laws.proofs.records.Once.{rows_once, well_between}
+use Rattle.commit_laws.proofs.hosts.RowsTurn.{IsBetween, IsTakenAt, RowsGo, enter, rest, rows_go, take}
+use Rattle.commit_laws.proofs.hosts.RowsTurn.{between_so}
 use Rattle.commit_laws.proofs.hosts.SaverGoes.{AreAlike}
 
 module _ (start : Start) (all : ℕ → List HostStep) (e : HostStep) (es : List HostStep)
@@ -109,25 +108,9 @@ module _ (start : Start) (all : ℕ → List HostStep) (e : HostStep) (es : List
         takes : TakesNow
         takes = record { rows = s; between = between; taken = taken; at = taken.at; now = taken.now }
 
-        well : IsWell s.lqh
-        well = by between
-          where
-            by : IsBetween start all e es moment member there s → IsWell s.lqh
-            by (as_was is stood) =
-                subst (λ (s : ReplicaState). IsWell s.lqh) (sym is)
-                (rows_well start member there (old (ldm_of start member)))
-            by (entered view is) =
-                subst (λ (s : ReplicaState). IsWell s.lqh) (sym is)
-                (installations_keep_well (rows_at start old member) view
-                (rows_well start member there (old (ldm_of start member))))
-
         as_before : (P : ReplicaState → Type 0) → P (rows_at start old member)
             → ((view : View) → P (installed (rows_at start old member) view)) → P s
-        as_before P here set = by between
-          where
-            by : IsBetween start all e es moment member there s → P s
-            by (as_was is stood) = subst P (sym is) here
-            by (entered view is) = subst P (sym is) (set view)
+        as_before P = between_so start all e es moment member there P s between
 
         record_before : record_of s ≡ record_was
         record_before = as_before (λ s. record_of s ≡ record_was) refl (λ view. refl)
@@ -143,7 +126,7 @@ module _ (start : Start) (all : ℕ → List HostStep) (e : HostStep) (es : List
             (λ view. rows_once start member there (old (ldm_of start member)) key)
 
         moves : RecordMoves tx key body (record_of s) (record_of (replica_row s x).state)
-        moves = record_moves tx key s x well once idle
+        moves = record_moves tx key s x (well_between start all e es moment member there s between) once idle
 
         marks : MarkerMoves tx key body (record_of s) (marker_of s) (marker_of (replica_row s x).state)
         marks = marker_moves tx key s x

@@ -36,6 +36,7 @@ use Rattle.key_laws.proofs.LockHolding.{expiries_hold_on, grants_hold, releases_
 use Rattle.key_laws.proofs.LockWaiting.{attended_hold}
 use Rattle.key_laws.proofs.RecordLemmas.{KeepsTx, committed_keeps, found-edited, found-stored, if_keeps, unless_keeps}
 use Rattle.key_laws.proofs.Waiting.{each-first_item}
+use Rattle.key_laws.proofs.PrimaryGood.{writes_exclusive}
 use Rattle.request_laws.specs.Waiting.{AreAttended}
 use Rattle.commit_laws.proofs.records.Moves.{found_own, now_by}
 
@@ -116,18 +117,12 @@ module _ (tx : TxId) where
   operated_prepared c u op refused E626 mode h = inl h
   operated_prepared c u op refused E630 mode h = inl h
 
-  done_mode : (op : Op) (row : Option (List ℕ)) → answer_to op row ≡ Done → op_mode op ≡ Exclusive
-  unfolding answer_to
-  done_mode (Get key) None is = absurd cc
-  done_mode (Get key) (Some value) is = absurd cc
-  done_mode op row is = refl
-
   worked_prepared : (c : Cell) (u : TxId) (refused : Bool) (w : RowWork) → HasPrepared (worked c u refused w).pending
       → HasPrepared c.pending ⊎ IsOwn u w
   worked_prepared c u refused (Store key image) h = stored_prepared c u key image refused (Store key image) refl h
   worked_prepared c u refused (Operate op) h =
       operated_prepared c u op refused (answer_to op (seen_by c.row (found u c.pending)))
-      (done_mode op (seen_by c.row (found u c.pending))) h
+      (writes_exclusive op (seen_by c.row (found u c.pending))) h
 
   -- no completion of what is prepared
   abbrev pub IsFair : Replica → Event → Type 0

@@ -1,8 +1,8 @@
 -- At an event: who has something prepared at a member of the current view holds the lock of its key, and whoever lets
 -- go of it, being committed there, is committed at all replicas.
-use Rattle.std.proofs.Common.{◌≡◌, ◌⊎◌, ◌==◌, ◌&&◌, ◌||◌, ◌∙◌, ℕ, Bool, true, false, cond, filter, List, [], ◌∷◌, refl}
+use Rattle.std.proofs.Common.{◌≡◌, ◌⊎◌, ◌==◌, ◌||◌, ◌∙◌, ℕ, Bool, true, false, List, [], ◌∷◌, refl}
 use Rattle.std.proofs.Common.{sym, ap, subst, inl, inr}
-use Rattle.std.proofs.lemmas.Bool.{eqb-true, or_left, or_right, true≢false}
+use Rattle.std.proofs.lemmas.Bool.{eqb-true, or_left, true≢false}
 use Rattle.std.specs.Prelude.{if◌then◌else◌, is_some, Option, None, Some}
 use Rattle.run_theory.specs.Lists.{IsIn}
 use Rattle.sig_core.specs.declared.member.Member.{Member}
@@ -20,11 +20,8 @@ use Rattle.sig_core.specs.Rows.{record_state, state_by}
 use Rattle.sig_core.specs.Same.{same_key, same_tx}
 use Rattle.sig_core.specs.Work.{work_key}
 use Rattle.sig_core.proofs.TxLemmas.{same_tx-is}
-use Rattle.row_locks.specs.declared.claim.Holder.{Holder}
-use Rattle.row_locks.specs.declared.mode.Mode.{Mode}
 use Rattle.row_locks.specs.declared.mode.Mode.TheVariants.{Exclusive}
 use Rattle.row_locks.specs.Holders.{holds_enough}
-use Rattle.row_locks.specs.Modes.{is_enough}
 use Rattle.row_locks.specs.Orderly.{IsOrderly}
 use Rattle.row_locks.specs.Rounds.{expired}
 use Rattle.row_records.proofs.KeyLemmas.{same}
@@ -71,43 +68,7 @@ use Rattle.commit_laws.proofs.records.Attended.{attended_between, on_so, rows_at
 use Rattle.commit_laws.proofs.hosts.RowsTurn.{IsBetween, IsTakenAt, RowsGo, as_was, enter, entered, rest, rows_go, take}
 use Rattle.commit_laws.proofs.links.TakenChains.{IsKeptForth, abort_aborts, complete_kept}
 use Rattle.commit_laws.proofs.markers.Traces.{complete_done, record_commits, trace_before, written_now}
-
--- of the holders those stay that pass a test
-stays_holding : (stays : TxId → Bool) (tx : TxId) (mode : Mode) (hs : List Holder) → stays tx ≡ true
-    → holds_enough tx mode hs ≡ true → holds_enough tx mode (filter (λ (h : Holder). stays h.tx) hs) ≡ true
-stays_holding stays tx mode [] on is = is
-stays_holding stays tx mode (h ∷ hs) on is =
-    by (stays h.tx) refl (same_tx h.tx tx) refl is (stays_holding stays tx mode hs on)
-  where
-    own : (c m : Bool) → (true && m || c) ≡ true → (m ≡ true) ⊎ (c ≡ true)
-    own c true is = inl refl
-    own c false is = inr is
-
-    by : (b : Bool) → stays h.tx ≡ b → (t : Bool) → same_tx h.tx tx ≡ t
-        → ((t && is_enough h.mode mode) || holds_enough tx mode hs) ≡ true
-        → (holds_enough tx mode hs ≡ true → holds_enough tx mode (filter (λ (h : Holder). stays h.tx) hs) ≡ true)
-        → holds_enough tx mode (cond b (h ∷ filter (λ (h : Holder). stays h.tx) hs)
-        (filter (λ (h : Holder). stays h.tx) hs))
-        ≡ true
-    by true e true f is more =
-        either (own (holds_enough tx mode hs) (is_enough h.mode mode) is)
-      where
-        rest_of : Bool
-        rest_of = holds_enough tx mode (filter (λ (h : Holder). stays h.tx) hs)
-
-        either : (is_enough h.mode mode ≡ true) ⊎ (holds_enough tx mode hs ≡ true)
-            → ((same_tx h.tx tx && is_enough h.mode mode) || rest_of) ≡ true
-        either (inl enough) =
-            or_left (same_tx h.tx tx && is_enough h.mode mode) rest_of
-            (ap (λ b. b && is_enough h.mode mode) f ∙ enough)
-        either (inr others) = or_right (same_tx h.tx tx && is_enough h.mode mode) rest_of (more others)
-    by true e false f is more =
-        or_right (same_tx h.tx tx && is_enough h.mode mode)
-        (holds_enough tx mode (filter (λ (h : Holder). stays h.tx) hs))
-        (more is)
-    by false e true f is more =
-        absurd (true≢false (sym on ∙ (ap stays (sym (same_tx-is h.tx tx f)) ∙ e)))
-    by false e false f is more = more is
+use Rattle.commit_laws.proofs.led.Events.{left_enough}
 
 -- a signal at which a transaction lets go of the lock of a key
 pub data LetsGo (tx : TxId) (key : List ℕ) (body : Body) : Type 0 where
@@ -202,7 +163,7 @@ module _ (forth : ForthIsKnownAlways) (remembered : CommitsAreRemembered) (ackno
         → holds tx (at_key key (installed rows_old view).lqh) ≡ true
     install_holds view r is held =
         ap (holds tx) (installations_are_events rows_old view key well_old)
-        ∙ stays_holding (goes_on_holding rows_old.lqh.rows view.full key) tx Exclusive
+        ∙ left_enough (goes_on_holding rows_old.lqh.rows view.full key) tx Exclusive
         (replica_at start old member key).lock.holders
         (or_left (is_some (record_state rows_old.lqh.rows tx key)) (is_coordinated view.full tx)
         (ap is_some (state_found rows_old.lqh.rows tx key ∙ ap state_by is))) held

@@ -33,8 +33,8 @@ use Rattle.key_laws.proofs.Waiting.{each-first_item}
 use Rattle.host_laws.specs.ReplicaLaws.{IsWell}
 use Rattle.host_laws.proofs.rows.Replicas.{signals_are_events as rows_are_events}
 use Rattle.run_laws.proofs.circle.OthersStay.{event_of, is_of, of_first, others_stay}
+use Rattle.run_laws.specs.Tokens.{is_token}
 use Rattle.view_laws.proofs.eras.SoundLogs.{each_filter}
-use Rattle.request_laws.specs.Tokens.{is_token}
 use Rattle.request_laws.proofs.replicas.WaitersHaveRequests.{rows_within}
 
 -- a record, or none, behind an edit of its own

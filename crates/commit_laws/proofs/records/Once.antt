@@ -1,54 +1,30 @@
 -- No transaction has two records on a key, after every log of the host of the rows.
-use Rattle.std.proofs.Common.{◌≡◌, ℕ, Bool, true, false, filter, map, List, [], ◌∷◌, refl, sym, subst}
-use Rattle.std.specs.Prelude.{Option}
+use Rattle.std.proofs.Common.{◌≡◌, ℕ, true, filter, map, List, sym, subst, ◌∷◌}
 use Rattle.run_theory.specs.Lists.{IsIn}
 use Rattle.sig_core.specs.declared.member.Member.{Member}
-use Rattle.sig_core.specs.declared.member.TxId.{TxId}
-use Rattle.sig_core.specs.declared.op.Answer.{Answer}
-use Rattle.sig_core.specs.declared.op.Answer.TheVariants.{Done, Found, Missing, E626, E630}
-use Rattle.sig_core.specs.declared.op.Op.{Op}
 use Rattle.sig_core.specs.declared.rows.PendingRecord.{PendingRecord}
 use Rattle.sig_core.specs.declared.signal.Signal.{Signal}
-use Rattle.sig_core.specs.declared.signal.chain.RowWork.{RowWork}
-use Rattle.sig_core.specs.declared.signal.chain.RowWork.TheVariants.{Operate, Store}
 use Rattle.sig_core.specs.declared.view.View.{View}
-use Rattle.sig_core.specs.Op.{answer_to, image_of, key_of}
-use Rattle.sig_core.specs.Rows.{RowsState, is_on, no_rows, prepared, put_row}
+use Rattle.sig_core.specs.Rows.{is_on, no_rows}
 use Rattle.lqh_views.specs.Replica.{installed, replica_row}
 use Rattle.lqh_views.specs.State.{ReplicaState}
 use Rattle.lqh_saver.specs.Switching.{given_up, has_position}
-use Rattle.node_core.specs.Fresh.{own_rows, with_rows}
-use Rattle.key_laws.specs.Records.{AreOnce, found, seen_by, without_epoch}
-use Rattle.key_laws.specs.Replica.{Cell, Replica, at_key}
-use Rattle.key_laws.specs.Replica.{operated, storing, worked}
-use Rattle.key_laws.proofs.RecordLemmas.{once-stored}
+use Rattle.node_core.specs.Fresh.{own_rows}
+use Rattle.key_laws.specs.Records.{AreOnce, without_epoch}
+use Rattle.key_laws.specs.Replica.{Replica, at_key}
 use Rattle.host_laws.specs.ReplicaLaws.{IsWell}
 use Rattle.world_core.specs.Start.{Start, made}
 use Rattle.world_core.specs.Steps.{HostStep}
+use Rattle.world_views.proofs.FreshBodies.{none_pending}
 use Rattle.run_laws.proofs.fades.Records.{once_after}
+use Rattle.moment_laws.specs.Moments.{IsMoment, logs_of}
+use Rattle.moment_laws.specs.Places.{ldm_of}
 use Rattle.request_laws.specs.Blocks.{rows_after}
 use Rattle.request_laws.specs.Replicas.{event_under}
 use Rattle.request_laws.proofs.replicas.KeyEvents.{installations_keep_well, signals_are_events, signals_keep_well}
 use Rattle.request_laws.proofs.replicas.AlongLogs.{always, first_rows, first_well, given_up_well}
-
-once_storing : (c : Cell) (v : TxId) (key : List ℕ) (image : Option (List ℕ)) (b : Bool) → AreOnce c.pending
-    → AreOnce (storing c v key image b).pending
-once_storing c v key image true once = once
-once_storing c v key image false once = once-stored (prepared v key image) c.pending once
-
-once_operated : (c : Cell) (v : TxId) (op : Op) (refused : Bool) (a : Answer) → AreOnce c.pending
-    → AreOnce (operated c v op refused a).pending
-once_operated c v op refused Done once = once_storing c v (key_of op) (image_of op) refused once
-once_operated c v op refused (Found value) once = once
-once_operated c v op refused Missing once = once
-once_operated c v op refused E626 once = once
-once_operated c v op refused E630 once = once
-
-once_worked : (c : Cell) (v : TxId) (refused : Bool) (w : RowWork) → AreOnce c.pending
-    → AreOnce (worked c v refused w).pending
-once_worked c v refused (Store key image) once = once_storing c v key image refused once
-once_worked c v refused (Operate op) once =
-    once_operated c v op refused (answer_to op (seen_by c.row (found v c.pending))) once
+use Rattle.commit_laws.proofs.hosts.RowsTurn.{IsBetween, between_so}
+use Rattle.commit_laws.specs.Traces.{rows_at}
 
 -- rows that are well and have each record once
 record AreSo (s : ReplicaState) : Type 0 where
@@ -71,17 +47,12 @@ give_so s at has so =
     record { well = given_up_well s at has so.well; once = so.once }
 
 -- none is there at first
-pub none_put : (s : RowsState) (rows : List (List ℕ × List ℕ)) (epoch : ℕ) → s.pending ≡ []
-    → (with_rows s rows epoch).pending ≡ []
-none_put s [] epoch none = none
-none_put s (r ∷ rows) epoch none = none_put (put_row s r.0 r.1 epoch) rows epoch none
-
 first_so : (start : Start) (member : Member) → AreSo (first_rows start member)
 first_so start member = record {
   well = first_well start member;
   once = λ key.
       subst (λ (xs : List PendingRecord). AreOnce (map without_epoch (filter (is_on key) xs)))
-      (sym (none_put no_rows (own_rows start.shape member.node start.rows) start.start_epoch refl)) tt;
+      (sym (none_pending no_rows (own_rows start.shape member.node start.rows) start.start_epoch)) tt;
 }
 
 module _ (start : Start) (member : Member) (there : IsIn member (made start)) (log : List HostStep) where
@@ -93,3 +64,12 @@ module _ (start : Start) (member : Member) (there : IsIn member (made start)) (l
 
   pub rows_once : (key : List ℕ) → AreOnce (at_key key (rows_after start member log).lqh).cell.pending
   rows_once = so.once
+
+-- so are those that take the signal of an event
+pub well_between : (start : Start) (all : ℕ → List HostStep) (e : HostStep) (es : List HostStep)
+    (moment : IsMoment start all (e ∷ es)) (member : Member) (there : IsIn member (made start)) (s : ReplicaState)
+    → IsBetween start all e es moment member there s → IsWell s.lqh
+well_between start all e es moment member there s between =
+    let well = rows_well start member there (logs_of start es (ldm_of start member)) in
+    between_so start all e es moment member there (λ s. IsWell s.lqh) s between well
+    (λ view. installations_keep_well (rows_at start (logs_of start es) member) view well)

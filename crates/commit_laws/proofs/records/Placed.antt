@@ -53,7 +53,7 @@ use Rattle.request_laws.specs.Blocks.{no_replica, rows_in}
 use Rattle.request_laws.specs.Replicas.{event_by, event_if, event_under}
 use Rattle.request_laws.specs.Routed.{IsGivenUp, IsRoutedSignal, WasAskedIn, WasDrivenIn, layout_in, view_of_ldm}
 use Rattle.request_laws.specs.Routes.{IsRequestRouted, IsRouted}
-use Rattle.request_laws.proofs.replicas.KeyEvents.{installations_keep_well, signals_are_events}
+use Rattle.request_laws.proofs.replicas.KeyEvents.{signals_are_events}
 use Rattle.request_laws.proofs.routes.All.{signals_are_routed}
 use Rattle.request_laws.proofs.routes.BesideRows.{is_of_rows}
 use Rattle.request_laws.proofs.routes.ChainsStay.{NobodyLater, any_in, is_full}
@@ -62,9 +62,11 @@ use Rattle.request_laws.proofs.routes.Places.{is_for_rows, rows_know_node}
 use Rattle.request_laws.proofs.routes.PartsOfTheFirst.{nobody_later}
 use Rattle.request_laws.proofs.tokens.HostsApart.{ldm_low}
 use Rattle.commit_laws.specs.Traces.{IsReplicaOf, record_at, replica_at, rows_at}
-use Rattle.commit_laws.proofs.records.Once.{none_put, rows_well}
+use Rattle.commit_laws.proofs.records.Once.{well_between}
+use Rattle.world_views.proofs.FreshBodies.{none_pending}
 use Rattle.commit_laws.proofs.records.Replicas.{chained, in_turns, self, turn_in}
-use Rattle.commit_laws.proofs.hosts.RowsTurn.{IsBetween, IsTakenAt, RowsGo, as_was, enter, entered, rest, rows_go, take}
+use Rattle.commit_laws.proofs.hosts.RowsTurn.{IsBetween, IsTakenAt, RowsGo, enter, rest, rows_go, take}
+use Rattle.commit_laws.proofs.hosts.RowsTurn.{between_so}
 
 -- something may be stored by the event
 abbrev Stores : Event → Type 0
@@ -243,24 +245,11 @@ module _ (start : Start) where
           (taken : IsTakenAt start all e es moment member there s)
         where
           well : IsWell s.lqh
-          well = by between
-            where
-              log : List HostStep
-              log = old (ldm_of start member)
-
-              by : IsBetween start all e es moment member there s → IsWell s.lqh
-              by (as_was is stood) =
-                  subst (λ (s : ReplicaState). IsWell s.lqh) (sym is) (rows_well start member there log)
-              by (entered view is) =
-                  subst (λ (s : ReplicaState). IsWell s.lqh) (sym is)
-                  (installations_keep_well (rows_at start old member) view (rows_well start member there log))
+          well = well_between start all e es moment member there s between
 
           was : (key : List ℕ) → IsEmptyOr P key s
-          was key = by between
-            where
-              by : IsBetween start all e es moment member there s → IsEmptyOr P key s
-              by (as_was is stood) = subst (IsEmptyOr P key) (sym is) (placed key)
-              by (entered view is) = subst (IsEmptyOr P key) (sym is) (placed key)
+          was key = between_so start all e es moment member there (IsEmptyOr P key) s between (placed key)
+              (λ view. placed key)
 
           -- the view in which its rows stood was installed
           stood_installed : WasInstalled start all (view_of_ldm start (logs_of start es) member)
@@ -273,7 +262,7 @@ module _ (start : Start) where
           }
 
           waits : AllWait P s.lqh
-          waits = by between
+          waits = between_so start all e es moment member there (λ s. AllWait P s.lqh) s between own (λ view. tt)
             where
               own : AllWait P (rows_at start old member).lqh
               own =
@@ -284,10 +273,6 @@ module _ (start : Start) where
                   (rows_of (rows_at start old member).lqh.node) q member.node routed.0
                   (ap rows_of (rows_know_node start member there (old (ldm_of start member)))))
                   ((signals_are_routed start all es less).rows member there)
-
-              by : IsBetween start all e es moment member there s → AllWait P s.lqh
-              by (as_was is stood) = subst (λ (s : ReplicaState). AllWait P s.lqh) (sym is) own
-              by (entered view is) = subst (λ (s : ReplicaState). AllWait P s.lqh) (sym is) tt
 
           asked : IsAsked P x.body
           asked = by x.body refl
@@ -330,7 +315,7 @@ module _ (start : Start) where
       ap (λ (s : hosts.HostBody). (at_key key (rows_in (no_replica start member) s.parts).lqh).cell.pending)
       (ldm_started start member there)
       ∙ ap (λ (xs : List PendingRecord). map without_epoch (filter (is_on key) xs))
-      (none_put no_rows (own_rows start.shape member.node start.rows) start.start_epoch refl)
+      (none_pending no_rows (own_rows start.shape member.node start.rows) start.start_epoch)
 
   always_placed : (all : ℕ → List HostStep) (es : List HostStep) → IsMoment start all es → (member : Member)
       → IsIn member (made start) → ArePlaced (logs_of start es) member

@@ -12,10 +12,9 @@ use Rattle.frag_map.specs.Fragment.{frag_of}
 use Rattle.frag_map.specs.Layout.{chain_of, first_layout}
 use Rattle.frag_map.specs.Replicas.{first_start, in_turn, is_member, node_in_turn}
 use Rattle.frag_map.specs.Shape.{IsShape}
-use Rattle.outcome_laws.proofs.knowledge.CommitsWereDecided.{in_front}
-use Rattle.outcome_laws.proofs.order.BeforeInLists.{in_either}
 use Rattle.world_core.specs.Start.{Start, made}
 use Rattle.world_core.specs.Steps.{HostStep}
+use Rattle.view_laws.proofs.ballots.MadeSets.{in_either, in_front}
 use Rattle.moment_laws.specs.Moments.{IsMoment, current, logs_of}
 use Rattle.moment_laws.proofs.MomentMembers.{all_full, current_made, full_less}
 use Rattle.moment_laws.proofs.MomentTurns.{Turn, keeps, raises, turn}
@@ -23,6 +22,7 @@ use Rattle.moment_laws.proofs.MomentViews.{moment_installed, moment_less}
 use Rattle.request_laws.specs.Routed.{layout_in}
 use Rattle.request_laws.proofs.routes.ChainsStay.{NobodyLater, any_in, chain_is, is_full}
 use Rattle.request_laws.proofs.routes.PartsOfTheFirst.{nobody_later}
+use Rattle.request_laws.proofs.routes.ViableViews.{in_take}
 use Rattle.commit_laws.specs.Traces.{IsReplicaOf, members_now}
 
 in_behind : (x : Member) (xs ys : List Member) → IsIn x ys → IsIn x (xs ++ ys)
@@ -35,12 +35,6 @@ in_all zero (y ∷ xs) x few there = absurd (omega (arith, few))
 in_all (suc k) [] x few there = there
 in_all (suc k) (y ∷ xs) x few (inl same) = inl same
 in_all (suc k) (y ∷ xs) x few (inr there) = inr (in_all k xs x (omega (arith, few)) there)
-
-in_some : (k : ℕ) (xs : List Member) (x : Member) → IsIn x (take k xs) → IsIn x xs
-in_some zero xs x there = absurd there
-in_some (suc k) [] x there = there
-in_some (suc k) (y ∷ xs) x (inl same) = inl same
-in_some (suc k) (y ∷ xs) x (inr there) = inr (in_some k xs x there)
 
 length_both : (xs ys : List Member) → length (xs ++ ys) ≡ length xs + length ys
 length_both [] ys = omega arith
@@ -148,7 +142,7 @@ module _ (start : Start) (key : List ℕ) where
         there)
 
     pub in_turns : (m : Member) → IsIn m (chain_of (layout_in start view) key) → IsIn m (replicas view)
-    in_turns m there = in_some 8 (replicas view) m (subst (IsIn m) chain_turns there)
+    in_turns m there = in_take 8 (replicas view) m (subst (IsIn m) chain_turns there)
 
     pub chain_full : (m : Member) → IsIn m (chain_of (layout_in start view) key) → IsIn m view.full
     chain_full m there =

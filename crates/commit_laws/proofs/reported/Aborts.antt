@@ -53,13 +53,13 @@ use Rattle.outcome_laws.proofs.knowledge.MarksOfNoOutcome.{IsNoOutcome}
 use Rattle.outcome_laws.specs.Counts.{count_open}
 use Rattle.outcome_laws.specs.Decided.{IsMarked}
 use Rattle.request_laws.specs.Blocks.{takeover_in}
+use Rattle.request_laws.proofs.routes.ChainsStay.{any_in}
 use Rattle.commit_laws.specs.Fates.{aborts, fate}
 use Rattle.commit_laws.specs.Reported.{CompletesLast, GatheringsList}
 use Rattle.commit_laws.specs.Speaks.{ReportedAbort, SaysAbort}
 use Rattle.commit_laws.specs.Together.{AllStandAlways, FatesMove, Follows}
 use Rattle.commit_laws.specs.Traces.{is_known}
 use Rattle.commit_laws.proofs.fates.Moves.{fates_move}
-use Rattle.commit_laws.proofs.views.AtEvents.{any_of}
 use Rattle.commit_laws.proofs.forth.KnownComes.{known_commit}
 use Rattle.commit_laws.proofs.led.Entries.{any_counts}
 use Rattle.commit_laws.proofs.reported.Client.{AbortReason, HasAbortReason, by_down, by_failing, by_rollback, by_view}
@@ -178,7 +178,7 @@ module _ (stand : AllStandAlways) (list : GatheringsList) (start : Start) (all :
           → ⊥
       not_known t there is knows =
           let some = any_counts (has_tx tx) own.client.api.opened
-          (any_of (has_tx tx) own.client.api.opened t there (ap (is_tx tx) is ∙ same_tx-self tx)) in
+          (any_in (has_tx tx) t own.client.api.opened there (ap (is_tx tx) is ∙ same_tx-self tx)) in
           let none = client.closed tx knows in
           let same : in_client (count_open tx) (after start 0 log).parts ≡ count_open tx own.client =
           ap (in_client (count_open tx)) (seeing start log).runs in

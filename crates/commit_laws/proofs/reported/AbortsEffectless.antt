@@ -17,6 +17,7 @@ use Rattle.sig_core.specs.declared.outcome.AbortCause.TheVariants as cause
 use Rattle.sig_core.specs.declared.outcome.Outcome.{Outcome}
 use Rattle.sig_core.specs.declared.outcome.Outcome.TheVariants.{Aborted, Committed}
 use Rattle.sig_core.specs.Same.{same_tx}
+use Rattle.tc_block.specs.Complete.{one_if}
 use Rattle.world_core.specs.Entries.{entries}
 use Rattle.world_core.specs.History.{history, is_kept, is_reported}
 use Rattle.world_core.specs.Hosts.{hosts}
@@ -31,16 +32,16 @@ use Rattle.outcome_laws.proofs.downfall.NeverDecided.{none_down_decided}
 use Rattle.outcome_laws.proofs.once.ReportedOnce.{reported_once}
 use Rattle.outcome_laws.proofs.order.BeforeInLists.{kept_in}
 use Rattle.outcome_laws.proofs.coordinators.Lists.{count_more}
-use Rattle.outcome_laws.specs.Counts.{is_report, one_if}
+use Rattle.outcome_laws.specs.Counts.{is_report}
 use Rattle.outcome_laws.specs.Decided.{IsMarked}
 use Rattle.outcome_laws.specs.Once.{marks_in}
 use Rattle.outcome_laws.specs.Outcomes.{reports_in}
+use Rattle.request_laws.proofs.routes.ChainsStay.{any_in}
 use Rattle.commit_laws.specs.Cuts.{AbortsTakeNone}
 use Rattle.commit_laws.specs.Ends.{AppliedCommit}
 use Rattle.commit_laws.specs.Fates.{aborts, fate}
 use Rattle.commit_laws.specs.Speaks.{ReportedAbort}
 use Rattle.commit_laws.proofs.fates.Cases.{not_both}
-use Rattle.commit_laws.proofs.views.AtEvents.{any_of}
 use Rattle.commit_laws.proofs.fates.FinalsForth.{HasFinalEntry, IsFinalBy, by_report, by_write, final_by}
 use Rattle.commit_laws.proofs.led.Entries.{mark_counts}
 use Rattle.commit_laws.proofs.hosts.ReportsOfShell.{no_reports}
@@ -85,7 +86,7 @@ has_abort : (tx : TxId) (why : AbortCause) (log : List HostStep) → IsMarked (R
     → has_mark (is_abort_of tx) log ≡ true
 has_abort tx why [] is = absurd is
 has_abort tx why (e ∷ log) (inl now) =
-    or_left _ _ (any_of (is_abort_of tx) e.step.marks (Reported tx (Aborted why)) now (same_tx-self tx))
+    or_left _ _ (any_in (is_abort_of tx) (Reported tx (Aborted why)) e.step.marks now (same_tx-self tx))
 has_abort tx why (e ∷ log) (inr older) = or_right _ _ (has_abort tx why log older)
 
 -- so none is reported both committed and aborted

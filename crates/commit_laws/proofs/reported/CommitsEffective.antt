@@ -53,6 +53,7 @@ use Rattle.outcome_laws.proofs.knowledge.CommitsWereDecided.{commits_were_decide
 use Rattle.outcome_laws.specs.Decided.{IsMarked}
 use Rattle.outcome_laws.specs.Outcomes.{HasEntry}
 use Rattle.request_laws.proofs.tokens.HostsApart.{ldm_low}
+use Rattle.request_laws.proofs.routes.ChainsStay.{any_in}
 use Rattle.commit_laws.specs.Commits.{ComesWhenDone, HasWritten, IsDone}
 use Rattle.commit_laws.specs.Cuts.{CommitsTakeEffect}
 use Rattle.commit_laws.specs.Forth.{TellsForth}
@@ -60,12 +61,12 @@ use Rattle.commit_laws.specs.Going.{decided_ops, is_decided, is_forth, is_writte
 use Rattle.commit_laws.specs.Together.{AllStandAlways}
 use Rattle.commit_laws.specs.Traces.{IsApplied}
 use Rattle.commit_laws.proofs.forth.DecidedStay.{applied_more, decided_more, forth_decided, written_before}
-use Rattle.commit_laws.proofs.views.AtEvents.{any_of, some_of}
 use Rattle.commit_laws.proofs.forth.All.{forth_is_known}
 use Rattle.commit_laws.proofs.forth.Client.{IsToldOf, by_coordinator, by_takeover}
 use Rattle.commit_laws.proofs.led.Applied.{HasEntryOf, entry_of_decided, has_applied, have_it}
 use Rattle.commit_laws.proofs.led.Entries.{decisions_once, one_entry}
 use Rattle.commit_laws.proofs.hosts.MarkReasons.{HasReason, RunsIf, marks_have_reasons}
+use Rattle.commit_laws.proofs.hosts.SomePasses.{passing}
 
 -- it is decided, and applied on each key that it wrote
 pub record TookEffect (start : Start) (logs : ℕ → List HostStep) (tx : TxId) : Type 0 where
@@ -129,9 +130,9 @@ module _ (stand : AllStandAlways) (start : Start) (all : ℕ → List HostStep) 
     -- so it is of whoever is reported now
     reported_now : (v : TxId) → list_any (is_reported v) e.step.marks ≡ true → TookEffect start old v
     reported_now v is =
-        let one = some_of (is_reported v) e.step.marks is in
-        by one.one one.passes
-        (each_in (HasReason (Unit {0}) (TookEffect start old)) one.one e.step.marks reasons one.there)
+        let one = passing (is_reported v) e.step.marks is in
+        by one.item one.is
+        (each_in (HasReason (Unit {0}) (TookEffect start old)) one.item e.step.marks reasons one.there)
       where
         by : (mark : Mark) → is_reported v mark ≡ true → HasReason (Unit {0}) (TookEffect start old) mark
             → TookEffect start old v
@@ -159,7 +160,7 @@ reported_effect stand start all (e ∷ es) moment v h is =
 -- marks that are there
 any_report : (v : TxId) (epoch : ℕ) (marks : List Mark) → IsIn (Reported v (Committed epoch)) marks
     → list_any (is_reported v) marks ≡ true
-any_report v epoch marks there = any_of (is_reported v) marks (Reported v (Committed epoch)) there (same_tx-self v)
+any_report v epoch marks there = any_in (is_reported v) (Reported v (Committed epoch)) marks there (same_tx-self v)
 
 pub has_report : (v : TxId) (epoch : ℕ) (log : List HostStep) → IsMarked (Reported v (Committed epoch)) log
     → has_mark (is_reported v) log ≡ true
@@ -174,15 +175,15 @@ record WritesOne (ops : List (Op × Answer)) : Type 0 where
 
 writes_one : (ops : List (Op × Answer)) → list_any (λ (op : Op × Answer). is_done op.1) ops ≡ true → WritesOne ops
 writes_one ops is =
-    let done = some_of (λ (op : Op × Answer). is_done op.1) ops is in
+    let done = passing (λ (op : Op × Answer). is_done op.1) ops is in
     record {
-      key = key_of done.one.0;
+      key = key_of done.item.0;
       written =
-          any_of (λ (op : Op × Answer). is_done op.1)
-          (filter (λ (op : Op × Answer). same_key (key_of op.0) (key_of done.one.0)) ops) done.one
-          (in_filter (λ (op : Op × Answer). same_key (key_of op.0) (key_of done.one.0)) done.one ops done.there
-          (same_key-self (key_of done.one.0)))
-          done.passes;
+          any_in (λ (op : Op × Answer). is_done op.1)
+          done.item (filter (λ (op : Op × Answer). same_key (key_of op.0) (key_of done.item.0)) ops)
+          (in_filter (λ (op : Op × Answer). same_key (key_of op.0) (key_of done.item.0)) done.item ops done.there
+          (same_key-self (key_of done.item.0)))
+          done.is;
     }
 
 module _ (stand : AllStandAlways) (start : Start) (logs : ℕ → List HostStep) (are : AreOfCluster start logs) (tx : TxId)

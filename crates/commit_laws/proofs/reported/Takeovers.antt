@@ -49,6 +49,7 @@ use Rattle.world_views.specs.Machine.{after, machine, step_after, stops_by}
 use Rattle.view_laws.proofs.runs.FirstMembers.{node_low, node_some}
 use Rattle.view_laws.specs.Order.{sound_machine}
 use Rattle.view_laws.specs.Runs.{view_after}
+use Rattle.view_laws.proofs.ballots.MadeSets.{in_either}
 use Rattle.moment_laws.specs.Moments.{IsMoment, current, logs_of}
 use Rattle.moment_laws.specs.Parts.{Enters, IsPassed, enters, stays}
 use Rattle.moment_laws.specs.Places.{tc_of}
@@ -57,7 +58,6 @@ use Rattle.moment_laws.proofs.MomentMembers.{current_made}
 use Rattle.moment_laws.proofs.MomentTurns.{host_low}
 use Rattle.moment_laws.proofs.MomentViews.{current_number, moment_less, number_in, stands_in_current}
 use Rattle.moment_laws.proofs.PartTaken.{IsTakenNow, passed_now}
-use Rattle.outcome_laws.proofs.order.BeforeInLists.{in_either}
 use Rattle.outcome_laws.specs.Counts.{coordinator_member}
 use Rattle.request_laws.specs.Blocks.{takeover_after}
 use Rattle.request_laws.proofs.phases.AlongLogs.{told_some}
@@ -66,19 +66,19 @@ use Rattle.request_laws.proofs.routes.Entering.{own_full}
 use Rattle.request_laws.proofs.routes.Headers.{takeover_fenced}
 use Rattle.request_laws.proofs.routes.Layouts.{RunsTc, runs_tc}
 use Rattle.request_laws.proofs.routes.PartSteps.{takeover_is}
+use Rattle.request_laws.specs.Orphans.{IsOrphan}
 use Rattle.commit_laws.specs.Fates.{Fate, aborts, commits, fate, fate_if, is_led_by_full, undetermined}
 use Rattle.commit_laws.specs.Gathering.{EndsGathering}
 use Rattle.commit_laws.specs.Going.{is_forth, is_lost}
 use Rattle.commit_laws.specs.Reported.{AreAttended, CompletesLast, GatheringsList, IsListed, IsSaid, aborted, known}
 use Rattle.commit_laws.specs.Reported.{told}
-use Rattle.commit_laws.specs.Takeovers.{IsOrphan, takeover_at}
+use Rattle.commit_laws.specs.Takeovers.{takeover_at}
 use Rattle.commit_laws.specs.Together.{FatesMove, Follows}
 use Rattle.commit_laws.specs.Traces.{has_trace, is_known}
 use Rattle.commit_laws.proofs.fates.Committed.{decided_made}
 use Rattle.commit_laws.proofs.reported.CompleteOthers.{apart_say_none, blocks_say_none, installs_say_none}
 use Rattle.commit_laws.proofs.reported.CompleteWords.{AreNoWords, is_no_word}
 use Rattle.commit_laws.proofs.fates.Forth.{fate_decided}
-use Rattle.commit_laws.proofs.views.AtEvents.{some_of}
 use Rattle.commit_laws.proofs.hosts.Goes.{HostGoes, halts, host_goes, leaves, takes}
 use Rattle.commit_laws.proofs.reported.Rulings.{AreLast, IsLast, SaidBy, TellsAll, goes_on_telling, tells_more}
 use Rattle.commit_laws.proofs.reported.Sent.{CanTell, IsNew, IsPutAt, can_before, comes_now, goes_on_link, new_sent}
@@ -87,6 +87,7 @@ use Rattle.commit_laws.proofs.fates.SpokenHost.{StandsStill, stood_still}
 use Rattle.commit_laws.proofs.fates.SpokenTakeover.{IsAbortingAt}
 use Rattle.commit_laws.proofs.takeover.GoesOn.{stands_on}
 use Rattle.commit_laws.proofs.takeover.Words.{Aborts}
+use Rattle.commit_laws.proofs.hosts.SomePasses.{passing}
 
 -- a transaction whose coordinator is no node of the cluster aborts
 made_sound : (start : Start) (tx : TxId) → IsIn (coordinator_member tx) (made start) → is_tx start.shape tx ≡ true
@@ -117,9 +118,9 @@ unsound_aborts start all es moment tx off = by (fate start (logs_of start es) tx
         led_fate (is_known start (logs_of start es) tx) (is_led_by_full start (logs_of start es) tx)
         (is_forth start (logs_of start es) tx) (is_lost start (logs_of start es) tx)
         (has_trace start (logs_of start es) tx) is in
-        let one = some_of (was_begun_by tx) (current start (logs_of start es)).full full in
-        absurd (not_made (subst (λ (m : Member). IsIn m (made start)) (begun_by tx one.one one.passes)
-        (current_made start all es moment one.one one.there)))
+        let one = passing (was_begun_by tx) (current start (logs_of start es)).full full in
+        absurd (not_made (subst (λ (m : Member). IsIn m (made start)) (begun_by tx one.item one.is)
+        (current_made start all es moment one.item one.there)))
 
 -- a view with a member counts some
 pub has_members : (view : View) (m : Member) → IsIn m view.full → (member_count view == 0) ≡ true → ⊥

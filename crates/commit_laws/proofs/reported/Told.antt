@@ -33,6 +33,7 @@ use Rattle.sig_core.specs.declared.signal.host.HostSignal.TheVariants.{Closed}
 use Rattle.sig_core.specs.declared.view.View.{View}
 use Rattle.sig_core.specs.Place.{client}
 use Rattle.sig_core.specs.Step.{Step}
+use Rattle.tc_block.specs.Complete.{one_if}
 use Rattle.api_block.specs.declared.opened.OpenTransaction.{OpenTransaction}
 use Rattle.api_block.specs.Opened.{has_tx}
 use Rattle.api_block.specs.Outcome.{commit_report_row}
@@ -69,19 +70,19 @@ use Rattle.outcome_laws.proofs.knowledge.Parts.{arbiter_tells_nothing}
 use Rattle.outcome_laws.proofs.once.DecidesAndReports.{IsShell, client_light, in_client, of_client, reports_client}
 use Rattle.outcome_laws.proofs.once.CoordinatorScale.{no_body}
 use Rattle.outcome_laws.proofs.once.Scales.{step_light}
-use Rattle.outcome_laws.specs.Counts.{coordinator_member, count_open, is_begin, is_report, one_if}
+use Rattle.outcome_laws.specs.Counts.{coordinator_member, count_open, is_begin, is_report}
 use Rattle.outcome_laws.specs.Once.{takes_in}
 use Rattle.request_laws.proofs.routes.PartsOfTheFirst.{nobody_later}
 use Rattle.request_laws.specs.Ways.{is_sent}
+use Rattle.request_laws.specs.Orphans.{IsOrphan}
+use Rattle.request_laws.proofs.routes.ChainsStay.{any_in}
 use Rattle.commit_laws.specs.Fates.{aborts, fate}
 use Rattle.commit_laws.specs.Reported.{CompletesLast, IsSaid, aborted, known, told}
-use Rattle.commit_laws.specs.Takeovers.{IsOrphan}
 use Rattle.commit_laws.specs.Together.{FatesMove, Follows}
 use Rattle.commit_laws.specs.Traces.{has_sent, is_acknowledgement, is_known}
 use Rattle.commit_laws.proofs.forth.ClientReports.{TakesWord, acknowledges_some, drops, notes, takes_word, tally_counts}
 use Rattle.commit_laws.proofs.forth.ClientReports.{word_noted}
 use Rattle.commit_laws.proofs.hosts.ShellViews.{client_notes}
-use Rattle.commit_laws.proofs.views.AtEvents.{any_of, some_of}
 use Rattle.commit_laws.proofs.forth.Client.{Answers, IsToldOf, by_coordinator, by_takeover, client_acknowledges}
 use Rattle.commit_laws.proofs.hosts.Goes.{IsOff, is_for_host}
 use Rattle.commit_laws.proofs.forth.KnownTold.{runs_shell}
@@ -136,10 +137,10 @@ not_led view tx out = by (is_coordinated view.full tx) refl
     by : (b : Bool) → is_coordinated view.full tx ≡ b → b ≡ false
     by false is = refl
     by true is =
-        let one = some_of (was_begun_by tx) view.full is in
+        let one = passing (was_begun_by tx) view.full is in
         absurd (true≢false (sym (or_left (is_among view.full (coordinator_member tx))
         (is_among view.starting (coordinator_member tx))
-        (any_of (same_member (coordinator_member tx)) view.full one.one one.there (begun_same one.one one.passes)))
+        (any_in (same_member (coordinator_member tx)) one.item view.full one.there (begun_same one.item one.is)))
         ∙ out))
 
 module _ (start : Start) (all : ℕ → List HostStep) (e : HostStep) (es : List HostStep)
@@ -264,12 +265,12 @@ module _ (start : Start) (all : ℕ → List HostStep) (e : HostStep) (es : List
               view_installed (omega (arith, low, rises)) in
               sym is ∙ (ap (λ v. is_member v m) (sym same) ∙ out)
           by true is (inl above) =
-              let one = some_of (same_member m) view.full (member_is view view_installed m is) in
+              let one = passing (same_member m) view.full (member_is view view_installed m is) in
               let part = views_shrink start all moment.cluster stood view stood_installed view_installed above in
               absurd (true≢false (sym (or_left (is_among stood.full m) (is_among stood.starting m)
-              (any_of (same_member m) stood.full one.one
-              (which one.one (each_in (λ (u : Member). IsIn u stood.full ⊎ ⊥) one.one view.full part.full one.there))
-              one.passes)) ∙ out))
+              (any_in (same_member m) one.item stood.full
+              (which one.item (each_in (λ (u : Member). IsIn u stood.full ⊎ ⊥) one.item view.full part.full one.there))
+              one.is)) ∙ out))
             where
               which : (u : Member) → IsIn u stood.full ⊎ ⊥ → IsIn u stood.full
               which u (inl there) = there
@@ -309,9 +310,9 @@ module _ (start : Start) (all : ℕ → List HostStep) (e : HostStep) (es : List
                 which (notes number vouched is) =
                     let full = member_is view view_installed x.member
                     (subst (λ v. is_member v x.member ≡ true) seen_is vouched) in
-                    let one = some_of (same_member x.member) view.full full in
-                    let acks = acknowledges_some tx (noted q.client x.view).api one.one
-                    (subst (λ v. IsIn one.one v.full) (sym seen_is) one.there) in
+                    let one = passing (same_member x.member) view.full full in
+                    let acks = acknowledges_some tx (noted q.client x.view).api one.item
+                    (subst (λ v. IsIn one.item v.full) (sym seen_is) one.there) in
                     inl (known_next tx
                     ∙ or_left (is_sent (is_acknowledgement tx) step.effects.sends) (is_known start old tx)
                     (ap (is_sent (is_acknowledgement tx))

@@ -14,17 +14,16 @@ use Rattle.node_views.specs.declared.host_body.HostBody as node
 use Rattle.world_core.specs.Start.{Start, made}
 use Rattle.world_core.specs.Steps.{Addressed, HostStep}
 use Rattle.moment_laws.specs.Moments.{IsMoment, current, logs_of}
-use Rattle.moment_laws.proofs.MomentHosts.{ldm_started, tc_started}
+use Rattle.moment_laws.proofs.MomentHosts.{tc_started}
 use Rattle.moment_laws.proofs.MomentViews.{moment_installed}
 use Rattle.outcome_laws.specs.Counts.{coordinator_member}
-use Rattle.request_laws.specs.Blocks.{no_replica, rows_in, takeover_in}
+use Rattle.request_laws.specs.Blocks.{takeover_in}
 use Rattle.request_laws.proofs.routes.Idle.{none_first}
 use Rattle.commit_laws.specs.Going.{own_live}
 use Rattle.commit_laws.specs.Parts.{IsHale, PartsStand}
 use Rattle.commit_laws.specs.Speaks.{AreSpokenTruly}
 use Rattle.commit_laws.specs.Takeovers.{FirstIs, IsRuled, TakeoverStands, TakeoversStand, takeover_at}
 use Rattle.commit_laws.specs.Together.{AllStand}
-use Rattle.commit_laws.specs.Traces.{rows_at}
 use Rattle.commit_laws.specs.Transit.{AreInTransit}
 use Rattle.commit_laws.proofs.commits.First.{first_commits}
 use Rattle.commit_laws.proofs.drive.Once.{leader_made}
@@ -44,11 +43,6 @@ module _ (start : Start) where
 
     each_gathered : (P : Gathered → Type 0) → Each P (takeover_at start none member).gathered
     each_gathered P = subst (Each P) (sym none_gathered) tt
-
-    none_wait : (rows_at start none member).lqh.waiting ≡ []
-    none_wait =
-        ap (λ (s : node.HostBody). (rows_in (no_replica start member) s.parts).lqh.waiting)
-        (ldm_started start member there)
 
     abbrev FirstIsRuled : List Gathered → Type 0
     FirstIsRuled gathered =

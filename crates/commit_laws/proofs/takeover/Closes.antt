@@ -25,11 +25,13 @@ use Rattle.moment_laws.specs.Moments.{IsMoment, current, logs_of}
 use Rattle.moment_laws.proofs.MomentViews.{moment_installed}
 use Rattle.request_laws.specs.Routed.{layout_in}
 use Rattle.request_laws.proofs.routes.PartsOfTheFirst.{chains_in}
+use Rattle.request_laws.specs.Orphans.{IsOrphan}
+use Rattle.request_laws.proofs.routes.ChainsStay.{any_in}
 use Rattle.commit_laws.specs.Commits.{ComesWhenDone, CommitsStand, HoldsImage, IsDone, IsKept, by_marker, by_record}
 use Rattle.commit_laws.specs.Fates.{aborts, commits, fate, is_led_by_full}
 use Rattle.commit_laws.specs.Gathering.{AllIsTold, IsPreparedSomewhere}
 use Rattle.commit_laws.specs.Going.{is_forth, is_lost}
-use Rattle.commit_laws.specs.Takeovers.{HasAllKeys, IsOrphan, takeover_at}
+use Rattle.commit_laws.specs.Takeovers.{HasAllKeys, takeover_at}
 use Rattle.commit_laws.specs.Traces.{IsReplicaOf, has_marker_at, has_trace, is_committed_by, is_committed_of, is_known}
 use Rattle.commit_laws.specs.Traces.{is_marker_of, leave_trace, members_now, rows_at}
 use Rattle.commit_laws.proofs.fates.Cases.{known_commits, none_aborts, not_both}
@@ -37,7 +39,7 @@ use Rattle.commit_laws.proofs.fates.Forth.{fate_decided}
 use Rattle.commit_laws.proofs.forth.Client.{IsToldOf, by_coordinator, by_takeover}
 use Rattle.commit_laws.proofs.forth.KnownTold.{WasTold, known_told}
 use Rattle.commit_laws.proofs.markers.All.{commits_are_remembered}
-use Rattle.commit_laws.proofs.hosts.SomePasses.{passed, passing}
+use Rattle.commit_laws.proofs.hosts.SomePasses.{passing}
 use Rattle.commit_laws.proofs.records.Replicas.{chain_replica, member_made, members_full, replica_made}
 use Rattle.commit_laws.proofs.takeover.Words.{IsRight}
 
@@ -161,7 +163,7 @@ module _ (start : Start) (all : ℕ → List HostStep) (es : List HostStep) (mom
                 by (inr markers) =
                     let m = passing (is_marker_of g.tx) (rows_at start logs one).lqh.markers markers in
                     unmarked none one full m.item.key
-                    (passed (is_marker g.tx m.item.key) m.item (rows_at start logs one).lqh.markers m.there
+                    (any_in (is_marker g.tx m.item.key) m.item (rows_at start logs one).lqh.markers m.there
                     (ap (λ b. b && same_key m.item.key m.item.key) m.is ∙ same_key-self m.item.key))
 
             found : has_trace start logs g.tx ≡ true → ⊥

@@ -21,8 +21,8 @@ use Rattle.moment_laws.proofs.PartTaken.{IsTakenNow}
 use Rattle.request_laws.specs.Blocks.{takeover_after}
 use Rattle.request_laws.proofs.routes.Headers.{takeover_fenced}
 use Rattle.request_laws.proofs.orphans.TakeoversOfOrphans.{takeovers_are_of_orphans}
+use Rattle.request_laws.specs.Orphans.{IsOrphan}
 use Rattle.commit_laws.specs.Gathering.{EndsGathering, GatheringsAreWhole}
-use Rattle.commit_laws.specs.Takeovers.{IsOrphan}
 use Rattle.commit_laws.specs.Together.{FatesMove, Follows}
 use Rattle.commit_laws.proofs.fates.Forth.{commits_more, right_more}
 use Rattle.commit_laws.proofs.fates.SpokenHost.{StandsStill, TakeoverGoes}

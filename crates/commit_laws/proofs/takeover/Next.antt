@@ -37,8 +37,9 @@ use Rattle.request_laws.proofs.routes.Headers.{takeover_fenced, told_of}
 use Rattle.request_laws.proofs.routes.Layouts.{runs_tc}
 use Rattle.request_laws.proofs.orphans.TakeoversOfOrphans.{takeovers_are_of_orphans}
 use Rattle.request_laws.proofs.routes.PartSteps.{TcStep, own_tc, takeover_is}
+use Rattle.request_laws.specs.Orphans.{IsOrphan}
 use Rattle.commit_laws.specs.Gathering.{GatheringsAreWhole}
-use Rattle.commit_laws.specs.Takeovers.{IsOrphan, IsTrueReport, TakeoverStands, TellsFate, takeover_at}
+use Rattle.commit_laws.specs.Takeovers.{IsTrueReport, TakeoverStands, TellsFate, takeover_at}
 use Rattle.commit_laws.specs.Together.{FatesMove, Follows}
 use Rattle.commit_laws.proofs.fates.Forth.{commits_more}
 use Rattle.commit_laws.proofs.forth.Speaks.{Anyone, Of}

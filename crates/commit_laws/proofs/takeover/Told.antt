@@ -47,11 +47,12 @@ use Rattle.request_laws.proofs.routes.Hosts.{PartHost, beside_sends, coordinates
 use Rattle.request_laws.proofs.orphans.TakeoversOfOrphans.{takeovers_are_of_orphans}
 use Rattle.request_laws.proofs.routes.PartSteps.{TcStep, tc_step}
 use Rattle.request_laws.proofs.tokens.HostsApart.{ldm_low}
-use Rattle.request_laws.specs.Orphans.{TellsOf}
+use Rattle.request_laws.specs.Orphans.{IsOrphan, TellsOf}
+use Rattle.request_laws.proofs.routes.ChainsStay.{any_in}
 use Rattle.commit_laws.specs.Commits.{HasWritten, LeavesTraceOn, committed_there, marked_there}
 use Rattle.commit_laws.specs.Fates.{commits, fate, is_led_by_full}
 use Rattle.commit_laws.specs.Going.{is_decided, is_forth, is_lost}
-use Rattle.commit_laws.specs.Takeovers.{IsOrphan, IsTrueReport, TellsFate}
+use Rattle.commit_laws.specs.Takeovers.{IsTrueReport, TellsFate}
 use Rattle.commit_laws.specs.Together.{FatesMove, Follows}
 use Rattle.commit_laws.specs.Traces.{has_trace, is_committed_of, is_known, is_marker_of, leave_trace, members_now}
 use Rattle.commit_laws.specs.Traces.{record_at, rows_at}
@@ -59,7 +60,6 @@ use Rattle.commit_laws.proofs.forth.DecidedStay.{forth_decided, written_more}
 use Rattle.commit_laws.proofs.fates.Cases.{known_commits, trace_commits}
 use Rattle.commit_laws.proofs.fates.Forth.{commits_more, left_forth}
 use Rattle.commit_laws.proofs.markers.All.{traces_stay}
-use Rattle.commit_laws.proofs.hosts.SomePasses.{passed}
 use Rattle.commit_laws.proofs.records.Once.{rows_once}
 use Rattle.commit_laws.proofs.records.Replicas.{members_full}
 use Rattle.commit_laws.proofs.hosts.RowsTurn.{IsBetween, IsTakenAt, as_was, entered, rows_each}
@@ -137,11 +137,11 @@ module _ (start : Start) (all : ℕ → List HostStep) (e : HostStep) (es : List
         trace_left : HasTrace tx rows → leave_trace tx rows ≡ true
         trace_left (by_record at r is own committed) =
             or_left (list_any (is_committed_of tx) rows.lqh.rows.pending) (list_any (is_marker_of tx) rows.lqh.markers)
-            (passed (is_committed_of tx) r rows.lqh.rows.pending (in_at rows.lqh.rows.pending at r is)
+            (any_in (is_committed_of tx) r rows.lqh.rows.pending (in_at rows.lqh.rows.pending at r is)
             (and_from (same_tx r.tx tx) r.committed (ap (λ v. same_tx v tx) own ∙ same_tx-self tx) committed))
         trace_left (by_marker at m is own) =
             or_right (list_any (is_committed_of tx) rows.lqh.rows.pending) (list_any (is_marker_of tx) rows.lqh.markers)
-            (passed (is_marker_of tx) m rows.lqh.markers (in_at rows.lqh.markers at m is)
+            (any_in (is_marker_of tx) m rows.lqh.markers (in_at rows.lqh.markers at m is)
             (ap (λ v. same_tx v tx) own ∙ same_tx-self tx))
 
         record TraceOn : Type 0 where
@@ -163,7 +163,7 @@ module _ (start : Start) (all : ℕ → List HostStep) (e : HostStep) (es : List
           key = m.key;
           leaves =
               marked_there
-              (passed (is_marker tx m.key) m rows.lqh.markers (in_at rows.lqh.markers at m is)
+              (any_in (is_marker tx m.key) m rows.lqh.markers (in_at rows.lqh.markers at m is)
               (and_from (same_tx m.tx tx) (same_key m.key m.key) (ap (λ v. same_tx v tx) own ∙ same_tx-self tx)
               (same_key-self m.key)));
         }
@@ -192,7 +192,7 @@ module _ (start : Start) (all : ℕ → List HostStep) (e : HostStep) (es : List
             by (inl left) =
                 trace_commits (is_known start new tx) (is_led_by_full start new tx) (is_forth start new tx)
                 (is_lost start new tx) (has_trace start new tx) orphan
-                (passed (λ (m : Member). leave_trace tx (rows_at start new m)) member (members_now start new) inside
+                (any_in (λ (m : Member). leave_trace tx (rows_at start new m)) member (members_now start new) inside
                 left)
             by (inr known) =
                 known_commits (is_known start new tx) (is_led_by_full start new tx) (is_forth start new tx)
@@ -245,7 +245,7 @@ module _ (start : Start) (all : ℕ → List HostStep) (e : HostStep) (es : List
     tc_tells step =
         part_each tc_kind (IsFated If) start.shape step.own (view_after start e.host (old e.host)) x _ view sends
         step.does (λ above. tc_enters_fated If step.own x.view)
-        (λ passed. tc_fated If step.does.between x x.to.block)
+        (λ any_in. tc_fated If step.does.between x x.to.block)
 
     sends_fated : AreFated If sends
     sends_fated = by (part_host start e.host (host_low start all e es moment))

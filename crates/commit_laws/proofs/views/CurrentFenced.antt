@@ -23,11 +23,11 @@ use Rattle.view_laws.specs.Sets.{all_of}
 use Rattle.view_laws.proofs.eras.Rises.{view_rises}
 use Rattle.view_laws.proofs.fences.OfOwnMember.{HasAsked}
 use Rattle.view_laws.proofs.runs.Step.{started_view}
+use Rattle.view_laws.proofs.ballots.MadeSets.{in_front}
 use Rattle.moment_laws.specs.Moments.{IsMoment, current, logs_of}
 use Rattle.moment_laws.specs.Places.{tc_of}
 use Rattle.moment_laws.proofs.MomentMembers.{current_made}
 use Rattle.moment_laws.proofs.MomentViews.{IsSome, current_is}
-use Rattle.outcome_laws.proofs.knowledge.CommitsWereDecided.{in_front}
 use Rattle.request_laws.specs.Blocks.{coordinator_after}
 use Rattle.request_laws.proofs.strays.FencesSpareNone.{stands_at}
 use Rattle.request_laws.proofs.strays.Numbers.{fence_above, fence_is, have_the_number}
@@ -74,7 +74,7 @@ module _ (confirmed : ConfirmedIsFenced) (start : Start)
 
     not_before : (h : ℕ) (log : List HostStep) → (first_view start.shape.nodes).number ≤ (view_after start h log).number
     not_before h [] =
-        let is = ap (λ (v : View). v.number) (started_view start moment.cluster.shape h) in omega (arith, is)
+        let is = ap (λ (v : View). v.number) (started_view start h) in omega (arith, is)
     not_before h (f ∷ log) =
         let up = view_rises start h log f in let low = not_before h log in omega (arith, up, low)
 

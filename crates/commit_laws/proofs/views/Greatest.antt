@@ -48,7 +48,7 @@ use Rattle.view_laws.proofs.memberships.Steps.{row_installs}
 use Rattle.moment_laws.specs.Moments.{current}
 use Rattle.moment_laws.specs.Moments as standing
 use Rattle.moment_laws.proofs.MomentViews.{current_installed}
-use Rattle.commit_laws.proofs.hosts.InstallMarks.{step_tells}
+use Rattle.commit_laws.proofs.hosts.InstallMarks.{one_mark, step_tells}
 
 -- A view that these events install is that of the signal, or the one that they lead to, and no greater than that.
 record IsReached (x : Signal) (to view : View) : Type 0 where
@@ -304,9 +304,6 @@ greater_is a b = by (nat_lt a.number b.number) refl
         record { one = omega (arith, up); other = omega arith; is = inr refl }
     by false e = record { one = omega arith; other = grind (arith, nat_tests, e); is = inl refl }
 
-marks_installed : (view other : View) → Installed other ≡ Installed view → other ≡ view
-marks_installed view other same = cc (same)
-
 installs_mark : (set : View) (marks : List Mark) (view top : View) → IsTopIn marks (greater view set) top
     → IsTopIn (Installed set ∷ marks) view top
 installs_mark set marks view top rest = record { grows = grows; above = above; is = by rest.is }
@@ -319,7 +316,7 @@ installs_mark set marks view top rest = record { grows = grows; above = above; i
 
     above : (other : View) → IsIn (Installed other) (Installed set ∷ marks) → other.number ≤ top.number
     above other (inl same) =
-        let number : other.number ≡ set.number = ap (λ (v : View). v.number) (marks_installed set other same) in
+        let number : other.number ≡ set.number = ap (λ (v : View). v.number) (one_mark set other same) in
         omega (arith, number, either.other, rest.grows)
     above other (inr there) = rest.above other there
 
@@ -353,7 +350,7 @@ module _ (start : Start) (logs : ℕ → List HostStep) (are : AreOfCluster star
     there = omega arith;
     log = [];
     past = past_nil (logs 0);
-    is = sym (started_view start are.shape 0);
+    is = sym (started_view start 0);
   }
 
   -- of this view, and those that a host has marked in a part of its log, this is the greatest
@@ -425,7 +422,7 @@ module _ (start : Start) (logs : ℕ → List HostStep) (are : AreOfCluster star
       was = λ was. was;
       grows = omega arith;
       stood =
-          λ above. let is = ap (λ (v : View). v.number) (started_view start are.shape h) in omega (arith, is, above);
+          λ above. let is = ap (λ (v : View). v.number) (started_view start h) in omega (arith, is, above);
       least = λ c own stands. own;
     }
     top_of (e ∷ log) past local view =

@@ -51,11 +51,11 @@ use Rattle.request_laws.proofs.strays.KeptToInstalled.{keeps_to_whole}
 use Rattle.commit_laws.specs.Commits.{CommitsStand}
 use Rattle.commit_laws.specs.Going.{is_written_by}
 use Rattle.commit_laws.specs.Parts.{IsHale}
-use Rattle.commit_laws.proofs.views.AtEvents.{some_of}
 use Rattle.commit_laws.proofs.fates.Going.{hale_made, hale_stands, hale_ways}
 use Rattle.commit_laws.proofs.views.RaisedGoing.{raised_unasked, raised_was}
 use Rattle.commit_laws.proofs.records.Replicas.{chain_replica}
 use Rattle.commit_laws.proofs.settled.Kept.{AreSame}
+use Rattle.commit_laws.proofs.hosts.SomePasses.{passing}
 
 -- the first of a list by the list of it alone
 first_by : (one other : List Member) → primary_of one ≡ primary_of other → (m : Member) → slice_get one 0 ≡ Some m
@@ -231,9 +231,9 @@ module _ (start : Start) (all : ℕ → List HostStep) (e : HostStep) (es : List
       where
         by : (b : Bool) → list_any (is_on key) t.touched ≡ b → AreSame start all e es moment commits key tx t.ops
         by true on =
-            let one = some_of (is_on key) t.touched on in
-            subst (λ k. AreSame start all e es moment commits k tx t.ops) (index.same one.one.key key one.passes)
-            (same_on one.one one.there)
+            let one = passing (is_on key) t.touched on in
+            subst (λ k. AreSame start all e es moment commits k tx t.ops) (index.same one.item.key key one.is)
+            (same_on one.item one.there)
         by false off =
             let empty = none_on key t.touched t.ops off keyed.answered in
             record {

@@ -1,5 +1,5 @@
 -- In all right logs hosts take only signals that ask well for operations, where the shell was asked for words.
-use Rattle.std.proofs.Common.{◌≡◌, ◌==◌, ◌&&◌, ◌∙◌, ℕ, List, [], true, ap, refl, subst}
+use Rattle.std.proofs.Common.{◌≡◌, ◌==◌, ◌&&◌, ◌∙◌, ℕ, List, [], true, ap, subst}
 use Rattle.std.proofs.lemmas.Bool.{eq-eqb}
 use Rattle.std.specs.Prelude.{IfSome, None, if◌then◌else◌}
 use Rattle.run_theory.proofs.Pasts.{each_past}
@@ -11,7 +11,7 @@ use Rattle.sig_core.specs.declared.signal.Body.{Body}
 use Rattle.sig_core.specs.declared.signal.Body.TheVariants.{Chain, Client, Host}
 use Rattle.sig_core.specs.declared.signal.chain.ChainSignal.TheVariants.{LqhKeyReq}
 use Rattle.sig_core.specs.declared.signal.client.ClientSignal.TheVariants.{TcKeyReq}
-use Rattle.sig_core.specs.declared.signal.host.HostSignal.TheVariants.{Closed, Continue, Cut}
+use Rattle.sig_core.specs.declared.signal.host.HostSignal.TheVariants.{Continue}
 use Rattle.sig_core.specs.declared.signal.host.Work.TheVariants.{Request}
 use Rattle.sig_core.specs.declared.signal.Signal.{Signal}
 use Rattle.node_views.specs.declared.parts.Parts.{Parts}
@@ -23,6 +23,7 @@ use Rattle.world_core.specs.Steps.{HostStep}
 use Rattle.world_views.specs.Machine.{IsOwn, IsOwnWork, machine}
 use Rattle.world_views.specs.Requests.{request_of}
 use Rattle.world_views.specs.Sending.{is_own_work}
+use Rattle.world_views.proofs.OwnReady.{own_is_asked}
 use Rattle.view_laws.specs.Runs.{AreOfCluster}
 use Rattle.journal_laws.specs.Asked.{AreOfWords, IsOfRequest}
 use Rattle.journal_laws.proofs.Telling.{TellWell, all_take}
@@ -45,20 +46,13 @@ own_well start h (Client (TcKeyReq tx op)) own words = absurd own
 own_well start h (Chain (LqhKeyReq tx work members at)) own words = absurd own
 own_well start h body own words = tt
 
--- what is asked of oneself is own work
-own_work : (start : Start) (h : ℕ) (body : Body) → IsOwnWork start h body → is_own_work body ≡ true
-own_work start h (Host (Continue (Request request) at)) own = refl
-own_work start h (Host (Closed cause)) own = refl
-own_work start h (Host (Cut node first)) own = refl
-own_work start h body own = absurd own
-
 -- so a host that asks itself for a request makes one
 own_request : (start : Start) (e : HostStep) (es : List HostStep)
     → IsOwn start e.host (log_of (machine start) es e.host) e.step.taken
     → request_of e ≡ request_in e.step.taken.body
 own_request start e es own =
     ap (λ b. if b then request_in e.step.taken.body else None)
-    (ap (λ b. b && is_own_work e.step.taken.body) from ∙ own_work start e.host e.step.taken.body own.work)
+    (ap (λ b. b && is_own_work e.step.taken.body) from ∙ own_is_asked start e.host e.step.taken.body own.work)
   where
     from : (e.step.taken.from.0 == e.host) ≡ true
     from = eq-eqb e.step.taken.from.0 e.host (ap (λ (x : Signal). x.from.0) own.is)

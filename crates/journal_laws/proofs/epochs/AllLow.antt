@@ -1,5 +1,5 @@
 -- In all right logs of a life whose first epoch can be written all that are given can.
-use Rattle.std.proofs.Common.{◌≡◌, ◌++◌, inl, inr, ℕ, true, List, [], ◌∷◌, refl, sym, ◌∙◌, subst}
+use Rattle.std.proofs.Common.{◌≡◌, inl, inr, ℕ, true, List, [], ◌∷◌, refl, sym, ◌∙◌, subst}
 use Rattle.run_theory.proofs.Orders.{each_log}
 use Rattle.run_theory.proofs.Pasts.{each_in}
 use Rattle.run_theory.specs.Lists.{Each, IsPast}
@@ -27,6 +27,7 @@ use Rattle.outcome_laws.specs.Decided.{IsBegun, IsDecided, IsMarked}
 use Rattle.outcome_laws.specs.Know.{TellsTruly}
 use Rattle.outcome_laws.specs.Tells.{Tells}
 use Rattle.outcome_laws.proofs.knowledge.Moments.{moments_know}
+use Rattle.outcome_laws.proofs.order.ReportsBeforeAsks.{marked_behind}
 use Rattle.journal_laws.proofs.Telling.{TellWell, all_take, host_well}
 use Rattle.journal_laws.proofs.epochs.Low.{IsLow, IsLowTold, MarksLow}
 use Rattle.journal_laws.proofs.epochs.Parts.{PartsLow, host_begins, step_low}
@@ -42,13 +43,8 @@ own_low : (start : Start) (h : ℕ) (body : Body) → IsOwnWork start h body →
 own_low start h (Epoch signal) own = absurd own
 own_low start h body own = tt
 
--- a mark that was made is made in a longer log
-longer : (mark : Mark) (newer log : List HostStep) → IsMarked mark log → IsMarked mark (newer ++ log)
-longer mark [] log is = is
-longer mark (e ∷ newer) log is = inr (longer mark newer log is)
-
 past_marked : (mark : Mark) (log more : List HostStep) → IsPast log more → IsMarked mark log → IsMarked mark more
-past_marked mark log more past is = subst (IsMarked mark) (sym past.is) (longer mark past.newer log is)
+past_marked mark log more past is = subst (IsMarked mark) (sym past.is) (marked_behind mark past.newer log is)
 
 -- a commit is ordered in such an epoch
 abbrev pub CommitsLow : Body → Type 0

@@ -24,9 +24,9 @@ use Rattle.world_views.specs.Machine.{machine}
 use Rattle.moment_laws.specs.Places.{ldm_of}
 use Rattle.journal_laws.specs.Events.{behind_all, changed_if, records_behind, records_if, rows_behind}
 use Rattle.journal_laws.specs.Journal.{AreEventsOf, HasRecords, first_rows, lqh_after, outlet_with}
-use Rattle.journal_laws.specs.Saver.{IsRestOf, IsStepBy, LeavesAll, NotesSaves, begins, ends, passes, rows}
-use Rattle.journal_laws.specs.Saver.{saving_after}
-use Rattle.journal_laws.specs.Saver.{switches, todo_at}
+use Rattle.journal_laws.specs.Saver.{IsRestOf, IsStepBy, LeavesAll, NotesSaves, begins, ends, passes, rows, switches}
+use Rattle.journal_laws.specs.Saver.{todo_at}
+use Rattle.request_laws.specs.Blocks.{saving_after}
 use Rattle.journal_laws.proofs.events.FirstRows.{first_replica, first_writable}
 use Rattle.journal_laws.proofs.events.HostSteps.{HostMakes, step_makes}
 use Rattle.journal_laws.proofs.events.Outlets.{less_left, more_behind, nothing_given}

@@ -32,11 +32,11 @@ use Rattle.world_views.specs.Machine.{after, own_stop, step_after, step_by, step
 use Rattle.view_laws.proofs.eras.Shapes.{shape_stays}
 use Rattle.moment_laws.specs.Places.{ldm_of}
 use Rattle.moment_laws.proofs.MomentHosts.{part_some}
-use Rattle.request_laws.specs.Blocks.{no_replica, rows_in}
+use Rattle.request_laws.specs.Blocks.{no_replica, rows_in, saver_in, saving_after}
 use Rattle.request_laws.proofs.routes.Layouts.{runs_ldm}
 use Rattle.journal_laws.specs.Events.{records_if}
-use Rattle.journal_laws.specs.Saver.{IsStepBy, KeepsStage, NotesSaves, TellsDone, begins, ends, passes, rows, saver_in}
-use Rattle.journal_laws.specs.Saver.{saving_after, switches, todo_at, todo_unless}
+use Rattle.journal_laws.specs.Saver.{IsStepBy, KeepsStage, NotesSaves, TellsDone, begins, ends, passes, rows}
+use Rattle.journal_laws.specs.Saver.{switches, todo_at, todo_unless}
 use Rattle.journal_laws.proofs.events.SaverEvents.{KnowsDone, SaverMakes, none_made, saver_makes}
 use Rattle.journal_laws.proofs.events.Writable.{AreWritable, IsWritable}
 

@@ -8,7 +8,8 @@ use Rattle.run_theory.proofs.Pasts.{each_append}
 use Rattle.sig_core.specs.declared.member.TxId.{TxId}
 use Rattle.sig_core.specs.declared.rows.PendingRecord.{PendingRecord}
 use Rattle.sig_core.specs.Firsts.{first}
-use Rattle.sig_core.specs.Rows.{RowsState, abort_record, commit_by, commit_if, commit_record, committed, complete_record}
+use Rattle.sig_core.specs.Rows.{RowsState, abort_record, commit_by, commit_if, commit_record, committed}
+use Rattle.sig_core.specs.Rows.{complete_record}
 use Rattle.sig_core.specs.Rows.{drop_by, drop_if, get_at, is_as, is_of, prepared, record_at, record_of, record_state}
 use Rattle.sig_core.specs.Rows.{recorded_by, state_by, storing}
 use Rattle.sig_core.specs.Same.{same_key, same_tx}

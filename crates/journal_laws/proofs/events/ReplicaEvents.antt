@@ -28,7 +28,8 @@ replica_makes s x =
     stays : Makes s.lqh s.lqh x.body
     stays = same_so s.lqh x.body s.lqh refl refl refl (λ all. all)
 
-no_less : (one other : ℕ) → one ≤ greater one other
+-- the first is at most the greater
+pub no_less : (one other : ℕ) → one ≤ greater one other
 no_less one other = by (nat_lt one other) refl
   where
     by : (b : Bool) → nat_lt one other ≡ b → one ≤ (if b then other else one)

@@ -12,7 +12,7 @@ use Rattle.world_core.specs.Start.{Start, made}
 use Rattle.world_core.specs.Steps.{HostStep}
 use Rattle.journal_laws.specs.Events.{records_behind, rows_behind}
 use Rattle.journal_laws.specs.Journal.{first_rows, lqh_after}
-use Rattle.journal_laws.specs.Saver.{saver_after}
+use Rattle.request_laws.specs.Blocks.{saver_after}
 use Rattle.journal_laws.specs.Walks.{HasGivenUp, IsOnItsWay, position_behind}
 use Rattle.journal_laws.proofs.events.HostEvents.{HasCome}
 use Rattle.journal_laws.proofs.follow.GivenUp.{are_kept, position_append}

@@ -19,7 +19,8 @@ use Rattle.world_core.specs.Steps.{HostStep}
 use Rattle.journal_laws.specs.Checkpoints.{Portions, end_of_walk, records_at_walk, rows_at_walk, whole}
 use Rattle.journal_laws.specs.Events.{AreUpTo, records_behind, rows_behind}
 use Rattle.journal_laws.specs.Journal.{first_rows, lqh_after, outlet_with}
-use Rattle.journal_laws.specs.Saver.{saver_after, todo_at, written, written_by}
+use Rattle.journal_laws.specs.Saver.{todo_at, written, written_by}
+use Rattle.request_laws.specs.Blocks.{saver_after}
 use Rattle.journal_laws.specs.Walks.{HasEnded, HasGivenUp, IsOnItsWay, pieces_if, position_behind}
 use Rattle.journal_laws.proofs.events.HostEvents.{HasCome}
 use Rattle.journal_laws.proofs.events.Outlets.{end_same}

@@ -26,8 +26,9 @@ use Rattle.moment_laws.specs.Places.{ldm_of}
 use Rattle.moment_laws.proofs.MomentHosts.{ldm_started}
 use Rattle.journal_laws.specs.Events.{IsMadeBy, IsOfPrepared, changed_if, records_behind, rows_behind}
 use Rattle.journal_laws.specs.Journal.{AreEventsOf, HasRecords, first_rows, lqh_after}
-use Rattle.journal_laws.specs.Saver.{IsNoStep, IsStepBy, IsToldDone, KeepsStage, LeavesAll, begins, ends, passes, rows}
-use Rattle.journal_laws.specs.Saver.{TellsDone, saver_after, saver_in, saving_after, switches, todo_at}
+use Rattle.journal_laws.specs.Saver.{IsNoStep, IsStepBy, IsToldDone, KeepsStage, LeavesAll, TellsDone, begins, ends}
+use Rattle.journal_laws.specs.Saver.{passes, rows, switches, todo_at}
+use Rattle.request_laws.specs.Blocks.{saver_after, saver_in, saving_after}
 use Rattle.journal_laws.specs.Walks.{HasComeTo, HasGivenUp, IsFollowed, WalksAreFollowed}
 use Rattle.journal_laws.proofs.events.HostEvents.{HasCome, begun, comes}
 use Rattle.journal_laws.proofs.events.HostSteps.{step_makes}

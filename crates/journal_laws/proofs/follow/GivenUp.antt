@@ -22,7 +22,8 @@ use Rattle.world_core.specs.Steps.{HostStep}
 use Rattle.journal_laws.specs.Checkpoints.{in_journal}
 use Rattle.journal_laws.specs.Events.{AreUpTo, changed_if, records_behind, rows_behind}
 use Rattle.journal_laws.specs.Journal.{first_rows, lqh_after}
-use Rattle.journal_laws.specs.Saver.{SwitchesTo, saver_after, saving_after}
+use Rattle.journal_laws.specs.Saver.{SwitchesTo}
+use Rattle.request_laws.specs.Blocks.{saver_after, saving_after}
 use Rattle.journal_laws.specs.Walks.{HasEnded, HasGivenUp, position_behind}
 use Rattle.journal_laws.proofs.events.FirstRows.{first_orderly, first_pending, first_replica}
 use Rattle.journal_laws.proofs.events.HostEvents.{HasCome}
@@ -33,7 +34,8 @@ use Rattle.journal_laws.proofs.replays.Replays.{has_more, orderly_behind}
 use Rattle.journal_laws.proofs.walks.Appending.{rows_append}
 use Rattle.journal_laws.proofs.walks.Following.{has_on}
 
-newer_records : (newer older : List Redo) → AreRecords (newer ++ older) → AreRecords newer
+-- of two lists of records that make one up, the newer
+pub newer_records : (newer older : List Redo) → AreRecords (newer ++ older) → AreRecords newer
 newer_records [] older are = tt
 newer_records (r ∷ newer) older are = (are.0, newer_records newer older are.1)
 

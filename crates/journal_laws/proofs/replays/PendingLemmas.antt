@@ -6,7 +6,8 @@ use Rattle.sig_core.specs.declared.redo.Redo.{Redo}
 use Rattle.sig_core.specs.declared.redo.Redo.TheVariants as redo
 use Rattle.sig_core.specs.declared.rows.PendingRecord.{PendingRecord}
 use Rattle.sig_core.specs.Firsts.{first}
-use Rattle.sig_core.specs.Rows.{RowsState, abort_record, commit_by, commit_if, commit_record, committed, complete_record}
+use Rattle.sig_core.specs.Rows.{RowsState, abort_record, commit_by, commit_if, commit_record, committed}
+use Rattle.sig_core.specs.Rows.{complete_record}
 use Rattle.sig_core.specs.Rows.{drop_by, drop_if, get_at, is_as, is_of, prepared, record_at, record_of, recorded_by}
 use Rattle.sig_core.specs.Rows.{storing}
 use Rattle.sig_core.specs.Table.{Rows}

@@ -1,5 +1,5 @@
 -- The journal of a member's rows has its room after every log of their host.
-use Rattle.std.proofs.Common.{◌≡◌, ◌≤◌, ◌-◌, ℕ, true, List, [], ◌∷◌, refl, arith}
+use Rattle.std.proofs.Common.{◌≡◌, ◌≤◌, ◌-◌, ℕ, true, arith}
 use Rattle.std.proofs.lemmas.Bool.{and_parts, leb-true}
 use Rattle.std.proofs.lemmas.List.{length-drop}
 use Rattle.std.specs.Prelude.{nat_le}
@@ -7,7 +7,7 @@ use Rattle.sig_core.specs.declared.member.Member.{Member}
 use Rattle.sig_core.specs.declared.signal.Signal.{Signal}
 use Rattle.sig_core.specs.declared.view.View.{View}
 use Rattle.sig_core.specs.Journal.{end_of}
-use Rattle.sig_core.specs.Rows.{RowsState, no_rows, put_row}
+use Rattle.sig_core.specs.Rows.{no_rows}
 use Rattle.lqh_block.specs.Fresh.{unused}
 use Rattle.lqh_block.proofs.DueLemmas.{covered_at_rest}
 use Rattle.lqh_views.specs.Replica.{installed, replica_row}
@@ -19,6 +19,7 @@ use Rattle.moment_laws.specs.Moments.{logs_of}
 use Rattle.moment_laws.specs.Places.{ldm_of}
 use Rattle.request_laws.proofs.replicas.AlongLogs.{always, first_rows}
 use Rattle.world_core.specs.Start.{Start}
+use Rattle.world_views.proofs.FreshBodies.{none_pending}
 use Rattle.journal_laws.specs.Laws.{JournalsHaveRoom}
 use Rattle.journal_laws.proofs.room.RowsKeepRoom.{RowsHaveRoom, rows_keep_room}
 
@@ -58,18 +59,13 @@ gives s at position has =
       covered = record { kept = has.covered.kept };
     }
 
--- rows that are put leave the records as they were, and of these there are none at first
-put_leaves : (s : RowsState) (rows : List (List ℕ × List ℕ)) (epoch : ℕ) → (with_rows s rows epoch).pending ≡ s.pending
-put_leaves s [] epoch = refl
-put_leaves s (r ∷ rows) epoch = put_leaves (put_row s r.0 r.1 epoch) rows epoch
-
 begins : (start : Start) (member : Member) → ReplicaHasRoom (first_rows start member)
 begins start member = record {
   used = omega arith;
   room = omega arith;
   covered =
       covered_at_rest (with_rows no_rows (own_rows start.shape member.node start.rows) start.start_epoch) unused
-      (put_leaves no_rows (own_rows start.shape member.node start.rows) start.start_epoch);
+      (none_pending no_rows (own_rows start.shape member.node start.rows) start.start_epoch);
 }
 
 pub journals_have_room : JournalsHaveRoom

@@ -28,6 +28,7 @@ use Rattle.sig_core.specs.Place.{coordinator_of}
 use Rattle.sig_core.specs.Same.{same_tx}
 use Rattle.sig_core.specs.Step.{to_place}
 use Rattle.sig_core.proofs.Keys.{same_tx-self}
+use Rattle.tc_block.specs.Complete.{one_if}
 use Rattle.api_block.specs.declared.opened.OpenTransaction.{OpenTransaction}
 use Rattle.api_block.specs.Opened.{asked_for, has_tx, is_tx}
 use Rattle.api_views.specs.Client.{client_row}
@@ -35,7 +36,7 @@ use Rattle.api_views.specs.Members.{noted}
 use Rattle.api_views.specs.State.{ClientState}
 use Rattle.outcome_laws.proofs.coordinators.Lists.{first_few}
 use Rattle.outcome_laws.specs.Counts.{count_open, count_sent, count_unwished, is_begin, is_committing, is_report}
-use Rattle.outcome_laws.specs.Counts.{is_unwished, is_wish, one_if}
+use Rattle.outcome_laws.specs.Counts.{is_unwished, is_wish}
 use Rattle.outcome_laws.proofs.client.Turns.{ArePlain, ClientForms, client_turns, is_plain}
 
 -- the mark reports the transaction aborted since the cluster is down

@@ -30,13 +30,14 @@ use Rattle.tc_block.specs.Turn.{Turn}
 use Rattle.tc_block.specs.declared.transaction.Transaction.{Transaction}
 use Rattle.tc_block.proofs.EachTurn.{rows_of}
 use Rattle.tc_block.proofs.LiveSplit.{AreOthers, Split, once_gone, once_inserted, once_set}
+use Rattle.tc_block.specs.Complete.{one_if}
 use Rattle.tc_views.proofs.Walk.{coordinator_outcomes, inner}
 use Rattle.tc_views.specs.Coordinator.{coordinator_row, fresh_coordinator}
 use Rattle.tc_views.specs.Laws.{AreOnce}
 use Rattle.tc_views.specs.State.{CoordinatorState, go_on_if}
 use Rattle.tc_views.specs.Views.{install_row, tasks_at}
 use Rattle.outcome_laws.specs.Counts.{IsCoordinatorOf, coordinator_member, count_sent, is_asking, is_begin, is_open_of}
-use Rattle.outcome_laws.specs.Counts.{is_unborn, may_ask, one_if}
+use Rattle.outcome_laws.specs.Counts.{is_unborn, may_ask}
 use Rattle.outcome_laws.specs.Own.{IsOwnAt, IsOwnSend}
 use Rattle.outcome_laws.proofs.coordinators.Claims.{AreQuiet, Claims, IsQuiet, asks, is_claim, more_quiet, quiet}
 use Rattle.outcome_laws.proofs.coordinators.Claims.{resume_claims}

@@ -15,8 +15,9 @@ use Rattle.sig_core.specs.Same.{same_tx}
 use Rattle.sig_core.proofs.TxLemmas.{same_tx-is, same_tx-swap}
 use Rattle.tc_block.specs.declared.transaction.Transaction.{Transaction}
 use Rattle.tc_block.proofs.LiveSplit.{AreOthers, KeysOnce, Live}
+use Rattle.tc_block.specs.Complete.{one_if}
 use Rattle.tc_views.specs.Laws.{AreOnce}
-use Rattle.outcome_laws.specs.Counts.{count_sent, one_if}
+use Rattle.outcome_laws.specs.Counts.{count_sent}
 
 -- the two words for a list without the same transaction twice
 pub keys_once : (live : Live) → AreOnce live → KeysOnce live

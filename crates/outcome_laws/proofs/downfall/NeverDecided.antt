@@ -17,6 +17,7 @@ use Rattle.sig_core.specs.declared.signal.Body.{Body}
 use Rattle.sig_core.specs.declared.signal.Body.TheVariants.{Client, Host}
 use Rattle.sig_core.specs.declared.signal.client.ClientSignal.TheVariants.{TcRollbackRep}
 use Rattle.sig_core.proofs.Keys.{same_tx-self}
+use Rattle.tc_block.specs.Complete.{one_if}
 use Rattle.world_core.specs.Entries.{entries}
 use Rattle.world_core.specs.Hosts.{hosts, member_at, part_by}
 use Rattle.world_core.specs.Start.{Start, made}
@@ -25,7 +26,7 @@ use Rattle.world_views.specs.Hosts.{part_started, started}
 use Rattle.view_laws.specs.Runs.{AreOfCluster}
 use Rattle.moment_laws.proofs.MomentHosts.{HasNoTc, TcHost, of_none, of_tc, tc_host_is}
 use Rattle.moment_laws.specs.Places.{tc_of}
-use Rattle.outcome_laws.specs.Counts.{coordinator_member, count_unwished, is_asking, is_begin, is_wish, one_if}
+use Rattle.outcome_laws.specs.Counts.{coordinator_member, count_unwished, is_asking, is_begin, is_wish}
 use Rattle.outcome_laws.specs.Decided.{IsMarked}
 use Rattle.outcome_laws.specs.Down.{TakesNoDown, TellsNoDown}
 use Rattle.outcome_laws.specs.Once.{marks_in, takes_in}

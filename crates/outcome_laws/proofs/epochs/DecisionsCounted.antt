@@ -15,11 +15,12 @@ use Rattle.sig_core.specs.declared.signal.epoch.EpochSignal.TheVariants.{DiVerif
 use Rattle.sig_core.specs.Same.{same_tx}
 use Rattle.sig_core.specs.Step.{Step}
 use Rattle.sig_core.proofs.TxLemmas.{same_tx-swap}
+use Rattle.tc_block.specs.Complete.{one_if}
 use Rattle.dih_node.specs.Dih.{dih_row}
 use Rattle.dih_node.specs.Orders.{install_row}
 use Rattle.dih_node.specs.State.{DihState}
 use Rattle.dih_node.specs.Verify.{given}
-use Rattle.outcome_laws.specs.Counts.{count_held, is_asking, is_decision, one_if}
+use Rattle.outcome_laws.specs.Counts.{count_held, is_asking, is_decision}
 use Rattle.outcome_laws.proofs.epochs.Steps.{HoldsNoMore, IsQuiet, dih_each, dih_installs_hold}
 
 -- counts of what was removed are at most those of the whole

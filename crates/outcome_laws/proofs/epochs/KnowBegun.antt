@@ -21,7 +21,8 @@ use Rattle.outcome_laws.proofs.epochs.Silent.{silent_tell}
 use Rattle.outcome_laws.proofs.epochs.Steps.{HoldsNoMore, dih_each, dih_installs_hold, dih_installs_quiet}
 use Rattle.outcome_laws.proofs.epochs.Steps.{goes_on_silent}
 
-each_held : (P : TxId → Type 0) (now held : List TxId) → HoldsNoMore now held → Each P held → Each P now
+-- what is so of each is so of those still held
+pub each_held : (P : TxId → Type 0) (now held : List TxId) → HoldsNoMore now held → Each P held → Each P now
 each_held P now held (inl same) all = subst (Each P) (sym same) all
 each_held P now held (inr less) all = subst (Each P) (sym less.is) (each_removed P held less.place all)
 

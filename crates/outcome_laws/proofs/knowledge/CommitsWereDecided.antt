@@ -1,5 +1,5 @@
 -- Whoever is reported committed was decided, in the epoch that is reported, and so has an entry.
-use Rattle.std.proofs.Common.{◌++◌, ℕ, List, [], ◌∷◌, reverse, refl, sym, subst, inl, inr}
+use Rattle.std.proofs.Common.{ℕ, List, [], ◌∷◌, reverse, refl, sym, subst, inl, inr}
 use Rattle.std.proofs.lemmas.List.{reverse-append}
 use Rattle.run_theory.proofs.Pasts.{each_in, in_append}
 use Rattle.run_theory.specs.Lists.{Each, IsIn}
@@ -17,6 +17,7 @@ use Rattle.world_views.specs.Machine.{machine}
 use Rattle.view_laws.specs.Order.{by_views, decisions}
 use Rattle.view_laws.proofs.eras.Entries.{stand_in_order}
 use Rattle.view_laws.proofs.eras.Order.{run_in_views}
+use Rattle.view_laws.proofs.ballots.MadeSets.{in_front}
 use Rattle.moment_laws.specs.Moments.{IsMoment, logs_of}
 use Rattle.moment_laws.specs.Places.{tc_of}
 use Rattle.moment_laws.proofs.MomentRuns.{are_moments}
@@ -32,12 +33,6 @@ pub marked_so : (P : Mark → Type 0) (mark : Mark) (log : List HostStep)
 marked_so P mark [] all is = absurd is
 marked_so P mark (e ∷ log) all (inl there) = each_in P mark e.step.marks all.0 there
 marked_so P mark (e ∷ log) all (inr older) = marked_so P mark log all.1 older
-
--- lists in which something is
-pub in_front : {A : Type 0} (x : A) (xs ys : List A) → IsIn x xs → IsIn x (xs ++ ys)
-in_front x [] ys there = absurd there
-in_front x (y ∷ xs) ys (inl is) = inl is
-in_front x (y ∷ xs) ys (inr there) = inr (in_front x xs ys there)
 
 pub in_turned : {A : Type 0} (x : A) (xs : List A) → IsIn x xs → IsIn x (reverse xs)
 in_turned x [] there = absurd there

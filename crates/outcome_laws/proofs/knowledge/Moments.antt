@@ -45,7 +45,7 @@ use Rattle.outcome_laws.proofs.knowledge.Hosts.{HasNoShell, IsTrueStep, never_sh
 use Rattle.outcome_laws.proofs.knowledge.DecidedAtOwnHost.{AreDecidedHere, IsDecidedHere, all_own}
 
 -- a signal of the hosts themselves
-abbrev is_host : Body → Bool
+abbrev pub is_host : Body → Bool
 is_host (Host signal) = true
 is_host body = false
 

@@ -7,6 +7,7 @@ use Rattle.run_theory.specs.Logs.{IsLog}
 use Rattle.sig_core.specs.declared.member.Member.{Member}
 use Rattle.sig_core.specs.declared.outs.Outgoing.{Outgoing}
 use Rattle.sig_core.specs.declared.signal.Body.{Body}
+use Rattle.tc_block.specs.Complete.{one_if}
 use Rattle.node_views.specs.declared.parts.Parts.{Parts}
 use Rattle.node_views.specs.declared.standing.Standing.{Standing}
 use Rattle.world_core.specs.Machine.{counted}
@@ -16,7 +17,7 @@ use Rattle.world_views.specs.declared.sender.Sender.{Sender}
 use Rattle.world_views.specs.Hosts.{reached, started}
 use Rattle.world_views.specs.Machine.{after, machine, routed_after, sender, sent_count, signals_of, step_after}
 use Rattle.world_views.specs.Sending.{Routed, all_addressed, addressed, is_kept_back, routed, routed_all, routed_if}
-use Rattle.outcome_laws.specs.Counts.{count_sent, one_if}
+use Rattle.outcome_laws.specs.Counts.{count_sent}
 use Rattle.outcome_laws.specs.Once.{marks_in, takes_in}
 use Rattle.outcome_laws.proofs.once.Scales.{AreLight, Scale, step_light}
 use Rattle.outcome_laws.proofs.coordinators.Lists.{count_more}

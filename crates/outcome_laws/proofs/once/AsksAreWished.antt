@@ -17,9 +17,10 @@ use Rattle.sig_core.specs.Same.{same_tx}
 use Rattle.tc_block.specs.declared.phase.Phase.{Phase}
 use Rattle.tc_block.specs.declared.phase.Phase.TheVariants as phase
 use Rattle.tc_block.specs.declared.transaction.Transaction.{Transaction}
+use Rattle.tc_block.specs.Complete.{one_if}
 use Rattle.tc_views.specs.Coordinator.{coordinator_row, coordinator_table}
 use Rattle.tc_views.specs.State.{CoordinatorState, go_on_if, within}
-use Rattle.outcome_laws.specs.Counts.{is_asking, is_wish, may_ask, one_if}
+use Rattle.outcome_laws.specs.Counts.{is_asking, is_wish, may_ask}
 use Rattle.outcome_laws.specs.Known.{IsDecidedIn}
 use Rattle.outcome_laws.specs.Tells.{Tells, TellsOfRecord}
 use Rattle.std.specs.Prelude.{length}

@@ -10,6 +10,7 @@ use Rattle.sig_core.specs.declared.place.Place.{Place}
 use Rattle.sig_core.specs.declared.signal.Body.{Body}
 use Rattle.sig_core.specs.declared.signal.Body.TheVariants.{Host}
 use Rattle.frag_map.specs.Layout.{first_layout}
+use Rattle.tc_block.specs.Complete.{one_if}
 use Rattle.node_views.specs.declared.host_body.HostBody as node
 use Rattle.node_views.specs.declared.parts.Parts.{Parts}
 use Rattle.node_views.specs.declared.parts.Parts.TheVariants as part
@@ -23,7 +24,7 @@ use Rattle.view_laws.specs.Runs.{AreOfCluster}
 use Rattle.moment_laws.proofs.MomentHosts.{HasNoTc, TcHost, of_none, of_tc, tc_host_is, tc_started}
 use Rattle.moment_laws.specs.Places.{tc_of}
 use Rattle.outcome_laws.proofs.coordinators.Lists.{one_few}
-use Rattle.outcome_laws.specs.Counts.{coordinator_member, is_asking, is_begin, is_unborn, may_ask, one_if}
+use Rattle.outcome_laws.specs.Counts.{coordinator_member, is_asking, is_begin, is_unborn, may_ask}
 use Rattle.outcome_laws.specs.Once.{takes_in}
 use Rattle.outcome_laws.specs.Own.{IsOwnAt}
 use Rattle.outcome_laws.proofs.once.TakenFromLinks.{AreSentOnly, takes_few}

@@ -14,7 +14,8 @@ use Rattle.sig_core.specs.declared.signal.client.ClientSignal.TheVariants.{TcBeg
 use Rattle.sig_core.specs.declared.signal.client.ClientSignal.TheVariants.{TcKeyReq, TcRollbackRep}
 use Rattle.sig_core.specs.declared.signal.epoch.EpochSignal.TheVariants.{DiVerifyEnd, DiVerifyReq}
 use Rattle.sig_core.specs.Step.{Step}
-use Rattle.outcome_laws.specs.Counts.{is_asking, is_begin, is_wish, one_if}
+use Rattle.tc_block.specs.Complete.{one_if}
+use Rattle.outcome_laws.specs.Counts.{is_asking, is_begin, is_wish}
 use Rattle.outcome_laws.proofs.coordinators.Lists.{count_more}
 
 -- the cluster is down

@@ -16,6 +16,7 @@ use Rattle.sig_core.specs.declared.place.Part.TheVariants.{Ldm, Main, Tc}
 use Rattle.sig_core.specs.Same.{same_tx}
 use Rattle.sig_core.proofs.Keys.{same_tx-self}
 use Rattle.sig_core.proofs.TxLemmas.{same_tx-is}
+use Rattle.tc_block.specs.Complete.{one_if}
 use Rattle.world_core.specs.Entries.{entries, entries_in, entries_of, entry_of, insert, insert_all, is_before}
 use Rattle.world_core.specs.Hosts.{hosts, member_at, part_by}
 use Rattle.world_core.specs.Start.{Start, made}
@@ -25,7 +26,7 @@ use Rattle.world_views.specs.Machine.{machine}
 use Rattle.view_laws.specs.Runs.{AreOfCluster}
 use Rattle.moment_laws.proofs.MomentRuns.{have_moments}
 use Rattle.moment_laws.specs.Places.{tc_of}
-use Rattle.outcome_laws.specs.Counts.{coordinator_member, is_asking, is_decision, one_if}
+use Rattle.outcome_laws.specs.Counts.{coordinator_member, is_asking, is_decision}
 use Rattle.outcome_laws.specs.Once.{marks_in, takes_in}
 use Rattle.outcome_laws.specs.Outcomes.{AreOnce, TransactionsAreDecidedOnce}
 use Rattle.outcome_laws.proofs.knowledge.DecidedAtOwnHost.{AreDecidedHere, IsDecidedHere, all_own}
@@ -51,6 +52,22 @@ pub decides_asked : (tx : TxId) (start : Start) (h : ℕ) (log : List HostStep) 
 decides_asked tx start h log is =
     let light = log_light (of_decisions tx) IsAny (decisions_light tx) start h tt log is in
     omega (arith, light.below, none_held tx start h)
+
+-- a step adds an entry of a transaction for each decision of it
+pub step_entries : (tx : TxId) (h stamp : ℕ) (log : List HostStep) (marks : List Mark) (before : List Entry)
+    → count_by (λ (a : Entry). same_tx a.tx tx) (entries_in h stamp log marks before)
+    ≡ count_by (is_decision tx) marks + count_by (λ (a : Entry). same_tx a.tx tx) before
+step_entries tx h stamp log [] before = omega arith
+step_entries tx h stamp log (Decided u epoch ∷ marks) before =
+    let one = entry_of h stamp log u epoch in
+    omega (
+      arith,
+      step_entries tx h stamp log marks (one ∷ before),
+      count_more (λ (a : Entry). same_tx a.tx tx) one before,
+      count_more (is_decision tx) (Decided u epoch) marks,
+    )
+step_entries tx h stamp log (mark ∷ marks) before =
+    omega (arith, step_entries tx h stamp log marks before, count_more (is_decision tx) mark marks)
 
 module _ (start : Start) (logs : ℕ → List HostStep) (are : AreOfCluster start logs) (tx : TxId) where
   -- and only the host of its coordinator does
@@ -93,27 +110,11 @@ module _ (start : Start) (logs : ℕ → List HostStep) (are : AreOfCluster star
   decided_few h =
       omega (arith, decides_asked tx start h (logs h) (are.right.local h), ask_once tx start logs are h)
 
-  -- so it has one entry at most
-  step_entries : (h stamp : ℕ) (log : List HostStep) (marks : List Mark) (before : List Entry)
-      → count_by (λ (a : Entry). same_tx a.tx tx) (entries_in h stamp log marks before)
-      ≡ count_by (is_decision tx) marks + count_by (λ (a : Entry). same_tx a.tx tx) before
-  step_entries h stamp log [] before = omega arith
-  step_entries h stamp log (Decided u epoch ∷ marks) before =
-      let one = entry_of h stamp log u epoch in
-      omega (
-        arith,
-        step_entries h stamp log marks (one ∷ before),
-        count_more (λ (a : Entry). same_tx a.tx tx) one before,
-        count_more (is_decision tx) (Decided u epoch) marks,
-      )
-  step_entries h stamp log (mark ∷ marks) before =
-      omega (arith, step_entries h stamp log marks before, count_more (is_decision tx) mark marks)
-
   log_entries : (h : ℕ) (log : List HostStep)
       → count_by (λ (a : Entry). same_tx a.tx tx) (entries_of h log) ≡ marks_in (is_decision tx) log
   log_entries h [] = refl
   log_entries h (e ∷ log) =
-      omega (arith, step_entries h e.step.stamp (e ∷ log) e.step.marks (entries_of h log), log_entries h log)
+      omega (arith, step_entries tx h e.step.stamp (e ∷ log) e.step.marks (entries_of h log), log_entries h log)
 
   inserted : (a : Entry) (list : List Entry)
       → count_by (λ (a : Entry). same_tx a.tx tx) (insert a list)

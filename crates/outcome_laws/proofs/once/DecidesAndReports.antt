@@ -20,6 +20,7 @@ use Rattle.sig_core.specs.declared.signal.membership.MembershipSignal.TheVariant
 use Rattle.sig_core.specs.declared.signal.Signal.{Signal}
 use Rattle.sig_core.specs.declared.view.View.{View}
 use Rattle.sig_core.specs.Step.{Effects}
+use Rattle.tc_block.specs.Complete.{one_if}
 use Rattle.api_views.specs.Client.{client_row}
 use Rattle.api_views.specs.Members.{noted}
 use Rattle.api_block.specs.State.{with_replies}
@@ -41,7 +42,7 @@ use Rattle.takeover_block.specs.Takeover.{takeover_row}
 use Rattle.tc_views.specs.Coordinator.{coordinator_row}
 use Rattle.tc_views.specs.Views as coordinator
 use Rattle.outcome_laws.specs.Counts.{count_held, count_open, count_sent, count_unwished, is_asking, is_begin}
-use Rattle.outcome_laws.specs.Counts.{is_decision, is_report, is_wish, one_if}
+use Rattle.outcome_laws.specs.Counts.{is_decision, is_report, is_wish}
 use Rattle.outcome_laws.proofs.client.ReportsAndWishes.{is_down_answer, is_down_report, noted_open, noted_unwished}
 use Rattle.outcome_laws.proofs.client.ReportsAndWishes.{reports_few}
 use Rattle.outcome_laws.proofs.client.ReportsAndWishes.{wishes_or_downs_few}

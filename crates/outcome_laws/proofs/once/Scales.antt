@@ -11,6 +11,7 @@ use Rattle.sig_core.specs.declared.signal.Body.{Body}
 use Rattle.sig_core.specs.declared.signal.Signal.{Signal}
 use Rattle.sig_core.specs.declared.view.View.{View}
 use Rattle.sig_core.specs.Step.{Effects, joined, nothing}
+use Rattle.tc_block.specs.Complete.{one_if}
 use Rattle.node_views.specs.Blocks.{parts_entered, parts_row}
 use Rattle.node_views.specs.declared.host_body.HostBody as hosts
 use Rattle.node_views.specs.declared.parts.Parts.{Parts}
@@ -20,7 +21,7 @@ use Rattle.node_views.specs.Row.{cut_marks, marks_only}
 use Rattle.node_views.proofs.HostWalk.{Saying, StaysSo, TakesSo}
 use Rattle.world_views.specs.Machine.{step_by, told}
 use Rattle.world_views.proofs.StepWalk.{step_so}
-use Rattle.outcome_laws.specs.Counts.{count_sent, one_if}
+use Rattle.outcome_laws.specs.Counts.{count_sent}
 use Rattle.outcome_laws.proofs.coordinators.Lists.{count_both, count_more}
 
 -- which signals and marks count, what blocks weigh by themselves, and which signals that they take add one

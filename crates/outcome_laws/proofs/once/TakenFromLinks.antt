@@ -9,11 +9,11 @@ use Rattle.run_theory.specs.Runs.{AreLogs}
 use Rattle.run_theory.proofs.Runs.{TakenCases, same, taken-step, taken_cases, took}
 use Rattle.sig_core.specs.declared.signal.Body.{Body}
 use Rattle.sig_core.specs.declared.signal.Signal.{Signal}
+use Rattle.tc_block.specs.Complete.{one_if}
 use Rattle.world_core.specs.Start.{Start}
 use Rattle.world_core.specs.Steps.{Addressed, HostStep}
 use Rattle.world_views.specs.Machine.{machine}
 use Rattle.world_views.specs.Sending.{is_asked, is_own_work}
-use Rattle.outcome_laws.specs.Counts.{one_if}
 use Rattle.outcome_laws.specs.Once.{takes_in}
 use Rattle.outcome_laws.proofs.once.AlongLogs.{count_on}
 use Rattle.outcome_laws.proofs.coordinators.Lists.{count_both, count_more}

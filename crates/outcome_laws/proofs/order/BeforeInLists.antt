@@ -1,5 +1,5 @@
 -- Lists in which one thing stands before another.
-use Rattle.std.proofs.Common.{◌≡◌, ◌⊎◌, ◌∙◌, ◌++◌, Bool, true, false, filter, cond, List, [], ◌∷◌, append_assoc, refl}
+use Rattle.std.proofs.Common.{◌≡◌, ◌∙◌, ◌++◌, Bool, true, false, filter, cond, List, [], ◌∷◌, append_assoc, refl}
 use Rattle.std.proofs.Common.{sym, ap, inl, inr}
 use Rattle.std.proofs.lemmas.List.Elements.{filter-append}
 use Rattle.run_theory.specs.Lists.{IsIn}
@@ -18,15 +18,6 @@ split_at x (y ∷ xs) (inl same) = record { front = []; back = xs; is = ap (λ z
 split_at x (y ∷ xs) (inr there) =
     let rest = split_at x xs there in
     record { front = y ∷ rest.front; back = rest.back; is = ap (λ zs. y ∷ zs) rest.is }
-
-pub in_either : {A : Type 0} (x : A) (xs ys : List A) → IsIn x (xs ++ ys) → IsIn x xs ⊎ IsIn x ys
-in_either x [] ys there = inr there
-in_either x (y ∷ xs) ys (inl same) = inl (inl same)
-in_either x (y ∷ xs) ys (inr there) = by (in_either x xs ys there)
-  where
-    by : IsIn x xs ⊎ IsIn x ys → IsIn x (y ∷ xs) ⊎ IsIn x ys
-    by (inl front) = inl (inr front)
-    by (inr back) = inr back
 
 -- what is in the front stands before what is in the back
 pub stands_by : (a b : Entry) (xs ys : List Entry) → IsIn a xs → IsIn b ys → StandsBefore a b (xs ++ ys)

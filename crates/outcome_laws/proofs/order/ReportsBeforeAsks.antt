@@ -17,6 +17,7 @@ use Rattle.sig_core.specs.declared.member.TxId.{TxId}
 use Rattle.sig_core.specs.declared.outcome.Outcome.TheVariants as outcome
 use Rattle.sig_core.specs.declared.signal.Body.{Body}
 use Rattle.sig_core.specs.Same.{same_tx}
+use Rattle.tc_block.specs.Complete.{one_if}
 use Rattle.world_core.specs.Entries.{entries}
 use Rattle.world_core.specs.History.{is_kept, is_reported}
 use Rattle.world_core.specs.Hosts.{hosts}
@@ -29,9 +30,10 @@ use Rattle.view_laws.specs.Order.{by_views, decisions}
 use Rattle.view_laws.specs.Runs.{AreOfCluster}
 use Rattle.view_laws.proofs.eras.Entries.{stand_in_order}
 use Rattle.view_laws.proofs.eras.Order.{run_in_views}
+use Rattle.view_laws.proofs.ballots.MadeSets.{in_either}
 use Rattle.moment_laws.specs.Moments.{IsMoment, logs_of}
 use Rattle.moment_laws.proofs.MomentRuns.{are_moments}
-use Rattle.outcome_laws.specs.Counts.{is_begin, one_if}
+use Rattle.outcome_laws.specs.Counts.{is_begin}
 use Rattle.outcome_laws.specs.Decided.{HasToldOfBegin, IsBegun, IsDecided, IsMarked, TellsOfBegin}
 use Rattle.outcome_laws.specs.Once.{takes_in}
 use Rattle.outcome_laws.specs.Outcomes.{AreOnce, DecisionsKeepStrictOrder, HasEntry, HistoriesKeepStrictOrder}
@@ -41,7 +43,7 @@ use Rattle.outcome_laws.proofs.knowledge.CommitsWereDecided.{in_turned, marked_s
 use Rattle.outcome_laws.proofs.once.Begins.{begin_once}
 use Rattle.outcome_laws.proofs.once.DecidedOnce.{decided_once}
 use Rattle.outcome_laws.proofs.order.EventsBefore.{IsUpTo, decisions_past, entry_decided, events_up_to, moment_before}
-use Rattle.outcome_laws.proofs.order.BeforeInLists.{in_either, kept_in, stands_by, stands_kept}
+use Rattle.outcome_laws.proofs.order.BeforeInLists.{kept_in, stands_by, stands_kept}
 
 -- the mark by which a transaction was reported committed
 record IsReport (tx : TxId) (mark : Mark) : Type 0 where
@@ -83,7 +85,8 @@ reported_in tx (e ∷ log) has = by (list_any (is_reported tx) e.step.marks) ref
         let one = report_among tx e.step.marks own in record { epoch = one.epoch; is = inl one.there }
     by false own has rest = let older = rest has in record { epoch = older.epoch; is = inr older.is }
 
-marked_behind : (mark : Mark) (newer log : List HostStep) → IsMarked mark log → IsMarked mark (newer ++ log)
+-- a mark of an older log is one of a longer
+pub marked_behind : (mark : Mark) (newer log : List HostStep) → IsMarked mark log → IsMarked mark (newer ++ log)
 marked_behind mark [] log is = is
 marked_behind mark (e ∷ newer) log is = inr (marked_behind mark newer log is)
 
@@ -92,12 +95,14 @@ begin_counts : (tx : TxId) (e : HostStep) → TellsOfBegin tx e → one_if (is_b
 begin_counts tx e tells =
     ap (λ (body : Body). one_if (is_begin tx body)) tells.is ∙ ap (λ b. one_if b) (same_tx-self tx)
 
-begun_counts : (tx : TxId) (log : List HostStep) → HasToldOfBegin tx log → 1 ≤ takes_in (is_begin tx) log
+-- who was told to have begun is counted
+pub begun_counts : (tx : TxId) (log : List HostStep) → HasToldOfBegin tx log → 1 ≤ takes_in (is_begin tx) log
 begun_counts tx [] told = absurd told
 begun_counts tx (e ∷ log) (inl tells) = let one = begin_counts tx e tells in omega (arith, one)
 begun_counts tx (e ∷ log) (inr older) = let some = begun_counts tx log older in omega (arith, some)
 
-older_counts : (p : Body → Bool) (newer log : List HostStep) → takes_in p log ≤ takes_in p (newer ++ log)
+-- what an older log took, a longer one took
+pub older_counts : (p : Body → Bool) (newer log : List HostStep) → takes_in p log ≤ takes_in p (newer ++ log)
 older_counts p [] log = omega arith
 older_counts p (e ∷ newer) log = let less = older_counts p newer log in omega (arith, less)
 

@@ -32,12 +32,13 @@ use Rattle.peace_laws.specs.Peace.{asks_closing, is_closing}
 use Rattle.peace_laws.specs.Steps.{ClosingsAreAskedNear, ClosingsStepNear, IsForMaster, IsOfClosing, StepsNear}
 use Rattle.peace_laws.proofs.lives.Arrivals.{closing_comes, closing_unasked, from_main, of_member}
 use Rattle.peace_laws.proofs.near.CalmNear.{replies_next}
-use Rattle.peace_laws.proofs.closings.Signals.{IsPlainKind, asks_kind, closing_asks, closing_body, not_closing}
+use Rattle.peace_laws.proofs.closings.Signals.{IsPlainKind, asks_kind, closing_asks, not_closing}
 use Rattle.peace_laws.proofs.near.Mirrored.{IsLeftOut, IsMirrored, IsPlainStep}
 use Rattle.peace_laws.proofs.plain.Events.{left_closing, part_next, part_same, plain_events, plain_within}
 use Rattle.peace_laws.proofs.near.Runs.{IsKept, arrival, fine, later, left_next, plain_next}
 use Rattle.peace_laws.proofs.near.Seen.{IsSentFor, main_send, master_send}
 use Rattle.peace_laws.proofs.near.Sent.{count_same, masters_aside, sent_same}
+use Rattle.peace_laws.proofs.closings.Ease.{takes_it}
 
 -- what is sent of closings, by main parts and by others
 mains_send : (h : ℕ) (sends : List Outgoing) → is_beating h ≡ true → Each (IsOfClosing h) sends
@@ -128,7 +129,7 @@ module _ (hosts_level : HostsAreLevel) (start : Start) (shape : IsShape start.sh
               count_same start h log e ease
               (masters_aside start h (after start h (e ∷ log)).standing ease sends (masters here)) j takes;
           took = took;
-          asked = λ here. unasked ∙ sym (closing_asks x.to.block x.body (closing_body h x closing));
+          asked = λ here. unasked ∙ sym (closing_asks x.to.block x.body (takes_it h x closing));
         }
 
     pub closing_next : IsKept start (e ∷ es)

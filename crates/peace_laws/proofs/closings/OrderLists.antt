@@ -21,7 +21,7 @@ use Rattle.gcp_master.specs.Sends.{to_each}
 use Rattle.gcp_master.specs.State.{MasterState}
 use Rattle.run_theory.specs.Lists.{Each, IsIn}
 use Rattle.run_theory.proofs.EachSent.{each_drop, each_take}
-use Rattle.run_theory.proofs.Pasts.{each_append, each_in}
+use Rattle.run_theory.proofs.Pasts.{each_append, each_in, in_append}
 use Rattle.sig_core.specs.declared.member.Member.{Member}
 use Rattle.sig_core.specs.declared.outs.Outgoing.{Outgoing}
 use Rattle.sig_core.specs.declared.place.BlockId.TheVariants as block
@@ -35,6 +35,7 @@ use Rattle.sig_core.specs.Step.{to_place}
 use Rattle.world_core.proofs.HostNumbers.{members_length, node_host}
 use Rattle.world_core.specs.Hosts.{host_for, receiver}
 use Rattle.world_core.specs.Start.{Start}
+use Rattle.view_laws.proofs.ballots.MadeSets.{in_either, in_front}
 use Rattle.calm_laws.specs.Alike.{first}
 use Rattle.peace_laws.specs.Closing.{Course, host_in, main}
 use Rattle.peace_laws.specs.Moments.{Moment}
@@ -42,25 +43,6 @@ use Rattle.peace_laws.specs.UnderWay.{AReport, AnOrder, GoingOn, IsMaster, HasMa
 use Rattle.peace_laws.specs.UnderWay.{ended_by, ended_of}
 use Rattle.peace_laws.specs.UnderWay.{going_on, is_ordered, order_of, order_to, phase_of, report_by, report_of}
 use Rattle.peace_laws.specs.UnderWay.{Prepares, Commits, Closes, Saves, Copies}
-
--- entries of lists
-in_front : {A : Type 0} (x : A) (xs ys : List A) → IsIn x xs → IsIn x (xs ++ ys)
-in_front x [] ys is = absurd is
-in_front x (y ∷ xs) ys (inl same) = inl same
-in_front x (y ∷ xs) ys (inr later) = inr (in_front x xs ys later)
-
-pub in_back : {A : Type 0} (x : A) (xs ys : List A) → IsIn x ys → IsIn x (xs ++ ys)
-in_back x [] ys is = is
-in_back x (y ∷ xs) ys is = inr (in_back x xs ys is)
-
-either_part : {A : Type 0} (x : A) (xs ys : List A) → IsIn x (xs ++ ys) → IsIn x xs ⊎ IsIn x ys
-either_part x [] ys is = inr is
-either_part x (y ∷ xs) ys (inl same) = inl (inl same)
-either_part {A} x (y ∷ xs) ys (inr later) = go (either_part x xs ys later)
-  where
-    go : IsIn x xs ⊎ IsIn x ys → IsIn x (y ∷ xs) ⊎ IsIn x ys
-    go (inl is) = inl (inr is)
-    go (inr is) = inr is
 
 in_mapped : {A B : Type 0} (f : A → B) (x : A) (xs : List A) → IsIn x xs → IsIn (f x) (map f xs)
 in_mapped f x [] is = absurd is
@@ -72,7 +54,7 @@ pub portion_or_rest : (sends : List Outgoing) (at : ℕ) (one : Outgoing) → Is
     → IsIn one (portion sends at) ⊎ IsIn one (drop (at + PORTION) sends)
 portion_or_rest sends at one is =
     subst (λ (rest : List Outgoing). IsIn one (portion sends at) ⊎ IsIn one rest) (drop-drop PORTION at sends)
-    (either_part one (take PORTION (drop at sends)) (drop PORTION (drop at sends))
+    (in_either one (take PORTION (drop at sends)) (drop PORTION (drop at sends))
     (subst (IsIn one) (sym (take-append-drop PORTION (drop at sends))) is))
 
 nothing_left : (sends : List Outgoing) (at : ℕ) (one : Outgoing) → length sends ≤ at → IsIn one (drop at sends) → ⊥
@@ -106,7 +88,7 @@ in_members (suc n) place low = go (in_members n place) (cases_lt place n)
         in_front (first_start (place + 1)) (members n) (first_start (n + 1) ∷ []) (before below)
     go before (inr last) =
         let same : place ≡ n = omega (arith, low, last) in
-        in_back (first_start (place + 1)) (members n) (first_start (n + 1) ∷ [])
+        in_append (first_start (place + 1)) (members n) (first_start (n + 1) ∷ [])
         (inl (ap (λ k. first_start (k + 1)) same))
 
 lt_of : (m n : ℕ) → nat_lt m n ≡ true → m < n
@@ -243,7 +225,7 @@ module _ (start : Start) (c : Course) where
       in_front (order_to (order.Close c.epoch) place false) (to_each block.Dih (order.Close c.epoch) (first start))
       (to_each block.Lqh (order.Close c.epoch) (first start)) (order_in false (order.Close c.epoch) place low)
   stage_in Closes place low true is =
-      in_back (order_to (order.Close c.epoch) place true) (to_each block.Dih (order.Close c.epoch) (first start))
+      in_append (order_to (order.Close c.epoch) place true) (to_each block.Dih (order.Close c.epoch) (first start))
       (to_each block.Lqh (order.Close c.epoch) (first start)) (order_in true (order.Close c.epoch) place low)
   stage_in Saves place low true is = order_in true (order.Save c.epoch) place low
   stage_in Copies place low false is = order_in false (order_of start c Copies) place low
@@ -281,7 +263,7 @@ module _ (start : Start) (c : Course) where
       (sym (drop-append-le at (to_both (order.Done c.epoch) (first start))
       (to_place client (Epoch (report_by c.epoch Gcp)) ∷ [])
       (omega (arith, low, both_many (order.Done c.epoch)))))
-      (in_back _ (drop at (to_both (order.Done c.epoch) (first start)))
+      (in_append _ (drop at (to_both (order.Done c.epoch) (first start)))
       (to_place client (Epoch (report_by c.epoch Gcp)) ∷ []) (inl refl)))
 
   pub report_stands : IsIn (report_of c) (front_sends 1 (first start) (Some (ended_of c)))
@@ -291,9 +273,9 @@ module _ (start : Start) (c : Course) where
       by : (kind : Closing)
           → IsIn (to_place client (Epoch (report_by c.epoch kind)))
           (front_sends 1 (first start) (Some (ended_by c.epoch kind)))
-      by Gcp = in_back _ (to_both (order.Done c.epoch) (first start)) _ (inl refl)
+      by Gcp = in_append _ (to_both (order.Done c.epoch) (first start)) _ (inl refl)
       by Micro = inl refl
-      by Lcp = in_back _ (to_both (order.Done c.epoch) (first start)) _ (inl refl)
+      by Lcp = in_append _ (to_both (order.Done c.epoch) (first start)) _ (inl refl)
 
   -- the list of the president's master
   module _ (s : MasterState) (master : IsMaster start s) where
@@ -380,7 +362,7 @@ module _ (start : Start) (c : Course) (shape : IsShape start.shape) (after : Mom
     rest_arrives more =
         subst (λ j. IsIn (going_on (at + PORTION)) (after.under_way main j)) (main_reached start shape)
         (arrives (going_on (at + PORTION))
-        (in_back (going_on (at + PORTION)) (portion (master_sends s) at)
+        (in_append (going_on (at + PORTION)) (portion (master_sends s) at)
         (rest (checkpoints s.member.node) Members (master_sends s) at)
         (rest_in (nat_lt (at + PORTION) (length (master_sends s))) more)))
 
@@ -423,7 +405,7 @@ module _ (start : Start) (c : Course) (shape : IsShape start.shape) (after : Mom
     unfolding list_effects
     all_letters one is =
         go
-        (either_part one (portion (master_sends s) at)
+        (in_either one (portion (master_sends s) at)
         (rest (checkpoints s.member.node) Members (master_sends s) at) is)
       where
         go : IsIn one (portion (master_sends s) at)

@@ -22,6 +22,7 @@ use Rattle.node_views.specs.declared.main_part.MainPart.{MainPart}
 use Rattle.node_views.specs.declared.parts.Parts.{Parts}
 use Rattle.node_views.specs.declared.parts.Parts.TheVariants.{Shell, Main, Tc, Ldm}
 use Rattle.run_theory.specs.Lists.{Each, IsIn}
+use Rattle.run_theory.proofs.Pasts.{in_append}
 use Rattle.sig_core.specs.declared.place.BlockId.TheVariants.{Api}
 use Rattle.sig_core.specs.declared.member.Member.{Member}
 use Rattle.sig_core.specs.declared.outs.Outgoing.{Outgoing}
@@ -38,7 +39,7 @@ use Rattle.peace_laws.specs.Moments.{Moment, Takes, behind, told_by}
 use Rattle.peace_laws.specs.UnderWay.{GoingOn, HasMember, IsClient, IsLetter, IsMaster, IsUnderWay, Prepares, ShellHas}
 use Rattle.peace_laws.specs.UnderWay.{run_of}
 use Rattle.peace_laws.proofs.closings.MainOn.{main_row_is, told_same}
-use Rattle.peace_laws.proofs.closings.OrderLists.{IsListed, IsSent, all_letters, in_back, stage_listed}
+use Rattle.peace_laws.proofs.closings.OrderLists.{IsListed, IsSent, all_letters, stage_listed}
 use Rattle.peace_laws.proofs.closings.StageBegins.{stage_begins}
 use Rattle.peace_laws.proofs.closings.WayOn.{main_apart}
 
@@ -129,7 +130,7 @@ none_left {A} x y (z ∷ rest) is = absurd (go rest (cc (is)))
 module _ (start : Start) (shape : IsShape start.shape) (c : Course) (next : next_of c.kind c.epoch ≡ Some c.next)
     (before after : Moment) (asked : IsAskedFor start c before) (step : Takes start before after) where
   there : IsIn step.sent (before.under_way step.sender step.host)
-  there = subst (IsIn step.sent) (sym step.there) (in_back step.sent step.rest (step.sent ∷ []) (inl refl))
+  there = subst (IsIn step.sent) (sym step.there) (in_append step.sent step.rest (step.sent ∷ []) (inl refl))
 
   from : step.sender ≡ 0
   from = (asked.alone step.sender step.host step.sent there).0

@@ -1,6 +1,6 @@
 -- What a signal of a closing, or a request for one, tells by its block and its body.
 use Rattle.std.proofs.Common.{◌≡◌, ℕ, Bool, true, false, refl, sym, ap, ◌∙◌}
-use Rattle.std.proofs.lemmas.Bool.{and_parts, and_right, false≢true, true≢false}
+use Rattle.std.proofs.lemmas.Bool.{and_right, false≢true, true≢false}
 use Rattle.api_views.specs.Laws.{is_vouched}
 use Rattle.node_core.specs.Requests.{is_request}
 use Rattle.sig_core.specs.declared.outcome.StopCause.{StopCause}
@@ -17,12 +17,10 @@ use Rattle.world_views.specs.Sending.{is_own_work}
 use Rattle.calm_laws.specs.Calm.{is_calm, is_for}
 use Rattle.calm_laws.specs.Plain.{is_beating}
 use Rattle.calm_laws.specs.Steps.{is_of_views}
-use Rattle.calm_laws.proofs.lives.CalmSignals.{calm_block, calm_body, is_client, no_closing, no_views, own_request}
+use Rattle.calm_laws.proofs.lives.CalmSignals.{is_client, no_closing, no_views, own_request}
 use Rattle.calm_laws.proofs.lives.CalmSignals.{vouched_client}
+use Rattle.calm_laws.proofs.plain_steps.Ease.{has_calm_block, takes_calmly}
 use Rattle.peace_laws.specs.Peace.{asks_by, asks_closing, has_closer, is_closing, is_for_closing, is_order}
-
-pub closing_body : (h : ℕ) (x : Signal) → is_closing h x ≡ true → is_for_closing x.to.block x.body ≡ true
-closing_body h x closing = (and_parts (has_closer h x.to.block) (is_for_closing x.to.block x.body) closing).1
 
 -- what is of a closing is nothing that a host asks of itself
 pub closing_given : (of : BlockId) (body : Body) → is_for_closing of body ≡ true → is_own_work body ≡ false
@@ -57,7 +55,7 @@ calm_apart h x calm = go (is_for_closing x.to.block x.body) refl
   where
     go : (b : Bool) → is_for_closing x.to.block x.body ≡ b → b ≡ false
     go true closing =
-        absurd (false≢true (sym (closing_apart x.to.block x.body closing) ∙ calm_body h x calm))
+        absurd (false≢true (sym (closing_apart x.to.block x.body closing) ∙ takes_calmly h x calm))
     go false apart = refl
 
 pub not_closing : (h : ℕ) (x : Signal) → is_for_closing x.to.block x.body ≡ false → is_closing h x ≡ false
@@ -81,17 +79,17 @@ pub record IsPlainKind (of : BlockId) (body : Body) : Type 0 where
 -- what is taken in calm closes no link
 pub calm_links : (h : ℕ) (x : Signal) → is_calm h x ≡ true → (cause : StopCause) → x.body ≡ Host (Closed cause) → ⊥
 calm_links h x calm cause is =
-    false≢true (sym (no_closing x.to.block cause) ∙ ap (is_for x.to.block) (sym is) ∙ calm_body h x calm)
+    false≢true (sym (no_closing x.to.block cause) ∙ ap (is_for x.to.block) (sym is) ∙ takes_calmly h x calm)
 
 -- so it is in calm,
 pub calm_kind : (h : ℕ) (x : Signal) → is_beating h ≡ false → is_calm h x ≡ true → IsPlainKind x.to.block x.body
 calm_kind h x takes calm =
     record {
-      views = no_views h x.to.block takes (calm_block h x calm);
+      views = no_views h x.to.block takes (has_calm_block h x calm);
       apart = calm_apart h x calm;
       links = calm_links h x calm;
-      own = own_request x.to.block x.body (calm_body h x calm);
-      client = vouched_client x.to.block x.body (calm_body h x calm);
+      own = own_request x.to.block x.body (takes_calmly h x calm);
+      client = vouched_client x.to.block x.body (takes_calmly h x calm);
     }
 
 -- and where the client's side is asked for a closing

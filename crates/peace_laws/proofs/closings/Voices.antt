@@ -21,6 +21,7 @@ use Rattle.sig_core.specs.declared.view.View.{View}
 use Rattle.world_core.specs.Hosts.{member_at}
 use Rattle.world_core.specs.Start.{Start, made}
 use Rattle.host_laws.proofs.hosts.Sums.{one_most}
+use Rattle.host_laws.proofs.coordinator.Sends.{eqb-self}
 use Rattle.calm_laws.specs.Alike.{first}
 use Rattle.calm_laws.proofs.lives.FirstMembers.{member_first, member_known}
 use Rattle.peace_laws.specs.Closing.{host_in}
@@ -33,16 +34,13 @@ pub heard_on : (voices : List Voice) (more voice : Voice) → is_heard voices vo
 heard_on voices more voice is =
     list_any-append (same_voice voice) voices (more ∷ []) ∙ or_left (is_heard voices voice) _ is
 
-same_self : (n : ℕ) → nat_eq n n ≡ true
-same_self n = grind (arith, nat_tests)
-
 pub heard_now : (voices : List Voice) (voice : Voice) → is_heard (voices ++ voice ∷ []) voice ≡ true
 heard_now voices voice =
     list_any-append (same_voice voice) voices (voice ∷ [])
     ∙ or_right (is_heard voices voice) _
     (or_left (same_voice voice voice) false
     (and_from (same_member voice.member voice.member) _
-    (and_from _ _ (same_self voice.member.node) (same_self voice.member.start)) (same_self voice.from.0)))
+    (and_from _ _ (eqb-self voice.member.node) (eqb-self voice.member.start)) (eqb-self voice.from.0)))
 
 -- how many were heard
 one_more : (a b : Bool) → (a ≡ true → b ≡ true) → one_if a ≤ one_if b

@@ -6,6 +6,7 @@ use Rattle.std.proofs.lemmas.Bool.{cases_eq}
 use Rattle.node_views.specs.Blocks.{parts_row}
 use Rattle.node_views.specs.declared.parts.Parts.{Parts}
 use Rattle.run_theory.specs.Lists.{IsIn}
+use Rattle.run_theory.proofs.Pasts.{in_append}
 use Rattle.sig_core.specs.declared.outs.Outgoing.{Outgoing}
 use Rattle.sig_core.specs.declared.reply.ApiReply.{ApiReply}
 use Rattle.sig_core.specs.declared.signal.epoch.EpochSignal.{EpochSignal}
@@ -17,7 +18,6 @@ use Rattle.peace_laws.specs.Closing.{Course, host_in, main}
 use Rattle.peace_laws.specs.Moments.{Moment, Takes, behind, told_by}
 use Rattle.peace_laws.specs.UnderWay.{CommittedAt, HasCommitted, IsAnswer, IsAnswered, IsClient, IsLetter, IsUnderWay}
 use Rattle.peace_laws.specs.UnderWay.{IsUntold, ShellHas}
-use Rattle.peace_laws.proofs.closings.OrderLists.{in_back}
 
 -- hosts that differ
 pub main_apart : (place : ℕ) (rows : Bool) → main ≢ host_in place rows
@@ -53,7 +53,7 @@ module _ (start : Start) (c : Course) (before after : Moment) (w : IsUnderWay st
 
   pub is_there : IsIn step.sent (before.under_way step.sender step.host)
   is_there =
-      subst (IsIn step.sent) (sym step.there) (in_back step.sent step.rest (step.sent ∷ []) (inl refl))
+      subst (IsIn step.sent) (sym step.there) (in_append step.sent step.rest (step.sent ∷ []) (inl refl))
 
   pub letter : IsLetter start c before step.sender step.host step.sent
   letter = w.letters step.sender step.host step.sent is_there

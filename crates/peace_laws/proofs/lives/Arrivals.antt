@@ -2,7 +2,7 @@
 -- closing.
 use Rattle.std.proofs.Common.{◌≡◌, ◌⊎◌, ◌<◌, ◌≤◌, ◌+◌, ◌/◌, inl, inr, ℕ, zero, suc, List, [], ◌∷◌, Bool, true, false}
 use Rattle.std.proofs.Common.{refl, ap, sym, ◌∙◌, subst, subst₂, arith}
-use Rattle.std.specs.Prelude.{◌==◌, ◌&&◌, map}
+use Rattle.std.specs.Prelude.{◌==◌, map}
 use Rattle.std.proofs.lemmas.Bool.{and_right, cases_lt, false≢true, true≢false}
 use Rattle.std.proofs.lemmas.List.{map-append}
 use Rattle.api_views.specs.Laws.{is_vouched}
@@ -43,16 +43,18 @@ use Rattle.calm_laws.proofs.lives.Arrivals.{arriving}
 use Rattle.calm_laws.proofs.lives.CalmSignals.{IsBeat, main_beat}
 use Rattle.calm_laws.proofs.lives.FirstMembers.{first_fine, member_first, member_known}
 use Rattle.level_laws.specs.Levels.{signal_at}
+use Rattle.host_laws.proofs.rows.Operations.{right_of}
 use Rattle.peace_laws.specs.Parts.{plain_part}
 use Rattle.peace_laws.specs.Peace.{is_closing, is_for_closing}
 use Rattle.peace_laws.specs.Steps.{ComesForClosing, asks_master}
-use Rattle.peace_laws.proofs.closings.Signals.{IsPlainKind, calm_apart, closing_body, closing_given, closing_links}
+use Rattle.peace_laws.proofs.closings.Signals.{IsPlainKind, calm_apart, closing_given, closing_links}
 use Rattle.peace_laws.proofs.near.Signals.{calm_level, request_level}
 use Rattle.peace_laws.proofs.near.Mirrored.{IsMirrored}
 use Rattle.peace_laws.proofs.plain.Calm.{sent_calm}
 use Rattle.peace_laws.proofs.plain.Events.{events_are, plain_events}
 use Rattle.peace_laws.proofs.near.Seen.{IsSeen, IsSend, is_master}
 use Rattle.peace_laws.proofs.near.Sent.{addressed_at}
+use Rattle.peace_laws.proofs.closings.Ease.{takes_it}
 
 -- What is known of the signal that comes next to host h, and that it may come to the plain one, but for its epoch.
 pub record Arrives (start : Start) (es : List HostStep) (h : ℕ) (x : Signal) : Type 0 where
@@ -102,10 +104,6 @@ asked_false start h stamp x false is = tt
 request_free : (body : Body) → is_request body ≡ true → is_vouched body ≡ true → ⊥
 request_free (Host (Continue (Request request) at)) asks vouched = cc
 request_free body asks vouched = cc
-
-own_parts : (a b : Bool) → (a && b) ≡ true → b ≡ true
-own_parts true b e = e
-own_parts false b e = absurd cc
 
 -- a closing is asked for at a master alone
 asks_at : (of : BlockId) (body : Body) → is_for_closing of body ≡ true → asks_master body ≡ true → is_master of ≡ true
@@ -254,7 +252,7 @@ module _ (start : Start) (es : List HostStep) (h : ℕ) (x : Signal)
   asked_arrives : IsPlainKind x.to.block x.body → is_asked h x ≡ true → IsOwn start h (log h) x
       → Arrives start es h x
   asked_arrives kind asked own =
-      let work : is_own_work x.body ≡ true = own_parts (x.from.0 == h) (is_own_work x.body) asked in
+      let work : is_own_work x.body ≡ true = right_of (x.from.0 == h) (is_own_work x.body) asked in
       let asks : is_request x.body ≡ true = kind.own work in
       let level : is_request (signal_at start.epoch x).body ≡ true = request_level start.epoch x.body ∙ asks in
       record {
@@ -286,10 +284,10 @@ module _ (start : Start) (es : List HostStep) (h : ℕ) (x : Signal)
   module _ (closing : is_closing h x ≡ true) where
     pub closing_unasked : is_asked h x ≡ false
     closing_unasked =
-        and_right (x.from.0 == h) (is_own_work x.body) (closing_given x.to.block x.body (closing_body h x closing))
+        and_right (x.from.0 == h) (is_own_work x.body) (closing_given x.to.block x.body (takes_it h x closing))
 
     no_link : (cause : StopCause) → x.body ≡ Host (Closed cause) → ⊥
-    no_link cause is = closing_links x.to.block x.body cause (closing_body h x closing) is
+    no_link cause is = closing_links x.to.block x.body cause (takes_it h x closing) is
 
     module _ (given : GivesNext (machine start) es i h (arriving h x)) where
       -- the client's side alone asks for one
@@ -299,7 +297,7 @@ module _ (start : Start) (es : List HostStep) (h : ℕ) (x : Signal)
           go : (k : ℕ) → x.member ≡ member_at (made start) k → IsSend k x.to.block x.body → x.member.node ≡ 0
           go zero member send = ap (λ (m : Member). m.node) member
           go (suc k) member (inl calm) =
-              absurd (false≢true (sym calm.other ∙ asks_at x.to.block x.body (closing_body h x closing) asks))
+              absurd (false≢true (sym calm.other ∙ asks_at x.to.block x.body (takes_it h x closing) asks))
           go (suc k) member (inr of) = absurd (cc (of.asks asks))
 
       pub closing_comes : is_well_formed start.shape x ≡ true → ComesForClosing start h x
@@ -315,7 +313,7 @@ module _ (start : Start) (es : List HostStep) (h : ℕ) (x : Signal)
             go false rests =
                 absurd
                 (false≢true
-                (sym (calm_apart h x (sym (calm_level start.epoch h x) ∙ calm)) ∙ closing_body h x closing))
+                (sym (calm_apart h x (sym (calm_level start.epoch h x) ∙ calm)) ∙ takes_it h x closing))
               where
                 calm : is_calm h (signal_at start.epoch x) ≡ true
                 calm =

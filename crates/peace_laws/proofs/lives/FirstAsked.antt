@@ -33,6 +33,7 @@ use Rattle.world_views.proofs.SentFacts.{is_stamped}
 use Rattle.world_views.specs.Machine.{IsOwn, IsOwnWork, comes_rightly, has_stopped, machine}
 use Rattle.world_views.specs.Requests.{request_of, requests}
 use Rattle.world_views.specs.Sending.{is_asked}
+use Rattle.command_laws.proofs.waits.Run.{is_asked_in}
 use Rattle.calm_laws.specs.Plain.{is_beating}
 use Rattle.calm_laws.proofs.lives.Arrivals.{arriving, given_running}
 use Rattle.calm_laws.proofs.lives.Asked.{IsAskedAlike, IsAskedBehind, asked_behind, past_short}
@@ -40,12 +41,13 @@ use Rattle.calm_laws.proofs.lives.Events.{none_before}
 use Rattle.peace_laws.specs.Laws.{GoOnBy}
 use Rattle.peace_laws.specs.Parts.{is_beside, levelled, plain_part, plain_parts}
 use Rattle.peace_laws.specs.Peace.{is_closing}
-use Rattle.peace_laws.proofs.closings.Signals.{closing_asks, closing_body}
+use Rattle.peace_laws.proofs.closings.Signals.{closing_asks}
 use Rattle.peace_laws.proofs.near.Signals.{request_level}
 use Rattle.peace_laws.proofs.lives.NextSignals.{AllTaken}
 use Rattle.peace_laws.proofs.plain.Events.{part_next}
 use Rattle.peace_laws.proofs.lives.Stands.{Stands, has}
 use Rattle.peace_laws.proofs.plain.Logs.{mirrored}
+use Rattle.peace_laws.proofs.closings.Ease.{takes_it}
 
 -- the last of a list, if it has one
 last_split : {A : Type 0} (xs : List A) → (xs ≡ []) ⊎ ((front : List A) × ((x : A) × (xs ≡ front ++ x ∷ [])))
@@ -266,10 +268,6 @@ module _ (start : Start) (request : ApiReq) (was more : ℕ → List HostStep) (
   one_is : request_of f.first ≡ request_in f.first.step.taken.body
   one_is = ap (λ (b : Bool). if b then request_in f.first.step.taken.body else None) f.asked
 
-  one_more : (body : Body) → is_request body ≡ true → length (option_to_list (request_in body)) ≡ 1
-  one_more (Host (Continue (Request one) at)) is = refl
-  one_more body is = absurd cc
-
   newer_none : Each (λ d. request_of d ≡ None) f.newer
   newer_none =
       none_asked f.newer (f.first ∷ was 0)
@@ -280,7 +278,7 @@ module _ (start : Start) (request : ApiReq) (was more : ℕ → List HostStep) (
         length-append (requests (was 0)) (request ∷ []),
         length-append (requests (was 0)) (option_to_list (request_of f.first)),
         ap (λ (o : Option ApiReq). length (option_to_list o)) one_is,
-        one_more f.first.step.taken.body f.request,
+        is_asked_in f.first.step.taken.body f.request,
       ))
 
   unasked : (log : List HostStep) → Each (λ d. request_of d ≡ None) log → Each IsAskedAlike log → Each IsUnasked log
@@ -312,7 +310,7 @@ module _ (start : Start) (request : ApiReq) (was more : ℕ → List HostStep) (
           absurd
           (false≢true
           (sym (closing_asks f.first.step.taken.to.block f.first.step.taken.body
-          (closing_body 0 f.first.step.taken closing)) ∙ f.request))
+          (takes_it 0 f.first.step.taken closing)) ∙ f.request))
 
   parts_are : plain_part start 0 (more 0)
       ≡ plain_part start 0 f.newer ++ levelled start.epoch f.first ∷ plain_part start 0 (was 0)

@@ -25,6 +25,7 @@ use Rattle.world_views.specs.Sending.{addressed, all_addressed, is_asked, is_own
 use Rattle.calm_laws.specs.Alike.{IsAtEase}
 use Rattle.calm_laws.proofs.lives.Arrivals.{arriving}
 use Rattle.calm_laws.proofs.plain_steps.SentAlike.{here, kept, plainly}
+use Rattle.calm_laws.proofs.plain_steps.SentStep.{put_append}
 use Rattle.peace_laws.specs.Moments.{IsTaken}
 
 -- what a signal says, and to which block
@@ -51,18 +52,6 @@ all_routed start h standing ease (one ∷ more) all =
     (kept start h standing ease (reached (made start) h standing.view one.to) one all.0)
     ∙ ap₂ (λ to rs. routed to one ∷ rs) (here start h standing ease one.to)
     (all_routed start h standing ease more all.1)
-
--- what is put on a link goes in front of what was there
-put_append : (start : Start) (j : ℕ) (xs front back : List Addressed)
-    → put (machine start) j xs (front ++ back) ≡ put (machine start) j xs front ++ back
-put_append start j [] front back = refl
-put_append start j (x ∷ xs) front back =
-    ap (put (machine start) j xs) (one (x.to == j)) ∙ put_append start j xs (if x.to == j then x ∷ front else front)
-    back
-  where
-    one : (b : Bool) → (if b then x ∷ (front ++ back) else front ++ back) ≡ (if b then x ∷ front else front) ++ back
-    one true = refl
-    one false = refl
 
 module _ (start : Start) (j : ℕ) (by : Sender) where
   abbrev puts : (ℕ → ℕ) → List Outgoing → List Addressed → List Addressed

@@ -16,6 +16,7 @@ use Rattle.calm_laws.specs.Plain.{is_beating}
 use Rattle.calm_laws.specs.Steps.{ComesCalmly}
 use Rattle.calm_laws.proofs.lives.Events.{within_next}
 use Rattle.level_laws.specs.Laws.{HostsAreLevel}
+use Rattle.view_laws.proofs.fences.WhatLinksOwe.{running_if}
 use Rattle.peace_laws.specs.Alike.{RestsOfClosings}
 use Rattle.peace_laws.specs.Parts.{levelled}
 use Rattle.peace_laws.proofs.lives.Arrivals.{Arrives, beats_unasked, main_comes, seen}
@@ -24,7 +25,7 @@ use Rattle.peace_laws.proofs.closings.Signals.{IsPlainKind, calm_apart, calm_kin
 use Rattle.peace_laws.proofs.near.Mirrored.{IsMirrored}
 use Rattle.peace_laws.proofs.lives.NextGood.{IsNextInCalm}
 use Rattle.peace_laws.proofs.near.PeaceNext.{IsCalmNext, calm_next}
-use Rattle.peace_laws.proofs.plain.Events.{left_none, plain_events, plain_within, unless_left}
+use Rattle.peace_laws.proofs.plain.Events.{left_none, plain_events, plain_within}
 use Rattle.peace_laws.proofs.near.Runs.{IsKept, arrival, fine, known}
 
 module _ (hosts_level : HostsAreLevel) (start : Start) (shape : IsShape start.shape) (es : List HostStep) (e : HostStep)
@@ -77,7 +78,7 @@ module _ (hosts_level : HostsAreLevel) (start : Start) (shape : IsShape start.sh
       coming : Comes start (plain_events start es) (levelled start.epoch e)
       coming =
           let runs : Run (plain.machine start) (levelled start.epoch e ∷ plain_events start es) =
-          subst (λ b. Run (plain.machine start) (unless_left b (levelled start.epoch e) (plain_events start es)))
+          subst (λ b. Run (plain.machine start) (running_if b (levelled start.epoch e) (plain_events start es)))
           (left_none e takes (not_closing e.host e.step.taken (calm_apart e.host e.step.taken calm))) next.kept.run in
           let here : IsWithin (hosts start) (log_of (plain.machine start) (plain_events start es)) =
           plain_within start (hosts start) es within in

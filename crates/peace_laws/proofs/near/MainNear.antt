@@ -12,9 +12,7 @@ use Rattle.node_views.specs.declared.parts.Parts.TheVariants.{Shell, Main, Tc, L
 use Rattle.node_views.specs.Parts.{in_qmgr, main_row}
 use Rattle.node_views.specs.Row.{is_stop}
 use Rattle.qmgr_block.specs.Qmgr.{qmgr_row}
-use Rattle.sig_core.specs.declared.place.BlockId.{BlockId}
 use Rattle.sig_core.specs.declared.place.BlockId.TheVariants as block
-use Rattle.sig_core.specs.declared.place.Part.{Part}
 use Rattle.sig_core.specs.declared.place.Part.TheVariants as part
 use Rattle.sig_core.specs.declared.reply.ApiReply.{ApiReply}
 use Rattle.sig_core.specs.declared.signal.Signal.{Signal}
@@ -23,24 +21,17 @@ use Rattle.world_core.specs.Hosts.{part_by}
 use Rattle.world_core.specs.Start.{Start}
 use Rattle.world_views.specs.Machine.{step_by}
 use Rattle.calm_laws.specs.Alike.{AreAlike}
-use Rattle.calm_laws.specs.Calm.{is_calm, is_for, is_in}
-use Rattle.calm_laws.specs.Plain.{is_beating, is_main}
+use Rattle.calm_laws.specs.Calm.{is_calm, is_for}
+use Rattle.calm_laws.specs.Plain.{is_beating}
 use Rattle.calm_laws.specs.Steps.{ComesCalmly}
-use Rattle.calm_laws.proofs.lives.CalmSignals.{calm_block, calm_body}
-use Rattle.calm_laws.proofs.plain_steps.Ease.{ease_parts}
+use Rattle.calm_laws.proofs.plain_steps.Ease.{ease_parts, has_calm_block, takes_calmly}
 use Rattle.calm_laws.proofs.plain_steps.Main.{membership_step}
+use Rattle.calm_laws.proofs.places.FineSends.{main_has}
 use Rattle.peace_laws.specs.Alike.{ArePartsNear, IsMasterNear}
 use Rattle.peace_laws.proofs.near.NearHosts.{has_main}
 
--- such a signal is for the membership
-main_block : (of : Part) (to : BlockId) → is_main of ≡ true → is_in of to ≡ true → to ≡ block.Qmgr
-main_block part.Main block.Qmgr beats has = refl
-main_block part.Main to beats has = absurd cc
-main_block part.Tc to beats has = absurd cc
-main_block part.Ldm to beats has = absurd cc
-
 for_membership : (h : ℕ) (x : Signal) → is_beating (suc h) ≡ true → is_calm (suc h) x ≡ true → x.to.block ≡ block.Qmgr
-for_membership h x beats calm = main_block (part_by (h % 3)) x.to.block beats (calm_block (suc h) x calm)
+for_membership h x beats calm = main_has (part_by (h % 3)) x.to.block beats (has_calm_block (suc h) x calm)
 
 -- parts that are near a main part are one, with a master that is near
 pub record IsNearMain (parts : Parts) : Type 0 where
@@ -81,7 +72,7 @@ module _ (start : Start) (h : ℕ) (s : host.HostBody) (other : plain.Host) (x :
   runs : list_any is_stop (parts_row s.parts x).effects.marks ≡ false
   runs =
       let takes : is_for block.Qmgr x.body ≡ true =
-      subst (λ to. is_for to x.body ≡ true) (for_membership h x beats comes.calm) (calm_body (suc h) x comes.calm) in
+      subst (λ to. is_for to x.body ≡ true) (for_membership h x beats comes.calm) (takes_calmly (suc h) x comes.calm) in
       ap (λ (t : Step Parts). list_any is_stop t.effects.marks) row_is
       ∙ ap (list_any is_stop) (membership_step p.qmgr x takes).marks
 

@@ -53,7 +53,7 @@ first_presides start shape =
     ap (is_first_by (first_start 1)) (first_member start.shape.nodes shape.nodes_some)
 
 -- whatever its epochs a plain host has the same blocks
-tc_level : (epoch : ℕ) (s : plain.Host) → has_tc (host_at epoch s) ≡ has_tc s
+pub tc_level : (epoch : ℕ) (s : plain.Host) → has_tc (host_at epoch s) ≡ has_tc s
 tc_level epoch (kind.Shell a) = refl
 tc_level epoch (kind.Main m) = refl
 tc_level epoch (kind.Tc q) = refl

@@ -38,6 +38,7 @@ use Rattle.calm_laws.proofs.known.Transactions.{coming_known}
 use Rattle.calm_laws.proofs.lives.WellFormed.{coming_well_formed}
 use Rattle.level_laws.specs.Laws.{HostsAreLevel}
 use Rattle.level_laws.specs.Levels.{host_sized, mark_at}
+use Rattle.view_laws.proofs.fences.WhatLinksOwe.{running_if}
 use Rattle.peace_laws.specs.Alike.{AreNear, IsMasterNear, IsPhaseNear}
 use Rattle.peace_laws.specs.Parts.{levelled, plain_part}
 use Rattle.peace_laws.specs.Peace.{is_closing}
@@ -48,7 +49,6 @@ use Rattle.peace_laws.proofs.near.Mirrored.{IsLeftOut, IsMirrored, IsPlainStep, 
 use Rattle.peace_laws.proofs.near.Mirrored.{plain_mirrored}
 use Rattle.peace_laws.proofs.near.NearHosts.{begin_level, resting_main}
 use Rattle.peace_laws.proofs.plain.Events.{events_are, is_left, left_none, no_part, plain_events, plain_within}
-use Rattle.peace_laws.proofs.plain.Events.{unless_left}
 
 -- The plain events are a run, and after it each host is near an inner one.
 pub record IsKept (start : Start) (es : List HostStep) : Type 0 where
@@ -141,7 +141,7 @@ module _ (hosts_level : HostsAreLevel) (start : Start) (shape : IsShape start.sh
   left_next out left =
       record {
         run =
-            subst (λ b. Run (plain.machine start) (unless_left b (levelled start.epoch e) (plain_events start es)))
+            subst (λ b. Run (plain.machine start) (running_if b (levelled start.epoch e) (plain_events start es)))
             (sym out) kept.run;
         mirrored = mirrored_next (left_mirrored start e.host log e before left);
       }
@@ -220,7 +220,7 @@ module _ (hosts_level : HostsAreLevel) (start : Start) (shape : IsShape start.sh
     plain_next beside step marks =
         record {
           run =
-              subst (λ b. Run (plain.machine start) (unless_left b (levelled start.epoch e) (plain_events start es)))
+              subst (λ b. Run (plain.machine start) (running_if b (levelled start.epoch e) (plain_events start es)))
               (sym (left_none e takes beside)) (kept.run, happens_plain e.step.marks marks);
           mirrored = mirrored_next (plain_mirrored hosts_level start e.host log e before step);
         }

@@ -26,6 +26,7 @@ use Rattle.peace_laws.proofs.plain.NoneCounted.{none_counted}
 use Rattle.peace_laws.proofs.near.Resting.{CountsNobody}
 use Rattle.peace_laws.proofs.plain.Logs.{mirrored, quiet_plain, right, within}
 use Rattle.peace_laws.proofs.lives.Stands.{Stands, has}
+use Rattle.peace_laws.proofs.near.PartKinds.{tc_level}
 use Rattle.world_views.specs.Quiet.{IsQuiet}
 
 module _ (start : Start) (shape : IsShape start.shape) (logs : ℕ → List HostStep) (stands : Stands start logs)
@@ -46,12 +47,6 @@ module _ (start : Start) (shape : IsShape start.shape) (logs : ℕ → List Host
       tc_found start h (plain_part start h (logs h)) low runs in
       subst (λ k. (dih_of (plain.after start k (plain_part start k (logs k)))).counted ≡ []) (sym found.is)
       (none_counted start (plain_parts start logs) plainly found.node found.some found.low)
-
-  tc_level : (epoch : ℕ) (s : plain_host.Host) → has_tc (host_at epoch s) ≡ has_tc s
-  tc_level epoch (kind.Shell s) = refl
-  tc_level epoch (kind.Main m) = refl
-  tc_level epoch (kind.Tc p) = refl
-  tc_level epoch (kind.Ldm s) = refl
 
   counts_level : (epoch : ℕ) (s : plain_host.Host) → (dih_of (host_at epoch s)).counted ≡ (dih_of s).counted
   counts_level epoch (kind.Shell s) = refl

@@ -8,14 +8,11 @@ use Rattle.world_core.specs.Machine as plain
 use Rattle.world_core.specs.Start.{Start}
 use Rattle.world_core.specs.Steps.{HostStep}
 use Rattle.world_views.specs.Machine.{machine}
+use Rattle.view_laws.proofs.memberships.SetTests.{or_true}
+use Rattle.view_laws.proofs.fences.WhatLinksOwe.{running_if}
 use Rattle.calm_laws.specs.Plain.{is_beating}
 use Rattle.peace_laws.specs.Parts.{is_beside, levelled, plain_part}
 use Rattle.peace_laws.specs.Peace.{is_closing}
-
--- an event is left out
-abbrev pub unless_left : Bool → HostStep → List HostStep → List HostStep
-unless_left true e es = es
-unless_left false e es = e ∷ es
 
 -- a step that the plain machine doesn't make
 abbrev pub is_left : HostStep → Bool
@@ -24,12 +21,7 @@ is_left e = is_beating e.host || is_closing e.host e.step.taken
 -- the events without such steps
 abbrev pub plain_events : Start → List HostStep → List HostStep
 plain_events start [] = []
-plain_events start (e ∷ es) = unless_left (is_left e) (levelled start.epoch e) (plain_events start es)
-
--- it is one of the two, or neither
-or_true : (b : Bool) → (b || true) ≡ true
-or_true true = refl
-or_true false = refl
+plain_events start (e ∷ es) = running_if (is_left e) (levelled start.epoch e) (plain_events start es)
 
 pub left_beating : (e : HostStep) → is_beating e.host ≡ true → is_left e ≡ true
 left_beating e beats = ap (λ b. b || is_closing e.host e.step.taken) beats
@@ -92,7 +84,7 @@ module _ (start : Start) where
 
       own : e.host ≡ h → (a b : Bool) → is_beating e.host ≡ a → is_closing e.host e.step.taken ≡ b
           → log_of (plain.machine start) (plain_events start es) h ≡ plain_part start h log
-          → log_of (plain.machine start) (unless_left (a || b) (levelled start.epoch e) (plain_events start es)) h
+          → log_of (plain.machine start) (running_if (a || b) (levelled start.epoch e) (plain_events start es)) h
           ≡ plain_part start h (e ∷ log)
       own at true b beats closing before =
           let there : is_beating h ≡ true = subst (λ k. is_beating k ≡ true) at beats in
@@ -108,7 +100,7 @@ module _ (start : Start) where
 
       other : e.host ≢ h → (a b : Bool)
           → log_of (plain.machine start) (plain_events start es) h ≡ plain_part start h log
-          → log_of (plain.machine start) (unless_left (a || b) (levelled start.epoch e) (plain_events start es)) h
+          → log_of (plain.machine start) (running_if (a || b) (levelled start.epoch e) (plain_events start es)) h
           ≡ plain_part start h log
       other apart true b before = before
       other apart false true before = before

@@ -50,11 +50,11 @@ use Rattle.peace_laws.specs.Alike.{ArePartsNear}
 use Rattle.peace_laws.specs.Parts.{is_beside, levelled, levelled_replies, plain_part, plain_parts, plain_replies}
 use Rattle.peace_laws.specs.Peace.{is_closing, is_for_closing}
 use Rattle.peace_laws.proofs.near.CalmNear.{inner_api}
-use Rattle.peace_laws.proofs.closings.Signals.{closing_body}
 use Rattle.peace_laws.proofs.near.Mirrored.{IsMirrored, level_same}
 use Rattle.peace_laws.proofs.plain.Events.{events_are, no_part, none_part, plain_events}
 use Rattle.peace_laws.proofs.near.Runs.{IsKept}
 use Rattle.peace_laws.proofs.near.Sent.{addressed_at}
+use Rattle.peace_laws.proofs.closings.Ease.{takes_it}
 
 -- what an inner host that is near replied
 near_replies : (start : Start) (given : List ApiReply) (parts : Parts) (s : plain_host.Host)
@@ -94,7 +94,7 @@ part_requests epoch (e ∷ log) = by (is_closing 0 e.step.taken) refl (part_requ
     by true closing rest =
         rest ∙ sym (append-nil (plain_requests.requests log))
         ∙ ap (λ (o : Option ApiReq). plain_requests.requests log ++ option_to_list o)
-        (sym (none_in e.step.taken.to.block e.step.taken.body (closing_body 0 e.step.taken closing)))
+        (sym (none_in e.step.taken.to.block e.step.taken.body (takes_it 0 e.step.taken closing)))
     by false beside rest =
         ap (λ (those : List ApiReq). those ++ option_to_list (request_in (body_at epoch e.step.taken.body))) rest
         ∙ ap (λ (o : Option ApiReq). plain_requests.requests log ++ option_to_list o)

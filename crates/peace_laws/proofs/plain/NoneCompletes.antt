@@ -7,7 +7,6 @@ use Rattle.std.proofs.lemmas.Bool.{and_parts, cases_eq, eqb-true, false≢true}
 use Rattle.std.specs.Prelude.{◌==◌, ◌&&◌, if◌then◌else◌, Option, None, Some}
 use Rattle.run_theory.proofs.Merging.{logs_merged}
 use Rattle.run_theory.specs.Counts.{one_if}
-use Rattle.run_theory.specs.Lists.{Each}
 use Rattle.run_theory.specs.Orders.{merged}
 use Rattle.sig_core.specs.declared.member.Member.{Member}
 use Rattle.sig_core.specs.declared.member.TxId.{TxId}
@@ -67,6 +66,7 @@ use Rattle.run_laws.proofs.hosts.TxSteps.{none_of, runs_rows}
 use Rattle.run_laws.proofs.hosts.TxTurns as turn
 use Rattle.run_laws.proofs.hosts.TxTurns.{TcTurn, is_for, tc_turn}
 use Rattle.run_laws.proofs.transit.Weighing.{in_sends, in_transit, joins_weigh, takes_weigh}
+use Rattle.run_laws.proofs.hosts.Keyed.{any_sends}
 use Rattle.answer_laws.specs.Answered.{AreQuiet, IsLiveAs}
 use Rattle.order_laws.proofs.Leads.{tc_block_is}
 use Rattle.order_laws.specs.Awaited.{awaited_in, list_length}
@@ -93,10 +93,6 @@ module _ (tx : TxId) (s : host.Host) (x : Signal) (home : IsHome tx (tc_of s)) w
   abbrev Any : Outgoing → Type 0
   Any o = Unit {0}
 
-  any : (sends : List Outgoing) → Each Any sends
-  any [] = tt
-  any (o ∷ sends) = (tt, any sends)
-
   -- the signal is for another block
   elsewhere_at : (b : BlockId) → x.to.block ≡ b → is_lqh b ≡ false → is_tc b ≡ false → (t : Step host.Host)
       → tc_of t.state ≡ tc_of s → Moves tx s x t
@@ -109,7 +105,7 @@ module _ (tx : TxId) (s : host.Host) (x : Signal) (home : IsHome tx (tc_of s)) w
   takes_turn t step =
       by (tc_turn Any tx (tc_of s)
       (record { full = λ name. (tt, tt); begins = λ name. (tt, tt); passes = λ one ahead. (tt, tt) }) home.own home.once
-      x.body (λ one off its t. any (turn_for (tc_of s).node (tc_of s).layout one x.body t).step.effects.sends))
+      x.body (λ one off its t. any_sends (turn_for (tc_of s).node (tc_of s).layout one x.body t).step.effects.sends))
     where
       live_is : of_host tx t.state ≡ of_live tx (tc_row (tc_of s) x).state.live
       live_is = ap (λ (c : TcState). of_live tx c.live) step.state

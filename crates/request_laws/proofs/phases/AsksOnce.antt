@@ -25,13 +25,13 @@ use Rattle.node_views.specs.WellFormed.{is_well_formed}
 use Rattle.world_core.specs.Start.{Start, made}
 use Rattle.world_core.specs.Steps.{HostStep}
 use Rattle.world_views.specs.Machine.{step_after}
+use Rattle.view_laws.proofs.ballots.MadeSets.{in_either}
 use Rattle.moment_laws.specs.Places.{tc_of}
 use Rattle.outcome_laws.specs.Counts.{is_asking}
 use Rattle.request_laws.specs.Blocks.{coordinator_after}
 use Rattle.request_laws.specs.Phases.{HasGone, WaitsWith}
 use Rattle.request_laws.specs.Ways.{entry_of, has_gone_back, has_gone_forth, is_at, is_sent, tells_abort, tells_commit}
 use Rattle.request_laws.proofs.phases.AlongLogs.{coordinator_comes}
-use Rattle.request_laws.proofs.phases.Events.{in_either}
 use Rattle.request_laws.proofs.phases.GoneWays.{gone_here, gone_stays, gone_told}
 use Rattle.request_laws.proofs.phases.Moves.{Comes, begun, changed, same}
 use Rattle.request_laws.proofs.phases.TurnSends.{AreSpared, IsSpared}

@@ -1,6 +1,6 @@
 -- What a step of the host of a coordinator comes to: for each transaction, for the keys that they touched, and for what
 -- the epochs beside it hold, decide and tell.
-use Rattle.std.proofs.Common.{◌≡◌, ◌⊎◌, ◌∙◌, ◌++◌, ℕ, Bool, true, false, List, [], ◌∷◌, refl, sym, ap, subst, inl, inr}
+use Rattle.std.proofs.Common.{◌≡◌, ◌⊎◌, ◌∙◌, ◌++◌, ℕ, Bool, true, false, List, [], refl, sym, ap, subst, inl, inr}
 use Rattle.std.proofs.lemmas.Bool.{true≢false}
 use Rattle.std.specs.Prelude.{nat_le}
 use Rattle.run_theory.specs.Lists.{Each, IsIn}
@@ -33,6 +33,7 @@ use Rattle.node_views.specs.declared.parts.Parts.TheVariants as part
 use Rattle.node_views.specs.declared.tc_part.TcPart.{TcPart}
 use Rattle.node_views.specs.Parts.{tc_row}
 use Rattle.node_views.specs.WellFormed.{is_well_formed}
+use Rattle.view_laws.proofs.ballots.MadeSets.{in_either}
 use Rattle.outcome_laws.specs.Counts.{IsCoordinatorOf}
 use Rattle.outcome_laws.proofs.epochs.Steps.{dih_installs_hold}
 use Rattle.outcome_laws.proofs.takeovers.NoMarks.{takeover_marks_nothing}
@@ -93,16 +94,6 @@ coordinator_gives_none s x =
         → AreSpared is_given (turned_if s at turn b).effects.sends
     turned_none s at turn none true = none
     turned_none s at turn none false = none
-
--- among two lists
-pub in_either : {A : Type 0} (x : A) (xs ys : List A) → IsIn x (xs ++ ys) → IsIn x xs ⊎ IsIn x ys
-in_either x [] ys there = inr there
-in_either x (y ∷ xs) ys (inl is) = inl (inl is)
-in_either x (y ∷ xs) ys (inr there) = by (in_either x xs ys there)
-  where
-    by : IsIn x xs ⊎ IsIn x ys → IsIn x (y ∷ xs) ⊎ IsIn x ys
-    by (inl first) = inl (inr first)
-    by (inr second) = inr second
 
 not_spared : (tx : TxId) (epoch : ℕ) (sends : List Outgoing) → AreSpared is_given sends → IsGiven tx epoch sends → ⊥
 not_spared tx epoch sends none given =

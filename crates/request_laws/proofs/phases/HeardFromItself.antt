@@ -32,6 +32,7 @@ use Rattle.sig_core.specs.declared.view.View.{View}
 use Rattle.sig_core.specs.Place.{epochs}
 use Rattle.sig_core.specs.Step.{Effects}
 use Rattle.sig_core.proofs.Keys.{same_tx-self}
+use Rattle.tc_block.specs.Complete.{one_if}
 use Rattle.tc_views.specs.Coordinator.{coordinator_row}
 use Rattle.node_views.specs.declared.tc_part.TcPart.{TcPart}
 use Rattle.node_views.specs.Parts.{tc_row}
@@ -53,7 +54,7 @@ use Rattle.moment_laws.specs.Places.{tc_of}
 use Rattle.moment_laws.proofs.MomentHosts.{host_made, tc_number}
 use Rattle.moment_laws.proofs.MomentSignals.{epoch_told}
 use Rattle.moment_laws.proofs.MomentViews.{moment_less}
-use Rattle.outcome_laws.specs.Counts.{IsCoordinatorOf, coordinator_member, is_asking, one_if}
+use Rattle.outcome_laws.specs.Counts.{IsCoordinatorOf, coordinator_member, is_asking}
 use Rattle.outcome_laws.specs.Decided.{IsBegun, IsDecided, IsMarked}
 use Rattle.outcome_laws.specs.Know.{TellsTruly}
 use Rattle.outcome_laws.specs.Own.{IsOwnAt, IsOwnSend}

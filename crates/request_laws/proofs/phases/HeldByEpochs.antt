@@ -17,7 +17,8 @@ use Rattle.dih_node.specs.Dih.{dih_row}
 use Rattle.dih_node.specs.State.{DihState, go_on_if}
 use Rattle.dih_node.specs.Verify.{given}
 use Rattle.outcome_laws.proofs.epochs.Silent.{AreSilent, IsSilent, is_telling}
-use Rattle.outcome_laws.proofs.epochs.Steps.{HoldsNoMore, dih_each, goes_on_silent}
+use Rattle.outcome_laws.proofs.epochs.Steps.{dih_each, goes_on_silent}
+use Rattle.outcome_laws.proofs.epochs.KnowBegun.{each_held}
 
 -- a signal that gives the transaction this epoch is among these
 pub record IsGiven (tx : TxId) (epoch : ℕ) (sends : List Outgoing) : Type 0 where
@@ -32,10 +33,6 @@ pub record Holds (P : TxId → Type 0) (step : Step DihState) : Type 0 where
   pub decided : (tx : TxId) (epoch : ℕ) → IsIn (Decided tx epoch) step.effects.marks → P tx
   pub given : (tx : TxId) (epoch : ℕ) → IsGiven tx epoch step.effects.sends
       → IsIn (Decided tx epoch) step.effects.marks
-
-held_less : (P : TxId → Type 0) (now held : List TxId) → HoldsNoMore now held → Each P held → Each P now
-held_less P now held (inl same) all = subst (Each P) (sym same) all
-held_less P now held (inr less) all = subst (Each P) (sym less.is) (each_removed P held less.place all)
 
 not_silent : (tx : TxId) (epoch : ℕ) (sends : List Outgoing) → AreSilent sends → IsGiven tx epoch sends → ⊥
 not_silent tx epoch sends all given =
@@ -70,7 +67,7 @@ module _ (P : TxId → Type 0) (s : DihState) (x : Signal) (all : Each P s.held)
     dih_holds =
         dih_each s (λ step. Holds P step) x (record {
           quiet = λ step is. record {
-            held = held_less P step.state.held s.held is.holds all;
+            held = each_held P step.state.held s.held is.holds all;
             decided = λ tx epoch there. absurd (subst (λ marks. IsIn (Decided tx epoch) marks) is.marks there);
             given = λ tx epoch told. absurd (not_silent tx epoch step.effects.sends is.sends told);
           };

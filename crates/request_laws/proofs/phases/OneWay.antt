@@ -13,6 +13,7 @@ use Rattle.sig_core.specs.declared.signal.Body.{Body}
 use Rattle.sig_core.specs.declared.signal.Body.TheVariants.{Client}
 use Rattle.sig_core.specs.declared.signal.client.ClientSignal.TheVariants.{TcCommitConf, TcRollbackRep}
 use Rattle.host_laws.proofs.coordinator.OfLive.{each_found}
+use Rattle.host_laws.proofs.coordinator.Ways.{aborting_apart}
 use Rattle.tc_block.specs.declared.phase.Phase.{Phase}
 use Rattle.tc_block.specs.declared.phase.Phase.TheVariants.{Aborting, Committing, Completing, Open, Verifying}
 use Rattle.tc_block.specs.declared.transaction.Transaction.{Transaction}
@@ -111,13 +112,6 @@ decided_not_aborting Verifying epoch is = absurd is
 decided_not_aborting (Committing now awaited) epoch is = refl
 decided_not_aborting (Completing now awaited) epoch is = refl
 decided_not_aborting (Aborting why verifying awaited) epoch is = absurd is
-
-pub aborting_not_decided : (phase : Phase) → is_aborting phase ≡ true → is_decided phase ≡ false
-aborting_not_decided Open is = refl
-aborting_not_decided Verifying is = refl
-aborting_not_decided (Committing epoch awaited) is = absurd cc
-aborting_not_decided (Completing epoch awaited) is = absurd cc
-aborting_not_decided (Aborting why verifying awaited) is = refl
 
 -- what is sent among others
 pub sent_before : (p : Body → Bool) (xs more : List Outgoing) → is_sent p xs ≡ true → is_sent p (xs ++ more) ≡ true
@@ -393,7 +387,7 @@ module _ (start : Start) (member : Member) (there : IsIn member (made start)) (t
               gone_here start member tx is_aborting (tells_abort tx) log e (ap (is_at is_aborting) (on_some on) ∙ is) in
               let forth =
               gone_nowhere start member tx is_decided (tells_commit tx) log e
-              (ap (is_at is_decided) (on_some on) ∙ aborting_not_decided turn.step.state.phase is)
+              (ap (is_at is_decided) (on_some on) ∙ aborting_apart turn.step.state.phase is)
               (no_commit goes.commits) forth_was in
               ways false on (λ over. aborting_way turn.step.state.phase _ _ is forth back)
               (λ one. absurd (true≢false (sym one ∙ forth))) (λ over. inr back)

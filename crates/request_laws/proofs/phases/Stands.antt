@@ -15,6 +15,7 @@ use Rattle.sig_core.specs.declared.signal.Body.{Body}
 use Rattle.sig_core.specs.declared.signal.Body.TheVariants.{Epoch}
 use Rattle.sig_core.specs.declared.signal.epoch.EpochSignal.TheVariants.{DiVerifyConf, DiVerifyReq}
 use Rattle.host_laws.proofs.coordinator.OfLive.{each_found}
+use Rattle.host_laws.proofs.coordinator.Ways.{aborting_apart}
 use Rattle.tc_block.specs.declared.phase.Asked.{Asked}
 use Rattle.tc_block.specs.declared.phase.Phase.{Phase}
 use Rattle.tc_block.specs.declared.phase.Phase.TheVariants.{Aborting, Committing, Completing, Open, Verifying}
@@ -50,7 +51,7 @@ use Rattle.request_laws.proofs.phases.ToldByHosts.{HasTold, Heard, IsHeard, sent
 use Rattle.request_laws.proofs.phases.Turns.{Changes, IsDecidedAs}
 use Rattle.request_laws.proofs.phases.Turns as turns
 use Rattle.request_laws.proofs.phases.Steps.{left_of}
-use Rattle.request_laws.proofs.phases.OneWay.{WaySays, aborting_not_decided, at_aborting, at_decided, forth_of}
+use Rattle.request_laws.proofs.phases.OneWay.{WaySays, at_aborting, at_decided, forth_of}
 use Rattle.request_laws.proofs.phases.OneWay.{goes_one_way, is_decided_as, lower_come, sent_before, sent_behind}
 use Rattle.request_laws.proofs.routes.Idle.{found_in}
 
@@ -343,7 +344,7 @@ module _ (start : Start) (member : Member) (there : IsIn member (made start)) (t
 
           by : (over : Bool) → turn.over ≡ over → ⊥
           by false on =
-              not_now on turn.step.state.phase refl (aborting_not_decided turn.step.state.phase (goes.on on))
+              not_now on turn.step.state.phase refl (aborting_apart turn.step.state.phase (goes.on on))
           by true over =
               not_both (b (e ∷ log)) (back (goes.ends over))
               ((goes_one_way start member there tx (e ∷ log)).one_way is)

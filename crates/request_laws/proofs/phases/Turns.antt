@@ -149,6 +149,14 @@ asks_in tx (Committing epoch awaited) = tt
 asks_in tx (Completing epoch awaited) = refl
 asks_in tx (Aborting why verifying awaited) = tt
 
+-- a phase that is undecided is not decided
+pub undecided_not : (phase : Phase) → is_undecided phase ≡ true → is_decided phase ≡ false
+undecided_not Open is = refl
+undecided_not Verifying is = refl
+undecided_not (Committing epoch awaited) is = absurd cc
+undecided_not (Completing epoch awaited) is = absurd cc
+undecided_not (Aborting why verifying awaited) is = refl
+
 module _ (node : ℕ) (layout : Layout) (tx : TxId) (t : Transaction) (body : Body) where
   abbrev Does : Turn → Type 0
   Does turn = Changes node tx t body turn
@@ -347,17 +355,10 @@ module _ (node : ℕ) (layout : Layout) (tx : TxId) (t : Transaction) (body : Bo
         asks = tt;
       }
 
-  undecided_is : (phase : Phase) → is_undecided phase ≡ true → is_decided phase ≡ false
-  undecided_is Open is = refl
-  undecided_is Verifying is = refl
-  undecided_is (Committing epoch awaited) is = absurd cc
-  undecided_is (Completing epoch awaited) is = absurd cc
-  undecided_is (Aborting why verifying awaited) is = refl
-
   pub resume_changes : ResumeForms node layout tx t Does
   resume_changes = record {
     stays = rests (going (stay t)) refl refl (λ p spares told. tt) t.phase refl;
-    fails = λ number is. aborts_back (asking t None) _ refl (undecided_is t.phase is);
+    fails = λ number is. aborts_back (asking t None) _ refl (undecided_not t.phase is);
     anew = λ why verifying awaited at b. anew why verifying (ap is_decided at) b;
     recommits = λ epoch awaited at.
         forth epoch (subst (λ phase. IsDecidedAs phase epoch) (sym at) refl) (forth_enters _ epoch _ refl refl refl);

@@ -6,8 +6,6 @@ use Rattle.sig_core.specs.declared.rows.PendingRecord.{PendingRecord}
 use Rattle.sig_core.specs.declared.signal.Body.{Body}
 use Rattle.sig_core.specs.declared.signal.Body.TheVariants.{Epoch, Host, Membership, Takeover}
 use Rattle.sig_core.specs.declared.signal.Signal.{Signal}
-use Rattle.sig_core.specs.declared.signal.epoch.EpochSignal.{EpochSignal}
-use Rattle.sig_core.specs.declared.signal.epoch.EpochSignal.TheVariants.{GcpClosed, GcpSaveReq, GcpStateReq}
 use Rattle.sig_core.specs.declared.signal.host.HostSignal.TheVariants.{Continue}
 use Rattle.sig_core.specs.declared.signal.host.Work.TheVariants.{Granted, Expired, Report}
 use Rattle.sig_core.specs.declared.signal.membership.MembershipSignal.TheVariants.{FenceReq}
@@ -21,12 +19,12 @@ use Rattle.lqh_block.specs.Lqh.{lqh_table}
 use Rattle.lqh_block.specs.State.{LqhState}
 use Rattle.lqh_block.specs.Views.{goes_on_holding}
 use Rattle.lqh_views.specs.declared.report.Report as reports
-use Rattle.lqh_views.specs.Epochs.{epoch_table}
 use Rattle.lqh_views.specs.Replica.{installed, is_stale, replica_by, replica_row, serve_if}
 use Rattle.lqh_views.specs.Report.{go_on_by, is_orphaned_marker, is_orphaned_record, last_before, marker_by, record_by}
 use Rattle.lqh_views.specs.Report.{reporting}
 use Rattle.lqh_views.specs.State.{ReplicaState}
 use Rattle.run_laws.proofs.tokens.Waiting.{WaitersAsk, lqh_asks}
+use Rattle.request_laws.proofs.replicas.KeyEvents.{epoch_same}
 
 module _ (s : ReplicaState) where
   marker_same : (r : reports.Report) (found : Option (ℕ × Marker)) → (marker_by s r found).state.lqh ≡ s.lqh
@@ -47,12 +45,6 @@ module _ (s : ReplicaState) where
   goes_on_same true None = refl
   goes_on_same false o = refl
 
-  epochs_same : (from : ℕ) (signal : EpochSignal) → (epoch_table s from signal).state.lqh ≡ s.lqh
-  epochs_same from (GcpClosed epoch) = refl
-  epochs_same from (GcpSaveReq epoch) = refl
-  epochs_same from GcpStateReq = refl
-  epochs_same from _ = refl
-
   module _ (x : Signal) where
     -- the rows are left alone, or do what they do within a view
     abbrev IsWithin : LqhState → Type 0
@@ -68,7 +60,7 @@ module _ (s : ReplicaState) where
     by_within (Host (Continue Report at)) = inl (goes_on_same (x.view.number == s.lqh.layout.view.number) s.report)
     by_within (Host (Continue Granted at)) = serve_within (is_stale s x)
     by_within (Host (Continue Expired at)) = serve_within (is_stale s x)
-    by_within (Epoch signal) = inl (epochs_same x.member.node signal)
+    by_within (Epoch signal) = inl (epoch_same s x.member.node signal)
     by_within _ = inr refl
 
     pub rows_within : IsWithin (replica_row s x).state.lqh

@@ -68,8 +68,7 @@ nobody_later_part before set part first = record {
 }
 
 -- who is full in a part is so in the whole
-pub any_in : (test : Member → Bool) (x : Member) (ys : List Member) → IsIn x ys → test x ≡ true
-    → list_any test ys ≡ true
+pub any_in : {A : Type 0} (test : A → Bool) (x : A) (ys : List A) → IsIn x ys → test x ≡ true → list_any test ys ≡ true
 any_in test x [] inside passes = absurd inside
 any_in test x (y ∷ ys) (inl same) passes = ap (λ b. b || list_any test ys) (ap test (sym same) ∙ passes)
 any_in test x (y ∷ ys) (inr inside) passes = by (test y) (any_in test x ys inside passes)

@@ -1,8 +1,8 @@
 -- What an event adds to what transactions were asked for, and driven, in a view: at the host of their coordinator, what
 -- it sends in this view, and elsewhere nothing.
-use Rattle.std.proofs.Common.{◌≡◌, ◌⊎◌, ◌==◌, ◌&&◌, ℕ, Bool, true, false, List, [], ◌∷◌, inl, inr, refl, sym, ap}
+use Rattle.std.proofs.Common.{◌≡◌, ◌⊎◌, ◌==◌, ◌&&◌, ℕ, Bool, true, List, [], ◌∷◌, inl, inr, sym, ap}
 use Rattle.std.proofs.Common.{◌∙◌, subst}
-use Rattle.std.proofs.lemmas.Bool.{eq-eqb, or_cases, or_left, or_right, true≢false}
+use Rattle.std.proofs.lemmas.Bool.{eq-eqb, or_cases, or_left, or_right}
 use Rattle.run_theory.specs.Lists.{Each, IsIn}
 use Rattle.run_theory.proofs.Pasts.{each_from, each_in}
 use Rattle.run_theory.proofs.Runs.{log_of-own}
@@ -18,6 +18,7 @@ use Rattle.sig_core.proofs.Keys.{same_tx-self}
 use Rattle.world_core.specs.Start.{Start}
 use Rattle.world_core.specs.Steps.{HostStep}
 use Rattle.world_views.specs.Machine.{machine, step_after}
+use Rattle.host_laws.proofs.rows.Operations.{left_of, true_and}
 use Rattle.view_laws.specs.Runs.{view_after}
 use Rattle.moment_laws.specs.Moments.{logs_of}
 use Rattle.moment_laws.specs.Places.{tc_of}
@@ -28,14 +29,6 @@ use Rattle.request_laws.specs.Ways.{has_gone_back, is_sent}
 use Rattle.request_laws.proofs.routes.OwnSends.{IsOfMember}
 use Rattle.request_laws.proofs.routes.Sends.{IsMade}
 use Rattle.request_laws.proofs.routes.Turns.{Grows, Renews}
-
-first_of : (a b : Bool) → (a && b) ≡ true → a ≡ true
-first_of true b is = refl
-first_of false b is = absurd (true≢false (sym is))
-
-both : (a b : Bool) → a ≡ true → b ≡ true → (a && b) ≡ true
-both true b one other = other
-both false b one other = absurd (true≢false (sym one))
 
 -- what passes is among what is sent
 pub sent_among : (p : Body → Bool) (sends : List Outgoing) (o : Outgoing) → IsIn o sends → p o.body ≡ true
@@ -120,7 +113,7 @@ module _ (start : Start) (e : HostStep) (es : List HostStep) where
             true)
             ⊎ (was_sent_in start one p number (old e.host) ≡ true)
             → (was_sent_in start one p number (old (tc_of start one)) ≡ true) ⊎ (is_sent p sends ≡ true)
-        by (inl now) = inr (subst (λ h. Now h ≡ true) (host_is one is) (first_of (Now (tc_of start one)) _ now))
+        by (inl now) = inr (subst (λ h. Now h ≡ true) (host_is one is) (left_of (Now (tc_of start one)) _ now))
         by (inr was) = inl (subst (λ log. was_sent_in start one p number log ≡ true) (old_log one is) was)
 
     -- what it sends it has sent in the view in which the host stands then
@@ -137,7 +130,7 @@ module _ (start : Start) (e : HostStep) (es : List HostStep) where
         (λ h. (is_sent p (step_after start h (old e.host) e).effects.sends
         && ((view_after start h (e ∷ old e.host)).number == view.number)) ≡ true)
         (sym (host_is one is))
-        (both (is_sent p sends) ((view_after start e.host (e ∷ old e.host)).number == view.number) sent
+        (true_and (is_sent p sends) ((view_after start e.host (e ∷ old e.host)).number == view.number) sent
         (eq-eqb (view_after start e.host (e ∷ old e.host)).number view.number
         (ap (λ (v : View). v.number) stands)))))
 

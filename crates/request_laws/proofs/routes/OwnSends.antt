@@ -132,7 +132,8 @@ module _ (member : Member) where
       → Each (λ (e : TxId × Transaction). coordinator_member e.0 ≡ member) s.tc.live
       → AreOfMember member (coordinator_row s x).effects.sends
   sends_of_member s x own =
-      coordinator_outcomes (λ tx t turn. IsOwnTurn tx turn) (λ step. AreOfMember member step.effects.sends) s x (record {
+      coordinator_outcomes (λ tx t turn. IsOwnTurn tx turn) (λ step. AreOfMember member step.effects.sends) s x
+      (record {
         calm = record {
           turns = λ tx t at split. turns_own s.tc.node s.tc.layout tx t x.body;
           turned = λ tx t at split turn goes.

@@ -1,5 +1,5 @@
 -- Each view that was installed is a part of the first one, its chains are some, and hosts of members are of theirs.
-use Rattle.std.proofs.Common.{◌≡◌, ◌<◌, ◌≤◌, ◌⊎◌, ◌==◌, ◌&&◌, ℕ, Bool, true, false, List, [], ◌∷◌, inl, inr, refl}
+use Rattle.std.proofs.Common.{◌≡◌, ◌<◌, ◌≤◌, ◌⊎◌, ◌==◌, ◌&&◌, ℕ, Bool, true, List, [], ◌∷◌, inl, inr, refl}
 use Rattle.std.proofs.Common.{sym, ap, subst, arith}
 use Rattle.std.proofs.lemmas.Bool.{cases_lt, eqb-true, or_cases, true≢false}
 use Rattle.run_theory.specs.Lists.{IsIn, IsPast}
@@ -11,6 +11,7 @@ use Rattle.sig_core.specs.declared.view.View.{View}
 use Rattle.frag_map.specs.Layout.{first_view}
 use Rattle.world_core.specs.Start.{Start, made}
 use Rattle.world_core.specs.Steps.{HostStep}
+use Rattle.host_laws.proofs.rows.Operations.{right_of}
 use Rattle.view_laws.specs.Runs.{AreOfCluster, WasInstalled, view_after}
 use Rattle.view_laws.specs.Sets.{IsPart, all_of}
 use Rattle.view_laws.proofs.eras.Rises.{view_rises}
@@ -39,13 +40,13 @@ module _ (start : Start) (all : ℕ → List HostStep) (are : AreOfCluster start
     there = omega arith;
     log = [];
     past = past_nil (all 0);
-    is = sym (started_view start are.shape 0);
+    is = sym (started_view start 0);
   }
 
   -- no host stands below the first view
   not_before : (h : ℕ) (log : List HostStep) → first.number ≤ (view_after start h log).number
   not_before h [] =
-      let is = ap (λ (v : View). v.number) (started_view start are.shape h) in omega (arith, is)
+      let is = ap (λ (v : View). v.number) (started_view start h) in omega (arith, is)
   not_before h (e ∷ log) = let up = view_rises start h log e in let low = not_before h log in omega (arith, up, low)
 
   pub first_part : (view : View) → WasInstalled start all view → IsPart first view
@@ -90,10 +91,6 @@ module _ (start : Start) (all : ℕ → List HostStep) (are : AreOfCluster start
 
 -- what was sent in a view was sent by a host that stands in it or above now
 module _ (start : Start) (member : Member) (p : Body → Bool) (number : ℕ) where
-  second : (a b : Bool) → (a && b) ≡ true → b ≡ true
-  second true b is = is
-  second false b is = absurd (true≢false (sym is))
-
   pub sent_low : (log : List HostStep) → was_sent_in start member p number log ≡ true
       → number ≤ (view_after start (tc_of start member) log).number
   sent_low [] was = absurd (true≢false (sym was))
@@ -112,7 +109,7 @@ module _ (start : Start) (member : Member) (p : Body → Bool) (number : ℕ) wh
           → number ≤ (view_after start (tc_of start member) log).number)
           → number ≤ stood
       by (inl now) low =
-          let same = eqb-true stood number (second (sends_one start member p log e) (stood == number) now) in
+          let same = eqb-true stood number (right_of (sends_one start member p log e) (stood == number) now) in
           omega (arith, same)
       by (inr before) low =
           let up = view_rises start (tc_of start member) log e in

@@ -1,11 +1,10 @@
 -- A signal about rows that comes to the rows of a member is for a place of its node, and the rows know their node.
-use Rattle.std.proofs.Common.{◌≡◌, ◌<◌, ◌⊎◌, ◌==◌, ◌∙◌, ℕ, zero, suc, Bool, true, false, filter, List, [], ◌∷◌, inl}
-use Rattle.std.proofs.Common.{inr, refl, ap, sym, arith}
-use Rattle.std.proofs.lemmas.Bool.{eqb-true, true≢false}
+use Rattle.std.proofs.Common.{◌≡◌, ◌<◌, ◌==◌, ◌∙◌, ℕ, zero, suc, Bool, true, false, List, [], ◌∷◌}
+use Rattle.std.proofs.Common.{refl, ap, sym, arith}
+use Rattle.std.proofs.lemmas.Bool.{true≢false}
 use Rattle.std.specs.Prelude.{if◌then◌else◌, Option, None, Some}
 use Rattle.run_theory.specs.Lists.{IsIn}
-use Rattle.run_theory.proofs.EachSent.{each_get}
-use Rattle.run_theory.proofs.Pasts.{each_from, each_in, each_map}
+use Rattle.run_theory.proofs.Pasts.{each_in, each_map}
 use Rattle.sig_core.specs.declared.member.Member.{Member}
 use Rattle.sig_core.specs.declared.outs.Outgoing.{Outgoing}
 use Rattle.sig_core.specs.declared.place.BlockId.{BlockId}
@@ -15,12 +14,8 @@ use Rattle.sig_core.specs.declared.signal.Signal.{Signal}
 use Rattle.sig_core.specs.declared.view.View.{View}
 use Rattle.sig_core.specs.Part.{part_of}
 use Rattle.sig_core.specs.Place.{rows_of}
-use Rattle.lqh_block.specs.Lqh.{lqh_table}
-use Rattle.lqh_block.specs.State.{LqhState}
-use Rattle.lqh_views.specs.Replica.{replica_row}
 use Rattle.lqh_views.specs.State.{ReplicaState}
 use Rattle.node_views.specs.WellFormed.{is_well_formed}
-use Rattle.host_laws.proofs.rows.Node.{lqh_node}
 use Rattle.world_core.proofs.HostNumbers.{members_length}
 use Rattle.world_core.specs.Hosts.{host_by, hosts, member_of}
 use Rattle.world_core.specs.Start.{Start, made}
@@ -29,12 +24,11 @@ use Rattle.world_views.specs.Hosts.{reached, started}
 use Rattle.world_views.specs.Machine.{signals_of, step_after}
 use Rattle.view_laws.specs.Order.{is_sound}
 use Rattle.view_laws.specs.Runs.{view_after}
-use Rattle.view_laws.specs.Sets.{all_of}
 use Rattle.view_laws.proofs.eras.SoundLogs.{each_filter}
-use Rattle.view_laws.proofs.fences.Hosts.{hosts_same}
+use Rattle.view_laws.proofs.fences.Hosts.{hosts_same, node_of}
 use Rattle.view_laws.proofs.follow.Senders.{IsSentBy, each_sent}
 use Rattle.view_laws.proofs.runs.FirstMembers.{node_low, node_some}
-use Rattle.view_laws.proofs.memberships.SetTests.{filter_in}
+use Rattle.view_laws.proofs.fences.OwnNodes.{replica_node}
 use Rattle.moment_laws.specs.Moments.{IsMoment, logs_of}
 use Rattle.moment_laws.specs.Places.{ldm_of}
 use Rattle.moment_laws.proofs.MomentHosts.{host_made, ldm_number}
@@ -44,7 +38,6 @@ use Rattle.request_laws.specs.Blocks.{rows_after}
 use Rattle.request_laws.proofs.routes.BesideRows.{is_of_rows}
 use Rattle.request_laws.proofs.routes.Headers.{told_of}
 use Rattle.request_laws.proofs.routes.Hosts.{IsBeside, beside_sends}
-use Rattle.request_laws.proofs.replicas.WaitersHaveRequests.{rows_within}
 use Rattle.request_laws.proofs.replicas.AlongLogs.{always}
 
 -- a host of a node sent the signal to where its place is reached
@@ -57,13 +50,6 @@ abbrev IsPlaced : Start → Addressed → Type 0
 IsPlaced start x = is_of_rows x.signal.body ≡ true → IsReached start x
 
 module _ (start : Start) where
-  node_of : (view : View) (node : ℕ) (m : Member) → member_of view node ≡ Some m → m.node ≡ node
-  node_of view node m is =
-      each_get (λ (m : Member). m.node ≡ node) (filter (λ (m : Member). m.node == node) (all_of view)) 0 m
-      (each_from _ (filter (λ (m : Member). m.node == node) (all_of view))
-      (λ m i. eqb-true m.node node (filter_in (λ (m : Member). m.node == node) (all_of view) m i).1))
-      is
-
   -- what comes to the rows of a member is for its node
   node_reached : (h : ℕ) (view : View) (to : Place) (me : Member) → IsIn me (made start)
       → reached (made start) (suc h) view to ≡ ldm_of start me → to.node ≡ me.node
@@ -139,18 +125,9 @@ module _ (start : Start) where
         ap (λ (b : BlockId). record { node = x.to.node; block = b }) to
         ∙ ap (λ n. record { node = n; block = block.Lqh }) node
 
--- no step of rows changes their node
-rows_node : (s : ReplicaState) (x : Signal) → (replica_row s x).state.lqh.node ≡ s.lqh.node
-rows_node s x = by (rows_within s x)
-  where
-    by : ((replica_row s x).state.lqh ≡ s.lqh) ⊎ ((replica_row s x).state.lqh ≡ (lqh_table s.lqh x.body).state)
-        → (replica_row s x).state.lqh.node ≡ s.lqh.node
-    by (inl same) = ap (λ (l : LqhState). l.node) same
-    by (inr same) = ap (λ (l : LqhState). l.node) same ∙ lqh_node s.lqh x.body
-
 -- which is that of their member
 pub rows_know_node : (start : Start) (member : Member) → IsIn member (made start) → (log : List HostStep)
     → (rows_after start member log).lqh.node ≡ member.node
 rows_know_node start member there log =
-    always (λ (s : ReplicaState). s.lqh.node ≡ member.node) (λ s x own. rows_node s x ∙ own) (λ s view own. own)
+    always (λ (s : ReplicaState). s.lqh.node ≡ member.node) (λ s x own. replica_node s x ∙ own) (λ s view own. own)
     (λ s at has own. own) start member there refl log

@@ -3,7 +3,7 @@
 use Rattle.std.proofs.Common.{◌≡◌, ◌⊎◌, ◌==◌, ℕ, Bool, true, false, List, [], ◌∷◌, inl, inr, length, map, refl, sym, ap}
 use Rattle.std.proofs.Common.{◌∙◌, subst, arith}
 use Rattle.std.proofs.lemmas.Bool.{eqb-true, true≢false}
-use Rattle.std.specs.Prelude.{◌&&◌, None}
+use Rattle.std.specs.Prelude.{None}
 use Rattle.run_theory.specs.Lists.{Each}
 use Rattle.run_theory.proofs.EachSent.{each_mapped}
 use Rattle.sig_core.specs.declared.member.TxId.{TxId}
@@ -34,6 +34,7 @@ use Rattle.tc_block.specs.declared.touched.Touched.{Touched}
 use Rattle.tc_block.specs.declared.transaction.Transaction.{Transaction}
 use Rattle.tc_block.proofs.EachTurn.{AbortForms, CommittedForms, TurnFormsAt, may_ask, ready_is}
 use Rattle.tc_views.specs.State.{CoordinatorState}
+use Rattle.host_laws.proofs.rows.Operations.{left_of}
 use Rattle.request_laws.specs.Drives.{is_commit, is_request}
 use Rattle.request_laws.specs.Routes.{HasRoutes, HasRoutesIn, IsAskedRouted, IsRouted, IsSentRouted, IsTouchedRouted}
 use Rattle.request_laws.specs.Ways.{is_sent}
@@ -268,15 +269,10 @@ module _ (layout : Layout) (A D G : TxId → Type 0) (some : ChainsAreSome layou
         by (Aborting why verifying awaited) at own has =
             to_phase t (Aborting why verifying awaited) at ((makes.given refl).aborting (ap is_aborting at))
 
-    -- an operation can go to the replicas only where the transaction is open with nothing unanswered
-    ready_of : (a b : Bool) → (a && b) ≡ true → a ≡ true
-    ready_of true b can = refl
-    ready_of false b can = over_now (sym can)
-
     operates : (t : Transaction) (op : Op) → Had t → can_operate t op ≡ true
         → Routes (record { step = operating tx t op (chain_of layout (key_of op)); over = false })
     operates t op has can makes =
-        let is = ready_is t.phase t.asked (ready_of (is_ready t.phase t.asked) (fits t.touched (key_of op)) can) in
+        let is = ready_is t.phase t.asked (left_of (is_ready t.phase t.asked) (fits t.touched (key_of op)) can) in
         record {
           has = λ on. to_phase (operating tx t op (chain_of layout (key_of op))).state Open is.0 (λ spared asked.
               let routes = in_phase t Open is.0 has spared (inl is.1) in

@@ -57,7 +57,8 @@ take_some : (n : ℕ) (xs : List Member) → 0 < length xs → 0 < length (take 
 take_some n [] some = absurd (omega (arith, some))
 take_some n (x ∷ xs) some = omega arith
 
-in_take : (n : ℕ) (xs : List Member) (x : Member) → IsIn x (take n xs) → IsIn x xs
+-- who is in a part of a list is in it
+pub in_take : (n : ℕ) (xs : List Member) (x : Member) → IsIn x (take n xs) → IsIn x xs
 in_take zero xs x inside = absurd inside
 in_take (suc n) [] x inside = absurd inside
 in_take (suc n) (y ∷ ys) x (inl same) = inl same

@@ -1,7 +1,6 @@
 -- What a step of a coordinator makes of its number, its fence and whom it has doomed.
-use Rattle.std.proofs.Common.{◌≡◌, ◌⊎◌, ◌∙◌, ◌||◌, ◌&&◌, ◌==◌, ℕ, Bool, true, false, cond, nat_lt, List, [], ◌∷◌, ◌++◌}
+use Rattle.std.proofs.Common.{◌≡◌, ◌⊎◌, ◌∙◌, ◌||◌, ◌==◌, ℕ, Bool, true, false, cond, nat_lt, List, [], ◌∷◌, ◌++◌}
 use Rattle.std.proofs.Common.{refl, sym, ap, inl, inr}
-use Rattle.std.proofs.lemmas.Bool.{eq-eqb}
 use Rattle.std.specs.Prelude.{Option, None, Some, is_some}
 use Rattle.run_theory.specs.Lists.{IsIn}
 use Rattle.run_theory.proofs.Pasts.{each_in}
@@ -17,6 +16,7 @@ use Rattle.sig_core.specs.declared.signal.Signal.{Signal}
 use Rattle.sig_core.specs.declared.view.View.{View}
 use Rattle.sig_core.specs.Same.{same_tx}
 use Rattle.sig_core.proofs.TxLemmas.{same_tx-is}
+use Rattle.sig_core.proofs.Keys.{same_tx-self}
 use Rattle.tc_block.specs.declared.task.Task.{Task}
 use Rattle.tc_block.specs.declared.transaction.Transaction as transactions
 use Rattle.tc_block.specs.Doom.{doomed_if, doomed_in, is_among, is_doomed_by}
@@ -70,10 +70,6 @@ module _ (s : CoordinatorState) where
   pub row_fences : (x : Signal) → Fences s x.body (coordinator_row s x).state
   row_fences x = table_fences x.view.number x.body
 
--- a transaction is the same as itself
-same_self : (tx : TxId) → same_tx tx tx ≡ true
-same_self tx = λ i. eq-eqb tx.tc tx.tc refl i && (eq-eqb tx.start tx.start refl i && eq-eqb tx.seq tx.seq refl i)
-
 -- who isn't forgotten has a place
 has_place : (tc : TcState) (e : TxId × transactions.Transaction) → IsIn e tc.live → is_live tc e.0 ≡ true
 has_place tc e there = by (place_in tc e.0) refl
@@ -84,7 +80,7 @@ has_place tc e there = by (place_in tc e.0) refl
         let other : same_tx e.0 e.0 ≡ false =
         each_in (λ (x : TxId × transactions.Transaction). same_tx x.0 e.0 ≡ false) e tc.live
         (no_place e.0 tc.live is) there in
-        let both : true ≡ false = sym (same_self e.0) ∙ other in absurd cc
+        let both : true ≡ false = sym (same_tx-self e.0) ∙ other in absurd cc
 
 -- so it stays among those of whom others are forgotten
 stays_among : (tc : TcState) (txs : List TxId) (tx : TxId) → is_live tc tx ≡ true → is_among txs tx ≡ true
@@ -124,7 +120,7 @@ module _ (view : View) (before : List TxId) where
   dooms (one ∷ live) e (inl same) is =
       among_if e.0 one.0 (is_among before one.0 || is_doomed_by view one.1) (doomed_in view before live)
       (inl (
-        ap (λ (o : TxId × transactions.Transaction). same_tx e.0 o.0) (sym same) ∙ same_self e.0,
+        ap (λ (o : TxId × transactions.Transaction). same_tx e.0 o.0) (sym same) ∙ same_tx-self e.0,
         ap (λ (o : TxId × transactions.Transaction). is_among before o.0 || is_doomed_by view o.1) (sym same) ∙ is,
       ))
   dooms (one ∷ live) e (inr behind) is =

@@ -128,7 +128,7 @@ module _ (start : Start) (all : ℕ → List HostStep) (es : List HostStep) (mom
     -- the view isn't the first
     not_before : (newer : List HostStep) → (first_view start.shape.nodes).number ≤ (view_after start h newer).number
     not_before [] =
-        let is = ap (λ (v : View). v.number) (started_view start moment.cluster.shape h) in omega (arith, is)
+        let is = ap (λ (v : View). v.number) (started_view start h) in omega (arith, is)
     not_before (f ∷ newer) =
         let up = view_rises start h newer f in let low = not_before newer in omega (arith, up, low)
 

@@ -7,15 +7,16 @@ use Rattle.run_theory.specs.Lists.{IsIn}
 use Rattle.sig_core.specs.declared.member.Member.{Member}
 use Rattle.sig_core.specs.declared.member.TxId.{TxId}
 use Rattle.sig_core.specs.declared.signal.Signal.{Signal}
+use Rattle.tc_block.specs.Complete.{one_if}
 use Rattle.world_core.specs.Start.{Start, made}
 use Rattle.world_core.specs.Steps.{HostStep}
+use Rattle.run_laws.specs.Tokens.{is_token}
 use Rattle.view_laws.specs.Order.{sound_machine}
 use Rattle.moment_laws.specs.Moments.{logs_of}
 use Rattle.moment_laws.proofs.MomentViews.{moment_less}
 use Rattle.outcome_laws.proofs.coordinators.Lists.{one_few}
-use Rattle.outcome_laws.specs.Counts.{one_if}
 use Rattle.request_laws.specs.Tokens.{QuietUnlessAsked, TakenIsAlone, WaitingIsAlone, all_sent, all_taken, all_waiting}
-use Rattle.request_laws.specs.Tokens.{is_token, is_token_in, may_go, number_now, total_of, waiting_at}
+use Rattle.request_laws.specs.Tokens.{is_token_in, may_go, number_now, total_of, waiting_at}
 use Rattle.request_laws.proofs.tokens.Moments.{before_now, have_one}
 use Rattle.request_laws.proofs.routes.BesideRows.{is_of_rows}
 use Rattle.request_laws.proofs.tokens.SumsOverHosts.{takes_before, takes_few, token_of_rows}

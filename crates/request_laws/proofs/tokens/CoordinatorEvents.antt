@@ -36,6 +36,7 @@ use Rattle.node_views.specs.Parts.{tc_entered, tc_row}
 use Rattle.world_core.specs.Start.{Start, made}
 use Rattle.world_core.specs.Steps.{HostStep}
 use Rattle.world_views.specs.Machine.{after, step_after}
+use Rattle.run_laws.specs.Tokens.{is_token}
 use Rattle.view_laws.specs.Runs.{view_after}
 use Rattle.moment_laws.specs.Parts.{IsPassed}
 use Rattle.moment_laws.specs.PartSteps.{PartEnters, PartTakes, handles, ignores, installs, remains, tc_kind}
@@ -46,7 +47,7 @@ use Rattle.outcome_laws.specs.Counts.{IsCoordinatorOf, coordinator_member, count
 use Rattle.outcome_laws.proofs.coordinators.Lists.{count_both, none_counted}
 use Rattle.request_laws.specs.Blocks.{coordinator_after, coordinator_in}
 use Rattle.request_laws.specs.Drives.{is_request}
-use Rattle.request_laws.specs.Tokens.{has_asked, is_token}
+use Rattle.request_laws.specs.Tokens.{has_asked}
 use Rattle.request_laws.specs.Ways.{entry_of, has_gone_back, is_at, is_sent, tells_abort}
 use Rattle.request_laws.proofs.phases.AlongLogs.{coordinator_first, coordinator_is, runs_tc, told_some}
 use Rattle.request_laws.proofs.phases.GoneWays.{spared_unsent}

@@ -14,6 +14,7 @@ use Rattle.sig_core.specs.declared.member.Member.{Member}
 use Rattle.sig_core.specs.declared.signal.Body.{Body}
 use Rattle.sig_core.specs.declared.signal.Signal.{Signal}
 use Rattle.sig_core.specs.declared.view.View.{View}
+use Rattle.tc_block.specs.Complete.{one_if}
 use Rattle.world_core.specs.Hosts.{hosts}
 use Rattle.world_core.specs.Start.{Start}
 use Rattle.world_core.specs.Steps.{Addressed, HostStep}
@@ -27,7 +28,6 @@ use Rattle.moment_laws.specs.Moments.{IsMoment, logs_of}
 use Rattle.moment_laws.proofs.MomentTurns.{host_low, other_log, own_log}
 use Rattle.moment_laws.proofs.MomentViews.{current_above, current_number}
 use Rattle.outcome_laws.proofs.coordinators.Lists.{count_more}
-use Rattle.outcome_laws.specs.Counts.{one_if}
 use Rattle.request_laws.specs.Tokens.{all_sent, all_taken, sent_along, taken_along, total_of}
 
 -- sums over members
@@ -41,7 +41,8 @@ pub total_of_zero : (ms : List Member) (f : Member → ℕ) → ((m : Member) �
 total_of_zero [] f none = refl
 total_of_zero (m ∷ ms) f none = omega (arith, none m (inl refl), total_of_zero ms f (λ x there. none x (inr there)))
 
-total_of_last : (ms : List Member) (m : Member) (f : Member → ℕ) → total_of (ms ++ m ∷ []) f ≡ total_of ms f + f m
+-- a total with one member more
+pub total_of_last : (ms : List Member) (m : Member) (f : Member → ℕ) → total_of (ms ++ m ∷ []) f ≡ total_of ms f + f m
 total_of_last [] m f = omega arith
 total_of_last (x ∷ ms) m f = omega (arith, total_of_last ms m f)
 

@@ -17,12 +17,14 @@ use Rattle.sig_core.specs.declared.signal.chain.ChainSignal.TheVariants.{LqhKeyR
 use Rattle.sig_core.specs.declared.view.View.{View}
 use Rattle.frag_map.specs.Replicas.{first_start}
 use Rattle.tc_block.specs.Phases.{is_aborting}
+use Rattle.tc_block.specs.Complete.{one_if}
 use Rattle.node_views.specs.declared.host_body.HostBody as node
 use Rattle.world_core.specs.Hosts.{hosts}
 use Rattle.world_core.specs.Start.{Start, made}
 use Rattle.world_core.specs.Steps.{Addressed, HostStep}
 use Rattle.world_views.specs.Hosts.{started}
 use Rattle.world_views.specs.Machine.{step_after, stops_by}
+use Rattle.run_laws.specs.Tokens.{is_token}
 use Rattle.view_laws.specs.Order.{sound_machine}
 use Rattle.view_laws.specs.Runs.{view_after}
 use Rattle.view_laws.proofs.follow.Hosts.{first_of}
@@ -35,12 +37,12 @@ use Rattle.moment_laws.proofs.MomentTurns.{Turn, host_low, keeps, other_log, own
 use Rattle.moment_laws.proofs.MomentViews.{current_above, current_number, moment_less}
 use Rattle.moment_laws.proofs.PartKinds.{tc_is}
 use Rattle.moment_laws.proofs.PartTaken.{handled_now}
-use Rattle.outcome_laws.specs.Counts.{coordinator_member, count_sent, one_if}
+use Rattle.outcome_laws.specs.Counts.{coordinator_member, count_sent}
 use Rattle.outcome_laws.proofs.coordinators.Lists.{count_more, none_counted}
 use Rattle.request_laws.specs.Blocks.{coordinator_after, no_replica, rows_after, rows_in}
 use Rattle.request_laws.specs.Drives.{asked_in, is_request}
 use Rattle.request_laws.specs.Tokens.{OneAtATime, all_sent, all_taken, all_waiting, budget, count_waiting, has_asked}
-use Rattle.request_laws.specs.Tokens.{is_token, is_token_in, may_behind, number_now, waiting_at, waits_behind}
+use Rattle.request_laws.specs.Tokens.{is_token_in, may_behind, number_now, waiting_at, waits_behind}
 use Rattle.request_laws.specs.Ways.{entry_of, has_gone_back, is_sent, tells_abort}
 use Rattle.request_laws.proofs.phases.GoneWays.{gone_stays}
 use Rattle.request_laws.proofs.routes.Hosts.{IsBeside, PartHost, beside_sends, coordinates, is_beside, keeps_rows}

@@ -11,9 +11,9 @@ use Rattle.sig_core.specs.declared.signal.Signal.{Signal}
 use Rattle.sig_core.specs.declared.signal.chain.ChainSignal.TheVariants.{LqhKeyConf, LqhKeyRef, LqhKeyReq}
 use Rattle.takeover_block.specs.State.{TakeoverState}
 use Rattle.takeover_block.specs.Takeover.{takeover_row}
+use Rattle.run_laws.specs.Tokens.{is_token}
 use Rattle.view_laws.proofs.words.Sent.{each_of_kinds}
 use Rattle.view_laws.proofs.words.Takeover.{is_of_takeover, takeover_kinds}
-use Rattle.request_laws.specs.Tokens.{is_token}
 use Rattle.request_laws.proofs.routes.BesideRows.{AreAside, IsAside, is_of_rows}
 
 module _ (tx : TxId) where

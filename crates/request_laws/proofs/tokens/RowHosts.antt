@@ -17,6 +17,7 @@ use Rattle.sig_core.specs.declared.signal.Body.{Body}
 use Rattle.sig_core.specs.declared.signal.Body.TheVariants.{Chain}
 use Rattle.sig_core.specs.declared.signal.Signal.{Signal}
 use Rattle.sig_core.specs.declared.view.View.{View}
+use Rattle.tc_block.specs.Complete.{one_if}
 use Rattle.lqh_saver.specs.Saver.{saver_row}
 use Rattle.lqh_saver.specs.State.{saving}
 use Rattle.lqh_views.specs.State.{ReplicaState}
@@ -45,10 +46,11 @@ use Rattle.moment_laws.proofs.MomentViews.{current_number}
 use Rattle.moment_laws.proofs.PartKinds.{ldm_after, ldm_is}
 use Rattle.moment_laws.proofs.PartTaken.{IsTakenNow, handled_now}
 use Rattle.run_laws.proofs.tokens.Waiting.{WaitersAsk}
-use Rattle.outcome_laws.specs.Counts.{count_sent, one_if}
+use Rattle.run_laws.specs.Tokens.{is_token}
+use Rattle.outcome_laws.specs.Counts.{count_sent}
 use Rattle.outcome_laws.proofs.coordinators.Lists.{count_both, count_more}
 use Rattle.request_laws.specs.Blocks.{no_replica, rows_after, rows_in}
-use Rattle.request_laws.specs.Tokens.{count_waiting, is_token, is_token_in}
+use Rattle.request_laws.specs.Tokens.{count_waiting, is_token_in}
 use Rattle.request_laws.proofs.replicas.WaitersHaveRequests.{none_ask_installed}
 use Rattle.request_laws.proofs.tokens.Rows.{rows_run, saving_conserve}
 use Rattle.request_laws.proofs.tokens.FirstInView.{sent_now, taken_now}
@@ -96,7 +98,8 @@ count_less : {A : Type 0} (p q : A → Bool) → ((x : A) → one_if (p x) ≤ o
 count_less p q less [] = omega arith
 count_less p q less (x ∷ xs) = omega (arith, count_more p x xs, count_more q x xs, less x, count_less p q less xs)
 
-filter_count : {A : Type 0} (p f : A → Bool) (xs : List A) → count_by p (filter f xs) ≤ count_by p xs
+-- of a part no more are counted
+pub filter_count : {A : Type 0} (p f : A → Bool) (xs : List A) → count_by p (filter f xs) ≤ count_by p xs
 filter_count p f [] = omega arith
 filter_count p f (x ∷ xs) = by (f x) (filter_count p f xs)
   where

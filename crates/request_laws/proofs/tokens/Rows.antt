@@ -28,6 +28,7 @@ use Rattle.row_locks.specs.Queues.{waits}
 use Rattle.row_locks.specs.Rows.{RowLock}
 use Rattle.row_locks.specs.Tables.{or_unlocked}
 use Rattle.row_locks.proofs.LocksLemmas.{key_cmp}
+use Rattle.tc_block.specs.Complete.{one_if}
 use Rattle.lqh_block.specs.declared.request.Marker.{Marker}
 use Rattle.lqh_block.specs.declared.request.Request.{Request}
 use Rattle.lqh_block.specs.Lqh.{lqh_row}
@@ -49,12 +50,13 @@ use Rattle.moment_laws.specs.Places.{ldm_of}
 use Rattle.run_laws.specs.Tokens as plain
 use Rattle.run_laws.proofs.tokens.Rows.{is_own, lqh_tokens, tokens_out}
 use Rattle.run_laws.proofs.tokens.Waiting.{WaitersAsk}
+use Rattle.run_laws.specs.Tokens.{is_token}
 use Rattle.world_core.specs.Start.{Start, made}
 use Rattle.world_core.specs.Steps.{HostStep}
-use Rattle.outcome_laws.specs.Counts.{count_sent, one_if}
+use Rattle.outcome_laws.specs.Counts.{count_sent}
 use Rattle.outcome_laws.proofs.coordinators.Lists.{count_more}
 use Rattle.request_laws.specs.Blocks.{rows_after}
-use Rattle.request_laws.specs.Tokens.{count_waiting, is_token}
+use Rattle.request_laws.specs.Tokens.{count_waiting}
 use Rattle.request_laws.proofs.replicas.WaitersHaveRequests.{none_ask_installed, waiters_ask as signal_asks}
 use Rattle.request_laws.proofs.replicas.AlongLogs.{AreRows, always, first_rows, rows_so}
 

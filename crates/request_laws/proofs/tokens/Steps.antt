@@ -2,7 +2,7 @@
 -- unanswered.
 use Rattle.std.proofs.Common.{◌≡◌, ◌⊎◌, ◌||◌, ◌++◌, ◌<◌, ℕ, Bool, true, false, List, [], ◌∷◌, refl, sym, ap, subst}
 use Rattle.std.proofs.Common.{arith, inl, inr, ◌∙◌}
-use Rattle.std.proofs.lemmas.Bool.{leb-false, leb-true, or_cases, or_left, or_right, true≢false}
+use Rattle.std.proofs.lemmas.Bool.{leb-false, leb-true, or_cases, or_left, true≢false}
 use Rattle.std.proofs.lemmas.List.{append-nil}
 use Rattle.std.specs.Prelude.{is_some, nat_le, if◌then◌else◌, Option, None, Some}
 use Rattle.run_theory.proofs.Pasts.{each_map}
@@ -30,11 +30,12 @@ use Rattle.tc_block.proofs.EachTurn.{rows_at, rows_of}
 use Rattle.tc_block.proofs.TurnRows.{turn_for, turn_with}
 use Rattle.tc_views.specs.Coordinator.{coordinator_row}
 use Rattle.tc_views.specs.State.{CoordinatorState, go_on_if, go_on_with}
+use Rattle.run_laws.specs.Tokens.{is_token}
 use Rattle.outcome_laws.specs.Counts.{IsCoordinatorOf, coordinator_member, count_sent, is_unborn}
 use Rattle.outcome_laws.proofs.coordinators.Lists.{count_both, none_counted}
 use Rattle.tc_block.proofs.EachResume as walk
 use Rattle.request_laws.specs.Drives.{is_request}
-use Rattle.request_laws.specs.Tokens.{has_asked, is_token}
+use Rattle.request_laws.specs.Tokens.{has_asked}
 use Rattle.request_laws.specs.Ways.{entry_of, is_at, is_sent, tells_abort}
 use Rattle.request_laws.proofs.phases.TurnSends.{AreSpared}
 use Rattle.request_laws.proofs.phases.Turns.{Changes, back, decides, forth, is_abort_told, opens, resume_changes}
@@ -43,6 +44,7 @@ use Rattle.request_laws.proofs.phases.Turns as changes
 use Rattle.request_laws.proofs.phases.Steps.{AreAway, Walks, begins, coordinator_walks, is_about, left_of, passes}
 use Rattle.request_laws.proofs.phases.Steps.{resumes, stays, turns}
 use Rattle.request_laws.proofs.tokens.Turns.{TokenTurn, asks, ends, falls, hears, rests, resumes_move, turns_move}
+use Rattle.request_laws.proofs.phases.OneWay.{sent_before}
 
 -- What is so of a transaction that has gone back, or hasn't: it has something unanswered only where it may, and once it
 -- has gone back it is aborted or forgotten for good.
@@ -93,17 +95,6 @@ module _ (tx : TxId) where
   away_untold [] away = refl
   away_untold (o ∷ sends) away =
       ap (λ b. b || is_sent (tells_abort tx) sends) (away_abort o.body away.0) ∙ away_untold sends away.1
-
-  -- what is sent by some is sent by more
-  sent_more : (p : Body → Bool) (sends more : List Outgoing) → is_sent p sends ≡ true → is_sent p (sends ++ more) ≡ true
-  sent_more p [] more is = absurd (true≢false (sym is))
-  sent_more p (o ∷ sends) more is = by (or_cases (p o.body) (is_sent p sends) is) (sent_more p sends more)
-    where
-      by : (p o.body ≡ true) ⊎ (is_sent p sends ≡ true)
-          → (is_sent p sends ≡ true → is_sent p (sends ++ more) ≡ true)
-          → (p o.body || is_sent p (sends ++ more)) ≡ true
-      by (inl one) rest = or_left (p o.body) (is_sent p (sends ++ more)) one
-      by (inr some) rest = or_right (p o.body) (is_sent p (sends ++ more)) (rest some)
 
   count_more_none : (sends more : List Outgoing) → count_sent (is_token tx) more ≡ 0
       → count_sent (is_token tx) (sends ++ more) ≡ count_sent (is_token tx) sends
@@ -220,7 +211,7 @@ module _ (tx : TxId) where
                 moves = quiet (none_more none)
                     (λ asked.
                     inr (inr (or_left (is_sent (tells_abort tx) sends) gone
-                    (sent_more (tells_abort tx) turn.step.effects.sends more (tells over)))));
+                    (sent_before (tells_abort tx) turn.step.effects.sends more (tells over)))));
               })
           by false over =
               on over (record {
@@ -238,7 +229,7 @@ module _ (tx : TxId) where
             );
             moves = sends_one
                 (count_more_none turn.step.effects.sends more (away_none more away) ∙ one)
-                (sent_more (is_request tx) turn.step.effects.sends more request) (ap (λ o. is_some o) unasked) some
+                (sent_before (is_request tx) turn.step.effects.sends more request) (ap (λ o. is_some o) unasked) some
                 (not_gone gone refl);
           })
         where

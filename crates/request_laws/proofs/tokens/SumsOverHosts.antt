@@ -15,15 +15,16 @@ use Rattle.sig_core.specs.declared.member.TxId.{TxId}
 use Rattle.sig_core.specs.declared.signal.Body.{Body}
 use Rattle.sig_core.specs.declared.signal.Body.TheVariants.{Chain}
 use Rattle.sig_core.specs.declared.signal.Signal.{Signal}
+use Rattle.tc_block.specs.Complete.{one_if}
 use Rattle.world_core.specs.Hosts.{hosts}
 use Rattle.world_core.specs.Start.{Start}
 use Rattle.world_core.specs.Steps.{Addressed, HostStep}
+use Rattle.run_laws.specs.Tokens.{is_token}
 use Rattle.view_laws.specs.Order.{sound_machine}
 use Rattle.moment_laws.specs.Moments.{IsMoment, logs_of}
 use Rattle.moment_laws.proofs.MomentViews.{moment_less, moment_within}
-use Rattle.outcome_laws.specs.Counts.{one_if}
 use Rattle.outcome_laws.proofs.coordinators.Lists.{count_both, count_more}
-use Rattle.request_laws.specs.Tokens.{TakesAreFew, all_sent, all_taken, is_token, sent_along, taken_along}
+use Rattle.request_laws.specs.Tokens.{TakesAreFew, all_sent, all_taken, sent_along, taken_along}
 use Rattle.request_laws.proofs.routes.BesideRows.{is_of_rows}
 use Rattle.request_laws.proofs.tokens.Rows.{one_same}
 

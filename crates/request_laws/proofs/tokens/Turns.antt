@@ -14,6 +14,7 @@ use Rattle.sig_core.proofs.Keys.{same_tx-self}
 use Rattle.frag_map.specs.Layout.{Layout}
 use Rattle.host_laws.proofs.coordinator.Operations.{is_right}
 use Rattle.run_laws.proofs.tokens.Still.{AreStill, IsStill, still_out, turns_still}
+use Rattle.run_laws.specs.Tokens.{is_token}
 use Rattle.tc_block.proofs.EachResume.{ResumeForms}
 use Rattle.tc_block.specs.Abort.{abort_end}
 use Rattle.tc_block.specs.Operate.{is_ready}
@@ -28,7 +29,6 @@ use Rattle.tc_block.specs.declared.transaction.Transaction.{Transaction}
 use Rattle.tc_block.proofs.EachTurn.{AbortForms, CommittedForms, TurnForms, ready_is}
 use Rattle.outcome_laws.specs.Counts.{count_sent}
 use Rattle.request_laws.specs.Drives.{is_request}
-use Rattle.request_laws.specs.Tokens.{is_token}
 use Rattle.request_laws.specs.Ways.{is_sent, tells_abort}
 use Rattle.request_laws.proofs.tokens.Rows.{out_same}
 

@@ -1,5 +1,6 @@
 -- What is restored of the disks of a life is its history up to the epoch of the latest system slot.
-use Rattle.std.proofs.Common.{◌≡◌, ◌≤◌, ◌<◌, ◌⊎◌, ◌+◌, ◌*◌, ◌==◌, ◌∙◌, ℕ, true, false, List, [], sym, ap, subst, inl, inr}
+use Rattle.std.proofs.Common.{◌≡◌, ◌≤◌, ◌<◌, ◌⊎◌, ◌+◌, ◌*◌, ◌==◌, ◌∙◌, ℕ, true, false, List, [], sym, ap, subst, inl}
+use Rattle.std.proofs.Common.{inr}
 use Rattle.std.proofs.Common.{arith, get_or}
 use Rattle.std.specs.FinMap as map
 use Rattle.std.specs.Prelude.{None, Some, Ok}
@@ -36,6 +37,7 @@ use Rattle.closing_laws.proofs.settled.Cuts.{events_of, logs_are}
 use Rattle.journal_laws.specs.Events.{records_behind}
 use Rattle.journal_laws.specs.Journal.{first_rows}
 use Rattle.journal_laws.specs.Laws.{ReplaysGiveOwnRows}
+use Rattle.journal_laws.proofs.events.FirstRows.{first_pending}
 use Rattle.saved_laws.specs.Copied.{CopiedWereSaved, DoneWereMarked, DurableWereNoted, IsOfDurable, TellsDurable}
 use Rattle.saved_laws.specs.Copied.{WasTold}
 use Rattle.saved_laws.specs.History.{SavedRowsAreHistory, row_up_to}
@@ -45,7 +47,6 @@ use Rattle.restart_laws.specs.Restart.{AreGrouped, AreLeft, IsOfLife, RestartsAr
 use Rattle.restart_laws.proofs.groups.Done.{WasMarked, told_done}
 use Rattle.restart_laws.proofs.groups.Left.{begins, told_durable}
 use Rattle.restart_laws.proofs.groups.Nodes.{first_below, group_low, has_full, node_group, node_low_group}
-use Rattle.restart_laws.proofs.groups.Rows.{none_pending}
 use Rattle.restart_laws.proofs.groups.Sources.{AreGroups, AreOfOne, HasOwnRows, IsGroup, all_groups, group_is}
 use Rattle.restart_laws.proofs.groups.System.{latest, listed_saved, manned, system_generation, system_least, system_up}
 
@@ -141,7 +142,7 @@ module _ (copied : CopiedWereSaved) (durable : DurableWereNoted) (done : DoneWer
           ≡ row_up_to start logs system.epoch key
       own key holding =
           ap (λ (rows : Rows). map.get rows key)
-          (replays (first_rows start member) before has.events system.epoch (none_pending start member there))
+          (replays (first_rows start member) before has.events system.epoch (first_pending start member there))
           ∙ saved start logs (begins start r logs images left) left.cluster member there has.older has.past has.events
           has.events_of before (left.each member there).begun system.epoch
           (subst (λ k. system.epoch ≤ k) has.saved (listed_saved start r logs images left copied member there listed))
@@ -152,7 +153,7 @@ module _ (copied : CopiedWereSaved) (durable : DurableWereNoted) (done : DoneWer
           → map.get (replayed system.epoch before (records_behind (first_rows start member) has.events)) key ≡ None
       others key apart =
           ap (λ (rows : Rows). map.get rows key)
-          (replays (first_rows start member) before has.events system.epoch (none_pending start member there))
+          (replays (first_rows start member) before has.events system.epoch (first_pending start member there))
           ∙ stay start logs left.cluster member there has.older has.past has.events has.events_of before system.epoch
           key
           apart

@@ -7,12 +7,9 @@ use Rattle.run_theory.proofs.Pasts.{past_less}
 use Rattle.run_theory.specs.Links.{sent}
 use Rattle.run_theory.specs.Lists.{Each, IsPast}
 use Rattle.sig_core.specs.Journal.{OutletState}
-use Rattle.sig_core.specs.declared.signal.Body.{Body}
 use Rattle.sig_core.specs.declared.signal.Body.TheVariants.{Epoch}
 use Rattle.sig_core.specs.declared.signal.Signal.{Signal}
 use Rattle.sig_core.specs.declared.signal.epoch.EpochSignal.TheVariants.{CopyGciReq}
-use Rattle.lqh_saver.specs.declared.stage.Todo.{Todo}
-use Rattle.lqh_saver.specs.declared.stage.Todo.TheVariants as todo
 use Rattle.node_views.specs.declared.host_body.HostBody as hosts
 use Rattle.node_views.specs.Row.{is_barred}
 use Rattle.node_views.specs.Saving.{outlet_of, saved_by}
@@ -25,24 +22,11 @@ use Rattle.view_laws.specs.Order.{sound_machine}
 use Rattle.view_laws.specs.Runs.{AreOfCluster}
 use Rattle.moment_laws.proofs.MomentRuns.{are_moments}
 use Rattle.closing_laws.proofs.settled.Cuts.{events_of, logs_are}
-use Rattle.disk_world.specs.Keeping.{DurableAt, durable_by, durable_if, kept_beside, kept_unless, todo_in}
+use Rattle.disk_world.specs.Keeping.{DurableAt, durable_if, kept_beside, todo_in}
 use Rattle.disk_laws.specs.Noted.{WasNoted}
+use Rattle.disk_laws.proofs.NotedSignals.{body_says, no_durable}
 use Rattle.saved_laws.specs.Copied.{CopiedWereSaved, IsOfSaved}
 use Rattle.restart_laws.proofs.groups.Taken.{taken_so}
-
--- the signal orders it
-copies : (body : Body) (epoch mask : ℕ) → durable_by body ≡ DurableAt epoch mask
-    → body ≡ Epoch (CopyGciReq epoch mask)
-copies (Epoch (CopyGciReq at members)) epoch mask is = cc
-copies _ epoch mask is = absurd cc
-
--- a host with rows gives its disk no such epoch to keep
-rows_note_none : (saved : ℕ) (redo : OutletState) (it : Todo) (epoch mask : ℕ)
-    → kept_unless saved redo it ≡ DurableAt epoch mask → ⊥
-rows_note_none saved redo todo.Nothing epoch mask is = cc
-rows_note_none saved redo (todo.Write piece) epoch mask is = cc
-rows_note_none saved redo todo.Sync epoch mask is = cc
-rows_note_none saved redo (todo.Name finished) epoch mask is = cc
 
 -- a step that notes an epoch took a well-formed signal that orders it
 record OrdersIt (well : Signal → Bool) (x : Signal) (epoch mask : ℕ) : Type 0 where
@@ -58,13 +42,13 @@ orders s x epoch mask = by (outlet_of s.parts)
         → durable_if b x ≡ DurableAt epoch mask → OrdersIt (is_well_formed s.standing.shape) x epoch mask
     test true passes is = record {
       sound = (and_parts (is_well_formed s.standing.shape x) (not (is_barred s x)) passes).0;
-      body = copies x.body epoch mask is;
+      body = body_says x.body epoch mask is;
     }
     test false passes is = absurd cc
 
     by : (o : Option OutletState) → kept_beside o s (Some x) ≡ DurableAt epoch mask
         → OrdersIt (is_well_formed s.standing.shape) x epoch mask
-    by (Some redo) is = absurd (rows_note_none (saved_by s.parts) redo (todo_in s (Some x)) epoch mask is)
+    by (Some redo) is = absurd (no_durable (saved_by s.parts) redo (todo_in s (Some x)) epoch mask is)
     by None is = test (is_well_formed s.standing.shape x && not (is_barred s x)) refl is
 
 module _ (copied : CopiedWereSaved) (start : Start) (logs : ℕ → List HostStep) (are : AreOfCluster start logs)

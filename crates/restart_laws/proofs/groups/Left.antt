@@ -18,7 +18,7 @@ use Rattle.disk_laws.specs.Noted.{kept_part}
 use Rattle.saved_laws.specs.Copied.{TellsDurable, TellsSaved, WasTold}
 use Rattle.restart_laws.specs.Restart.{AreLeft, IsLeftOf}
 use Rattle.restart_laws.specs.Told.{IsNotedDurable, TellsNotedDurable, TellsNotedRows}
-use Rattle.restart_laws.proofs.groups.Rows.{saved_above}
+use Rattle.saved_laws.proofs.others.OfLife.{saved_above}
 
 -- what was taken of well-formed signals was taken
 module _ (start : Start) (i : ℕ) where

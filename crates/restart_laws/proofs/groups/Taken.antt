@@ -1,6 +1,5 @@
 -- A well-formed signal of epochs that was taken was sent: so what is so of all that hosts send is so of it.
-use Rattle.std.proofs.Common.{◌≡◌, ◌||◌, ◌&&◌, ◌==◌, ◌∙◌, ℕ, Bool, true, false, List, ◌∷◌, refl, sym, subst, inl, ap}
-use Rattle.std.specs.Prelude.{not}
+use Rattle.std.proofs.Common.{◌≡◌, ◌&&◌, ◌==◌, ◌∙◌, ℕ, Bool, true, false, List, ◌∷◌, refl, sym, subst, inl, ap}
 use Rattle.run_theory.proofs.Cuts.{taken_past}
 use Rattle.run_theory.proofs.Pasts.{in_past}
 use Rattle.run_theory.proofs.Runs.{taken-step}
@@ -20,7 +19,7 @@ use Rattle.world_views.specs.Sending.{is_asked, is_own_work}
 use Rattle.view_laws.proofs.eras.SoundLogs.{sound_logs}
 use Rattle.view_laws.specs.Order.{sound_machine}
 use Rattle.view_laws.specs.Runs.{AreOfCluster}
-use Rattle.moment_laws.proofs.MomentSignals.{IsClosed}
+use Rattle.moment_laws.proofs.MomentSignals.{IsClosed, neither}
 use Rattle.commit_laws.proofs.orders.Sound.{given_so, sound_closes}
 
 -- no host asks itself for it, and no link closes with it
@@ -34,11 +33,6 @@ unasked h x signal is = by (x.from.0 == h)
 not_closed : (body : Body) (signal : EpochSignal) → body ≡ Epoch signal → IsClosed body → ⊥
 not_closed body signal is closed =
     let differ : Epoch signal ≡ Host (Closed closed.cause) = sym is ∙ closed.is in absurd cc
-
-neither : (a b : Bool) → a ≡ false → b ≡ true → (a || not b) ≡ false
-neither true b e f = e
-neither false true e f = refl
-neither false false e f = sym f
 
 module _ (start : Start) (logs : ℕ → List HostStep) (are : AreOfCluster start logs) (K : ℕ → Addressed → Type 0)
     (all_so : (i j : ℕ) → Each (K i) (sent (sound_machine start) i j (logs i))) where

@@ -12,7 +12,7 @@ use Rattle.sig_core.specs.Table.{Rows}
 use Rattle.sys_restart.specs.declared.restored.Restored.{Restored}
 use Rattle.sys_restart.specs.Calls.{rows_of_node}
 use Rattle.sys_restart.specs.Prepared.{AreStorable}
-use Rattle.request_laws.specs.Blocks.{rows_after}
+use Rattle.request_laws.specs.Blocks.{rows_after, saver_after}
 use Rattle.world_core.specs.Start.{Start, made}
 use Rattle.world_core.specs.Steps.{HostStep}
 use Rattle.world_core.specs.World.{logs_at}
@@ -27,7 +27,6 @@ use Rattle.outcome_laws.proofs.order.EventsBefore.{moment_before}
 use Rattle.closing_laws.proofs.settled.Cuts.{HasLogAt, events_of, has_log, logs_are}
 use Rattle.journal_laws.specs.Asked.{AreOfWords}
 use Rattle.journal_laws.specs.Journal.{HasRecords, first_rows, lqh_after}
-use Rattle.journal_laws.specs.Saver.{saver_after}
 use Rattle.journal_laws.specs.Walks.{IsFollowed}
 use Rattle.journal_laws.proofs.Journals.{journals}
 use Rattle.journal_laws.proofs.follow.Follow.{walks_followed}

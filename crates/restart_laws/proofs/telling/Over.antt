@@ -4,7 +4,7 @@ use Rattle.std.proofs.Common.{if◌then◌else◌}
 use Rattle.std.proofs.lemmas.Bool.{eqb-true, true≢false}
 use Rattle.run_theory.specs.Links.{is_from, taken}
 use Rattle.run_theory.specs.Lists.{Each, IsIn}
-use Rattle.run_theory.specs.Logs.{IsLog, IsRunning, IsStep}
+use Rattle.run_theory.specs.Logs.{IsLog, IsStep}
 use Rattle.run_theory.proofs.Pasts.{each_from, each_in}
 use Rattle.sig_core.specs.declared.signal.Body.{Body}
 use Rattle.sig_core.specs.declared.signal.Signal.{Signal}
@@ -13,11 +13,12 @@ use Rattle.world_core.specs.Start.{Start}
 use Rattle.world_core.specs.Steps.{HostStep}
 use Rattle.world_core.specs.World.{logs_at}
 use Rattle.world_views.specs.Links.{link}
-use Rattle.world_views.specs.Machine.{comes_rightly, has_cut, has_stopped, machine}
+use Rattle.world_views.specs.Machine.{comes_rightly, has_cut, machine}
 use Rattle.world_views.specs.Right.{IsOpen}
 use Rattle.world_views.specs.Sending.{is_asked}
 use Rattle.world_views.specs.World.{Whole}
 use Rattle.world_views.proofs.CutFacts.{uncut_before}
+use Rattle.disk_laws.proofs.GoneLemmas.{running}
 use Rattle.restart_laws.specs.Told.{IsTold}
 use Rattle.restart_laws.proofs.telling.Facts.{IsSo}
 use Rattle.restart_laws.proofs.telling.OnLinks.{IsSoOn}
@@ -40,10 +41,6 @@ comes_from start h e is = by (is_asked e.host e.step.taken) refl (e.step.taken.f
     by false asked true same is = (refl, eqb-true e.step.taken.from.0 h same)
     by false asked false same is = absurd (true≢false (sym is))
 
-running_is : (start : Start) (log : List HostStep) → IsRunning (machine start) log → has_stopped log ≡ false
-running_is start [] runs = refl
-running_is start (e ∷ log) runs = runs
-
 -- whoever takes something from a host's link still took from it before
 pub was_open : (start : Start) (h j : ℕ) (log : List HostStep) (e : HostStep) → IsStep (machine start) j log e
     → is_from (machine start) h e ≡ true → IsOpen start h j log
@@ -53,7 +50,7 @@ was_open start h j log e step is =
     subst (λ k. is_asked k e.step.taken ≡ false) step.at from.0
     in
     record {
-      runs = running_is start log step.runs;
+      runs = running start log step.runs;
       takes =
           subst (λ k. has_cut start j log k ≡ false) from.1
           (subst (λ b. comes_rightly b start j log e.step.taken) unasked step.fits.comes);
@@ -68,7 +65,7 @@ open_before start h j w u (one_taken e more stood) local opened =
     let step = (subst (IsLog (machine start) j) more local).0 in
     let now = subst (IsOpen start h j) more opened in
     record {
-      runs = running_is start (logs_at w.logs j) step.runs;
+      runs = running start (logs_at w.logs j) step.runs;
       takes = uncut_before start j (logs_at w.logs j) e h now.takes;
     }
 

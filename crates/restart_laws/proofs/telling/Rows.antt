@@ -2,7 +2,7 @@
 -- that it sends what was saved before.
 use Rattle.std.proofs.Common.{◌≡◌, ◌≤◌, ◌⊎◌, ◌++◌, inl, inr, ℕ, List, [], ◌∷◌, Bool, true, false, nat_lt, refl, sym, ap}
 use Rattle.std.proofs.Common.{if◌then◌else◌, subst, ◌∙◌, arith}
-use Rattle.std.proofs.lemmas.Bool.{ltb-false, ltb-true, true≢false}
+use Rattle.std.proofs.lemmas.Bool.{ltb-false, true≢false}
 use Rattle.run_theory.specs.Lists.{Each, IsIn}
 use Rattle.run_theory.proofs.Pasts.{each_map}
 use Rattle.sig_core.specs.declared.mark.Mark.{Mark}
@@ -45,6 +45,7 @@ use Rattle.moment_laws.proofs.MomentHosts.{ldm_number, part_some}
 use Rattle.request_laws.specs.Blocks.{rows_after}
 use Rattle.request_laws.proofs.routes.Layouts.{runs_ldm}
 use Rattle.request_laws.proofs.routes.PartSteps.{own_ldm, rows_are}
+use Rattle.journal_laws.proofs.events.ReplicaEvents.{no_less}
 use Rattle.saved_laws.specs.Copied.{TellsSaved}
 use Rattle.restart_laws.specs.Told.{TellsNotedRows, TellsUpTo}
 use Rattle.restart_laws.proofs.telling.ButLast.{EachButLast, but_last_of_each}
@@ -76,13 +77,6 @@ none_rightly saved sends none =
     in
     record { rises = omega arith; all = each; but_last = but_last_of_each (SaysSo (TellsUpTo saved)) sends each }
 
-greater_left : (one other : ℕ) → one ≤ greater one other
-greater_left one other = by (nat_lt one other) refl
-  where
-    by : (b : Bool) → nat_lt one other ≡ b → one ≤ (if b then other else one)
-    by true is = let less = ltb-true one other is in omega (arith, less)
-    by false is = omega arith
-
 greater_right : (one other : ℕ) → other ≤ greater one other
 greater_right one other = by (nat_lt one other) refl
   where
@@ -106,7 +100,7 @@ replica_rightly s x =
       promises = λ proposal is. none_rightly s.saved _ (λ epoch tells. tells, tt);
       closes = λ epoch is. none_rightly s.saved _ (λ epoch tells. tells, tt);
       saves = λ epoch is. record {
-        rises = greater_left s.saved epoch;
+        rises = no_less s.saved epoch;
         all = (λ told tells. let most = greater_right s.saved epoch in omega (arith, tells, most), tt);
         but_last = (inr refl, tt);
       };

@@ -38,10 +38,10 @@ use Rattle.moment_laws.proofs.PartKinds.{ldm_after, ldm_is}
 use Rattle.moment_laws.proofs.PartTaken.{IsTakenNow, handled_now}
 use Rattle.request_laws.specs.Blocks.{no_replica, rows_in}
 use Rattle.commit_laws.specs.Traces.{rows_at}
-use Rattle.commit_laws.proofs.views.AtEvents.{full_was}
+use Rattle.commit_laws.proofs.records.Replicas.{full_before}
 use Rattle.epoch_laws.proofs.StandKinds.{RunsRows, runs_rows}
+use Rattle.epoch_laws.proofs.MasterKnows.{greater_is}
 use Rattle.closing_laws.specs.Closed.{WasClosed}
-use Rattle.closing_laws.proofs.durable.WereClosed.{greater_one}
 use Rattle.closing_laws.proofs.settled.Cuts.{MarksAt, goes_back, marks_at}
 use Rattle.saved_laws.specs.Closings.{SavedWereClosed, WasFullAtClosing}
 use Rattle.saved_laws.proofs.masters.All.{all_ordered}
@@ -58,7 +58,7 @@ rows_keep P s x was ordered =
       ignores = λ signal is. was;
       promises = λ proposal is. was;
       closes = λ epoch is. was;
-      saves = λ epoch is. greater_one P s.saved epoch was (ordered epoch is);
+      saves = λ epoch is. greater_is P s.saved epoch was (ordered epoch is);
       states = λ is. was;
       tells_record = λ r under_way at one last there. was;
       tells_marker = λ r under_way at m none last there. was;
@@ -79,11 +79,11 @@ module _ (start : Start) (all : ℕ → List HostStep) (member : Member) where
     is = m.is;
     marked = m.there;
     full =
-        full_was start all m.event m.older
+        full_before start all m.event m.older
         (goes_back start all (λ es. IsMoment start all es) (λ e es at is. moment_less start all e es is) m.newer
         (m.event ∷ m.older) moment_is moment_is)
         member
-        (goes_back start all IsFullAt (λ e es at. full_was start all e es at member) m.newer (m.event ∷ m.older)
+        (goes_back start all IsFullAt (λ e es at. full_before start all e es at member) m.newer (m.event ∷ m.older)
         moment_is (subst IsFullAt m.is full));
   }
     where
@@ -189,7 +189,7 @@ module _ (start : Start) (all : ℕ → List HostStep) (e : HostStep) (es : List
           ordered to epoch is =
               inr
               (closed_more start e es epoch member
-              (full_at start all member es less (full_was start all e es moment member (full_now to)) epoch
+              (full_at start all member es less (full_before start all e es moment member (full_now to)) epoch
               (subst (IsOrderedRightly start old) is
               (epoch_told start (IsRightOrder start old) all e es moment (all_ordered start all es some less).orders
               passed.sound (GcpSaveReq epoch) is))))

@@ -46,9 +46,9 @@ use Rattle.world_views.proofs.StepWalk.{step_so}
 use Rattle.view_laws.specs.Order.{is_sound, sound_machine}
 use Rattle.view_laws.proofs.eras.SoundLogs.{each_filter}
 use Rattle.view_laws.proofs.follow.Senders.{IsSentBy, each_sent}
+use Rattle.view_laws.proofs.ballots.MadeSets.{in_front}
 use Rattle.moment_laws.specs.Moments.{logs_of}
 use Rattle.outcome_laws.specs.Decided.{IsMarked}
-use Rattle.outcome_laws.proofs.knowledge.CommitsWereDecided.{in_front}
 use Rattle.closing_laws.proofs.closers.Others.{HasNoMaster}
 use Rattle.saved_laws.specs.Copied.{DoneWereMarked}
 use Rattle.saved_laws.proofs.masters.DoneSteps.{EndedIsOf, TellOnly, TellsOnly, WithMarks, ended_more, master_keeps}

@@ -1,28 +1,15 @@
 -- What a master knows of saved epochs is at most what each of the rows has told, and where it goes on with the system
 -- files they have saved the epoch.
-use Rattle.std.proofs.Common.{◌≡◌, ◌≤◌, ℕ, Bool, true, false, refl, sym, ◌∙◌, arith, eq-eqb}
-use Rattle.std.proofs.lemmas.Bool.{ltb-false, ltb-true, true≢false}
+use Rattle.std.proofs.Common.{◌≡◌, ◌≤◌, Bool, true, false, refl, sym, ◌∙◌, arith, eq-eqb}
+use Rattle.std.proofs.lemmas.Bool.{ltb-false, true≢false}
 use Rattle.std.specs.Prelude.{◌==◌, ◌&&◌, if◌then◌else◌, nat_lt}
 use Rattle.gcp_master.specs.declared.known.Known.{Known}
 use Rattle.gcp_master.specs.declared.known.Told.{Told}
 use Rattle.gcp_master.specs.declared.phase.Phase.TheVariants.{Committing, Copying, Preparing, Resting}
 use Rattle.gcp_master.specs.declared.phase.Run.{Run}
-use Rattle.gcp_master.specs.Known.{last_run, learned, learned_of_epochs, learned_of_rows, lesser, resumed}
+use Rattle.gcp_master.specs.Known.{last_run, learned, learned_of_epochs, learned_of_rows, resumed}
 use Rattle.gcp_master.specs.Numbers.{is_first}
-
-lesser_first : (one other : ℕ) → lesser one other ≤ one
-lesser_first one other = by (nat_lt one other) refl
-  where
-    by : (b : Bool) → nat_lt one other ≡ b → (if b then one else other) ≤ one
-    by true is = omega arith
-    by false is = ltb-false one other is
-
-lesser_second : (one other : ℕ) → lesser one other ≤ other
-lesser_second one other = by (nat_lt one other) refl
-  where
-    by : (b : Bool) → nat_lt one other ≡ b → (if b then one else other) ≤ other
-    by true is = let below = ltb-true one other is in omega (arith, below)
-    by false is = omega arith
+use Rattle.epoch_laws.proofs.MasterKnows.{lesser_first, lesser_second}
 
 -- what is known to be saved falls
 pub saved_falls : (known : Known) (told : Told) → (learned known told).saved ≤ known.saved

@@ -1,8 +1,5 @@
 -- What a host was told stays so, and the signal of epochs that an event takes was told to its host.
-use Rattle.std.proofs.Common.{◌≡◌, ◌==◌, ◌&&◌, ◌||◌, ◌≤◌, ℕ, Bool, true, false, List, ◌∷◌, refl, sym, subst, arith}
-use Rattle.std.proofs.Common.{eq-eqb, inl, inr}
-use Rattle.std.proofs.lemmas.Bool.{true≢false}
-use Rattle.std.specs.Prelude.{if◌then◌else◌, not}
+use Rattle.std.proofs.Common.{◌≡◌, ◌==◌, ◌&&◌, ◌≤◌, ℕ, Bool, true, false, List, ◌∷◌, refl, sym, subst, arith}
 use Rattle.run_theory.proofs.EventCases.{event_keeps}
 use Rattle.run_theory.proofs.Pasts.{past_more}
 use Rattle.run_theory.specs.Links.{taken}
@@ -23,6 +20,8 @@ use Rattle.view_laws.specs.Order.{sound_machine}
 use Rattle.view_laws.specs.Runs.{WasInstalled}
 use Rattle.moment_laws.specs.Moments.{IsMoment, logs_of}
 use Rattle.moment_laws.proofs.MomentTurns.{host_low, own_log}
+use Rattle.moment_laws.proofs.MomentSignals.{neither}
+use Rattle.closing_laws.proofs.takeover.MastersAreTold.{taken_more, taken_own}
 use Rattle.saved_laws.specs.Copied.{TellsSaved, WasTold}
 
 -- who has saved an epoch has saved each one before it
@@ -43,28 +42,6 @@ told_map start logs Tells Also also from was = record {
   there = was.there;
   tells = also was.signal.signal.body was.tells;
 }
-
--- what was taken stays taken, and what a link gives is
-module _ (m : Machine HostStep Addressed) where
-  taken_more : (i : ℕ) (log : List HostStep) (e : HostStep) (y : Addressed) → IsIn y (taken m i log)
-      → IsIn y (taken m i (e ∷ log))
-  taken_more i log e y there = by (not (m.asked e) && (m.from (m.signal e) == i))
-    where
-      by : (b : Bool) → IsIn y (if b then m.signal e ∷ taken m i log else taken m i log)
-      by true = inr there
-      by false = there
-
-  taken_own : (log : List HostStep) (e : HostStep) → m.asked e ≡ false
-      → IsIn (m.signal e) (taken m (m.from (m.signal e)) (e ∷ log))
-  taken_own log e unasked =
-      let i = m.from (m.signal e) in
-      by i (m.asked e) (m.from (m.signal e) == i) unasked (eq-eqb (m.from (m.signal e)) i refl)
-    where
-      by : (i : ℕ) (a b : Bool) → a ≡ false → b ≡ true
-          → IsIn (m.signal e) (if not a && b then m.signal e ∷ taken m i log else taken m i log)
-      by i false true is at = inl refl
-      by i false false is at = absurd (true≢false (sym at))
-      by i true b is at = absurd (true≢false is)
 
 module _ (start : Start) (all : ℕ → List HostStep) (e : HostStep) (es : List HostStep)
     (moment : IsMoment start all (e ∷ es))
@@ -113,12 +90,7 @@ module _ (start : Start) (all : ℕ → List HostStep) (e : HostStep) (es : List
           by false = refl
 
       unasked : n.asked e ≡ false
-      unasked = by (is_asked e.host x) (is_well_formed start.shape x) not_asked sound
-        where
-          by : (a b : Bool) → a ≡ false → b ≡ true → (a || not b) ≡ false
-          by false true is sound = refl
-          by false false is sound = absurd (true≢false (sym sound))
-          by true b is sound = absurd (true≢false is)
+      unasked = neither (is_asked e.host x) (is_well_formed start.shape x) not_asked sound
 
       pub told_now : (Tells : Body → Type 0) → Tells (Epoch signal) → WasTold start new Tells x.from.0
       told_now Tells tells = record {
@@ -127,6 +99,6 @@ module _ (start : Start) (all : ℕ → List HostStep) (e : HostStep) (es : List
         signal = n.signal e;
         there =
             subst (λ log. IsIn (n.signal e) (taken n x.from.0 log)) (sym (own_log start all e es moment))
-            (taken_own n (old e.host) e unasked);
+            (taken_own n x.from.0 (old e.host) e unasked refl);
         tells = subst Tells (sym is) tells;
       }

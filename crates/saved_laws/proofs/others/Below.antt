@@ -11,13 +11,14 @@ use Rattle.outcome_laws.proofs.order.EventsBefore.{moment_before}
 use Rattle.epoch_laws.specs.Members.{epochs_of}
 use Rattle.epoch_laws.proofs.StandAll.{epochs_stand}
 use Rattle.epoch_laws.proofs.StandMasters.{first_inside}
+use Rattle.epoch_laws.proofs.MasterResumption.{sound_next}
 use Rattle.closing_laws.specs.Closed.{HasEnded, IsClosing}
 use Rattle.closing_laws.proofs.closers.Hear.{closers_have_heard_all}
 use Rattle.commit_laws.specs.Traces.{rows_at}
 use Rattle.saved_laws.specs.Closings.{WasFullAtClosing}
 use Rattle.saved_laws.specs.Keys.{SavedAreBelowLast}
 use Rattle.saved_laws.proofs.masters.Closed.{saved_were_closed}
-use Rattle.saved_laws.proofs.others.Low.{are_low, current_low}
+use Rattle.saved_laws.proofs.others.Low.{are_low}
 
 -- its president gives a later epoch
 closed_below : (start : Start) (all : ℕ → List HostStep) (es : List HostStep) → start.start_epoch < start.epoch
@@ -26,7 +27,7 @@ closed_below : (start : Start) (all : ℕ → List HostStep) (es : List HostStep
 closed_below start all es some low moment epoch member was =
     let later = ended.later in
     let sound = (epochs_stand start all at some at_moment).sound by.member there in
-    let least = current_low (epochs_of start then by.member) sound in
+    let least = sound_next (epochs_of start then by.member) sound in
     let most = (are_low start all at some (omega (arith, low)) at_moment).members by.member there in
     omega (arith, later, least, most)
   where

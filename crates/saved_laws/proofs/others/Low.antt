@@ -1,7 +1,7 @@
 -- At each moment the epoch that follows has a number of 64 bits at each member, and in the phase of each master.
 use Rattle.std.proofs.Common.{◌≡◌, ◌≤◌, ◌<◌, ◌⊎◌, ◌∙◌, ℕ, Bool, true, false, List, [], ◌∷◌, refl, sym, ap, subst, inl}
 use Rattle.std.proofs.Common.{inr, arith}
-use Rattle.std.proofs.lemmas.Bool.{cases_lt, eq-eqb, true≢false}
+use Rattle.std.proofs.lemmas.Bool.{eq-eqb, true≢false}
 use Rattle.std.specs.Prelude.{◌==◌, nat_lt, if◌then◌else◌}
 use Rattle.frag_map.specs.Layout.{first_layout}
 use Rattle.run_theory.proofs.Pasts.{each_in}
@@ -37,7 +37,7 @@ use Rattle.moment_laws.proofs.MomentMembers.{current_made}
 use Rattle.moment_laws.proofs.MomentTurns.{own_behind}
 use Rattle.moment_laws.proofs.MomentViews.{moment_less}
 use Rattle.moment_laws.proofs.PartTaken.{IsTakenNow}
-use Rattle.epoch_laws.specs.Alike.{EachFull, IsSound}
+use Rattle.epoch_laws.specs.Alike.{EachFull}
 use Rattle.epoch_laws.specs.Masters.{Commits, IsSilent, Prepares}
 use Rattle.epoch_laws.specs.Members.{IsFirst, IsPresident, IsStanding, dih_in, epochs_of, master_in, master_of}
 use Rattle.epoch_laws.specs.Stand.{AllStand}
@@ -50,6 +50,7 @@ use Rattle.epoch_laws.proofs.MomentEvents.{IsTold, order_told, takes, unmoved}
 use Rattle.epoch_laws.proofs.StandAll.{epochs_stand}
 use Rattle.epoch_laws.proofs.StandMasters.{first_inside, first_same, master_view}
 use Rattle.epoch_laws.proofs.StandTakes.{Carries, carries, commits, others_same, prepares, stay}
+use Rattle.epoch_laws.proofs.MasterResumption.{sound_next}
 use Rattle.closing_laws.proofs.closers.Hear.{first_or}
 use Rattle.saved_laws.proofs.others.Numbers.{IsLow, master_low, top}
 
@@ -57,14 +58,6 @@ use Rattle.saved_laws.proofs.others.Numbers.{IsLow, master_low, top}
 pub record AreLow (start : Start) (logs : ℕ → List HostStep) : Type 0 where
   pub members : (m : Member) → IsIn m (made start) → (epochs_of start logs m).next ≤ top
   pub masters : (m : Member) → IsIn m (made start) → IsLow (master_of start logs m).phase
-
--- the current epoch isn't beyond the one that follows
-pub current_low : (s : DihState) → IsSound s → s.current ≤ s.next
-current_low s sound = by (cases_lt s.current s.next)
-  where
-    by : (s.current < s.next) ⊎ (s.next ≤ s.current) → s.current ≤ s.next
-    by (inl below) = omega (arith, below)
-    by (inr above) = let same = (sound.resting above).0 in omega (arith, same)
 
 greater_low : (one other : ℕ) → one ≤ top → other ≤ top → greater one other ≤ top
 greater_low one other low also = by (nat_lt one other)
@@ -114,7 +107,7 @@ module _ (start : Start) (all : ℕ → List HostStep) (e : HostStep) (es : List
       far_low : EachFull start old (λ s. next ≤ s.current) → next ≤ top
       far_low each =
           let far : next ≤ (epochs_of start old m).current = each_in _ m (current start old).full each inside in
-          let least = current_low (epochs_of start old m) (stand.sound m (full_made m inside)) in
+          let least = sound_next (epochs_of start old m) (stand.sound m (full_made m inside)) in
           let low = was.members m (full_made m inside) in
           omega (arith, far, least, low)
 

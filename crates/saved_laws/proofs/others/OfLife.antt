@@ -17,6 +17,7 @@ use Rattle.gcp_master.specs.declared.phase.Run.{Run}
 use Rattle.gcp_master.specs.Master.{fresh_master, master_row}
 use Rattle.gcp_master.specs.State.{MasterState}
 use Rattle.gcp_master.specs.Voices.{same_member}
+use Rattle.gcp_master.proofs.Outcomes.{voice_of}
 use Rattle.lqh_views.specs.State.{ReplicaState}
 use Rattle.node_views.specs.declared.host_body.HostBody as node
 use Rattle.node_views.specs.declared.main_part.MainPart.{MainPart}
@@ -25,13 +26,14 @@ use Rattle.world_core.specs.Steps.{HostStep}
 use Rattle.world_views.specs.Machine.{after, step_after}
 use Rattle.view_laws.specs.Runs.{view_after}
 use Rattle.view_laws.specs.Votes.{main_of}
+use Rattle.view_laws.proofs.ballots.MadeSets.{in_either}
+use Rattle.view_laws.proofs.eras.Deciders.{told_view}
 use Rattle.moment_laws.specs.Moments.{IsMoment, current, logs_of}
 use Rattle.moment_laws.specs.Places.{ldm_of, tc_of}
 use Rattle.moment_laws.proofs.MomentHosts.{main_low, tc_started}
 use Rattle.moment_laws.proofs.MomentMembers.{current_made}
 use Rattle.moment_laws.proofs.MomentTurns.{current_rises, own_behind}
 use Rattle.moment_laws.proofs.MomentViews.{current_above, moment_less, number_in}
-use Rattle.outcome_laws.proofs.order.BeforeInLists.{in_either}
 use Rattle.outcome_laws.proofs.order.EventsBefore.{moment_before}
 use Rattle.request_laws.proofs.replicas.AlongLogs.{always}
 use Rattle.request_laws.specs.Blocks.{rows_after}
@@ -39,9 +41,7 @@ use Rattle.epoch_laws.specs.Alike.{IsAcross}
 use Rattle.epoch_laws.specs.Masters.{IsRightIn}
 use Rattle.epoch_laws.specs.Members.{IsFirst, IsPresident, IsStanding, dih_in, epochs_of, master_in, master_of}
 use Rattle.epoch_laws.specs.Stand.{AllStand}
-use Rattle.epoch_laws.proofs.FallAll.{told_view}
 use Rattle.epoch_laws.proofs.MasterHears.{same_member-is, same_member-self}
-use Rattle.epoch_laws.proofs.MasterMoves.{voice_of}
 use Rattle.epoch_laws.proofs.MasterSpeaks.{installed}
 use Rattle.epoch_laws.proofs.StandAll.{epochs_stand}
 use Rattle.epoch_laws.proofs.StandKinds.{RunsMain, runs_main}

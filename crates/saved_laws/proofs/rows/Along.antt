@@ -46,6 +46,7 @@ use Rattle.commit_laws.proofs.led.Replicas.{moment_at}
 use Rattle.commit_laws.proofs.records.Once.{rows_once}
 use Rattle.commit_laws.proofs.records.Replicas.{replica_before}
 use Rattle.commit_laws.proofs.settled.All.{all_stand}
+use Rattle.commit_laws.proofs.led.RestingRows.{full_replica}
 use Rattle.closing_laws.proofs.settled.Cuts.{events_of}
 use Rattle.journal_laws.specs.Journal.{AreEventsOf, first_rows}
 use Rattle.saved_laws.specs.Closings.{ClosedOnesAreCommitted, Commits, CommitsWereDecided, CommittedOnesAreFinal}
@@ -56,7 +57,7 @@ use Rattle.saved_laws.proofs.rows.Front.{IsFront, front_stands}
 use Rattle.saved_laws.proofs.rows.Histories.{history_up_to}
 use Rattle.saved_laws.proofs.rows.Kept.{Leaves, an_image, leaves, the_row, unspoilt}
 use Rattle.saved_laws.proofs.rows.Own.{OneMore, one_more, own_row}
-use Rattle.saved_laws.proofs.rows.Replicas.{full_replica, replica_was}
+use Rattle.saved_laws.proofs.rows.Replicas.{replica_was}
 use Rattle.saved_laws.proofs.rows.Steps.{AreKept, IsLed, NoneWaits, Waits, by_image, by_row, none_waits_on, row_stays}
 use Rattle.saved_laws.proofs.rows.Steps.{waits_on}
 

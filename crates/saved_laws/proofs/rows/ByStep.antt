@@ -11,7 +11,8 @@ use Rattle.world_core.specs.Start.{Start}
 use Rattle.world_core.specs.Steps.{HostStep}
 use Rattle.journal_laws.specs.Events.{IsOfPrepared, IsOrdered, behind_all, changed_if, records_if}
 use Rattle.journal_laws.specs.Journal.{lqh_after}
-use Rattle.journal_laws.specs.Saver.{IsStepBy, begins, ends, passes, rows, saving_after, switches, todo_at}
+use Rattle.journal_laws.specs.Saver.{IsStepBy, begins, ends, passes, rows, switches, todo_at}
+use Rattle.request_laws.specs.Blocks.{saving_after}
 
 module _ (s t : SavingState) (body : Body) (event : Option Event) where
   -- nothing is told to a journal that gives something up, and to any other what the event says

@@ -5,7 +5,7 @@ use Rattle.std.proofs.lemmas.Bool.{le-leb, lt-leb}
 use Rattle.std.proofs.lemmas.List.{reverse-append}
 use Rattle.std.proofs.lemmas.List.Elements.{filter-append}
 use Rattle.std.specs.Prelude.{nat_le}
-use Rattle.run_theory.proofs.Pasts.{each_append, each_map}
+use Rattle.run_theory.proofs.Pasts.{each_map}
 use Rattle.run_theory.specs.Lists.{Each}
 use Rattle.sig_core.specs.declared.entry.Entry.{Entry}
 use Rattle.world_core.specs.History.{history, is_kept}
@@ -16,6 +16,7 @@ use Rattle.view_laws.proofs.eras.Entries.{stand_in_order}
 use Rattle.view_laws.proofs.eras.SoundLogs.{each_filter}
 use Rattle.view_laws.specs.Order.{decisions, entries_along}
 use Rattle.view_laws.specs.Runs.{AreOfCluster}
+use Rattle.view_laws.proofs.eras.Sorted.{each_turned}
 use Rattle.commit_laws.specs.Values.{history_at, is_final_entry}
 use Rattle.closing_laws.proofs.settled.Cuts.{events_of, logs_are}
 use Rattle.saved_laws.specs.History.{up_to}
@@ -29,12 +30,6 @@ filter_each p (x ∷ xs) all =
 filter_off : {A : Type 0} (p : A → Bool) (xs : List A) → Each (λ x. p x ≡ false) xs → filter p xs ≡ []
 filter_off p [] all = refl
 filter_off p (x ∷ xs) all = ap (λ b. cond b (x ∷ filter p xs) (filter p xs)) all.0 ∙ filter_off p xs all.1
-
-each_turned : {A : Type 0} (P : A → Type 0) (xs : List A) → Each P xs → Each P (reverse xs)
-each_turned P [] all = tt
-each_turned P (x ∷ xs) all =
-    subst (Each P) (sym (reverse-append (x ∷ []) xs))
-    (each_append P (reverse xs) (x ∷ []) (each_turned P xs all.1) (all.0, tt))
 
 module _ (epoch : ℕ) (fin : Entry → Bool) where
   kept_up_to : (xs : List Entry) → Each (λ (a : Entry). a.epoch ≤ epoch) xs

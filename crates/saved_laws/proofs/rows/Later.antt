@@ -1,6 +1,6 @@
 -- Which decisions are later than an epoch: those of and behind an event that decides in a later one, those of and
 -- behind its closing, and all of a life that begins with a later one.
-use Rattle.std.proofs.Common.{◌≡◌, ◌≤◌, ◌<◌, ◌∙◌, ◌++◌, ℕ, true, List, [], ◌∷◌, reverse, refl, sym, ap, subst, inl, inr}
+use Rattle.std.proofs.Common.{◌≡◌, ◌≤◌, ◌<◌, ◌∙◌, ◌++◌, ℕ, List, [], ◌∷◌, reverse, refl, sym, ap, subst, inl, inr}
 use Rattle.std.proofs.Common.{append-nil, append_assoc, arith}
 use Rattle.std.proofs.lemmas.List.{reverse-append}
 use Rattle.run_theory.proofs.Pasts.{each_append, each_in, in_append, in_past, past_less, past_self}
@@ -19,25 +19,20 @@ use Rattle.world_core.specs.Start.{Start, made}
 use Rattle.world_core.specs.Steps.{HostStep}
 use Rattle.view_laws.specs.Order.{decisions, entries_along}
 use Rattle.view_laws.specs.Runs.{view_after}
+use Rattle.view_laws.proofs.ballots.MadeSets.{in_front}
 use Rattle.moment_laws.proofs.MomentHosts.{main_number, part_some, tc_low, tc_member, tc_number, tc_started}
 use Rattle.moment_laws.proofs.MomentMembers.{current_host, current_made}
 use Rattle.moment_laws.proofs.MomentTurns.{own_behind, stands_behind}
 use Rattle.moment_laws.proofs.MomentViews.{moment_less}
 use Rattle.moment_laws.specs.Moments.{IsMoment, current, logs_of}
 use Rattle.moment_laws.specs.Places.{tc_of}
-use Rattle.outcome_laws.proofs.knowledge.CommitsWereDecided.{in_front, in_turned}
+use Rattle.outcome_laws.proofs.knowledge.CommitsWereDecided.{in_turned}
 use Rattle.outcome_laws.proofs.order.EventsBefore.{decisions_past, entries_past, moment_before}
 use Rattle.outcome_laws.specs.Counts.{coordinator_member}
-use Rattle.epoch_laws.specs.Members.{IsFirst, dih_in, epochs_of}
-use Rattle.commit_laws.specs.Going.{is_decided}
-use Rattle.commit_laws.proofs.fates.Committed.{decided_made}
-use Rattle.commit_laws.proofs.fates.Decided.{decides_now}
-use Rattle.commit_laws.proofs.forth.All.{forth_is_known}
-use Rattle.commit_laws.proofs.forth.DecidedStay.{decided_mark}
-use Rattle.commit_laws.proofs.hosts.DecidersGo.{deciders_go_on}
-use Rattle.commit_laws.proofs.led.Entries.{new_there}
+use Rattle.epoch_laws.specs.Members.{dih_in, epochs_of}
+use Rattle.epoch_laws.proofs.StandMasters.{first_inside}
+use Rattle.commit_laws.proofs.hosts.DecidersGo.{decider_home, decider_made, deciders_go_on}
 use Rattle.commit_laws.proofs.records.Replicas.{full_before}
-use Rattle.commit_laws.proofs.settled.OfFullCoordinators.{decided_now}
 use Rattle.closing_laws.proofs.closers.Hear.{closers_have_heard_all}
 use Rattle.closing_laws.proofs.settled.Cuts.{goes_back}
 use Rattle.closing_laws.proofs.settled.EpochsRise.{epochs_rise, given_now}
@@ -103,25 +98,16 @@ behind_it start end es e ordered past z inside tx at there =
 -- who decides is a full member, in the current view
 module _ (start : Start) (all : ℕ → List HostStep) (e : HostStep) (es : List HostStep)
     (moment : IsMoment start all (e ∷ es)) (tx : TxId) (epoch : ℕ) (there : IsIn (Decided tx epoch) e.step.marks) where
-  decided : is_decided start (logs_of start (e ∷ es)) tx ≡ true
-  decided = decided_now start all e es moment tx (decided_mark tx epoch e.step.marks there)
-
-  decider_made : IsIn (coordinator_member tx) (made start)
-  decider_made = decided_made start all (e ∷ es) moment tx decided
-
-  decider_home : e.host ≡ tc_of start (coordinator_member tx)
-  decider_home =
-      (decides_now forth_is_known start all e es moment tx decided
-      (new_there start all e es moment tx [] (decided_mark tx epoch e.step.marks there))).at
-
   decider_full : IsIn (coordinator_member tx) (current start (logs_of start (e ∷ es))).full
   decider_full =
       let h = tc_of start (coordinator_member tx) in
+      let made_is = decider_made start all e es moment tx epoch there in
+      let home = decider_home start all e es moment tx epoch there in
       subst (λ m. IsIn m (current start (logs_of start (e ∷ es))).full)
-      (tc_member start (coordinator_member tx) decider_made)
+      (tc_member start (coordinator_member tx) made_is)
       (current_host start all (e ∷ es) moment h (part_some start Tc (coordinator_member tx))
-      (tc_low start (coordinator_member tx) decider_made)
-      (subst (λ k. view_after start k (logs_of start (e ∷ es) k) ≡ current start (logs_of start (e ∷ es))) decider_home
+      (tc_low start (coordinator_member tx) made_is)
+      (subst (λ k. view_after start k (logs_of start (e ∷ es) k) ≡ current start (logs_of start (e ∷ es))) home
       (own_behind start all e es moment
       ∙ stands_behind start all e es moment (deciders_go_on start all e es moment tx epoch there))))
 
@@ -194,14 +180,10 @@ module _ (start : Start) (all : ℕ → List HostStep) (end : List HostStep) (be
     closes : IsClosing start closing (logs_of start (closing ∷ older)) epoch
     closes = closers_have_heard_all start all closing older begins here epoch marked
 
-    first_in : (members : List Member) (m : Member) → IsFirst m members → IsIn m members
-    first_in [] m is = absurd is
-    first_in (oldest ∷ members) m is = inl is
-
     closer_made : IsIn closes.member (made start)
     closer_made =
         current_made start all (closing ∷ older) here closes.member
-        (first_in (current start (logs_of start (closing ∷ older))).full closes.member closes.is.president)
+        (first_inside closes.member (current start (logs_of start (closing ∷ older))).full closes.is.president)
 
     -- the president's host of epochs isn't that of a coordinator
     closes_only : (tx : TxId) (at : ℕ) → IsIn (Decided tx at) closing.step.marks → epoch < at

@@ -23,14 +23,10 @@ use Rattle.moment_laws.proofs.MomentTurns.{current_rises, old_current, other_log
 use Rattle.moment_laws.proofs.MomentViews.{current_number, first_below, moment_less}
 use Rattle.moment_laws.specs.Moments.{IsMoment, current, logs_of}
 use Rattle.moment_laws.specs.Places.{ldm_of, tc_of}
-use Rattle.epoch_laws.specs.Members.{IsFirst}
+use Rattle.epoch_laws.proofs.StandMasters.{first_inside}
 use Rattle.commit_laws.proofs.orders.Sound.{given_so, sound_closes}
 use Rattle.closing_laws.proofs.closers.Hear.{closers_have_heard_all}
 use Rattle.closing_laws.specs.Closed.{IsClosing, IsOver}
-
-first_in : (member : Member) (members : List Member) → IsFirst member members → IsIn member members
-first_in member [] is = absurd is
-first_in member (oldest ∷ members) is = inl is
 
 module _ (start : Start) (all : ℕ → List HostStep) (e : HostStep) (es : List HostStep)
     (begins : start.start_epoch < start.epoch) (moment : IsMoment start all (e ∷ es)) (epoch : ℕ)
@@ -55,7 +51,7 @@ module _ (start : Start) (all : ℕ → List HostStep) (e : HostStep) (es : List
     pub closer_made : IsIn closing.member (made start)
     closer_made =
         current_made start all (e ∷ es) moment closing.member
-        (first_in closing.member (current start new).full closing.is.president)
+        (first_inside closing.member (current start new).full closing.is.president)
 
     -- what it has taken was sent before
     over_low : IsOver start (logs_of start (e ∷ es)) closing.member

@@ -19,6 +19,7 @@ use Rattle.moment_laws.proofs.MomentViews.{moment_less}
 use Rattle.moment_laws.specs.Moments.{IsMoment, current, logs_of}
 use Rattle.outcome_laws.proofs.order.EventsBefore.{moment_before}
 use Rattle.outcome_laws.specs.Decided.{IsDecided}
+use Rattle.request_laws.proofs.routes.ChainsStay.{any_in}
 use Rattle.commit_laws.specs.Commits.{HasWritten, IsKept}
 use Rattle.commit_laws.specs.Fates.{aborts, commits, fate, is_led_by_full}
 use Rattle.commit_laws.specs.Going.{decided_ops, is_forth, is_lost, is_written_by}
@@ -31,7 +32,7 @@ use Rattle.commit_laws.proofs.forth.All.{forth_is_known}
 use Rattle.commit_laws.proofs.forth.Grows.{forth_grows, known_grows}
 use Rattle.commit_laws.proofs.led.Applied.{applied_are_final}
 use Rattle.commit_laws.proofs.settled.All.{all_stand}
-use Rattle.commit_laws.proofs.views.AtEvents.{any_of, full_only}
+use Rattle.commit_laws.proofs.records.Replicas.{members_full}
 use Rattle.closing_laws.proofs.settled.Cuts.{goes_on}
 use Rattle.closing_laws.proofs.settled.GoneAbort.{StaysDecided, stays_decided}
 use Rattle.closing_laws.proofs.settled.Led.{IsDecidedAndDone}
@@ -151,8 +152,8 @@ module _ (start : Start) (all : ℕ → List HostStep) (end es newer : List Host
       by_trace trace false gone =
           trace_commits (is_known start here tx) (is_led_by_full start here tx) (is_forth start here tx)
           (is_lost start here tx) (has_trace start here tx) gone
-          (any_of (λ (m : Member). leave_trace tx (rows_at start here m)) (members_now start here) member
-          (subst (IsIn member) (sym (full_only start all behind moment)) full) trace)
+          (any_in (λ (m : Member). leave_trace tx (rows_at start here m)) member (members_now start here)
+          (subst (IsIn member) (sym (members_full start all behind moment)) full) trace)
 
       commits_here : fate start (logs_of start (was.closing ∷ was.older)) tx ≡ commits
       commits_here = by (or_cases (leave_trace tx (rows_at start here member)) (is_known start here tx) left)

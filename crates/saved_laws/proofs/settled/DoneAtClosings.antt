@@ -20,13 +20,13 @@ use Rattle.moment_laws.specs.Places.{tc_of}
 use Rattle.outcome_laws.proofs.knowledge.CommitsWereDecided.{decided_entry}
 use Rattle.outcome_laws.specs.Counts.{coordinator_member}
 use Rattle.outcome_laws.specs.Decided.{IsDecided, IsMarked}
+use Rattle.request_laws.proofs.routes.ChainsStay.{any_in}
 use Rattle.commit_laws.specs.Fates.{aborts, commits, fate, is_led_by_full}
 use Rattle.commit_laws.specs.Going.{is_forth}
 use Rattle.commit_laws.proofs.fates.Committed.{forth_made}
 use Rattle.commit_laws.proofs.fates.Forth.{fate_decided, orphan_commits}
 use Rattle.commit_laws.proofs.forth.Grows.{grows}
 use Rattle.commit_laws.proofs.led.Entries.{decisions_once, one_entry}
-use Rattle.commit_laws.proofs.views.AtEvents.{any_of}
 use Rattle.closing_laws.proofs.counted.ForgottenAreDone.{forgotten_are_done}
 use Rattle.closing_laws.proofs.counted.OrForgotten.{uncounted_are_forgotten}
 use Rattle.closing_laws.proofs.settled.Cuts.{log_past}
@@ -81,7 +81,7 @@ module _ (start : Start) (all : ℕ → List HostStep) (e : HostStep) (es : List
         → current start (logs_of start (e ∷ es)) ≡ (first_layout start.shape).view → ⊥
     not_first gone same =
         true≢false (sym (ap (λ (v : View). list_any (was_begun_by tx) v.full) same
-        ∙ any_of (was_begun_by tx) (made start) (coordinator_member tx) (forth_made start all end last tx forth)
+        ∙ any_in (was_begun_by tx) (coordinator_member tx) (made start) (forth_made start all end last tx forth)
         (λ i. eq-eqb tx.tc tx.tc refl i && eq-eqb tx.start tx.start refl i)) ∙ gone)
 
     none : is_led_by_full start (logs_of start (e ∷ es)) tx ≡ false → LeavesNone start (logs_of start (e ∷ es))

@@ -30,10 +30,8 @@ use Rattle.commit_laws.proofs.forth.All.{forth_is_known}
 use Rattle.commit_laws.proofs.hosts.RowsTurn.{RowsGo, enter, rest, rows_go, take}
 use Rattle.commit_laws.proofs.links.TakenChains.{IsKeptForth, chain_told, commit_kept}
 use Rattle.commit_laws.proofs.settled.All.{all_stand}
+use Rattle.commit_laws.proofs.records.KeptRows.{some_is}
 use Rattle.saved_laws.specs.Closings.{Commits, CommitsWereDecided}
-
-some_is : (r own : PendingRecord) → Some r ≡ Some own → r ≡ own
-some_is r own is = cc
 
 module _ (start : Start) (all : ℕ → List HostStep) (e : HostStep) (es : List HostStep)
     (moment : IsMoment start all (e ∷ es)) (member : Member) (there : IsIn member (made start)) (tx : TxId)

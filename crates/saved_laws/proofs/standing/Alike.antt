@@ -25,7 +25,8 @@ use Rattle.world_core.specs.Steps.{HostStep}
 use Rattle.journal_laws.specs.Events.{IsOfPrepared, IsOrdered, behind_all, own_behind, records_behind, records_if}
 use Rattle.journal_laws.specs.Events.{rows_behind}
 use Rattle.journal_laws.specs.Journal.{AreEventsOf, first_rows, lqh_after}
-use Rattle.journal_laws.specs.Saver.{IsStepBy, saving_after, todo_at}
+use Rattle.journal_laws.specs.Saver.{IsStepBy, todo_at}
+use Rattle.request_laws.specs.Blocks.{saving_after}
 use Rattle.journal_laws.proofs.follow.Oldest.{bytes_append}
 use Rattle.saved_laws.proofs.rows.ByStep.{IsStepAt, IsTold, ordered_by, prepared_by, told_by}
 use Rattle.saved_laws.proofs.rows.Own.{rows_are}

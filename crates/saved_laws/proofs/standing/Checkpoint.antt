@@ -28,12 +28,13 @@ use Rattle.journal_laws.proofs.follow.Oldest.{bytes_append, records_append}
 use Rattle.journal_laws.proofs.replays.Replays.{replays}
 use Rattle.journal_laws.proofs.walks.Appending.{after_order, in_order, rows_append, rows_on}
 use Rattle.journal_laws.proofs.walks.Following.{come_on, has_on}
+use Rattle.journal_laws.proofs.follow.GivenUp.{newer_records}
 use Rattle.saved_laws.specs.Checkpoints.{AreReadFrom, AreWords, IsCheckpoint, StandFor}
 use Rattle.saved_laws.proofs.standing.Alike.{AreAlike, alike}
 use Rattle.saved_laws.proofs.standing.FirstRows.{at_rest}
 use Rattle.saved_laws.proofs.standing.Journals.{ends_behind}
 use Rattle.saved_laws.proofs.standing.Parts.{GoesOn, HasPart, goes_on, part_of_log}
-use Rattle.saved_laws.proofs.standing.Records.{newer_are, older_are}
+use Rattle.saved_laws.proofs.standing.Records.{older_records}
 
 -- which file bytes stand in is told of damage alone
 any_file : (file other saved : ℕ) (bytes : List ℕ) (rows : Rows) → rows_in file saved bytes ≡ Ok rows
@@ -126,7 +127,7 @@ module _ (stands : LocalCheckpointsStand) (lie : PiecesLieInOrder) (start : Star
 
     part_are : AreRecords (records_behind first part.part)
     part_are =
-        older_are (records_behind (rows_behind first part.part) part.newer) (records_behind first part.part)
+        older_records (records_behind (rows_behind first part.part) part.newer) (records_behind first part.part)
         (subst AreRecords (ap (records_behind first) part.is ∙ records_append first part.newer part.part) has.records)
 
     -- what they come to, with those that follow
@@ -151,7 +152,7 @@ module _ (stands : LocalCheckpointsStand) (lie : PiecesLieInOrder) (start : Star
 
     stand_for : StandFor start member before has_rows.rows finished.epoch finished.from told kept
     stand_for = record {
-      are = newer_are kept (records_behind first p.gone) (subst AreRecords all_is part_are);
+      are = newer_records kept (records_behind first p.gone) (subst AreRecords all_is part_are);
       bytes =
           sym (drop-append_seam (log_bytes (records_behind first p.gone)) (log_bytes kept))
           ∙ ap (λ n. drop n (log_bytes (records_behind first p.gone) ++ log_bytes kept)) position_is

@@ -15,8 +15,8 @@ use Rattle.lqh_saver.specs.State.{SaverState, SavingState}
 use Rattle.world_core.specs.Start.{Start, made}
 use Rattle.world_core.specs.Steps.{HostStep}
 use Rattle.journal_laws.specs.Journal.{AreEventsOf}
-use Rattle.journal_laws.specs.Saver.{IsStepBy, begins, ends, passes, rows, saver_after, saving_after}
-use Rattle.journal_laws.specs.Saver.{switches, todo_at}
+use Rattle.journal_laws.specs.Saver.{IsStepBy, begins, ends, passes, rows, switches, todo_at}
+use Rattle.request_laws.specs.Blocks.{saver_after, saving_after}
 use Rattle.journal_laws.proofs.follow.Follow.{first_saver}
 use Rattle.journal_laws.proofs.follow.Noted.{noted_least}
 

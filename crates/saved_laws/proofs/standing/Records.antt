@@ -16,14 +16,9 @@ pub length_both : (newer older : List Redo)
 length_both newer older =
     ap length (bytes_append newer older) ∙ length-append (log_bytes older) (log_bytes newer)
 
--- records are newer ones and others
-pub newer_are : (newer older : List Redo) → AreRecords (newer ++ older) → AreRecords newer
-newer_are [] older are = tt
-newer_are (newest ∷ newer) older are = (are.0, newer_are newer older are.1)
-
-pub older_are : (newer older : List Redo) → AreRecords (newer ++ older) → AreRecords older
-older_are [] older are = are
-older_are (newest ∷ newer) older are = older_are newer older are.1
+pub older_records : (newer older : List Redo) → AreRecords (newer ++ older) → AreRecords older
+older_records [] older are = are
+older_records (newest ∷ newer) older are = older_records newer older are.1
 
 -- where there are no bytes there are no records
 pub no_bytes : (records : List Redo) → length (log_bytes records) ≤ 0 → records ≡ []

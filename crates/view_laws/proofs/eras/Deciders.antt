@@ -63,16 +63,17 @@ has_is_seen = record {
   tells = λ s replies. tells_same s.parts replies;
 }
 
+-- what is told leaves the view
+pub told_view : (h : ℕ) (t : Step hosts.HostBody) → (told h t).standing.view ≡ t.state.standing.view
+told_view zero t = refl
+told_view (suc h) t = refl
+
 module _ (start : Start) where
   pub still : (h : ℕ) (log : List HostStep)
       → has_coordinator (after start h log).parts ≡ has_coordinator (started start h).parts
   still h log =
       log_goes no_block has_seen the_same has_is_seen start h log
       ∙ along_same (has_seen (started start h)) (events_of no_block start h log)
-
-  told_view : (h : ℕ) (t : Step hosts.HostBody) → (told h t).standing.view ≡ t.state.standing.view
-  told_view zero t = refl
-  told_view (suc h) t = refl
 
   -- the marks of a log of a host with a coordinator tell the view in which it stands
   module _ (is_shape : IsShape start.shape) (h : ℕ) (has : has_coordinator (started start h).parts ≡ true) where
@@ -82,7 +83,7 @@ module _ (start : Start) where
 
     view_told : (log : List HostStep) → IsLog (sound_machine start) h log
         → view_at log ≡ (view_after start h log).number
-    view_told [] local = sym (ap (λ (v : View). v.number) (started_view start is_shape h))
+    view_told [] local = sym (ap (λ (v : View). v.number) (started_view start h))
     view_told (e ∷ log) local =
         let t = step_by h (after start h log) e.step.taken in
         ap (λ marks. installed_in marks (view_at log)) local.0.fits.marks

@@ -48,7 +48,8 @@ below_by v w later low same = by (nat_lt v w) (v == w) refl refl
 
 -- the entries of one step
 module _ (h stamp : ℕ) (log : List HostStep) where
-  undecided_same : (marks : List Mark) (before : List Entry) → Each IsUndecided marks
+  -- marks that decide nothing add no entry
+  pub undecided_same : (marks : List Mark) (before : List Entry) → Each IsUndecided marks
       → entries_in h stamp log marks before ≡ before
   undecided_same [] before none = refl
   undecided_same (Decided tx epoch ∷ marks) before none = absurd (true≢false none.0)

@@ -92,7 +92,7 @@ act_in_greatest start logs are newer older k e is = record {
     before = log_of (sound_machine start) (in_order older) e.host
 
     begins : (h : ℕ) → number_after start h [] ≡ (first_view start.shape.nodes).number
-    begins h = ap (λ (v : View). v.number) (started_view start are.shape h)
+    begins h = ap (λ (v : View). v.number) (started_view start h)
 
     first : (h : ℕ) → number_after start h [] ≤ k
     first h =

@@ -58,7 +58,8 @@ of_host h xs = filter (λ a. a.host.0 == h) xs
 pub turned : {A : Type 0} (a : A) (xs : List A) → reverse (a ∷ xs) ≡ reverse xs ++ a ∷ []
 turned a xs = reverse-append (a ∷ []) xs
 
-each_turned : {A : Type 0} (P : A → Type 0) (xs : List A) → Each P xs → Each P (reverse xs)
+-- what is so of each is so of each of the list turned round
+pub each_turned : {A : Type 0} (P : A → Type 0) (xs : List A) → Each P xs → Each P (reverse xs)
 each_turned P [] all = tt
 each_turned P (x ∷ xs) all =
     subst (Each P) (sym (turned x xs)) (each_append P (reverse xs) (x ∷ []) (each_turned P xs all.1) (all.0, tt))

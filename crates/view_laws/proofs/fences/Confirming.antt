@@ -12,6 +12,7 @@ use Rattle.qmgr_block.specs.Promise.{waits_for}
 use Rattle.qmgr_block.specs.State.{QmgrState}
 use Rattle.view_laws.specs.Members.{confirmed_by}
 use Rattle.view_laws.proofs.fences.WaitInOrder.{behind}
+use Rattle.view_laws.proofs.memberships.Steps.{less_number}
 
 -- what a confirmation of a fence does to the promises that wait
 pub data Confirms (b : Bool) (before now : List Promise) (marks : List Mark) : Type 0 where
@@ -20,10 +21,6 @@ pub data Confirms (b : Bool) (before now : List Promise) (marks : List Mark) : T
       → now ≡ set_first (waits_for b) (less b p) before → confirmed_by marks ≡ [] → Confirms b before now marks
   confirms : (p : Promise) → first (waits_for b) before ≡ Some p → is_fenced (less b p) ≡ true
       → now ≡ drop_first (waits_for b) before → confirmed_by marks ≡ p.number ∷ [] → Confirms b before now marks
-
-less_number : (b : Bool) (p : Promise) → (less b p).number ≡ p.number
-less_number true p = refl
-less_number false p = refl
 
 module _ (s : QmgrState) (b : Bool) where
   abbrev ConfirmsAt : Step QmgrState → Type 0

@@ -1,22 +1,19 @@
 -- Where each block of a member is fenced at all numbers that the member has confirmed, each view is fenced.
-use Rattle.std.proofs.Common.{◌≡◌, ◌⊎◌, ◌≤◌, ◌<◌, ℕ, zero, suc, Bool, true, false, List, [], ◌∷◌, append-nil, refl, ap}
+use Rattle.std.proofs.Common.{◌≡◌, ◌⊎◌, ◌≤◌, ◌<◌, ℕ, Bool, true, false, List, [], ◌∷◌, append-nil, refl, ap}
 use Rattle.std.proofs.Common.{subst, arith, inl, inr}
 use Rattle.std.specs.List.{list_any}
-use Rattle.std.specs.Prelude.{if◌then◌else◌, ◌%◌, None}
+use Rattle.std.specs.Prelude.{if◌then◌else◌, None}
 use Rattle.frag_map.specs.Layout.{first_layout, first_view}
 use Rattle.frag_map.specs.Replicas.{is_member}
 use Rattle.run_theory.specs.Lists.{IsIn}
 use Rattle.run_theory.proofs.Pasts.{each_in}
 use Rattle.sig_core.specs.declared.member.Member.{Member}
 use Rattle.sig_core.specs.declared.place.BlockId.{BlockId}
-use Rattle.sig_core.specs.declared.place.Part.{Part}
-use Rattle.sig_core.specs.declared.place.Part.TheVariants.{Ldm, Main, Tc}
 use Rattle.sig_core.specs.declared.view.View.{View}
 use Rattle.sig_core.specs.Part.{part_of}
-use Rattle.world_core.specs.Hosts.{host_of, member_at, part_by}
+use Rattle.world_core.specs.Hosts.{host_of}
 use Rattle.world_core.specs.Start.{Start, made}
 use Rattle.world_core.specs.Steps.{HostStep}
-use Rattle.world_views.specs.Hosts.{part_started, started}
 use Rattle.world_views.specs.Machine.{after, step_by, told}
 use Rattle.view_laws.specs.Ballots.{HasPromised, IsChosen}
 use Rattle.view_laws.specs.Fences.{EachViewIsFenced, IsFenced, fence_after}
@@ -30,6 +27,7 @@ use Rattle.view_laws.proofs.follow.Views.{others_move}
 use Rattle.view_laws.proofs.runs.AllSound.{have_orderly}
 use Rattle.view_laws.proofs.runs.FirstMembers.{made_tested}
 use Rattle.view_laws.proofs.runs.ChosenViews.{installed_chosen}
+use Rattle.view_laws.proofs.runs.Step.{started_view}
 
 -- each fenced block of a member is fenced at each number that the member has confirmed
 abbrev pub ConfirmedAreFenced : Type 0
@@ -50,22 +48,11 @@ from_made {A} start me x xs is = by (list_any (is_member me) (made start)) refl 
     by false e is = absurd is
 
 module _ (start : Start) where
-  part_first : (part : Part) (member : Member)
-      → (part_started start part member).standing.view ≡ first_view start.shape.nodes
-  part_first Main member = refl
-  part_first Tc member = refl
-  part_first Ldm member = refl
-
-  first_started : (h : ℕ) → (started start h).standing.view ≡ first_view start.shape.nodes
-  unfolding started
-  first_started zero = refl
-  first_started (suc h) = part_first (part_by (h % 3)) (member_at (made start) (suc h))
-
   -- a host without a membership never falls behind the first view
   not_before : (h : ℕ) → ((log : List HostStep) → membership_in (after start h log).parts ≡ None)
       → (log : List HostStep) → (first_view start.shape.nodes).number ≤ (view_after start h log).number
   not_before h none [] =
-      omega (arith, ap (λ (v : View). v.number) (first_started h))
+      omega (arith, ap (λ (v : View). v.number) (started_view start h))
   not_before h none (e ∷ log) =
       by (others_move h (after start h log) e.step.taken (none log)) (not_before h none log)
     where

@@ -46,6 +46,14 @@ number_few Main = omega arith
 number_few Tc = omega arith
 number_few Ldm = omega arith
 
+-- the member of a node in a view is of that node
+pub node_of : (view : View) (node : ℕ) (m : Member) → member_of view node ≡ Some m → m.node ≡ node
+node_of view node m is =
+    each_get (λ (m : Member). m.node ≡ node) (filter (λ (m : Member). m.node == node) (all_of view)) 0 m
+    (each_from _ (filter (λ (m : Member). m.node == node) (all_of view))
+    (λ m i. eqb-true m.node node (filter_in (λ (m : Member). m.node == node) (all_of view) m i).1))
+    is
+
 module _ (start : Start) where
   by_member : (node : ℕ) (b : BlockId) → 1 ≤ node
       → host_for start (record { node = node; block = b })
@@ -117,13 +125,6 @@ module _ (start : Start) where
           → IsIn m (made start)
       by None e same = absurd (not_absent me there at (sym (absent_is (part_of b)) ∙ same))
       by (Some i) e same = made_tested start m (any_found (is_member m) (made start) i e)
-
-  node_of : (view : View) (node : ℕ) (m : Member) → member_of view node ≡ Some m → m.node ≡ node
-  node_of view node m is =
-      each_get (λ (m : Member). m.node ≡ node) (filter (λ (m : Member). m.node == node) (all_of view)) 0 m
-      (each_from _ (filter (λ (m : Member). m.node == node) (all_of view))
-      (λ m i. eqb-true m.node node (filter_in (λ (m : Member). m.node == node) (all_of view) m i).1))
-      is
 
   -- what a host of a node sends to its own node, and comes to a part of a member, comes to one of that node
   pub own_reaches : (h : ℕ) (view : View) (w me : Member) → IsIn w (made start) → IsIn me (made start)

@@ -53,7 +53,7 @@ use Rattle.view_laws.proofs.fences.WaitInOrder.{full, times, times_more}
 use Rattle.view_laws.proofs.fences.Ranks.{asked_more, rank_below}
 use Rattle.view_laws.proofs.fences.RequestsTaken.{takes_or_stops}
 use Rattle.view_laws.proofs.fences.Seen.{is_block}
-use Rattle.view_laws.proofs.fences.Sent.{me_is}
+use Rattle.view_laws.proofs.memberships.Proposals.{me_is}
 use Rattle.view_laws.proofs.fences.OfOwnMember.{low_host}
 use Rattle.view_laws.proofs.follow.TakenOnce.{taken_append}
 use Rattle.view_laws.proofs.runs.Growth.{events_past}

@@ -120,7 +120,8 @@ rows_node s body =
       rests = λ body is. refl;
     }) body
 
-replica_node : (s : ReplicaState) (x : Signal) → (replica_row s x).state.lqh.node ≡ s.lqh.node
+-- rows stay of their node
+pub replica_node : (s : ReplicaState) (x : Signal) → (replica_row s x).state.lqh.node ≡ s.lqh.node
 replica_node s x =
     replica_outcomes s x (λ step. step.state.lqh.node ≡ s.lqh.node) (record {
       passes = λ of_rows. rows_node s.lqh x.body;

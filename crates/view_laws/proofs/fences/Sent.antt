@@ -15,7 +15,7 @@ use Rattle.sig_core.specs.declared.signal.membership.MembershipSignal.TheVariant
 use Rattle.sig_core.specs.declared.signal.Signal.{Signal}
 use Rattle.sig_core.specs.declared.view.View.{View}
 use Rattle.arbiter_block.specs.Arbiter.{ArbiterState, arbit_if, arbit_row, arbiter_table, is_granted}
-use Rattle.qmgr_block.specs.Laws.{Event, installs, takes}
+use Rattle.qmgr_block.specs.Laws.{Event, takes}
 use Rattle.qmgr_block.specs.Promise.{fences}
 use Rattle.qmgr_block.specs.Qmgr.{qmgr_row}
 use Rattle.world_core.specs.Hosts.{hosts, member_at}
@@ -27,19 +27,19 @@ use Rattle.view_laws.specs.Grants.{arbiter_of}
 use Rattle.view_laws.specs.HostEvents.{events_at, events_of, is_arbiter, is_membership, taken_in}
 use Rattle.view_laws.specs.Members.{known_of, promises_of, state_of}
 use Rattle.view_laws.specs.Votes.{IsSentAmong, IsSentByArbiter, is_vote, main_of}
-use Rattle.view_laws.proofs.memberships.AlongEvents.{steps}
 use Rattle.view_laws.proofs.fences.Asked.{IsFenceOf, IsOff, row_fences}
 use Rattle.view_laws.proofs.fences.OwnNodes.{node_after}
 use Rattle.view_laws.proofs.follow.Hosts.{arbiters_follow, hosts_follow}
 use Rattle.view_laws.proofs.follow.HostKinds.{no_arbiter_behind, no_membership_beside}
 use Rattle.view_laws.proofs.runs.Growth.{promises_past}
 use Rattle.view_laws.proofs.runs.FirstMembers.{HostIs, host_is, of_main, of_other, of_shell}
-use Rattle.view_laws.proofs.memberships.Steps.{higher, row_installs}
 use Rattle.view_laws.proofs.votes.Memberships.{memberships_tell}
 use Rattle.view_laws.proofs.votes.NoVotes.{IsNoVote, confirmation, is_of_fence, is_told}
 use Rattle.view_laws.proofs.votes.Others.{others_answer}
 use Rattle.view_laws.proofs.votes.Parts.{own_node}
 use Rattle.view_laws.proofs.votes.Arbitrators.{arbiters_tell}
+use Rattle.view_laws.proofs.memberships.Proposals.{me_is}
+use Rattle.view_laws.proofs.memberships.Steps.{higher}
 
 fence_told : (body : Body) → is_of_fence body ≡ true → is_told body ≡ true
 fence_told body is = by (is_vote body)
@@ -54,12 +54,6 @@ untold_fence body off = by (is_vote body) off
     by : (b : Bool) → (b || is_of_fence body) ≡ false → is_of_fence body ≡ false
     by true off = absurd (true≢false off)
     by false off = off
-
--- a membership knows its member
-pub me_is : (w : Member) (layout : Layout) (events : List Event) → (known_of w layout events).me ≡ w
-me_is w layout [] = refl
-me_is w layout (takes x ∷ events) = (steps (state_of w layout events) x).me ∙ me_is w layout events
-me_is w layout (installs view ∷ events) = (row_installs (known_of w layout events) view).me ∙ me_is w layout events
 
 -- the arbitrator asks for none
 arbit_off : (s : ArbiterState) (node number : ℕ) (group : List Member) (granted : Bool)

@@ -48,7 +48,8 @@ pub among_is : (set : List Member) (member : Member) → is_among set member ≡
 unfolding is_among
 among_is set member e = any_is set member e
 
-or_true : (b : Bool) → (b || true) ≡ true
+-- an or with what is true
+pub or_true : (b : Bool) → (b || true) ≡ true
 or_true true = refl
 or_true false = refl
 

@@ -136,7 +136,8 @@ Waited s promise = HasNumber s.promises promise.number
 keeps_self : (k : Known) → Keeps k k
 keeps_self k = record { proposed = refl; low = λ number low. low }
 
-less_number : (ldm : Bool) (promise : Promise) → (less ldm promise).number ≡ promise.number
+-- a promise that is less keeps its number
+pub less_number : (ldm : Bool) (promise : Promise) → (less ldm promise).number ≡ promise.number
 less_number true promise = refl
 less_number false promise = refl
 

@@ -25,8 +25,8 @@ use Rattle.view_laws.specs.Ballots.{Promised}
 use Rattle.view_laws.specs.HostEvents.{taken_in}
 use Rattle.view_laws.specs.Members.{promises_of, state_of}
 use Rattle.view_laws.proofs.memberships.RowsAlike.{promised_like}
-use Rattle.view_laws.proofs.memberships.Steps.{higher}
 use Rattle.view_laws.proofs.memberships.RowChanges.{moves_told_if}
+use Rattle.view_laws.proofs.memberships.Steps.{higher}
 
 -- W number to: what is so of a promise of the number that is to be confirmed to the node
 module _ (W : ℕ → ℕ → Type 0) where

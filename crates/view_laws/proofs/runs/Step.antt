@@ -87,21 +87,21 @@ module _ (start : Start) where
           sym (log_of-own (machine start) e es e.host refl) ∙ within e.host high in
           absurd (cc (none))
 
+  part_view : (part : Part) (member : Member)
+      → (part_started start part member).standing.view ≡ first_view start.shape.nodes
+  part_view Main member = refl
+  part_view Tc member = refl
+  part_view Ldm member = refl
+
+  -- each host begins in the first view
+  pub started_view : (h : ℕ) → (started start h).standing.view ≡ first_view start.shape.nodes
+  unfolding started
+  started_view zero = refl
+  started_view (suc h) = part_view (part_by (h % 3)) (member_at (made start) (suc h))
+
   module _ (is_shape : IsShape start.shape) where
     abbrev layout : Layout
     layout = first_layout start.shape
-
-    -- at the start
-    part_view : (part : Part) (member : Member)
-        → (part_started start part member).standing.view ≡ first_view start.shape.nodes
-    part_view Main member = refl
-    part_view Tc member = refl
-    part_view Ldm member = refl
-
-    pub started_view : (h : ℕ) → (started start h).standing.view ≡ first_view start.shape.nodes
-    unfolding started
-    started_view zero = refl
-    started_view (suc h) = part_view (part_by (h % 3)) (member_at (made start) (suc h))
 
     first_good : (logs : ℕ → List HostStep) → IsGood start logs (first_view start.shape.nodes)
     first_good logs = record {
