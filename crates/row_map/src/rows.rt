@@ -14,7 +14,6 @@ use std::cmp::Ordering;
 use std::marker::Model;
 
 /// Rows by their keys. Contracts see a finite map.
-#[derive(Drop)]
 pub struct RowMap {
     rows: IndexMap<Key, Value>,
 }
@@ -31,6 +30,13 @@ impl Model for RowMap {
     ghost coded = { map.code (coded_list coded_ℕ) (coded_list coded_ℕ) };
 
     ghost view = { λ t. map.from_entries t.rows.entries };
+}
+
+// A call, so that the proof of who lets rows go has nothing of what these lie in.
+impl Drop for RowMap {
+    fn drop(self) {
+        let RowMap { rows: _rows } = self;
+    }
 }
 
 impl RowMap {
