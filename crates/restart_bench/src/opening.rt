@@ -212,8 +212,8 @@ pub fn open(rt: &HostRuntime, size: Size) -> Result<bool, Fail> {
     is_right(rt, &restored, size, laid.changes)
 }
 
-/// The same, and prints the nanoseconds too of restoring and of making ready. Whether the rows are right isn't looked at,
-/// which takes as long as a part of either.
+/// The same, and prints the nanoseconds too of restoring and of making ready. It doesn't look at the rows, which would
+/// count as opening.
 pub fn time_opening(rt: &HostRuntime, size: Size) -> Result<bool, Fail> {
     let laid = lay_out(rt.alloc(), size)?;
     let (_, restoring, preparing) = open_disk(rt, laid.disk)?;

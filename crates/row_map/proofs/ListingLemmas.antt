@@ -60,7 +60,8 @@ unfolding IsStrictlySortedBy IsDistinct
 strictly [] up apart = tt
 strictly (k ∷ ks) up apart = (
   all_behind k ks
-      (λ i d a. sorted_far is_before (ranks_by nat_list_cmp_total (λ x. x)) (k ∷ ks) up 0 (suc i) d (omega arith) (omega arith))
+      (λ i d a. sorted_far is_before (ranks_by nat_list_cmp_total (λ x. x)) (k ∷ ks) up 0 (suc i) d (omega arith)
+      (omega arith))
       apart.0,
   strictly ks
       (λ i d a b. subst (λ (n : ℕ). is_before (slice_index_or (k ∷ ks) n d) (slice_index_or ks i d) ≡ false)
