@@ -72,8 +72,10 @@ fn live_in<W: Wait>(
     requires { IsWorld (whole_of world.world) }
 {
     let mut world = world;
-    play_lines(rt, alloc, &mut world, lines_up(lines), point, text)?;
+    let played = play_lines(rt, alloc, &mut world, lines_up(lines), point, text);
+    // Ended either way: what a world is made of is then dropped in its own crate.
     let Ended { life, mut disks } = world.end(alloc);
+    played?;
     for line in lines {
         tell_log(alloc, &life, line, text)?;
     }
