@@ -1,5 +1,5 @@
 use Rattle.frag_map.specs.Shape.{IsShape}
-use Rattle.disk_runs.proofs.play.play.Given as goal
+use Rattle.worked_runs.proofs.play.play.Given as goal
 
 -- the shape is one
 abbrev pub invariant-loop : goal.invariant-loop

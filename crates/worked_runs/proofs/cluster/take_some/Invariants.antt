@@ -1,6 +1,6 @@
 use Rattle.world_views.specs.Driven.{IsWorld}
 use Rattle.world_views.specs.WorldOf.{whole_of}
-use Rattle.disk_runs.proofs.cluster.make.Given as goal
+use Rattle.worked_runs.proofs.cluster.take_some.Given as goal
 
 -- the world is one
 abbrev pub invariant-loop : goal.invariant-loop

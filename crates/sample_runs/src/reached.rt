@@ -1,7 +1,7 @@
 //! Which host gets what, where a node was made again. A world has no call that tells, so its definition is asked.
 ghost use Rattle.std.specs.Prelude.{◌≡◌};
 ghost use Rattle.frag_map.specs.Layout.{first_view};
-ghost use Rattle.machine_tests.specs.Reached.{reached_by};
+ghost use Rattle.sample_runs.specs.Reached.{reached_by};
 
 /// The shell's host, 0, reaches a start that its view lacks: host 8. Host 1, of node 1, doesn't: where its view has
 /// both nodes it reaches the first start, and where it has node 1 alone nobody, whose number is behind all hosts.

@@ -1,7 +1,9 @@
-//! What is told of disks.
-use crate::line::Flip;
+//! What is told of disks, and of lives on them.
+use crate::line::DiskByte;
+use disk_world::DiskWorld;
 use host_io::MemDisk;
-use sig_core::{NoMemory, RestartFault, Shape};
+use script_lang::print_reply;
+use sig_core::{ApiReply, NoMemory, RestartFault, Shape};
 use std::alloc::Global;
 
 /// How many calls of a node's disk were made.
@@ -28,15 +30,34 @@ pub fn tell_calls(
 pub fn tell_flip(
     alloc: Global,
     before: Option<u8>,
-    flip: &Flip,
+    place: &DiskByte,
     text: &mut Vec<u8>,
 ) -> Result<(), NoMemory> {
-    let Flip { node, file, at } = flip;
+    let DiskByte { node, file, at } = place;
     let line = match before {
         Some(byte) => format!(in alloc; "disk {node} file {file} at {at} had byte {byte}\n")?,
         None => format!(in alloc; "disk {node} file {file} at {at} had none\n")?,
     };
     text.extend_from_slice(line.as_bytes())?;
+    Ok(())
+}
+
+/// The rows that a life began with, how many they are, and which life it is.
+///
+/// # Errors
+/// `NoMemory`.
+pub fn tell_life(
+    alloc: Global,
+    world: &DiskWorld<MemDisk>,
+    text: &mut Vec<u8>,
+) -> Result<(), NoMemory> {
+    let rows = world.start_rows();
+    for (key, value) in rows {
+        let (key, value) = (*key, *value);
+        print_reply(alloc, &ApiReply::Row { key, value }, text)?;
+    }
+    let (generation, count) = (world.generation(), rows.len());
+    text.extend_from_slice(format!(in alloc; "life {generation} rows {count}\n")?.as_bytes())?;
     Ok(())
 }
 
