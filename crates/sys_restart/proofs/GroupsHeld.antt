@@ -5,7 +5,7 @@ use Rattle.std.specs.FinMap as finmap
 use Rattle.std.specs.List.{list_all}
 use Rattle.std.proofs.lemmas.List.{length-append}
 use Rattle.frag_map.specs.Fragment.{group_of_key}
-use Rattle.frag_map.specs.Shape.{IsShape, group_of, groups}
+use Rattle.frag_map.specs.Shape.{IsShape, groups}
 use Rattle.sig_core.specs.Table.{Rows}
 use Rattle.sig_core.specs.declared.fault.RestartFault.{RestartFault}
 use Rattle.sig_core.specs.declared.slots.ControlSlot.{ControlSlot}
@@ -31,7 +31,7 @@ AreHeldFrom shape group [] = Unit {0}
 AreHeldFrom shape group (rows ∷ more) =
     (are_held shape (group * shape.replicas + 1) rows ≡ true) × AreHeldFrom shape (group + 1) more
 
-pub held_at : (shape : Shape) (all : List Rows) (from group : ℕ) → AreHeldFrom shape from all
+held_at : (shape : Shape) (all : List Rows) (from group : ℕ) → AreHeldFrom shape from all
     → are_held shape ((from + group) * shape.replicas + 1) (get_or all group finmap.empty) ≡ true
 held_at shape [] from group held = none_held shape ((from + group) * shape.replicas + 1)
 held_at shape (rows ∷ more) from zero held =
@@ -41,6 +41,12 @@ held_at shape (rows ∷ more) from (suc group) held =
     subst (λ (g : ℕ). are_held shape (g * shape.replicas + 1) (get_or more group finmap.empty) ≡ true)
     (let same : from + 1 + group ≡ from + suc group = omega arith in same)
     (held_at shape more (from + 1) group held.1)
+
+pub group_held_in : (shape : Shape) (all : List Rows) (group : ℕ) → AreHeldFrom shape 0 all
+    → are_held shape (group * shape.replicas + 1) (get_or all group finmap.empty) ≡ true
+group_held_in shape all group held =
+    subst (λ (g : ℕ). are_held shape (g * shape.replicas + 1) (get_or all group finmap.empty) ≡ true)
+    (let same : 0 + group ≡ group = omega arith in same) (held_at shape all 0 group held)
 
 -- those of one more group
 held_more : (shape : Shape) (before : List Rows) (from : ℕ) (part : Rows) → AreHeldFrom shape from before

@@ -1,5 +1,5 @@
 -- Rows that are of the group of the node on whose disk they are.
-use Rattle.std.proofs.Common.{◌≡◌, ◌∙◌, ℕ, ◌-◌, ◌/◌, ◌%◌, ◌==◌, ◌≤◌, ◌<◌, Bool, true, false, List, [], ◌∷◌, refl, ap, sym, subst, arith, if◌then◌else◌}
+use Rattle.std.proofs.Common.{◌≡◌, ◌∙◌, ℕ, ◌-◌, ◌/◌, ◌%◌, ◌≤◌, ◌<◌, Bool, true, false, List, [], ◌∷◌, refl, ap, sym, subst, arith, if◌then◌else◌}
 use Rattle.std.specs.Prelude.{Result, Ok, Err}
 use Rattle.std.specs.FinMap as finmap
 use Rattle.std.specs.List.{list_all}
@@ -22,14 +22,10 @@ no_rows fault part is = cc
 same_rows : (rows part : Rows) → ◌≡◌ {A = Result Rows RestartFault} (Ok rows) (Ok part) → rows ≡ part
 same_rows rows part is = cc
 
--- rows that their node holds are kept, and others aren't
+-- rows that their node holds are kept
 pub held_kept : (shape : Shape) (node : ℕ) (files : Files) (rows : Rows) → are_held shape node rows ≡ true
     → if_held shape node files (Ok rows) ≡ Ok rows
 held_kept shape node files rows is = ap (λ (b : Bool). if b then Ok rows else Err (lacking node files)) is
-
-pub held_not : (shape : Shape) (node : ℕ) (files : Files) (rows : Rows) → are_held shape node rows ≡ false
-    → if_held shape node files (Ok rows) ≡ Err (lacking node files)
-held_not shape node files rows is = ap (λ (b : Bool). if b then Ok rows else Err (lacking node files)) is
 
 -- those that were kept are those that were read
 pub held_is : (shape : Shape) (node : ℕ) (files : Files) (found : Result Rows RestartFault) (part : Rows)

@@ -1,5 +1,5 @@
 -- Disks on which a life is named.
-use Rattle.std.proofs.Common.{◌≡◌, ◌∙◌, ◌⊎◌, ℕ, zero, suc, ◌+◌, ◌-◌, ◌*◌, ◌≤◌, ◌<◌, true, length, take, get_or, refl, ap, sym, subst, arith, inl, inr}
+use Rattle.std.proofs.Common.{◌≡◌, ◌∙◌, ◌⊎◌, ℕ, zero, suc, ◌+◌, ◌-◌, ◌*◌, ◌≤◌, ◌<◌, length, take, get_or, refl, ap, sym, subst, arith, inl, inr}
 use Rattle.std.specs.Prelude.{Option, Some, Ok}
 use Rattle.std.specs.FinMap as finmap
 use Rattle.std.proofs.lemmas.Bool.{cases_lt}
@@ -18,7 +18,7 @@ use Rattle.sys_restart.specs.Latest.{later, latest_from, latest_of, latest_on}
 use Rattle.sys_restart.specs.Prepared.{HasSlot, IsNamedOrBelow}
 use Rattle.sys_restart.specs.Restored.{restored_by, restored_of, with_rows}
 use Rattle.sys_restart.proofs.AlikeLemmas.{same_answer}
-use Rattle.sys_restart.proofs.GroupsHeld.{AreHeldFrom, held_at}
+use Rattle.sys_restart.proofs.GroupsHeld.{AreHeldFrom, group_held_in}
 use Rattle.sys_restart.proofs.GroupsLemmas.{control_saved, source_found}
 use Rattle.sys_restart.proofs.HeldLemmas.{held_kept}
 use Rattle.sys_restart.proofs.ListedLemmas.{listed_all}
@@ -99,7 +99,8 @@ module _ (shape : Shape) (r : Restored) (disks : Disks) (is : IsShape shape) (ea
       (ap (on_node first) has.1.has_rows
       ∙ ap (λ (g : ℕ). Ok (get_or r.groups g finmap.empty))
       (first_of_group shape.replicas group is.replicas_some is.replicas_few))
-      ∙ held_kept shape first (disks first) (get_or r.groups group finmap.empty) (held_at shape r.groups 0 group held)
+      ∙ held_kept shape first (disks first) (get_or r.groups group finmap.empty)
+      (group_held_in shape r.groups group held)
 
   groups_named : (group more less : ℕ) → group + more ≡ groups shape → shape.replicas ≡ suc less
       → rows_from shape disks (next_system shape r) group more (Ok (take group r.groups)) ≡ Ok r.groups

@@ -1,4 +1,4 @@
-use Rattle.std.proofs.Common.{◌≡◌, ◌∙◌, ℕ, Bool, true, false, Bor, List, get_or, take, ap, sym}
+use Rattle.std.proofs.Common.{◌∙◌, ℕ, Bool, Bor, List, get_or, take, ap, sym}
 use Rattle.std.specs.List.{list_all}
 use Rattle.std.specs.Map.Iter.{deref_pair}
 use Rattle.std.proofs.lemmas.Bool.{and_from}
