@@ -17,8 +17,8 @@ const SIX: Shape = Shape {
     fragments: 7,
 };
 
-/// Rows of all groups come back, and each node has those of its own. Where disks have changed places a restart gives the
-/// same rows, or is refused.
+/// Rows of all groups come back, and each node has those of its own. Where disks have changed places a restart gives
+/// the same rows, or is refused.
 pub fn three_groups(alloc: Global) -> Result<(), Trouble> {
     let mut disks = six_disks(alloc)?;
     prepare_six(alloc, &mut disks, &letters(alloc, 1)?)?;
