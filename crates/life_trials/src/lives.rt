@@ -26,8 +26,9 @@ use trial_requests::all_keys;
 const MORE: u64 = 60;
 /// The same of a brief one.
 const FEW: u64 = 8;
-/// How often it is tried to begin a life.
-const TRIES: u64 = 200;
+/// How often it is tried to begin a life: each try that fails uses up a call that is to fail, of which eight disks have
+/// fewer than this together.
+const TRIES: u64 = 1_500;
 
 /// What a life left, and how many local checkpoints it reported.
 #[derive(Drop)]
