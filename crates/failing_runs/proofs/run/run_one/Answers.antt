@@ -1,4 +1,4 @@
-use Rattle.std.proofs.Common.{[]}
+use Rattle.std.proofs.Common.{[], refl}
 use Rattle.world_views.specs.WorldOf.{whole_of}
 use Rattle.world_views.proofs.WorldLemmas.{begun_world}
 use Rattle.failing_runs.proofs.run.run_one.Goals as goal
@@ -10,5 +10,6 @@ live-requires-clause-world g c =
       epoch = 4294967296;
       start_epoch = 0;
       rows = [];
-    })
+      late = [];
+    }) refl
     c.in_ok-world.ensures

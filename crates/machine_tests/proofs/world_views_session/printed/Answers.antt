@@ -1,4 +1,4 @@
-use Rattle.std.proofs.Common.{[]}
+use Rattle.std.proofs.Common.{[], refl}
 use Rattle.world_views.specs.WorldOf.{whole_of}
 use Rattle.world_views.proofs.WorldLemmas.{begun_world}
 use Rattle.machine_tests.proofs.world_views_session.printed.Goals as goal
@@ -10,5 +10,6 @@ loop-line-init g c =
       epoch = 4294967296;
       start_epoch = 0;
       rows = [];
-    })
+      late = [];
+    }) refl
     c.in_ok-world.ensures

@@ -1,3 +1,4 @@
+use Rattle.std.proofs.Common.{[], refl}
 use Rattle.world_views.specs.WorldOf.{whole_of}
 use Rattle.world_views.proofs.WorldLemmas.{begun_world}
 use Rattle.worked_runs.proofs.play.play.Goals as goal
@@ -9,5 +10,6 @@ play_lines-requires g c =
       epoch = c.epochs_of-epochs.result.first;
       start_epoch = c.epochs_of-epochs.result.start;
       rows = c.as_slice.result.now;
-    })
+      late = [];
+    }) refl
     c.in_ok-world.ensures
