@@ -23,6 +23,7 @@ use Rattle.sys_restart.specs.Calls.{rows_of_node}
 use Rattle.sys_restart.specs.Files.{Disks}
 use Rattle.sys_restart.specs.Groups.{is_listed}
 use Rattle.sys_restart.specs.Restored.{restored_of}
+use Rattle.world_core.proofs.MadeFirst.{begins_made}
 use Rattle.world_core.specs.Hosts.{hosts}
 use Rattle.world_core.specs.Start.{Start, made}
 use Rattle.world_core.specs.Steps.{HostStep}
@@ -132,7 +133,7 @@ module _ (copied : CopiedWereSaved) (durable : DurableWereNoted) (done : DoneWer
       member = first_start node
 
       there : IsIn member (made start)
-      there = first_in start.shape.nodes node some low
+      there = begins_made start _ (first_in start.shape.nodes node some low)
 
       before : Rows
       before = rows_of_node start.shape node r
