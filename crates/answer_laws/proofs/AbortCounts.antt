@@ -17,7 +17,7 @@ use Rattle.sig_core.specs.declared.signal.chain.ChainSignal.TheVariants.{Abort, 
 use Rattle.sig_core.specs.declared.signal.host.HostSignal.TheVariants.{Continue}
 use Rattle.sig_core.specs.declared.signal.host.Work.TheVariants as work
 use Rattle.sig_core.specs.Same.{same_tx}
-use Rattle.world_core.specs.Hosts.{home, host_for, hosts}
+use Rattle.world_core.specs.Hosts.{home, host_for, first_hosts}
 use Rattle.world_core.specs.Start.{Start}
 use Rattle.run_laws.proofs.hosts.AlongSteps.{home_place}
 use Rattle.host_laws.proofs.hosts.BlocksAlong.{reaches}
@@ -92,7 +92,7 @@ none_at n tx to (Chain (Aborted other key)) p q = by (is_tc to.block && (to.node
 none_at n tx to _ p q = refl
 
 pub abort_low : (start : Start) (tx : TxId) → tx.tc ≤ start.shape.nodes → (to : Place) (body : Body)
-    → is_abort (start.shape.nodes + 1) tx to body ≡ true → host_for start to < hosts start
+    → is_abort (start.shape.nodes + 1) tx to body ≡ true → host_for start to < first_hosts start
 abort_low start tx low to (Chain (Abort other key)) e =
     let node = right_of (is_lqh to.block) (is_node (start.shape.nodes + 1) to.node)
     (left_of (is_lqh to.block && is_node (start.shape.nodes + 1) to.node) _ e) in

@@ -26,7 +26,7 @@ use Rattle.tc_block.specs.declared.transaction.Transaction.{Transaction}
 use Rattle.tc_block.specs.Abort.{asked_count, replica_count}
 use Rattle.tc_block.specs.Operate.{fresh}
 use Rattle.world_core.proofs.HostNumbers.{host_below}
-use Rattle.world_core.specs.Hosts.{home, hosts}
+use Rattle.world_core.specs.Hosts.{home, first_hosts}
 use Rattle.world_core.specs.Machine.{after, machine, step_after}
 use Rattle.world_core.specs.Start.{Start}
 use Rattle.world_core.specs.Steps.{HostStep}
@@ -62,7 +62,7 @@ module _ (start : Start) (shape : IsShape start.shape) (tx : TxId) (some_node : 
   abbrev at : ℕ
   at = home start tx
 
-  low : at < hosts start
+  low : at < first_hosts start
   low = host_below start (coordinator_of tx) some_node few_nodes
 
   good : (key : List ℕ) → is_good nodes (chain_of (first_layout start.shape) key) ≡ true

@@ -13,7 +13,7 @@ use Rattle.tc_block.specs.declared.phase.Asked.{Asked}
 use Rattle.tc_block.specs.declared.phase.Phase.{Phase}
 use Rattle.tc_block.specs.declared.phase.Phase.TheVariants as phases
 use Rattle.tc_block.specs.Abort.{is_verifying}
-use Rattle.world_core.specs.Hosts.{home, hosts}
+use Rattle.world_core.specs.Hosts.{home, first_hosts}
 use Rattle.world_core.specs.Machine.{after}
 use Rattle.world_core.specs.Start.{Start}
 use Rattle.answer_laws.proofs.Aborts.{no_abort}
@@ -43,7 +43,7 @@ module _ (start : Start) (logs : ℕ → List HostStep) (t : OpenTransaction) (q
     served : IsKeptByCoordinator start logs t tx
     served = each_served start logs t quiet inside tx is
 
-    low : home start tx < hosts start
+    low : home start tx < first_hosts start
     low = live_low start logs tx served.transaction quiet (home start tx) served.live
 
     -- where it has nothing unanswered it is open

@@ -29,7 +29,7 @@ use Rattle.node_core.specs.Requests.{is_request}
 use Rattle.node_core.specs.Row.{row, shell_row}
 use Rattle.tc_block.specs.State.{TcState}
 use Rattle.tc_block.specs.Tc.{tc_table}
-use Rattle.world_core.specs.Hosts.{home, hosts}
+use Rattle.world_core.specs.Hosts.{home, first_hosts}
 use Rattle.world_core.specs.Machine.{after, machine, step_after}
 use Rattle.world_core.specs.Start.{Start}
 use Rattle.world_core.specs.Steps.{HostStep}
@@ -315,31 +315,31 @@ module _ (start : Start) (tx : TxId) where
               )),
         )
 
-    all_asked : total (hosts start) (λ i. asked_at (after start i (logs i))) + total (hosts start)
+    all_asked : total (first_hosts start) (λ i. asked_at (after start i (logs i))) + total (first_hosts start)
         (λ i. signals (is_answer tx) (sent (machine start) i 0 (logs i)))
-        ≤ total (hosts start) (λ i. signals (is_key tx) (sent (machine start) 0 i (logs 0)))
+        ≤ total (first_hosts start) (λ i. signals (is_key tx) (sent (machine start) 0 i (logs 0)))
     all_asked =
         omega (
           arith,
-          total_add (hosts start) (λ i. asked_at (after start i (logs i)))
+          total_add (first_hosts start) (λ i. asked_at (after start i (logs i)))
               (λ i. signals (is_answer tx) (sent (machine start) i 0 (logs i))),
-          total_le (hosts start)
+          total_le (first_hosts start)
               (λ i. asked_at (after start i (logs i)) + signals (is_answer tx) (sent (machine start) i 0 (logs i)))
               (λ i. signals (is_key tx) (sent (machine start) 0 i (logs 0))) (λ i low. each_asked i),
         )
 
-    answers_few : steps (is_answer tx) (logs 0) ≤ total (hosts start)
+    answers_few : steps (is_answer tx) (logs 0) ≤ total (first_hosts start)
         (λ i. signals (is_answer tx) (sent (machine start) i 0 (logs i)))
     answers_few =
         omega (
           arith,
-          steps_total (hosts start) (logs 0) beyond,
-          total_le (hosts start) (λ i. signals (is_answer tx) (taken (machine start) i (logs 0)))
+          steps_total (first_hosts start) (logs 0) beyond,
+          total_le (first_hosts start) (λ i. signals (is_answer tx) (taken (machine start) i (logs 0)))
               (λ i. signals (is_answer tx) (sent (machine start) i 0 (logs i)))
               (λ i low. few_taken start logs quiet.right (is_answer tx) i 0),
         )
       where
-        beyond : (k : ℕ) → hosts start ≤ k → signals (is_answer tx) (taken (machine start) k (logs 0)) ≡ 0
+        beyond : (k : ℕ) → first_hosts start ≤ k → signals (is_answer tx) (taken (machine start) k (logs 0)) ≡ 0
         beyond k high = omega (
           arith,
           few_taken start logs quiet.right (is_answer tx) k 0,
@@ -348,7 +348,7 @@ module _ (start : Start) (tx : TxId) where
 
     asks_where : (t : OpenTransaction) → IsIn t (opened_after start logs) → t.tx ≡ Some tx
         → 1 ≤ asked_at (after start (home start tx) (logs (home start tx))) → is_operating t.doing ≡ true
-    asks_where t inside is asks = at_low (cases_lt (home start tx) (hosts start))
+    asks_where t inside is asks = at_low (cases_lt (home start tx) (first_hosts start))
       where
         passes : has_tx tx t ≡ true
         passes = ap (is_tx tx) is ∙ same_tx-self tx
@@ -380,16 +380,16 @@ module _ (start : Start) (tx : TxId) where
                 first true b e = refl
                 first false b e = e
 
-        at_low : (home start tx < hosts start) ⊎ (hosts start ≤ home start tx) → is_operating t.doing ≡ true
+        at_low : (home start tx < first_hosts start) ⊎ (first_hosts start ≤ home start tx) → is_operating t.doing ≡ true
         at_low (inl low) =
             the_one (omega (
               arith,
               asks,
               all_asked,
               answers_few,
-              shell_operates (hosts start) (logs 0),
+              shell_operates (first_hosts start) (logs 0),
               not_ended (cases_lt 0 (steps (is_end tx) (logs 0))),
-              total_at (hosts start) (λ i. asked_at (after start i (logs i))) (home start tx) low,
+              total_at (first_hosts start) (λ i. asked_at (after start i (logs i))) (home start tx) low,
             ))
         at_low (inr high) = absurd
             (omega (

@@ -32,7 +32,7 @@ use Rattle.sig_core.specs.Part.{part_of}
 use Rattle.sig_core.specs.Place.{coordinator}
 use Rattle.frag_map.specs.Layout.{members}
 use Rattle.world_core.proofs.HostNumbers.{IsNodes, given_past, host_below, node_host, tc_found, tc_runs}
-use Rattle.world_core.specs.Hosts.{hosts, tc_host}
+use Rattle.world_core.specs.Hosts.{first_hosts, tc_host}
 use Rattle.world_core.specs.Machine.{after, machine, step_after}
 use Rattle.world_core.specs.Start.{Start}
 use Rattle.world_core.specs.Steps.{Addressed, HostStep}
@@ -154,7 +154,8 @@ module _ (start : Start) where
   own_node host node some low is = omega (arith, is, node_host start (coordinator node) some low, some)
 
   -- replies come of wishes
-  module _ (logs : ℕ → List HostStep) (right : AreLogs (machine start) logs) (in_n : IsWithin (hosts start) logs) where
+  module _ (logs : ℕ → List HostStep) (right : AreLogs (machine start) logs)
+      (in_n : IsWithin (first_hosts start) logs) where
     steps_wished : (name : Option ℕ) (h : ℕ)
         → steps (is_wish name) (logs h) ≤ signals (is_wish name) (sent (machine start) 0 h (logs 0))
     steps_wished name h =
@@ -177,7 +178,7 @@ module _ (start : Start) where
       past = given_past start from 0 (logs from) (x ∷ xs) given
 
       -- who sends is there
-      from_there : (from < hosts start) ⊎ (hosts start ≤ from) → from < hosts start
+      from_there : (from < first_hosts start) ⊎ (first_hosts start ≤ from) → from < first_hosts start
       from_there (inl low) = low
       from_there (inr high) = absurd (nothing (sym (ap (sent (machine start) from 0) (in_n from high)) ∙ past.is))
         where
@@ -188,8 +189,8 @@ module _ (start : Start) where
               none [] e = cc
               none (y ∷ newer) e = cc
 
-      low : from < hosts start
-      low = from_there (cases_lt from (hosts start))
+      low : from < first_hosts start
+      low = from_there (cases_lt from (first_hosts start))
 
       -- who replies is a coordinator's host
       replier : (name : Option ℕ) → is_reply name x.signal.to x.signal.body ≡ true → IsNodes start (tc_host start) from
@@ -239,7 +240,7 @@ module _ (start : Start) where
 
   -- one more step of the shell's host
   module _ (e : HostStep) (logs : ℕ → List HostStep) (right : AreLogs (machine start) logs)
-      (in_n : IsWithin (hosts start) logs) (balanced : AreBalanced start logs)
+      (in_n : IsWithin (first_hosts start) logs) (balanced : AreBalanced start logs)
       (given : is_request e.step.taken.body ≡ false
       → IsGiven (machine start) e.step.taken.from.0 0 (logs e.step.taken.from.0)
       (record { to = e.host; signal = e.step.taken } ∷ taken (machine start) e.step.taken.from.0 (logs 0)))
@@ -314,7 +315,7 @@ module _ (start : Start) where
           from_node,
         )
 
-  pub logs_balanced : (logs : ℕ → List HostStep) → IsWithin (hosts start) logs → AreLogs (machine start) logs
+  pub logs_balanced : (logs : ℕ → List HostStep) → IsWithin (first_hosts start) logs → AreLogs (machine start) logs
       → AreBalanced start logs
   logs_balanced logs in_n right = along start (AreBalanced start) first next logs in_n right
     where
@@ -364,7 +365,7 @@ module _ (start : Start) where
           (subst (λ (v : View). list_any (is_at t.node) v.full ≡ true) (shell_after start (logs 0)).view
           (t_good.there begins))
 
-      low : tc_host start t.node < hosts start
+      low : tc_host start t.node < first_hosts start
       low = host_below start (coordinator t.node) place.0 place.1
 
       passes : begins_at t.name t.node t ≡ true

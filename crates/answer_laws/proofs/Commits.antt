@@ -37,7 +37,7 @@ use Rattle.tc_block.specs.declared.transaction.Transaction.{Transaction}
 use Rattle.tc_block.specs.State.{TcState}
 use Rattle.tc_block.specs.Tc.{tc_table}
 use Rattle.world_core.proofs.HostNumbers.{host_below, tc_runs}
-use Rattle.world_core.specs.Hosts.{home, host_for, hosts}
+use Rattle.world_core.specs.Hosts.{home, host_for, first_hosts}
 use Rattle.world_core.specs.Machine.{after, machine, step_after}
 use Rattle.world_core.specs.Start.{Start}
 use Rattle.world_core.specs.Steps.{HostStep}
@@ -147,7 +147,7 @@ none_at n tx to (Chain (Committed other key)) p q = ap (λ b. one_if (b && same_
 none_at n tx to _ p q = refl
 
 commit_low : (start : Start) (tx : TxId) → tx.tc ≤ start.shape.nodes → (to : Place) (body : Body)
-    → is_commit (start.shape.nodes + 1) tx to body ≡ true → host_for start to < hosts start
+    → is_commit (start.shape.nodes + 1) tx to body ≡ true → host_for start to < first_hosts start
 commit_low start tx low to (Chain (Commit other key epoch chain at)) e =
     let node = right_of (is_lqh to.block) (is_node (start.shape.nodes + 1) to.node)
     (left_of (is_lqh to.block && is_node (start.shape.nodes + 1) to.node) _ e) in
@@ -294,7 +294,7 @@ module _ (start : Start) (shape : IsShape start.shape) (tx : TxId) where
               the_a r = cc
 
   module _ (some_node : 1 ≤ tx.tc) (few_nodes : tx.tc ≤ start.shape.nodes) where
-    low : at < hosts start
+    low : at < first_hosts start
     low = host_below start (coordinator_of tx) some_node few_nodes
 
     -- a step of a host

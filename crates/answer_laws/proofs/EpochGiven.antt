@@ -31,7 +31,7 @@ use Rattle.sig_core.specs.Step.{Step}
 use Rattle.tc_block.specs.declared.tc.TheConstants.{TRANSACTIONS}
 use Rattle.tc_block.specs.Tc.{tc_table}
 use Rattle.world_core.proofs.HostNumbers.{host_below, tc_runs, tc_started}
-use Rattle.world_core.specs.Hosts.{host_for, hosts, receiver, started, tc_host}
+use Rattle.world_core.specs.Hosts.{host_for, first_hosts, receiver, started, tc_host}
 use Rattle.world_core.specs.Machine.{after, machine, sent_count, step_after}
 use Rattle.world_core.specs.Start.{Start}
 use Rattle.world_core.specs.Steps.{Addressed, HostStep}
@@ -90,7 +90,7 @@ module _ (start : Start) (node : ℕ) (some : 1 ≤ node) (few_nodes : node ≤ 
   abbrev h : ℕ
   h = tc_host start node
 
-  low : h < hosts start
+  low : h < first_hosts start
   low = host_below start (coordinator node) some few_nodes
 
   on : (log : List HostStep) → has_tc (after start h log) ≡ true
@@ -174,7 +174,7 @@ module _ (start : Start) (node : ℕ) (some : 1 ≤ node) (few_nodes : node ≤ 
           finish (rows_take step) = absurd (tc_no_rows s (on log) step.runs)
 
   -- no other host sends anything to it
-  other_epochless : (k : ℕ) (log : List HostStep) → k < hosts start → k ≢ h
+  other_epochless : (k : ℕ) (log : List HostStep) → k < first_hosts start → k ≢ h
       → signals is_epoch (sent (machine start) k h log) ≡ 0
   other_epochless k [] under differs = refl
   other_epochless k (e ∷ log) under differs =
@@ -208,11 +208,11 @@ module _ (start : Start) (node : ℕ) (some : 1 ≤ node) (few_nodes : node ≤ 
   abbrev pub AreOwn : List HostStep → Type 0
   AreOwn log = (k : ℕ) → k ≢ h → signals is_epoch (taken (machine start) k log) ≡ 0
 
-  pub all_own : (logs : ℕ → List HostStep) → IsWithin (hosts start) logs → AreLogs (machine start) logs
+  pub all_own : (logs : ℕ → List HostStep) → IsWithin (first_hosts start) logs → AreLogs (machine start) logs
       → AreOwn (logs h)
-  all_own logs within right k differs = by (cases_lt k (hosts start))
+  all_own logs within right k differs = by (cases_lt k (first_hosts start))
     where
-      by : (k < hosts start) ⊎ (hosts start ≤ k) → signals is_epoch (taken (machine start) k (logs h)) ≡ 0
+      by : (k < first_hosts start) ⊎ (first_hosts start ≤ k) → signals is_epoch (taken (machine start) k (logs h)) ≡ 0
       by (inl under) = omega (arith, few_taken start logs right is_epoch k h, other_epochless k (logs k) under differs)
       by (inr high) = omega (
         arith,

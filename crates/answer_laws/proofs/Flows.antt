@@ -11,7 +11,7 @@ use Rattle.world_core.specs.Steps.{Addressed, HostStep}
 use Rattle.sig_core.specs.declared.place.Place.{Place}
 use Rattle.sig_core.specs.declared.signal.Body.{Body}
 use Rattle.world_core.proofs.HostNumbers.{given_past}
-use Rattle.world_core.specs.Hosts.{hosts}
+use Rattle.world_core.specs.Hosts.{first_hosts}
 use Rattle.world_core.specs.Machine.{machine, step_after}
 use Rattle.world_core.specs.Start.{Start}
 use Rattle.run_laws.proofs.hosts.AlongSteps.{Goes, few_taken}
@@ -25,15 +25,15 @@ use Rattle.host_laws.proofs.api.Wishes.{sends_of}
 
 module _ (start : Start) (test : Place → Body → Bool) (logs now : ℕ → List HostStep) (h : ℕ) (e : HostStep)
     (g : Goes start logs now h e) where
-  grown : Grown start (hosts start) test logs now h e
+  grown : Grown start (first_hosts start) test logs now h e
   grown = record { own = g.own; others = g.others }
 
-  pub flow_sent : sent_all start (hosts start) test now
-      ≤ sent_all start (hosts start) test logs + sends_of test (step_after start h (logs h) e).effects.sends
-  flow_sent = sent_few start (hosts start) test logs now h e g.low grown
+  pub flow_sent : sent_all start (first_hosts start) test now
+      ≤ sent_all start (first_hosts start) test logs + sends_of test (step_after start h (logs h) e).effects.sends
+  flow_sent = sent_few start (first_hosts start) test logs now h e g.low grown
 
-  pub flow_taken : taken_all start (hosts start) test logs ≤ taken_all start (hosts start) test now
-  flow_taken = omega (arith, taken_exact start (hosts start) test logs now h e g.low grown)
+  pub flow_taken : taken_all start (first_hosts start) test logs ≤ taken_all start (first_hosts start) test now
+  flow_taken = omega (arith, taken_exact start (first_hosts start) test logs now h e g.low grown)
 
   module _ (plain : is_request e.step.taken.body ≡ false) (passes : test e.step.taken.to e.step.taken.body ≡ true) where
     -- the link that it was taken from had it
@@ -49,11 +49,11 @@ module _ (start : Start) (test : Place → Body → Bool) (logs now : ℕ → Li
               (g.takes plain)),
         )
 
-    from_low : e.step.taken.from.0 < hosts start
-    from_low = by (cases_lt e.step.taken.from.0 (hosts start)) (cases_eq e.step.taken.from.0 h)
+    from_low : e.step.taken.from.0 < first_hosts start
+    from_low = by (cases_lt e.step.taken.from.0 (first_hosts start)) (cases_eq e.step.taken.from.0 h)
       where
-        by : (e.step.taken.from.0 < hosts start) ⊎ (hosts start ≤ e.step.taken.from.0)
-            → (e.step.taken.from.0 ≡ h) ⊎ (e.step.taken.from.0 ≢ h) → e.step.taken.from.0 < hosts start
+        by : (e.step.taken.from.0 < first_hosts start) ⊎ (first_hosts start ≤ e.step.taken.from.0)
+            → (e.step.taken.from.0 ≡ h) ⊎ (e.step.taken.from.0 ≢ h) → e.step.taken.from.0 < first_hosts start
         by (inl low) where_from = low
         by (inr high) (inl same) = omega (arith, same, g.low)
         by (inr high) (inr differs) =
@@ -65,30 +65,33 @@ module _ (start : Start) (test : Place → Body → Bool) (logs now : ℕ → Li
             ))
 
     -- one more was taken
-    pub flow_took : taken_all start (hosts start) test logs + 1 ≤ taken_all start (hosts start) test now
+    pub flow_took : taken_all start (first_hosts start) test logs + 1 ≤ taken_all start (first_hosts start) test now
     flow_took =
         omega (
           arith,
-          taken_exact start (hosts start) test logs now h e g.low grown,
-          total_at (hosts start) (λ i. one_if (is_from (machine start) i e && test e.step.taken.to e.step.taken.body))
+          taken_exact start (first_hosts start) test logs now h e g.low grown,
+          total_at (first_hosts start) (λ i. one_if (is_from (machine start) i e && test e.step.taken.to
+              e.step.taken.body))
               e.step.taken.from.0 from_low,
           ap one_if (all_three (is_request e.step.taken.body) (e.step.taken.from.0 == e.step.taken.from.0)
               (test e.step.taken.to e.step.taken.body) plain (grind (arith, nat_tests)) passes),
         )
 
     -- which was on its way
-    pub flow_came : taken_all start (hosts start) test logs + 1 ≤ sent_all start (hosts start) test logs
+    pub flow_came : taken_all start (first_hosts start) test logs + 1 ≤ sent_all start (first_hosts start) test logs
     flow_came =
-        total_less (hosts start) _ _ e.step.taken.from.0 from_low
-        (λ i low. total_le (hosts start) _ _ (λ j under. few_taken start logs g.before test i j))
-        (total_less (hosts start) _ _ h g.low (λ j under. few_taken start logs g.before test e.step.taken.from.0 j)
+        total_less (first_hosts start) _ _ e.step.taken.from.0 from_low
+        (λ i low. total_le (first_hosts start) _ _ (λ j under. few_taken start logs g.before test i j))
+        (total_less (first_hosts start) _ _ h g.low
+        (λ j under. few_taken start logs g.before test e.step.taken.from.0 j)
         coming)
 
 -- no more is taken than sent
 pub flow_few : (start : Start) (test : Place → Body → Bool) (logs : ℕ → List HostStep) → AreLogs (machine start) logs
-    → taken_all start (hosts start) test logs ≤ sent_all start (hosts start) test logs
+    → taken_all start (first_hosts start) test logs ≤ sent_all start (first_hosts start) test logs
 flow_few start test logs right =
-    total_le (hosts start) _ _ (λ i low. total_le (hosts start) _ _ (λ j under. few_taken start logs right test i j))
+    total_le (first_hosts start) _ _ (λ i low. total_le (first_hosts start) _ _
+    (λ j under. few_taken start logs right test i j))
 
 -- with one that is taken from a host's own link no more is taken than had been sent before
 pub flow_grows : (start : Start) (test : Place → Body → Bool) (logs now : ℕ → List HostStep) (h : ℕ) (e : HostStep)

@@ -28,7 +28,7 @@ use Rattle.tc_block.specs.declared.transaction.Transaction.{Transaction}
 use Rattle.tc_block.specs.Operate.{fresh}
 use Rattle.tc_block.specs.State.{TcState}
 use Rattle.world_core.proofs.HostNumbers.{host_some}
-use Rattle.world_core.specs.Hosts.{home, hosts}
+use Rattle.world_core.specs.Hosts.{home, first_hosts}
 use Rattle.world_core.specs.Machine.{after, machine, step_after}
 use Rattle.world_core.specs.Start.{Start}
 use Rattle.world_core.specs.Steps.{HostStep}
@@ -109,7 +109,7 @@ module _ (start : Start) (tx : TxId) (some : 1 ≤ tx.tc) (low : tx.tc ≤ start
     pub unborn : (tc_of (after start h (logs h))).next_seq ≤ tx.seq → answers_sent (logs h) ≡ 0
 
   -- no more was taken than was sent, nor answered than asked
-  few_answers : (logs : ℕ → List HostStep) → AreLogs (machine start) logs → IsWithin (hosts start) logs
+  few_answers : (logs : ℕ → List HostStep) → AreLogs (machine start) logs → IsWithin (first_hosts start) logs
       → answers_taken logs ≤ keys_sent logs
   few_answers logs right within = omega (
     arith,
@@ -119,7 +119,7 @@ module _ (start : Start) (tx : TxId) (some : 1 ≤ tx.tc) (low : tx.tc ≤ start
   )
 
   before_within : (logs now : ℕ → List HostStep) (i : ℕ) (e : HostStep) → Goes start logs now i e
-      → IsWithin (hosts start) logs
+      → IsWithin (first_hosts start) logs
   before_within logs now i e g k high = sym (g.others k (λ same. omega (arith, same, high, g.low))) ∙ g.within k high
 
   -- a step of the API
@@ -320,7 +320,7 @@ module _ (start : Start) (tx : TxId) (some : 1 ≤ tx.tc) (low : tx.tc ≤ start
         seq_is : tx.seq ≡ (tc_of (after start h (logs h))).next_seq
         seq_is = ap (λ (v : TxId). v.seq) step.one
 
-        within : IsWithin (hosts start) logs
+        within : IsWithin (first_hosts start) logs
         within = before_within logs now h e g
 
         none_told : answers_in tx t_now.effects.sends ≡ 0
@@ -366,7 +366,7 @@ module _ (start : Start) (tx : TxId) (some : 1 ≤ tx.tc) (low : tx.tc ≤ start
     of_turned : IsTurned tx (after start h (logs h)) x t_now → CoordinatorHeard now
     of_turned step = (heard_now, late)
       where
-        within : IsWithin (hosts start) logs
+        within : IsWithin (first_hosts start) logs
         within = before_within logs now h e g
 
         zero_home : 0 ≢ h
@@ -579,6 +579,6 @@ module _ (start : Start) (tx : TxId) (some : 1 ≤ tx.tc) (low : tx.tc ≤ start
       no_open : {A : Type 0} (t : OpenTransaction) → None ≡ Some t → A
       no_open t e = absurd cc
 
-  pub all_heard : (logs : ℕ → List HostStep) → IsWithin (hosts start) logs → AreLogs (machine start) logs
+  pub all_heard : (logs : ℕ → List HostStep) → IsWithin (first_hosts start) logs → AreLogs (machine start) logs
       → AllHeard logs
   all_heard logs within right = along start AllHeard first step logs within right

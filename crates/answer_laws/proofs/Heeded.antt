@@ -13,7 +13,7 @@ use Rattle.tc_block.specs.declared.transaction.Transaction.{Transaction}
 use Rattle.node_core.specs.Blocks.{tc_of}
 use Rattle.sig_core.specs.Place.{coordinator_of}
 use Rattle.world_core.proofs.HostNumbers.{host_below}
-use Rattle.world_core.specs.Hosts.{home, hosts}
+use Rattle.world_core.specs.Hosts.{home, first_hosts}
 use Rattle.world_core.specs.Machine.{after}
 use Rattle.world_core.specs.Start.{Start}
 use Rattle.sig_core.proofs.Keys.{same_tx-self}
@@ -40,7 +40,7 @@ module _ (start : Start) (tx : TxId) (some : 1 ≤ tx.tc) (low : tx.tc ≤ start
 
   -- at quiet
   module _ (logs : ℕ → List HostStep) (quiet : AreQuiet start logs) where
-    there : h < hosts start
+    there : h < first_hosts start
     there = host_below start (coordinator_of tx) some low
 
     heard : AllHeard start tx some low logs

@@ -14,7 +14,7 @@ use Rattle.api_block.specs.Opened.{has_tx, is_tx}
 use Rattle.node_core.specs.Blocks.{tc_of}
 use Rattle.node_core.specs.Requests.{is_request}
 use Rattle.tc_block.specs.declared.transaction.Transaction.{Transaction}
-use Rattle.world_core.specs.Hosts.{home, hosts}
+use Rattle.world_core.specs.Hosts.{home, first_hosts}
 use Rattle.world_core.specs.Machine.{after, machine}
 use Rattle.world_core.specs.Start.{Start}
 use Rattle.world_core.specs.Steps.{HostStep}
@@ -137,7 +137,7 @@ module _ (start : Start) (tx : TxId) where
 
     held_live : (t : OpenTransaction) → IsIn t (opened_after start logs) → t.tx ≡ Some tx
         → IsLiveAt tx (after start (home start tx) (logs (home start tx)))
-    held_live t inside is = at_low (cases_lt (home start tx) (hosts start))
+    held_live t inside is = at_low (cases_lt (home start tx) (first_hosts start))
       where
         at_home : (Place → Body → Bool) → ℕ
         at_home test = signals test (sent (machine start) (home start tx) 0 (logs (home start tx)))
@@ -155,7 +155,7 @@ module _ (start : Start) (tx : TxId) where
               (home start tx) 0,
         )
 
-        none : home start tx < hosts start → (0 < at_home (is_end tx)) ⊎ (at_home (is_end tx) ≤ 0)
+        none : home start tx < first_hosts start → (0 < at_home (is_end tx)) ⊎ (at_home (is_end tx) ≤ 0)
             → at_home (is_end tx) ≡ 0
         none low (inr few) = omega (arith, few)
         none low (inl ended) =
@@ -169,7 +169,7 @@ module _ (start : Start) (tx : TxId) where
             ) in
             absurd (omega (arith, held, holds_at.none told))
 
-        at_low : (home start tx < hosts start) ⊎ (hosts start ≤ home start tx)
+        at_low : (home start tx < first_hosts start) ⊎ (first_hosts start ≤ home start tx)
             → IsLiveAt tx (after start (home start tx) (logs (home start tx)))
         at_low (inl low) = live_at (home start tx) some (none low (cases_lt 0 (at_home (is_end tx))))
         at_low (inr high) = absurd (omega (
@@ -181,10 +181,10 @@ module _ (start : Start) (tx : TxId) where
 
 -- a host that has a transaction at quiet is there
 pub live_low : (start : Start) (logs : ℕ → List HostStep) (tx : TxId) (t : Transaction) → AreQuiet start logs → (h : ℕ)
-    → IsLiveAs tx t (after start h (logs h)) → h < hosts start
-live_low start logs tx t quiet h live = go (cases_lt h (hosts start))
+    → IsLiveAs tx t (after start h (logs h)) → h < first_hosts start
+live_low start logs tx t quiet h live = go (cases_lt h (first_hosts start))
   where
-    go : (h < hosts start) ⊎ (hosts start ≤ h) → h < hosts start
+    go : (h < first_hosts start) ⊎ (first_hosts start ≤ h) → h < first_hosts start
     go (inl low) = low
     go (inr high) = absurd (subst (IsIn (tx, t)) (ap (λ log. (tc_of (after start h log)).live) (quiet.within h high) ∙
         first_live start h) live)

@@ -28,7 +28,7 @@ use Rattle.sig_core.specs.declared.signal.chain.ChainSignal.TheVariants.{LqhKeyR
 use Rattle.sig_core.specs.Same.{same_key, same_tx}
 use Rattle.tc_block.specs.declared.phase.Phase.TheVariants.{Open}
 use Rattle.tc_block.specs.declared.transaction.Transaction.{Transaction}
-use Rattle.world_core.specs.Hosts.{home, hosts, started}
+use Rattle.world_core.specs.Hosts.{home, first_hosts, started}
 use Rattle.world_core.specs.Machine.{after, machine, step_after}
 use Rattle.world_core.specs.Start.{Start}
 use Rattle.world_core.specs.Steps.{HostStep}
@@ -128,13 +128,13 @@ module _ (start : Start) (tx : TxId) (key : List ℕ) where
       (λ s x there. (lqh_waits tx key s x.body).there there) (after start h log) e.step.taken (queue_is h log)
 
   abbrev pub S : (ℕ → List HostStep) → ℕ
-  S logs = sent_all start (hosts start) (is_hop tx key) logs
+  S logs = sent_all start (first_hosts start) (is_hop tx key) logs
 
   abbrev pub T : (ℕ → List HostStep) → ℕ
-  T logs = taken_all start (hosts start) (is_hop tx key) logs
+  T logs = taken_all start (first_hosts start) (is_hop tx key) logs
 
   abbrev pub W : (ℕ → List HostStep) → ℕ
-  W logs = total (hosts start) (λ i. waiting_at (after start i (logs i)))
+  W logs = total (first_hosts start) (λ i. waiting_at (after start i (logs i)))
 
   module _ (logs now : ℕ → List HostStep) (h : ℕ) (e : HostStep) (g : Goes start logs now h e) where
     took : T logs + one_if (is_hop tx key e.step.taken.to e.step.taken.body) ≤ T now
@@ -154,7 +154,8 @@ module _ (start : Start) (tx : TxId) (key : List ℕ) where
     waits_now =
         omega (
           arith,
-          total_one (hosts start) (λ k. waiting_at (after start k (logs k))) (λ k. waiting_at (after start k (now k))) h
+          total_one (first_hosts start) (λ k. waiting_at (after start k (logs k)))
+              (λ k. waiting_at (after start k (now k))) h
               g.low (λ k differs. ap (λ log. waiting_at (after start k log)) (g.others k differs)),
           ap (λ log. waiting_at (after start h log)) g.own,
         )
@@ -336,8 +337,8 @@ module _ (start : Start) (tx : TxId) (key : List ℕ) where
   pub first_lone : IsLone (log_of (machine start) [])
   first_lone =
       let s : S (log_of (machine start) []) ≡ 0 =
-      total_zero (hosts start) _ (λ i. total_zero (hosts start) _ (λ j. refl)) in
-      let w : W (log_of (machine start) []) ≡ 0 = total_zero (hosts start) _ started_waits in
+      total_zero (first_hosts start) _ (λ i. total_zero (first_hosts start) _ (λ j. refl)) in
+      let w : W (log_of (machine start) []) ≡ 0 = total_zero (first_hosts start) _ started_waits in
       record {
         few = omega (arith, s, w);
         opened = λ t at p. no_transaction t
@@ -346,12 +347,13 @@ module _ (start : Start) (tx : TxId) (key : List ℕ) where
       }
 
   -- so no more than one waits at a host
-  pub one_waits : (logs : ℕ → List HostStep) → AreLogs (machine start) logs → IsLone logs → (i : ℕ) → i < hosts start
+  pub one_waits : (logs : ℕ → List HostStep) → AreLogs (machine start) logs → IsLone logs → (i : ℕ)
+      → i < first_hosts start
       → waiting_at (after start i (logs i)) ≤ 1
   one_waits logs right k i low = omega (
     arith,
     k.few,
     flow_few start (is_hop tx key) logs right,
-    total_at (hosts start)
+    total_at (first_hosts start)
         (λ j. waiting_at (after start j (logs j))) i low,
   )

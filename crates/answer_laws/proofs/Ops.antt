@@ -31,7 +31,7 @@ use Rattle.tc_block.specs.Tc.{tc_table}
 use Rattle.frag_map.specs.Layout.{first_layout}
 use Rattle.frag_map.specs.Shape.{IsShape}
 use Rattle.world_core.proofs.HostNumbers.{IsNodes, rows_found, tc_runs}
-use Rattle.world_core.specs.Hosts.{home, host_for, hosts, rows_host}
+use Rattle.world_core.specs.Hosts.{home, host_for, first_hosts, rows_host}
 use Rattle.world_core.specs.Machine.{after, machine, step_after}
 use Rattle.world_core.specs.Start.{Start}
 use Rattle.world_core.specs.Steps.{HostStep}
@@ -270,13 +270,13 @@ module _ (start : Start) (is : IsShape start.shape) (tx : TxId) (key : List ℕ)
         go (inr other) = inl (subst (λ (u : TcState). 1 ≤ tally (is_asking nodes tx key) u.live) other.1 asks, other.0)
 
   abbrev waiting : (ℕ → List HostStep) → ℕ
-  waiting logs = total (hosts start) (λ h. waiting_at (after start h (logs h)))
+  waiting logs = total (first_hosts start) (λ h. waiting_at (after start h (logs h)))
 
   abbrev taken_ops : (ℕ → List HostStep) → ℕ
-  taken_ops logs = taken_all start (hosts start) (is_op nodes tx key) logs
+  taken_ops logs = taken_all start (first_hosts start) (is_op nodes tx key) logs
 
   abbrev sent_ops : (ℕ → List HostStep) → ℕ
-  sent_ops logs = sent_all start (hosts start) (is_op nodes tx key) logs
+  sent_ops logs = sent_all start (first_hosts start) (is_op nodes tx key) logs
 
   -- where the transaction asks, something is on its way or waits
   abbrev IsUnderWay : (ℕ → List HostStep) → Type 0
@@ -284,7 +284,7 @@ module _ (start : Start) (is : IsShape start.shape) (tx : TxId) (key : List ℕ)
       → taken_ops logs + 1 ≤ sent_ops logs + waiting logs
 
   -- such signals go to hosts that are there
-  op_low : (to : Place) (body : Body) → is_op nodes tx key to body ≡ true → host_for start to < hosts start
+  op_low : (to : Place) (body : Body) → is_op nodes tx key to body ≡ true → host_for start to < first_hosts start
   op_low to (Chain (LqhKeyReq other what chain at)) e =
       reaches start to (grind (
         arith,
@@ -317,22 +317,22 @@ module _ (start : Start) (is : IsShape start.shape) (tx : TxId) (key : List ℕ)
       here : host_for start e.step.taken.to ≡ h
       here = addressed start logs now h e g
 
-      grown : Grown start (hosts start) (is_op nodes tx key) logs now h e
+      grown : Grown start (first_hosts start) (is_op nodes tx key) logs now h e
       grown = record { own = g.own; others = g.others }
 
       w_now : waiting_at (after start h (now h)) ≡ waiting_at (step_after start h (logs h) e).state
       w_now = ap (λ log. waiting_at (after start h log)) g.own
 
       total_now : waiting now + waiting_at (after start h (logs h)) ≡ waiting logs + waiting_at (after start h (now h))
-      total_now = total_one (hosts start) (λ k. waiting_at (after start k (logs k)))
+      total_now = total_one (first_hosts start) (λ k. waiting_at (after start k (logs k)))
           (λ k. waiting_at (after start k (now k))) h g.low
           (λ k differs. ap (λ log. waiting_at (after start k log)) (g.others k differs))
 
       more : sent_ops now ≡ sent_ops logs + ops nodes tx key (step_after start h (logs h) e).effects.sends
-      more = sent_more start (hosts start) (is_op nodes tx key) op_low logs now h e g.low grown
+      more = sent_more start (first_hosts start) (is_op nodes tx key) op_low logs now h e g.low grown
 
       took : taken_ops now ≤ taken_ops logs + came e.step.taken.to e.step.taken.body
-      took = taken_more start (hosts start) (is_op nodes tx key) logs now h e g.low grown
+      took = taken_more start (first_hosts start) (is_op nodes tx key) logs now h e g.low grown
 
       by : (h ≡ home start tx) ⊎ (h ≢ home start tx) → taken_ops now + 1 ≤ sent_ops now + waiting now
       by (inr away) =
@@ -363,7 +363,8 @@ module _ (start : Start) (is : IsShape start.shape) (tx : TxId) (key : List ℕ)
               omega (arith, sent, flow_few start (is_op nodes tx key) logs g.before, w_now, total_now, more, took)
 
   -- along a run
-  logs_way : (logs : ℕ → List HostStep) → IsWithin (hosts start) logs → AreLogs (machine start) logs → IsUnderWay logs
+  logs_way : (logs : ℕ → List HostStep) → IsWithin (first_hosts start) logs → AreLogs (machine start) logs
+      → IsUnderWay logs
   logs_way logs in_n right =
       along start IsUnderWay (λ asks. absurd (omega (
         arith,
@@ -376,7 +377,7 @@ module _ (start : Start) (is : IsShape start.shape) (tx : TxId) (key : List ℕ)
   module _ (logs : ℕ → List HostStep) (quiet : AreQuiet start logs) where
     all_taken : taken_ops logs ≡ sent_ops logs
     all_taken =
-        total_same (hosts start) _ _ (λ i low. total_same (hosts start) _ _
+        total_same (first_hosts start) _ _ (λ i low. total_same (first_hosts start) _ _
         (λ j under. ap (signals (is_op nodes tx key)) (quiet.quiet i j low under)))
 
     -- some request of the transaction for the key waits
@@ -388,8 +389,8 @@ module _ (start : Start) (is : IsShape start.shape) (tx : TxId) (key : List ℕ)
       there = subst (λ h. IsWaitingAt tx key (after start h (logs h))) of.is waits;
     }
       where
-        w : IsSome (hosts start) (λ h. waiting_at (after start h (logs h)))
-        w = total_some (hosts start) (λ h. waiting_at (after start h (logs h))) some
+        w : IsSome (first_hosts start) (λ h. waiting_at (after start h (logs h)))
+        w = total_some (first_hosts start) (λ h. waiting_at (after start h (logs h))) some
 
         on : (b : Bool) → has_lqh (after start w.at (logs w.at)) ≡ b → has_lqh (after start w.at (logs w.at)) ≡ true
         on true q = q

@@ -24,7 +24,7 @@ use Rattle.sig_core.specs.Op.{key_of}
 use Rattle.sig_core.specs.Place.{rows_of}
 use Rattle.sig_core.specs.Same.{same_key, same_tx}
 use Rattle.world_core.proofs.HostNumbers.{host_below, rows_run, rows_started}
-use Rattle.world_core.specs.Hosts.{host_for, hosts, rows_host, started}
+use Rattle.world_core.specs.Hosts.{host_for, first_hosts, rows_host, started}
 use Rattle.world_core.specs.Machine.{after, machine, step_after}
 use Rattle.world_core.specs.Start.{Start}
 use Rattle.world_core.specs.Steps.{HostStep}
@@ -104,7 +104,7 @@ module _ (start : Start) (tx : TxId) (key : List ℕ) (node : ℕ) (some_node : 
   abbrev more_taken : List HostStep → ℕ
   more_taken log = signals (is_more node) (taken (machine start) at log)
 
-  low : at < hosts start
+  low : at < first_hosts start
   low = host_below start (rows_of node) some_node few_nodes
 
   -- where none of its rows was committed or completed: a request that waits and isn't in the queue is gone on with
@@ -218,7 +218,7 @@ module _ (start : Start) (tx : TxId) (key : List ℕ) (node : ℕ) (some_node : 
   before_none logs now j e g none = omega (
     arith,
     none,
-    sent_least start (hosts start) (forth_at tx) logs now j e g.low (record {
+    sent_least start (first_hosts start) (forth_at tx) logs now j e g.low (record {
       own = g.own;
       others = g.others;
     }),

@@ -8,7 +8,7 @@ use Rattle.sig_core.specs.declared.member.TxId.{TxId}
 use Rattle.sig_core.specs.declared.outs.Outgoing.{Outgoing}
 use Rattle.sig_core.specs.declared.place.Place.{Place}
 use Rattle.sig_core.specs.declared.signal.Body.{Body}
-use Rattle.world_core.specs.Hosts.{home, host_for, hosts}
+use Rattle.world_core.specs.Hosts.{home, host_for, first_hosts}
 use Rattle.world_core.specs.Machine.{machine, step_after}
 use Rattle.world_core.specs.Start.{Start}
 use Rattle.world_core.specs.Steps.{HostStep}
@@ -27,10 +27,10 @@ use Rattle.tc_block.specs.declared.sends.TheConstants.{SENDS}
 -- of the signals that pass the test
 module _ (start : Start) (tx : TxId) (test : Place → Body → Bool) where
   abbrev pub sent_so_far : (ℕ → List HostStep) → ℕ
-  sent_so_far logs = sent_all start (hosts start) test logs
+  sent_so_far logs = sent_all start (first_hosts start) test logs
 
   abbrev pub taken_so_far : (ℕ → List HostStep) → ℕ
-  taken_so_far logs = taken_all start (hosts start) test logs
+  taken_so_far logs = taken_all start (first_hosts start) test logs
 
   -- the signals by which the coordinator goes on at a place
   abbrev pub conts_sent : ℕ → (ℕ → List HostStep) → ℕ
@@ -54,7 +54,8 @@ module _ (start : Start) (tx : TxId) (test : Place → Body → Bool) where
 
   pub few_came : (logs : ℕ → List HostStep) → AreLogs (machine start) logs → taken_so_far logs ≤ sent_so_far logs
   few_came logs right =
-      total_le (hosts start) _ _ (λ i low. total_le (hosts start) _ _ (λ j under. few_taken start logs right test i j))
+      total_le (first_hosts start) _ _ (λ i low. total_le (first_hosts start) _ _
+      (λ j under. few_taken start logs right test i j))
 
   -- where nothing goes on, what was owed stays owed
   pub stays_owed : (logs now : ℕ → List HostStep) (l a k : ℕ)
@@ -70,14 +71,14 @@ module _ (start : Start) (tx : TxId) (test : Place → Body → Bool) where
   })
 
   -- at quiet all came
-  pub none_owed : (logs : ℕ → List HostStep) (l k : ℕ) → AreQuiet start logs → home start tx < hosts start → 1 ≤ k
+  pub none_owed : (logs : ℕ → List HostStep) (l k : ℕ) → AreQuiet start logs → home start tx < first_hosts start → 1 ≤ k
       → IsOwed logs l 0 k → ⊥
   none_owed logs l k quiet low some = by
     where
       all_taken : taken_so_far logs ≡ sent_so_far logs
       all_taken =
-          total_same (hosts start) _ _
-          (λ i under. total_same (hosts start) _ _ (λ j below. ap (signals test) (quiet.quiet i j under below)))
+          total_same (first_hosts start) _ _
+          (λ i under. total_same (first_hosts start) _ _ (λ j below. ap (signals test) (quiet.quiet i j under below)))
 
       by : IsOwed logs l 0 k → ⊥
       by (inl enough) = omega (arith, enough, some, all_taken)
@@ -88,16 +89,16 @@ module _ (start : Start) (tx : TxId) (test : Place → Body → Bool) where
             ap (signals (is_cont tx left.place)) (quiet.quiet (home start tx) (home start tx) low low),
           )
 
-  module _ (low_of : (to : Place) (body : Body) → test to body ≡ true → host_for start to < hosts start)
+  module _ (low_of : (to : Place) (body : Body) → test to body ≡ true → host_for start to < first_hosts start)
       (logs now : ℕ → List HostStep) (h : ℕ) (e : HostStep) (g : Goes start logs now h e) where
-    grown : Grown start (hosts start) test logs now h e
+    grown : Grown start (first_hosts start) test logs now h e
     grown = record { own = g.own; others = g.others }
 
     pub s_more : sent_so_far now ≡ sent_so_far logs + sends_of test (step_after start h (logs h) e).effects.sends
-    s_more = sent_more start (hosts start) test low_of logs now h e g.low grown
+    s_more = sent_more start (first_hosts start) test low_of logs now h e g.low grown
 
     pub t_more : taken_so_far now ≤ taken_so_far logs + one_if (test e.step.taken.to e.step.taken.body)
-    t_more = taken_more start (hosts start) test logs now h e g.low grown
+    t_more = taken_more start (first_hosts start) test logs now h e g.low grown
 
   -- a step at the home of the transaction: what it takes and sends
   pub record HomeStep (logs now : ℕ → List HostStep) (sends : List Outgoing) (to : Place) (body : Body) : Type 0 where
@@ -108,7 +109,7 @@ module _ (start : Start) (tx : TxId) (test : Place → Body → Bool) where
     pub c_taken : (b : ℕ) → conts_taken b now ≤ conts_taken b logs + one_if (is_cont tx b to body)
     pub c_few : (b : ℕ) → conts_taken b logs ≤ conts_sent b logs
 
-  pub home_step : ((to : Place) (body : Body) → test to body ≡ true → host_for start to < hosts start)
+  pub home_step : ((to : Place) (body : Body) → test to body ≡ true → host_for start to < first_hosts start)
       → (logs now : ℕ → List HostStep) (e : HostStep)
       → Goes start logs now (home start tx) e
       → HomeStep logs now (step_after start (home start tx)

@@ -22,7 +22,7 @@ use Rattle.sig_core.specs.declared.signal.client.ClientSignal.TheVariants.{TcKey
 use Rattle.sig_core.specs.Same.{same_tx}
 use Rattle.tc_block.specs.State.{TcState}
 use Rattle.tc_block.specs.Tc.{tc_table}
-use Rattle.world_core.specs.Hosts.{home, hosts, tc_host}
+use Rattle.world_core.specs.Hosts.{home, first_hosts, tc_host}
 use Rattle.world_core.specs.Machine.{after, machine, step_after}
 use Rattle.world_core.specs.Start.{Start}
 use Rattle.world_core.specs.Steps.{HostStep}
@@ -112,7 +112,7 @@ module _ (start : Start) (tx : TxId) where
       )
 
   -- no other host answers its operations
-  pub never_answers : (h : ℕ) (log : List HostStep) → h < hosts start → h ≢ home start tx
+  pub never_answers : (h : ℕ) (log : List HostStep) → h < first_hosts start → h ≢ home start tx
       → signals (is_answer tx) (sent (machine start) h 0 log) ≡ 0
   never_answers h [] low differs = refl
   never_answers h (e ∷ log) low differs =
@@ -134,7 +134,8 @@ module _ (start : Start) (tx : TxId) where
           ∙ ap (tc_host start) (sym (ap (λ (v : TxId). v.tc) step.one))))
       by (turning step) = absurd (differs (at_home start tx h log step.was low step.there).is)
 
-  module _ (logs : ℕ → List HostStep) (right : AreLogs (machine start) logs) (in_n : IsWithin (hosts start) logs) where
+  module _ (logs : ℕ → List HostStep) (right : AreLogs (machine start) logs)
+      (in_n : IsWithin (first_hosts start) logs) where
     -- what the coordinator took of it the API has sent
     pub keys_few : steps (is_key tx) (logs (home start tx)) ≤ signals (is_key tx)
         (sent (machine start) 0 (home start tx) (logs 0))

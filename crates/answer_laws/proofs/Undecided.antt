@@ -16,7 +16,7 @@ use Rattle.sig_core.specs.declared.signal.chain.ChainSignal.TheVariants.{Commit,
 use Rattle.sig_core.specs.Same.{same_tx}
 use Rattle.tc_block.specs.declared.transaction.Transaction.{Transaction}
 use Rattle.tc_block.specs.Phases.{is_decided}
-use Rattle.world_core.specs.Hosts.{home, hosts}
+use Rattle.world_core.specs.Hosts.{home, first_hosts}
 use Rattle.world_core.specs.Machine.{after, machine, step_after}
 use Rattle.world_core.specs.Start.{Start}
 use Rattle.world_core.specs.Steps.{HostStep}
@@ -61,7 +61,7 @@ plain_forth tx _ e = cc
 
 module _ (start : Start) (tx : TxId) where
   abbrev pub F : (ℕ → List HostStep) → ℕ
-  F logs = sent_all start (hosts start) (forth_at tx) logs
+  F logs = sent_all start (first_hosts start) (forth_at tx) logs
 
   -- none was sent while the transaction isn't decided
   pub record IsBack (logs : ℕ → List HostStep) : Type 0 where
@@ -184,9 +184,9 @@ module _ (start : Start) (tx : TxId) where
   first : IsBack (log_of (machine start) [])
   first =
       let none : F (log_of (machine start) []) ≡ 0 =
-      total_zero (hosts start) _ (λ i. total_zero (hosts start) _ (λ j. refl)) in
+      total_zero (first_hosts start) _ (λ i. total_zero (first_hosts start) _ (λ j. refl)) in
       record { undecided = λ t at off. none; unborn = λ early. none }
 
-  pub is_undecided : (logs : ℕ → List HostStep) → IsWithin (hosts start) logs → AreLogs (machine start) logs
+  pub is_undecided : (logs : ℕ → List HostStep) → IsWithin (first_hosts start) logs → AreLogs (machine start) logs
       → IsBack logs
   is_undecided logs within right = along start IsBack first step logs within right

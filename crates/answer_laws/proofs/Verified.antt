@@ -25,7 +25,7 @@ use Rattle.tc_block.specs.Operate.{fresh}
 use Rattle.tc_block.specs.State.{TcState}
 use Rattle.tc_block.specs.Turn.{Turn}
 use Rattle.world_core.proofs.HostNumbers.{host_below, tc_runs}
-use Rattle.world_core.specs.Hosts.{home, hosts}
+use Rattle.world_core.specs.Hosts.{home, first_hosts}
 use Rattle.world_core.specs.Machine.{after, machine, step_after}
 use Rattle.world_core.specs.Start.{Start}
 use Rattle.world_core.specs.Steps.{HostStep}
@@ -193,7 +193,7 @@ module _ (start : Start) (tx : TxId) (some_node : 1 ≤ tx.tc) (few_nodes : tx.t
   abbrev confs : List HostStep → ℕ
   confs log = signals (is_conf tx) (own_taken start tx.tc log)
 
-  low : at < hosts start
+  low : at < first_hosts start
   low = host_below start (coordinator_of tx) some_node few_nodes
 
   -- it has asked for an epoch where it isn't open, and wasn't given one where it verifies

@@ -24,7 +24,7 @@ use Rattle.tc_block.specs.declared.phase.Phase.TheVariants as phases
 use Rattle.tc_block.specs.declared.transaction.Transaction.{Transaction}
 use Rattle.tc_block.specs.Abort.{is_verifying}
 use Rattle.tc_block.specs.State.{TcState}
-use Rattle.world_core.specs.Hosts.{hosts}
+use Rattle.world_core.specs.Hosts.{first_hosts}
 use Rattle.world_core.specs.Machine.{after, machine}
 use Rattle.world_core.specs.Quiet.{IsQuiet}
 use Rattle.world_core.specs.Start.{Start}
@@ -78,8 +78,8 @@ IsAnswered start logs t = is_answered_by start logs t.doing t.tx
 pub record AreQuiet (start : Start) (logs : ℕ → List HostStep) : Type 0 where
   pub shape : IsShape start.shape
   pub right : AreLogs (machine start) logs
-  pub within : IsWithin (hosts start) logs
-  pub quiet : IsQuiet (machine start) (hosts start) logs
+  pub within : IsWithin (first_hosts start) logs
+  pub quiet : IsQuiet (machine start) (first_hosts start) logs
 
 -- a claim about each transaction of quiet logs
 abbrev pub EachAtQuiet : (Start → (ℕ → List HostStep) → OpenTransaction → Type 0) → Type 0
@@ -136,7 +136,7 @@ pub record Waits (start : Start) (logs : ℕ → List HostStep) (tx : TxId) (key
 abbrev pub EachOperationWaits : Type 0
 EachOperationWaits =
     (start : Start) (logs : ℕ → List HostStep) (h : ℕ) (tx : TxId) (t : Transaction) (asked : Asked)
-    → AreQuiet start logs → h < hosts start
+    → AreQuiet start logs → h < first_hosts start
     → IsLiveAs tx t (after start h (logs h)) → t.asked ≡ Some asked → Waits start logs tx (key_of asked.op)
 
 -- a transaction that has an operation unanswered at its coordinator is one whose operation was sent
@@ -153,7 +153,7 @@ EachAsksWhereOperating = EachAtQuiet AsksWhereOperating
 abbrev pub NoCommitIsAwaited : Type 0
 NoCommitIsAwaited =
     (start : Start) (logs : ℕ → List HostStep) (h : ℕ) (tx : TxId) (t : Transaction) → AreQuiet start logs
-    → h < hosts start
+    → h < first_hosts start
     → IsLiveAs tx t (after start h (logs h)) → is_committing t.phase ≡ false
 
 -- The coordinator of a transaction whose end isn't reported has it. It hasn't reported the end either, and doesn't wait
@@ -175,14 +175,14 @@ EachIsKeptByCoordinator =
 abbrev pub NoEpochIsAwaited : Type 0
 NoEpochIsAwaited =
     (start : Start) (logs : ℕ → List HostStep) (h : ℕ) (tx : TxId) (t : Transaction) → AreQuiet start logs
-    → h < hosts start
+    → h < first_hosts start
     → IsLiveAs tx t (after start h (logs h)) → is_verifying t.phase ≡ false
 
 -- no transaction that has no operation unanswered waits for the end of its abort
 abbrev pub NoAbortIsAwaited : Type 0
 NoAbortIsAwaited =
     (start : Start) (logs : ℕ → List HostStep) (h : ℕ) (tx : TxId) (t : Transaction) → AreQuiet start logs
-    → h < hosts start
+    → h < first_hosts start
     → IsLiveAs tx t (after start h (logs h)) → t.asked ≡ None → is_aborting t.phase ≡ false
 
 -- A transaction whose operation was sent has it unanswered at its coordinator, where that has the transaction open.
@@ -215,5 +215,5 @@ EachIsNumbered = EachAtQuiet (λ start logs t. IsNumbered t)
 abbrev pub EachOperationIsQueued : Type 0
 EachOperationIsQueued =
     (start : Start) (logs : ℕ → List HostStep) (h : ℕ) (tx : TxId) (t : Transaction) (asked : Asked)
-    → AreQuiet start logs → h < hosts start
+    → AreQuiet start logs → h < first_hosts start
     → IsLiveAs tx t (after start h (logs h)) → t.asked ≡ Some asked → WaitsForLock start logs tx

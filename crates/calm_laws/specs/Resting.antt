@@ -9,7 +9,7 @@ use Rattle.node_views.specs.declared.parts.Parts.TheVariants.{Main}
 use Rattle.qmgr_block.specs.State.{QmgrState, fresh_known}
 use Rattle.run_laws.specs.Transit.{Comes, logs_of}
 use Rattle.run_theory.specs.Lists.{Each}
-use Rattle.world_core.specs.Hosts.{hosts, member_at}
+use Rattle.world_core.specs.Hosts.{first_hosts, member_at}
 use Rattle.world_core.specs.Machine.{signals_of}
 use Rattle.world_core.specs.Start.{Start, made}
 use Rattle.world_core.specs.Steps.{Addressed, HostStep}
@@ -39,7 +39,7 @@ IsRestingPart start h most parts = ⊥
 -- each main part has missed one at most
 abbrev pub AreResting : Start → (ℕ → List HostStep) → Type 0
 AreResting start logs =
-    (h : ℕ) → h < hosts start → is_beating h ≡ true → IsRestingPart start h 1 (after start h (logs h)).parts
+    (h : ℕ) → h < first_hosts start → is_beating h ≡ true → IsRestingPart start h 1 (after start h (logs h)).parts
 
 -- no host stopped, or cut off another, of its own accord
 abbrev pub NoneGivesUp : (ℕ → List HostStep) → Type 0
@@ -54,5 +54,5 @@ LivesBeginAtRest = (start : Start) → AreResting start (λ h. [])
 abbrev pub PlainSendsAreCalm : Type 0
 PlainSendsAreCalm =
     (start : Start) (es : List HostStep) (e : HostStep) → Comes start es e
-    → Each (λ (x : Addressed). x.to < hosts start → is_calm x.to x.signal ≡ true)
+    → Each (λ (x : Addressed). x.to < first_hosts start → is_calm x.to x.signal ≡ true)
     (signals_of start e.host (logs_of start es e.host) e)

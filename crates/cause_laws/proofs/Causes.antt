@@ -8,7 +8,7 @@ use Rattle.sig_core.specs.declared.mark.Mark.TheVariants.{Reported}
 use Rattle.sig_core.specs.declared.outcome.Outcome.TheVariants.{Aborted}
 use Rattle.frag_map.specs.Shape.{IsShape}
 use Rattle.world_core.proofs.Stamped.{stamped}
-use Rattle.world_core.specs.Hosts.{hosts}
+use Rattle.world_core.specs.Hosts.{first_hosts}
 use Rattle.world_core.specs.Machine.{after, machine}
 use Rattle.world_core.specs.Start.{Start}
 use Rattle.world_core.specs.Steps.{HostStep}
@@ -21,7 +21,7 @@ use Rattle.cause_laws.specs.TurnedAway.{IsReplyCaused, RepliesAreCaused, TurnedA
 use Rattle.cause_laws.proofs.CausesAlong.{AllTell, AreMarksCaused, IsMarkCaused, Tells, all_tell}
 
 module _ (start : Start) (shape : IsShape start.shape) where
-  runs_tell : (es : List HostStep) → Run (machine start) es → IsWithin (hosts start) (log_of (machine start) es)
+  runs_tell : (es : List HostStep) → Run (machine start) es → IsWithin (first_hosts start) (log_of (machine start) es)
       → AllTell start (log_of (machine start) es)
   runs_tell es run within =
       let now : IsRun start es = record { shape = shape; run = run; within = within } in
@@ -30,9 +30,10 @@ module _ (start : Start) (shape : IsShape start.shape) where
 
   cuts_tell : (inside logs : ℕ → List HostStep) → IsClosedCut start inside logs → AllTell start inside
   cuts_tell inside logs cut =
-      of_runs_at_cuts (machine start) (stamped start) (λ ls. IsWithin (hosts start) ls → AllTell start ls) runs_tell
-      (hosts start) inside logs cut.within cut.right cut.cut cut.closed
-      (within_cut (machine start) (stamped start) (hosts start) inside logs cut.within cut.cut)
+      of_runs_at_cuts (machine start) (stamped start) (λ ls. IsWithin (first_hosts start) ls → AllTell start ls)
+      runs_tell
+      (first_hosts start) inside logs cut.within cut.right cut.cut cut.closed
+      (within_cut (machine start) (stamped start) (first_hosts start) inside logs cut.within cut.cut)
 
 -- what is marked at a step behind a log
 marks_behind : (start : Start) (logs : ℕ → List HostStep) (newer : List HostStep) (e : HostStep)

@@ -14,7 +14,7 @@ use Rattle.sig_core.specs.declared.reply.ApiReply.TheVariants.{Ended}
 use Rattle.sig_core.specs.declared.request.ApiReq.{ApiReq}
 use Rattle.sig_core.specs.declared.request.ApiReq.TheVariants as request
 use Rattle.node_core.specs.Replies.{is_left_open}
-use Rattle.world_core.specs.Hosts.{hosts}
+use Rattle.world_core.specs.Hosts.{first_hosts}
 use Rattle.world_core.specs.Machine.{after, machine}
 use Rattle.world_core.specs.Quiet.{IsQuiet}
 use Rattle.world_core.specs.Requests.{AreAskedAtQuiet, request_in}
@@ -129,8 +129,8 @@ pub record IsAnsweredIn (start : Start) (logs : ℕ → List HostStep) (request 
 abbrev pub RequestsAreAnswered : Type 0
 RequestsAreAnswered =
     (start : Start) (logs : ℕ → List HostStep) → IsShape start.shape → AreLogs (machine start) logs → IsWithin
-    (hosts start) logs → AreAskedAtQuiet start logs
+    (first_hosts start) logs → AreAskedAtQuiet start logs
     → (newer : List HostStep) (e : HostStep) (before : List HostStep) (request : ApiReq) → logs 0 ≡ newer ++ e ∷ before
     → request_in e.step.taken.body ≡ Some request
-    → IsQuiet (machine start) (hosts start) logs ⊎ IsAskedAgain start newer
+    → IsQuiet (machine start) (first_hosts start) logs ⊎ IsAskedAgain start newer
     → IsAnsweredIn start logs request before

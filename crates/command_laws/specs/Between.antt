@@ -5,7 +5,7 @@ use Rattle.run_theory.specs.Cuts.{IsCut}
 use Rattle.run_theory.specs.Runs.{AreLogs, IsWithin}
 use Rattle.world_core.specs.Steps.{HostStep}
 use Rattle.sig_core.specs.declared.request.ApiReq.{ApiReq}
-use Rattle.world_core.specs.Hosts.{hosts}
+use Rattle.world_core.specs.Hosts.{first_hosts}
 use Rattle.world_core.specs.Machine.{machine}
 use Rattle.world_core.specs.Quiet.{IsQuiet}
 use Rattle.world_core.specs.Requests.{AreAskedAtQuiet, request_in}
@@ -34,8 +34,8 @@ pub record IsAskedAgain (start : Start) (newer : List HostStep) : Type 0 where
 abbrev pub RequestsAreServed : Type 0
 RequestsAreServed =
     (start : Start) (logs : ℕ → List HostStep) → IsShape start.shape → AreLogs (machine start) logs
-    → IsWithin (hosts start) logs → AreAskedAtQuiet start logs
+    → IsWithin (first_hosts start) logs → AreAskedAtQuiet start logs
     → (newer : List HostStep) (e : HostStep) (before : List HostStep) (request : ApiReq) → logs 0 ≡ newer ++ e ∷ before
     → request_in e.step.taken.body ≡ Some request
-    → IsQuiet (machine start) (hosts start) logs ⊎ IsAskedAgain start newer
+    → IsQuiet (machine start) (first_hosts start) logs ⊎ IsAskedAgain start newer
     → IsServedIn start logs request before

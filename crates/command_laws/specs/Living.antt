@@ -10,7 +10,7 @@ use Rattle.sig_core.specs.declared.reply.ApiReply.{ApiReply}
 use Rattle.sig_core.specs.declared.reply.ApiReply.TheVariants.{Ended, Refused, Stopped}
 use Rattle.sig_core.specs.declared.reply.Refusal.TheVariants as refusal
 use Rattle.node_core.specs.Replies.{replies_of}
-use Rattle.world_core.specs.Hosts.{hosts}
+use Rattle.world_core.specs.Hosts.{first_hosts}
 use Rattle.world_core.specs.Machine.{after, machine}
 use Rattle.world_core.specs.Start.{Start}
 
@@ -31,5 +31,5 @@ is_of_living reply = true
 -- so it is of each reply of the shell's host, after any right logs
 abbrev pub RepliesAreOfTheLiving : Type 0
 RepliesAreOfTheLiving =
-    (start : Start) (logs : ℕ → List HostStep) → IsWithin (hosts start) logs → AreLogs (machine start) logs
+    (start : Start) (logs : ℕ → List HostStep) → IsWithin (first_hosts start) logs → AreLogs (machine start) logs
     → Each (λ (reply : ApiReply). is_of_living reply ≡ true) (replies_of (after start 0 (logs 0)))

@@ -38,7 +38,7 @@ use Rattle.node_views.proofs.HostEach.{IsOfHost}
 use Rattle.node_views.proofs.Walk.{parts_each}
 use Rattle.node_views.proofs.WordWalk.{parts_speak, parts_speak_installed}
 use Rattle.view_laws.proofs.follow.Senders.{IsSentBy, each_sent}
-use Rattle.world_core.proofs.HostNumbers.{members_length}
+use Rattle.world_core.proofs.MadeFirst.{hosts_first, nobody_starts}
 use Rattle.world_core.specs.Hosts.{host_at, host_by, hosts as many_hosts}
 use Rattle.world_core.specs.Start.{Start, made}
 use Rattle.world_core.specs.Steps.{Addressed, HostStep}
@@ -139,11 +139,11 @@ module _ (start : Start) where
   IsNotMain h = h % 3 ≡ 1 → many_hosts start ≤ h
 
   host_not_main : (place : Option ℕ) → IsNotMain (host_at (length (made start) * 3 + 1) Tc place)
-  host_not_main None is = omega (arith, members_length start.shape.nodes)
+  host_not_main None is = omega (arith, hosts_first start (nobody_starts start))
   host_not_main (Some place) is = absurd (omega (arith, is))
 
   member_not_main : (member : Option Member) → IsNotMain (host_by (made start) Tc member)
-  member_not_main None is = omega (arith, members_length start.shape.nodes)
+  member_not_main None is = omega (arith, hosts_first start (nobody_starts start))
   member_not_main (Some member) is = host_not_main (position (is_member member) (made start)) is
 
   reached_not_main : (h : ℕ) (view : View) (to : Place) → to.block ≡ block.Dih

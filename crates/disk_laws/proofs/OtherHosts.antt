@@ -21,7 +21,8 @@ use Rattle.node_views.specs.declared.parts.Parts.TheVariants as part
 use Rattle.node_views.specs.Saving.{outlet_of}
 use Rattle.node_views.proofs.HostWalk.{Saying}
 use Rattle.view_laws.proofs.follow.Hosts.{started_behind}
-use Rattle.world_core.proofs.HostNumbers.{members_at}
+use Rattle.world_core.proofs.MadeFirst.{hosts_first, nobody_starts}
+use Rattle.world_core.proofs.HostNumbers.{made_at}
 use Rattle.world_core.specs.Hosts.{hosts, member_at, part_by}
 use Rattle.world_core.specs.Start.{Start, made}
 use Rattle.world_core.specs.Steps.{Addressed, HostStep}
@@ -182,9 +183,9 @@ others_keep_nothing start w sound member there (suc k) some low not_rows not_tc 
   where
     place : k / 3 ≡ member.node - 1
     place =
-        let few : k / 3 < start.shape.nodes = omega (arith, low) in
+        let few : k / 3 < start.shape.nodes = omega (arith, low, hosts_first start (nobody_starts start)) in
         let node : place_of start (suc k) ≡ k / 3 + 1 - 1 =
-        ap (λ (m : Member). m.node - 1) (members_at start.shape.nodes (k / 3) nobody few) in
+        ap (λ (m : Member). m.node - 1) (made_at start (k / 3) nobody few) in
         omega (arith, node, at)
 
     first : k % 3 ≡ 0

@@ -2,15 +2,16 @@
 use Rattle.std.proofs.Common.{◌≡◌, ℕ, zero, suc, List, [], ◌∷◌, ◌++◌, length, take, refl, ap, subst, sym, arith}
 use Rattle.std.specs.Prelude.{IfOk, Option, Result, Ok, Err}
 use Rattle.host_io.specs.Call.{Call}
-use Rattle.world_core.specs.Start.{Start}
+use Rattle.world_core.specs.Start.{NobodyStarts, Start}
 use Rattle.world_views.specs.Driven.{IsWorld}
 use Rattle.world_views.specs.World.{new_world, Whole}
 use Rattle.world_views.proofs.WorldLemmas.{begun_world}
 
 pub opened_world : {A E : Type 0} (result : Result A E) (whole : A → Whole) (from : A → Start)
-    → IfOk result (λ w. whole w ≡ new_world (from w)) → IfOk result (λ w. IsWorld (whole w))
-opened_world (Ok w) whole from same = begun_world (whole w) (from w) same
-opened_world (Err unopened) whole from same = tt
+    → ((w : A) → NobodyStarts (from w)) → IfOk result (λ w. whole w ≡ new_world (from w))
+    → IfOk result (λ w. IsWorld (whole w))
+opened_world (Ok w) whole from nobody same = begun_world (whole w) (from w) (nobody w) same
+opened_world (Err unopened) whole from nobody same = tt
 
 -- what is so of the disks that it begins on is so of its own
 pub opened_so : {A E V D : Type 0} (result : Result A E) (disks : A → V) (made : V) (items : V → List D)

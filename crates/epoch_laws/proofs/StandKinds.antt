@@ -17,6 +17,7 @@ use Rattle.node_views.specs.declared.parts.Parts.{Parts}
 use Rattle.node_views.specs.declared.parts.Parts.TheVariants as part
 use Rattle.node_views.specs.declared.shell_part.ShellPart.{ShellPart}
 use Rattle.node_views.specs.Replies.{giving}
+use Rattle.world_core.proofs.MadeFirst.{begins_made, hosts_first, nobody_starts}
 use Rattle.world_core.specs.Hosts.{hosts}
 use Rattle.world_core.specs.Start.{Start, made}
 use Rattle.world_core.specs.Steps.{HostStep}
@@ -145,7 +146,9 @@ module _ (start : Start) where
   whose (suc k) low = by (k % 3) refl
     where
       there : IsIn (first_start (k / 3 + 1)) (made start)
-      there = first_in start.shape.nodes (k / 3 + 1) (omega arith) (omega (arith, low))
+      there = begins_made start _
+          (first_in start.shape.nodes (k / 3 + 1) (omega arith)
+          (omega (arith, low, hosts_first start (nobody_starts start))))
 
       by : (left : ℕ) → k % 3 ≡ left → Whose (suc k)
       by zero e =

@@ -13,7 +13,8 @@ use Rattle.sig_core.specs.declared.place.Part.TheVariants.{Ldm, Tc}
 use Rattle.sig_core.specs.Members.{nobody}
 use Rattle.node_views.specs.declared.parts.Parts.{Parts}
 use Rattle.node_views.specs.declared.parts.Parts.TheVariants as part
-use Rattle.world_core.proofs.HostNumbers.{members_at, members_length}
+use Rattle.world_core.proofs.MadeFirst.{begins_made, hosts_first, made_begins, nobody_starts}
+use Rattle.world_core.proofs.HostNumbers.{hosts_low, made_at}
 use Rattle.world_core.specs.Hosts.{host_at, host_of, hosts, member_at, part_by}
 use Rattle.world_core.specs.Start.{Start, made}
 use Rattle.world_core.specs.Steps.{HostStep}
@@ -45,7 +46,7 @@ host_made start part member low = by (position (is_member member) (made start)) 
   where
     by : (o : Option ℕ) → position (is_member member) (made start) ≡ o
         → host_at (length (made start) * 3 + 1) part o < hosts start → IsIn member (made start)
-    by None e low = let many = members_length start.shape.nodes in absurd (omega (arith, low, many))
+    by None e low = absurd (omega (arith, low))
     by (Some i) e low = made_tested start member (any_found (is_member member) (made start) i e)
 
 module _ (start : Start) (me : Member) (there : IsIn me (made start)) where
@@ -70,11 +71,11 @@ module _ (start : Start) (me : Member) (there : IsIn me (made start)) where
   -- each is of the member
   at_number : (k : ℕ) → k < 3 → member_at (made start) (host_by_number k) ≡ me
   at_number k few =
-      let first = first_of start.shape.nodes me there in
+      let first = first_of start.shape.nodes me (made_begins start (nobody_starts start) me there) in
       let own : me.node - 1 + 1 ≡ me.node = omega (arith, some) in
       let node : me.node ≡ first.node = ap (λ (m : Member). m.node) first.is in
       ap (λ i. slice_index_or (made start) i nobody) (div-mul-add (me.node - 1) 3 k few)
-      ∙ members_at start.shape.nodes (me.node - 1) nobody (omega (arith, some, low))
+      ∙ made_at start (me.node - 1) nobody (omega (arith, some, low))
       ∙ ap first_start (own ∙ node)
       ∙ sym first.is
 
@@ -86,10 +87,12 @@ module _ (start : Start) (me : Member) (there : IsIn me (made start)) where
 
   -- and they are apart
   pub tc_low : tc_of start me < hosts start
-  tc_low = let is = tc_number in let few = low in let node = some in omega (arith, is, few, node)
+  tc_low = let is = tc_number in let few = low in let node = some in
+      omega (arith, is, few, node, hosts_low start)
 
   pub main_low : main_of start me < hosts start
-  main_low = let is = main_number in let few = low in let node = some in omega (arith, is, few, node)
+  main_low = let is = main_number in let few = low in let node = some in
+      omega (arith, is, few, node, hosts_low start)
 
   pub tc_apart : tc_of start me ≡ ldm_of start me → ⊥
   tc_apart same = let one = tc_number in let other = ldm_number in omega (arith, same, one, other)
@@ -141,8 +144,8 @@ tc_host_is start (suc k) low = by (k % 3) refl
         (member_at (made start) (suc k))).parts) (sym e) tt)
     by (suc zero) e =
         let enough : 1 ≤ k / 3 + 1 = omega arith in
-        let few : k / 3 + 1 ≤ start.shape.nodes = omega (arith, low) in
-        let there = first_in start.shape.nodes (k / 3 + 1) enough few in
+        let few : k / 3 + 1 ≤ start.shape.nodes = omega (arith, low, hosts_first start (nobody_starts start)) in
+        let there = begins_made start _ (first_in start.shape.nodes (k / 3 + 1) enough few) in
         let is = tc_number start (first_start (k / 3 + 1)) there in
         of_tc (first_start (k / 3 + 1)) there (omega (arith, e, is))
     by (suc (suc left)) e =

@@ -5,6 +5,7 @@ use Rattle.run_theory.proofs.Pasts.{each_from, each_in}
 use Rattle.run_theory.specs.Lists.{IsIn}
 use Rattle.sig_core.specs.declared.member.Member.{Member}
 use Rattle.sig_core.specs.declared.view.View.{View}
+use Rattle.world_core.proofs.MadeFirst.{begins_made}
 use Rattle.world_core.specs.Hosts.{hosts, member_at}
 use Rattle.world_core.specs.Start.{Start, made}
 use Rattle.world_core.specs.Steps.{HostStep}
@@ -31,7 +32,7 @@ module _ (start : Start) (all : ℕ → List HostStep) (are : AreOfCluster start
       (record {
         set = first_set start.shape.nodes are.shape.nodes_few;
         none = refl;
-        made = each_from _ (members start.shape.nodes) (λ member there. there);
+        made = each_from _ (members start.shape.nodes) (begins_made start);
       })
   chosen_made set (inr won) =
       let sound = logs_sound start all are in

@@ -16,6 +16,7 @@ use Rattle.sig_core.specs.declared.slots.SystemSlot.{SystemSlot}
 use Rattle.sig_core.specs.declared.view.Shape.{Shape}
 use Rattle.sys_restart.proofs.AlikeLemmas.{no_answer, same_answer}
 use Rattle.sys_restart.proofs.GroupsLemmas.{rows_fail}
+use Rattle.sys_restart.proofs.HeldLemmas.{held_is}
 use Rattle.sys_restart.specs.Answers.{on_node}
 use Rattle.sys_restart.specs.Checkpoint.{rows_of_file}
 use Rattle.sys_restart.specs.Files.{Disks, Files}
@@ -45,11 +46,12 @@ slot_has epoch files slot all are is =
 
 module _ (disks : Disks) (are : (node file : ℕ) → AreBytes (disks node file)) where
   -- the rows of a group have words
-  group_has : (system : SystemSlot) (first count : ℕ) (all : Rows) → rows_of_group disks system first count ≡ Ok all
-      → HaveWords all
-  group_has system first count all is =
-      elim (source_of disks system first count)
-      as (λ source. rows_by disks system.epoch (first_listed system.mask first first count) source ≡ Ok all
+  group_has : (shape : Shape) (system : SystemSlot) (first : ℕ) (all : Rows)
+      → rows_of_group shape disks system first ≡ Ok all → HaveWords all
+  group_has shape system first all is =
+      elim (source_of disks system first shape.replicas)
+      as (λ source. rows_by shape disks system.epoch (first_listed system.mask first first shape.replicas) source
+      ≡ Ok all
       → HaveWords all) [
         | Err fault ↦ λ is. absurd (no_answer fault all _ refl is)
         | Ok None ↦ λ is. absurd (no_answer _ all _ refl is)
@@ -57,7 +59,8 @@ module _ (disks : Disks) (are : (node file : ℕ) → AreBytes (disks node file)
             λ is.
             on source.node (rows_of_slot system.epoch (disks source.node) source.slot)
             (λ found found-is. slot_has system.epoch (disks source.node) source.slot found (are source.node) found-is)
-            is
+            (held_is shape source.node (disks source.node)
+            (on_node source.node (rows_of_slot system.epoch (disks source.node) source.slot)) all is).0
       ] is
     where
       on : (node : ℕ) (rows : Result Rows ReadFault) → ((found : Rows) → rows ≡ Ok found → HaveWords found)
@@ -66,26 +69,26 @@ module _ (disks : Disks) (are : (node file : ℕ) → AreBytes (disks node file)
       on node (Ok rows) has is = subst HaveWords (same_answer rows all _ refl is) (has rows refl)
 
   -- and so have those of one group after the other
-  groups_have : (system : SystemSlot) (replicas group more : ℕ) (before all : List Rows) → All HaveWords before
-      → rows_from disks system replicas group more (Ok before) ≡ Ok all → All HaveWords all
+  groups_have : (shape : Shape) (system : SystemSlot) (group more : ℕ) (before all : List Rows) → All HaveWords before
+      → rows_from shape disks system group more (Ok before) ≡ Ok all → All HaveWords all
   unfolding rows_from
-  groups_have system replicas group zero before all have is =
+  groups_have shape system group zero before all have is =
       subst (All HaveWords) (same_answer before all _ refl is) have
-  groups_have system replicas group (suc more) before all have is =
-      by (rows_of_group disks system (group * replicas + 1) replicas) refl is
-      (λ next. groups_have system replicas (group + 1) more next all)
+  groups_have shape system group (suc more) before all have is =
+      by (rows_of_group shape disks system (group * shape.replicas + 1)) refl is
+      (λ next. groups_have shape system (group + 1) more next all)
     where
-      by : (part : Result Rows RestartFault) → rows_of_group disks system (group * replicas + 1) replicas ≡ part
-          → rows_from disks system replicas (group + 1) more (and_rows (Ok before) part) ≡ Ok all
+      by : (part : Result Rows RestartFault) → rows_of_group shape disks system (group * shape.replicas + 1) ≡ part
+          → rows_from shape disks system (group + 1) more (and_rows (Ok before) part) ≡ Ok all
           → ((next : List Rows) → All HaveWords next
-          → rows_from disks system replicas (group + 1) more (Ok next) ≡ Ok all → All HaveWords all)
+          → rows_from shape disks system (group + 1) more (Ok next) ≡ Ok all → All HaveWords all)
           → All HaveWords all
       by (Err fault) part-is is again =
-          absurd (no_answer fault all _ (rows_fail disks system replicas (group + 1) more fault) is)
+          absurd (no_answer fault all _ (rows_fail shape disks system (group + 1) more fault) is)
       by (Ok part) part-is is again =
           again (before ++ part ∷ [])
           (All-append HaveWords before (part ∷ []) have
-          (All-cons HaveWords part [] (group_has system (group * replicas + 1) replicas part part-is)
+          (All-cons HaveWords part [] (group_has shape system (group * shape.replicas + 1) part part-is)
           (All-nil HaveWords)))
           is
 
@@ -100,7 +103,7 @@ module _ (disks : Disks) (are : (node file : ℕ) → AreBytes (disks node file)
       under system (Ok rows) rows-is is =
           subst (λ (found : Restored). All HaveWords found.groups)
           (same_answer (record { generation = system.generation; epoch = system.epoch; groups = rows }) r _ refl is)
-          (groups_have system shape.replicas 0 (groups shape) [] rows (All-nil HaveWords) rows-is)
+          (groups_have shape system 0 (groups shape) [] rows (All-nil HaveWords) rows-is)
 
       by : (found : Result (Option SystemSlot) RestartFault) → restored_by shape disks found ≡ Ok r
           → All HaveWords r.groups

@@ -86,15 +86,15 @@ not_below key value (row ∷ rows) below is =
     by Greater less is again = absurd less
 
 -- each row of some in the order of their keys is found
-all_found : (rows : List (List ℕ × List ℕ)) → T (is_sorted in_order rows)
-    → ((key value : List ℕ) → find in_order key rows ≡ Some value → IsKeyWord key × IsValueWord value)
-    → AllByRecursion (λ row. IsKeyWord row.0 × IsValueWord row.1) rows
-all_found [] sorted each = tt
-all_found (row ∷ rows) sorted each = (
+all_found : (P : List ℕ → List ℕ → Type 0) (rows : List (List ℕ × List ℕ)) → T (is_sorted in_order rows)
+    → ((key value : List ℕ) → find in_order key rows ≡ Some value → P key value)
+    → AllByRecursion (λ row. P row.0 row.1) rows
+all_found P [] sorted each = tt
+all_found P (row ∷ rows) sorted each = (
   each row.0 row.1
       (ap (λ (o : Ordering). cond (is_eq o) (Some row.1) (find in_order row.0 rows))
       (tied_itself nat_list_cmp_total row.0)),
-  all_found rows (second_of (below_all in_order row.0 rows) (is_sorted in_order rows) sorted)
+  all_found P rows (second_of (below_all in_order row.0 rows) (is_sorted in_order rows) sorted)
       (λ key value is. each key value (by key value (eq_by_cmp in_order key row.0) refl is)),
 )
   where
@@ -110,8 +110,14 @@ all_found (row ∷ rows) sorted each = (
         absurd (not_below row.0 value rows below found)
     by key value false e is = ap (λ (b : Bool). cond b (Some row.1) (find in_order key rows)) e ∙ is
 
+-- what is so of each row that is got is so of all entries
+pub each_entry : (P : List ℕ → List ℕ → Type 0) (rows : Rows)
+    → ((key value : List ℕ) → finmap.get rows key ≡ Some value → P key value)
+    → AllByRecursion (λ row. P row.0 row.1) (finmap.entries rows)
+each_entry P rows each =
+    all_found P (finmap.entries rows) (finmap.entries_sorted rows)
+    (λ key value is. each key value (finmap.get-entries rows key ∙ is))
+
 -- rows that have words are such as a checkpoint has
 pub storable : (rows : Rows) → HaveWords rows → AreStorable rows
-storable rows have =
-    all_found (finmap.entries rows) (finmap.entries_sorted rows)
-    (λ key value is. have.each key value (finmap.get-entries rows key ∙ is))
+storable rows have = each_entry (λ key value. IsKeyWord key × IsValueWord value) rows have.each

@@ -37,7 +37,7 @@ use Rattle.node_core.proofs.HostCases.{tc_takes}
 use Rattle.node_core.specs.Blocks.{lqh_of, tc_of}
 use Rattle.node_core.specs.declared.host.Host as host
 use Rattle.node_core.specs.Row.{row}
-use Rattle.world_core.specs.Hosts.{home, host_for, hosts}
+use Rattle.world_core.specs.Hosts.{home, host_for, first_hosts}
 use Rattle.world_core.specs.Machine.{after, signals_of, step_after}
 use Rattle.world_core.specs.Start.{Start}
 use Rattle.world_core.specs.Steps.{Addressed, HostStep}
@@ -345,20 +345,20 @@ given_up_holders_wait start es xs key at tx run still inside given holding =
         which true is =
             absurd (true≢false (sym holding ∙ (who_is_away_is_out start es key at tx run inside is).unheld))
 
-    low : home start tx < hosts start
+    low : home start tx < first_hosts start
     low = home_low start es tx run (inl given)
 
     none_wanted : (list : List Outgoing) → in_transit (wanted start tx key at inside list) xs ≡ 0
     none_wanted list = none_weigh start es xs run still (wanted start tx key at inside list) at_place
       where
-        by_home : (other : TxId) (place : ℕ) (to : Place) → hosts start ≤ host_for start to → (b : Bool)
+        by_home : (other : TxId) (place : ℕ) (to : Place) → first_hosts start ≤ host_for start to → (b : Bool)
             → (is_tc to.block && (to.node == tx.tc)) ≡ b
             → one_if (b && (same_tx other tx
             && any_sent (is_abort_to tx key (node_at (replicas start key) at)) (drop place list))) ≡ 0
         by_home other place to high false is = refl
         by_home other place to high true is = absurd (omega (arith, high, home_for start tx low to is))
 
-        by_node : (to : Place) (c : Bool) → hosts start ≤ host_for start to → (a b : Bool)
+        by_node : (to : Place) (c : Bool) → first_hosts start ≤ host_for start to → (a b : Bool)
             → (to.node == node_at (replicas start key) at) ≡ b → one_if ((a && b) && c) ≡ 0
         by_node to c high true true is =
             absurd (omega (
@@ -383,7 +383,7 @@ given_up_holders_wait start es xs key at tx run still inside given holding =
         tally_is start tx key at inside xs
         ∙ none_weigh start es xs run still (λ to body. one_if (is_further tx key at body)) at_place
       where
-        answer : (v : TxId) (own : List ℕ) (to : Place) → hosts start ≤ host_for start to → to ≡ coordinator_of v
+        answer : (v : TxId) (own : List ℕ) (to : Place) → first_hosts start ≤ host_for start to → to ≡ coordinator_of v
             → (b : Bool) → same_tx v tx ≡ b → one_if (b && same_key own key) ≡ 0
         answer v own to high is true same =
             absurd (omega (
@@ -411,11 +411,11 @@ given_up_holders_wait start es xs key at tx run still inside given holding =
     by (inl some) =
         absurd (omega (arith, some, none_wanted (list_at start tx (live_at start (logs_of start es) tx))))
     by (inr some) =
-        waits (some_counted (hosts start)
+        waits (some_counted (first_hosts start)
         (λ k. tally (is_from tx key at) (lqh_of (after start k (logs_of start es k))).waiting)
         (omega (arith, some, none_further_on)))
       where
-        waits : CountedAt (hosts start)
+        waits : CountedAt (first_hosts start)
             (λ k. tally (is_from tx key at) (lqh_of (after start k (logs_of start es k))).waiting)
             → WaitsFrom start (logs_of start es) tx key at
         waits c =

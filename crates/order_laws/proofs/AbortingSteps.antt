@@ -45,7 +45,7 @@ use Rattle.node_core.specs.Blocks.{has_lqh, lqh_of, tc_of}
 use Rattle.node_core.specs.declared.host.Host as host
 use Rattle.node_core.specs.Requests.{is_request}
 use Rattle.node_core.specs.Row.{row}
-use Rattle.world_core.specs.Hosts.{home, hosts, rows_host, tc_host}
+use Rattle.world_core.specs.Hosts.{home, first_hosts, rows_host, tc_host}
 use Rattle.world_core.specs.Machine.{after, machine, signals_of, step_after}
 use Rattle.world_core.specs.Start.{Start}
 use Rattle.world_core.specs.Steps.{Addressed, HostStep}
@@ -102,7 +102,7 @@ module _ (start : Start) (tx : TxId) (key : List ℕ) (at : ℕ) (inside : at < 
   abbrev pub further : (ℕ → List HostStep) → List Addressed → ℕ
   further logs xs =
       tally (λ (x : Addressed). is_further tx key at x.signal.body) xs
-      + total (hosts start) (λ k. tally (is_from tx key at) (lqh_of (after start k (logs k))).waiting)
+      + total (first_hosts start) (λ k. tally (is_from tx key at) (lqh_of (after start k (logs k))).waiting)
 
   abbrev pub IsEnding : (ℕ → List HostStep) → List Addressed → Option Transaction → Type 0
   IsEnding logs xs o = (1 ≤ in_transit (wanted (list_at start tx o)) xs) ⊎ (1 ≤ further logs xs)
@@ -225,7 +225,7 @@ module _ (start : Start) (tx : TxId) (key : List ℕ) (at : ℕ) (inside : at < 
           takes_weigh (λ to body. one_if (is_further tx key at body)) e before between
               (no_request e.step.taken.body) takes,
           joins_weigh (λ to body. one_if (is_further tx key at body)) start e.host (logs_of start es e.host) e between,
-          total_one (hosts start) (λ k. waiting_from (after start k (logs_of start es k)))
+          total_one (first_hosts start) (λ k. waiting_from (after start k (logs_of start es k)))
               (λ k. waiting_from (after start k (logs_of start (e ∷ es) k))) e.host (comes_below start es e come)
               (λ k off. ap (λ log. waiting_from (after start k log))
               (log_of-other (machine start) e es k (λ same. off (sym same)))),

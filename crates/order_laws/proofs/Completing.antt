@@ -44,7 +44,7 @@ use Rattle.node_core.specs.Blocks.{has_lqh, lqh_of, tc_of}
 use Rattle.node_core.specs.declared.host.Host as host
 use Rattle.node_core.specs.Requests.{is_request}
 use Rattle.node_core.specs.Row.{row}
-use Rattle.world_core.specs.Hosts.{home, host_for, hosts, rows_host, tc_host}
+use Rattle.world_core.specs.Hosts.{home, host_for, first_hosts, rows_host, tc_host}
 use Rattle.world_core.specs.Machine.{after, signals_of, step_after}
 use Rattle.world_core.specs.Start.{Start}
 use Rattle.world_core.specs.Steps.{Addressed, HostStep}
@@ -596,13 +596,13 @@ completed_let_go start es xs key tx run still inside carried uncommitted =
         → holds tx (lock_at_place start (logs_of start es) key (0 + 1)).holders ≡ false
     out gone = (carried_out_stay_out start es key (replica_host start key (0 + 1)) tx run carried gone).unheld
 
-    low : home start tx < hosts start
+    low : home start tx < first_hosts start
     low = home_low start es tx run (inr carried)
 
     none_wanted : (list : List Outgoing) → in_transit (wanted tx key list) xs ≡ 0
     none_wanted list = none_weigh start es xs run still (wanted tx key list) at_place
       where
-        by_home : (other : TxId) (at : ℕ) (to : Place) → hosts start ≤ host_for start to → (b : Bool)
+        by_home : (other : TxId) (at : ℕ) (to : Place) → first_hosts start ≤ host_for start to → (b : Bool)
             → (is_tc to.block && (to.node == tx.tc)) ≡ b
             → one_if (b && (same_tx other tx && any_sent (is_completion tx key) (drop at list))) ≡ 0
         by_home other at to high false is = refl

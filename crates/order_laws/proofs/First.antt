@@ -39,7 +39,7 @@ use Rattle.node_core.specs.declared.host.Host.TheVariants.{Ldm, Main, Shell, Tc}
 use Rattle.node_core.specs.Requests.{is_request}
 use Rattle.node_core.specs.Row.{row}
 use Rattle.world_core.proofs.HostNumbers.{host_below, tc_runs}
-use Rattle.world_core.specs.Hosts.{home, host_for, hosts, tc_host}
+use Rattle.world_core.specs.Hosts.{home, host_for, first_hosts, tc_host}
 use Rattle.world_core.specs.Machine.{after, machine, signals_of, step_after}
 use Rattle.world_core.specs.Start.{Start}
 use Rattle.world_core.specs.Steps.{Addressed, HostStep}
@@ -503,7 +503,7 @@ given_up_are_out_at_first start es key tx run quiet some low given =
         list : List Outgoing
         list = list_at start tx (live_at start (logs_of start es) tx)
 
-        by_home : (other : TxId) (place : ℕ) (to : Place) → hosts start ≤ host_for start to → (b : Bool)
+        by_home : (other : TxId) (place : ℕ) (to : Place) → first_hosts start ≤ host_for start to → (b : Bool)
             → (is_tc to.block && (to.node == tx.tc)) ≡ b
             → one_if (b && (same_tx other tx
             && any_sent (is_abort_to tx key (node_at (replicas start key) 0)) (drop place

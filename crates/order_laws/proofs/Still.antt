@@ -18,7 +18,7 @@ use Rattle.sig_core.specs.Chain.{node_at}
 use Rattle.sig_core.specs.Place.{coordinator_of}
 use Rattle.sig_core.specs.Same.{same_tx}
 use Rattle.world_core.proofs.HostNumbers.{host_below}
-use Rattle.world_core.specs.Hosts.{Membership, first_membership, home, host_for, hosts, receiver}
+use Rattle.world_core.specs.Hosts.{Membership, first_membership, home, host_for, first_hosts, receiver}
 use Rattle.world_core.specs.Machine.{all_addressed, counted, machine, sent_count, signals_of, step_after}
 use Rattle.world_core.specs.Quiet.{IsQuiet}
 use Rattle.world_core.specs.Start.{Start}
@@ -42,9 +42,9 @@ module _ (start : Start) where
   -- each signal is on a link from a host that is there, to the host of its place
   pub record IsOnLink (x : Addressed) : Type 0 where
     pub place : x.to ≡ host_for start x.signal.to
-    pub from : x.signal.from.0 < hosts start
+    pub from : x.signal.from.0 < first_hosts start
 
-  headed_links : (h stamp : ℕ) (count : ℕ → ℕ) (sends : List Outgoing) → h < hosts start
+  headed_links : (h stamp : ℕ) (count : ℕ → ℕ) (sends : List Outgoing) → h < first_hosts start
       → Each IsOnLink (all_addressed (first_membership start) h stamp count sends)
   headed_links h stamp count [] low = tt
   headed_links h stamp count (o ∷ sends) low = (
@@ -65,13 +65,13 @@ module _ (start : Start) where
   -- who has gone either way is at a host that is there
   pub home_low : (es : List HostStep) (tx : TxId) → IsRun start es
       → (is_given_up start (logs_of start es) tx ≡ true) ⊎ (is_carried_out start (logs_of start es) tx ≡ true)
-      → home start tx < hosts start
-  home_low es tx run over = by (cases_lt (home start tx) (hosts start))
+      → home start tx < first_hosts start
+  home_low es tx run over = by (cases_lt (home start tx) (first_hosts start))
     where
-      none : hosts start ≤ home start tx → logs_of start es (home start tx) ≡ []
+      none : first_hosts start ≤ home start tx → logs_of start es (home start tx) ≡ []
       none high = run.within (home start tx) high
 
-      which : hosts start ≤ home start tx
+      which : first_hosts start ≤ home start tx
           → (is_given_up start (logs_of start es) tx ≡ true) ⊎ (is_carried_out start (logs_of start es) tx ≡ true) → ⊥
       which high (inl given) =
           false≢true (sym (ap (λ log. list_any (same_tx tx) (sent_ways start back_by (home start tx) log)) (none high))
@@ -80,14 +80,14 @@ module _ (start : Start) where
           false≢true (sym (ap (λ log. list_any (same_tx tx) (sent_ways start forth_by (home start tx) log)) (none high))
           ∙ carried)
 
-      by : (home start tx < hosts start) ⊎ (hosts start ≤ home start tx) → home start tx < hosts start
+      by : (home start tx < first_hosts start) ⊎ (first_hosts start ≤ home start tx) → home start tx < first_hosts start
       by (inl low) = low
       by (inr high) = absurd (which high over)
 
   module _ (es : List HostStep) (xs : List Addressed) (run : IsRun start es) (still : IsStill start es xs) where
     -- a place of a chain is at a host that is there
     pub replica_low : (key : List ℕ) (at : ℕ) → at < length (replicas start key) → (to : Place)
-        → to.node ≡ node_at (replicas start key) at → host_for start to < hosts start
+        → to.node ≡ node_at (replicas start key) at → host_for start to < first_hosts start
     replica_low key at inside to is =
         let node = replicas_are_nodes start key at run.shape inside in
         host_below start to (omega (arith, node.from, is)) (omega (arith, node.to, is))
@@ -95,7 +95,8 @@ module _ (start : Start) where
     -- what weighs nothing where it is for hosts that aren't there, weighs nothing at all
     abbrev pub IsZero : (Place → Body → ℕ) → Type 0
     IsZero w =
-        (to : Place) (body : Body) → IsRouted start to.node body → IsForBlock to body → hosts start ≤ host_for start to
+        (to : Place) (body : Body) → IsRouted start to.node body → IsForBlock to body
+        → first_hosts start ≤ host_for start to
         → w to body ≡ 0
 
     pub none_weigh : (w : Place → Body → ℕ) → IsZero w → in_transit w xs ≡ 0
@@ -105,7 +106,7 @@ module _ (start : Start) where
       where
         go : (ys : List Addressed) → Each (λ (x : Addressed). IsRouted start x.signal.to.node x.signal.body) ys
             → Each (λ (x : Addressed). IsForBlock x.signal.to x.signal.body) ys → Each IsOnLink ys
-            → Each (λ (x : Addressed). hosts start ≤ x.to) ys → in_transit w ys ≡ 0
+            → Each (λ (x : Addressed). first_hosts start ≤ x.to) ys → in_transit w ys ≡ 0
         go [] routed blocks links absent = refl
         go (x ∷ ys) routed blocks links absent =
             omega (
@@ -115,12 +116,12 @@ module _ (start : Start) where
             )
 
   -- the host of its coordinator
-  pub home_for : (tx : TxId) → home start tx < hosts start → (to : Place)
-      → (is_tc to.block && (to.node == tx.tc)) ≡ true → host_for start to < hosts start
+  pub home_for : (tx : TxId) → home start tx < first_hosts start → (to : Place)
+      → (is_tc to.block && (to.node == tx.tc)) ≡ true → host_for start to < first_hosts start
   home_for tx low to is = omega (arith, low, home_place start tx to is)
 
-  pub coordinator_low : (tx : TxId) → home start tx < hosts start → (to : Place) → to ≡ coordinator_of tx
-      → host_for start to < hosts start
+  pub coordinator_low : (tx : TxId) → home start tx < first_hosts start → (to : Place) → to ≡ coordinator_of tx
+      → host_for start to < first_hosts start
   coordinator_low tx low to is =
       home_for tx low to
       (ap (λ (p : Place). is_tc p.block && (p.node == tx.tc)) is ∙ eqb-self tx.tc)
@@ -140,7 +141,8 @@ module _ (start : Start) where
   nothing_before (x ∷ front) back is =
       absurd (omega (arith, ap length is, length-append front back))
 
-  pub still_at_quiet : (es : List HostStep) → IsRun start es → IsQuiet (machine start) (hosts start) (logs_of start es)
+  pub still_at_quiet : (es : List HostStep) → IsRun start es
+      → IsQuiet (machine start) (first_hosts start) (logs_of start es)
       → (xs : List Addressed) × IsStill start es xs
   still_at_quiet es run quiet = (
     has.xs,
@@ -154,20 +156,22 @@ module _ (start : Start) where
       has : HasTransit start es
       has = has_transit start es run
 
-      off : (i j : ℕ) → i < hosts start → j < hosts start → Each (λ (x : Addressed). is_on i j x ≡ false) has.xs
+      off : (i j : ℕ) → i < first_hosts start → j < first_hosts start
+          → Each (λ (x : Addressed). is_on i j x ≡ false) has.xs
       off i j low under =
           chosen_none (is_on i j) has.xs
           (nothing_before (chosen (is_on i j) has.xs) (taken (machine start) i (logs_of start es j))
           (sym (has.links.links i j) ∙ sym (quiet i j low under)))
 
       go : (ys : List Addressed)
-          → ((i j : ℕ) → i < hosts start → j < hosts start → Each (λ (x : Addressed). is_on i j x ≡ false) ys)
-          → Each IsOnLink ys → Each (λ (x : Addressed). hosts start ≤ x.to) ys
+          → ((i j : ℕ) → i < first_hosts start → j < first_hosts start → Each (λ (x : Addressed). is_on i j x ≡ false)
+          ys)
+          → Each IsOnLink ys → Each (λ (x : Addressed). first_hosts start ≤ x.to) ys
       go [] none links = tt
       go (x ∷ ys) none links =
-          (by (cases_lt x.to (hosts start)), go ys (λ i j low under. (none i j low under).1) links.1)
+          (by (cases_lt x.to (first_hosts start)), go ys (λ i j low under. (none i j low under).1) links.1)
         where
-          by : (x.to < hosts start) ⊎ (hosts start ≤ x.to) → hosts start ≤ x.to
+          by : (x.to < first_hosts start) ⊎ (first_hosts start ≤ x.to) → first_hosts start ≤ x.to
           by (inr high) = high
           by (inl low) =
               absurd (false≢true (sym (none x.signal.from.0 x.to links.0.from low).0

@@ -37,7 +37,7 @@ use Rattle.node_core.specs.Blocks.{api_of, dih_of, lqh_of, tc_of}
 use Rattle.node_core.specs.declared.host.Host as host
 use Rattle.node_core.specs.Requests.{is_request}
 use Rattle.node_core.specs.Row.{row}
-use Rattle.world_core.specs.Hosts.{home, hosts}
+use Rattle.world_core.specs.Hosts.{home, first_hosts}
 use Rattle.world_core.specs.Machine.{after, machine, signals_of, step_after}
 use Rattle.world_core.specs.Start.{Start}
 use Rattle.world_core.specs.Steps.{Addressed, HostStep}
@@ -175,7 +175,7 @@ module _ (start : Start) (tx : TxId) (key : List ℕ) where
           sends_is sends,
           takes_weigh (λ to body. one_if (is_part_on tx key body)) e before between (free_of e.step.taken.body) takes,
           joins_weigh (λ to body. one_if (is_part_on tx key body)) start e.host (logs_of start es e.host) e between,
-          total_one (hosts start) (λ k. waiting_on tx key (after start k (logs_of start es k)))
+          total_one (first_hosts start) (λ k. waiting_on tx key (after start k (logs_of start es k)))
               (λ k. waiting_on tx key (after start k (logs_of start (e ∷ es) k))) e.host (comes_below start es e come)
               (λ k off. ap (λ log. waiting_on tx key (after start k log))
               (log_of-other (machine start) e es k (λ same. off (sym same)))),
@@ -398,7 +398,7 @@ module _ (start : Start) (tx : TxId) (key : List ℕ) where
             (apart_by _ (ap (λ (u : Step host.Host). u.effects) step.is) tt)
 
   first_few : Few [] []
-  first_few = omega (arith, none (hosts start))
+  first_few = omega (arith, none (first_hosts start))
     where
       none : (n : ℕ) → total n (λ h. waiting_on tx key (after start h [])) ≡ 0
       none zero = refl

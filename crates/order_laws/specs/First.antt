@@ -1,7 +1,7 @@
 -- Who is given up is away from the first place of each chain, where nothing is under way.
 use Rattle.std.specs.Prelude.{◌≡◌, ◌≤◌, ℕ, true, List}
 use Rattle.sig_core.specs.declared.member.TxId.{TxId}
-use Rattle.world_core.specs.Hosts.{hosts}
+use Rattle.world_core.specs.Hosts.{first_hosts}
 use Rattle.world_core.specs.Machine.{machine}
 use Rattle.world_core.specs.Quiet.{IsQuiet}
 use Rattle.world_core.specs.Start.{Start}
@@ -17,6 +17,6 @@ use Rattle.order_laws.specs.Gone.{IsOut}
 abbrev pub GivenUpAreOutAtFirst : Type 0
 GivenUpAreOutAtFirst =
     (start : Start) (es : List HostStep) (key : List ℕ) (tx : TxId) → IsRun start es
-    → IsQuiet (machine start) (hosts start) (logs_of start es) → 1 ≤ tx.tc → tx.tc ≤ start.shape.nodes
+    → IsQuiet (machine start) (first_hosts start) (logs_of start es) → 1 ≤ tx.tc → tx.tc ≤ start.shape.nodes
     → is_given_up start (logs_of start es) tx ≡ true
     → IsOut tx (at_host start (logs_of start es) key (primary_host start key)).lock

@@ -13,7 +13,7 @@ use Rattle.tc_block.specs.declared.transaction.Transaction.{Transaction}
 use Rattle.node_core.specs.Blocks.{lqh_of}
 use Rattle.node_core.specs.declared.host.Host.{Host}
 use Rattle.run_theory.specs.Counts.{one_if, tally, total}
-use Rattle.world_core.specs.Hosts.{hosts}
+use Rattle.world_core.specs.Hosts.{first_hosts}
 use Rattle.world_core.specs.Machine.{after}
 use Rattle.world_core.specs.Start.{Start}
 use Rattle.world_core.specs.Steps.{Addressed, HostStep}
@@ -35,7 +35,7 @@ waiting_on tx key host = tally (is_for tx key) (lqh_of host).waiting
 abbrev pub parts_on : Start → (ℕ → List HostStep) → List Addressed → TxId → List ℕ → ℕ
 parts_on start logs xs tx key =
     tally (λ (x : Addressed). is_part_on tx key x.signal.body) xs
-    + total (hosts start) (λ h. waiting_on tx key (after start h (logs h)))
+    + total (first_hosts start) (λ h. waiting_on tx key (after start h (logs h)))
 
 -- the unanswered operation, if there is one, is on the key
 abbrev pub is_on_key : List ℕ → Option Asked → Bool

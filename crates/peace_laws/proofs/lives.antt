@@ -4,6 +4,7 @@ pub mod Arrivals
 pub mod CalmGoes
 pub mod ClosingGoes
 pub mod FirstAsked
+pub mod FirstHosts
 pub mod NextGood
 pub mod NextSignals
 pub mod Peaceful

@@ -14,7 +14,7 @@ use Rattle.sig_core.specs.declared.reply.ApiReply.TheVariants.{Closed, Durable}
 use Rattle.sig_core.specs.declared.request.ApiReq.{ApiReq}
 use Rattle.sig_core.specs.declared.request.ApiReq.TheVariants.{Gcp, Micro}
 use Rattle.outcome_laws.specs.Decided.{IsMarked}
-use Rattle.world_core.specs.Hosts.{hosts}
+use Rattle.world_core.specs.Hosts.{first_hosts, hosts}
 use Rattle.world_core.specs.Machine as plain
 use Rattle.world_core.specs.Quiet as plain_quiet
 use Rattle.world_core.specs.Requests as plain_requests
@@ -62,13 +62,13 @@ pub record IsPeacefulLife (start : Start) (asked : List ApiReq) (logs : ℕ → 
 pub record ArePlain (start : Start) (logs : ℕ → List HostStep) : Type 0 where
   pub peaceful : ArePeaceful logs
   pub right : AreLogs (plain.machine start) (plain_parts start logs)
-  pub within : IsWithin (hosts start) (plain_parts start logs)
+  pub within : IsWithin (first_hosts start) (plain_parts start logs)
   pub replies : levelled_replies start.epoch (replies_in start 0 (logs 0))
       ≡ replies_of (plain.after start 0 (plain_parts start logs 0))
   pub asked : plain_requests.requests (plain_parts start logs 0) ≡ requests (logs 0)
   pub at_quiet : plain_requests.AreAskedAtQuiet start (plain_parts start logs)
   pub quiet : IsQuiet start logs
-      → plain_quiet.IsQuiet (plain.machine start) (hosts start) (plain_parts start logs)
+      → plain_quiet.IsQuiet (plain.machine start) (first_hosts start) (plain_parts start logs)
 
 abbrev pub PeacefulLivesArePlain : Type 0
 PeacefulLivesArePlain =

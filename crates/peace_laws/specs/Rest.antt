@@ -8,7 +8,7 @@ use Rattle.gcp_master.specs.State.{MasterState}
 use Rattle.node_views.specs.declared.parts.Parts.{Parts}
 use Rattle.node_views.specs.declared.parts.Parts.TheVariants.{Shell, Main, Tc, Ldm}
 use Rattle.sig_core.specs.declared.member.Member.{Member}
-use Rattle.world_core.specs.Hosts.{hosts, member_at}
+use Rattle.world_core.specs.Hosts.{first_hosts, member_at}
 use Rattle.world_core.specs.Start.{Start, made}
 use Rattle.world_core.specs.Steps.{HostStep}
 use Rattle.world_views.specs.Machine.{after}
@@ -48,4 +48,4 @@ RestsIn start h epoch (Ldm p) = Unit {0}
 
 -- so is each part after these logs
 abbrev pub AreAtRestIn : Start → ℕ → (ℕ → List HostStep) → Type 0
-AreAtRestIn start epoch logs = (h : ℕ) → h < hosts start → RestsIn start h epoch (after start h (logs h)).parts
+AreAtRestIn start epoch logs = (h : ℕ) → h < first_hosts start → RestsIn start h epoch (after start h (logs h)).parts

@@ -1,6 +1,6 @@
-//! Opens the disk of a cluster of one node, for `bench/restart`. The words are what is done, and how many rows and bytes of
-//! redo the disk has: `lay` lays it out, and writes to it what opening it does; `open` lays it out and opens it; `time`
-//! does so and prints the nanoseconds that restoring and making ready took.
+//! Opens the disk of a cluster of one node, for `bench/restart`. The words are what is done, and how many rows and bytes
+//! of redo the disk has: `lay` lays it out, and writes to it what opening it does; `open` lays it out, opens it, and
+//! looks whether the rows are right; `time` opens it and prints the nanoseconds that restoring and making ready took.
 #![tactic(auto)]
 
 mod opening;

@@ -1,17 +1,18 @@
-//! Forms of disks: empty ones, other shapes, old versions, nodes that aren't listed, sizes at the limits.
+//! Forms of disks: empty ones, other shapes, old versions, nodes that aren't listed, slots that were lost, disks that
+//! changed places, sizes at the limits.
 use crate::groups::three_groups;
 use crate::numbers::the_greatest_numbers;
 use crate::own::own_rows;
 use crate::ring::redo_round_the_ring;
 use crate::shapes::{another_shape, empty_disks};
 use crate::slots::{
-    a_group_without_a_slot, an_unlisted_node, disks_that_disagree, the_later_slots,
+    a_group_without_a_slot, a_lost_slot, an_unlisted_node, disks_that_disagree, the_later_slots,
 };
 use crate::trouble::Trouble;
 use crate::versions::{a_first_version, sizes_at_the_limits, the_longest_words};
 use std::alloc::Global;
 
-const FORMS: u64 = 14;
+const FORMS: u64 = 15;
 
 /// Tries all forms, and answers how many.
 ///
@@ -39,6 +40,7 @@ fn try_one(alloc: Global, form: u64) -> Result<(), Trouble> {
         10 => the_later_slots(alloc, 4_096, 0),
         11 => disks_that_disagree(alloc),
         12 => redo_round_the_ring(alloc),
+        13 => a_lost_slot(alloc),
         _ => the_longest_words(alloc),
     }
 }

@@ -6,9 +6,10 @@ use crate::trouble::Trouble;
 use frag_map::holds;
 use host_io::{Disk, MemDisk};
 use row_map::RowMap;
-use sig_core::{Seq, Shape};
+use sig_core::{RestartFault, Seq, Shape};
 use std::alloc::Global;
 use sys_restart::{Restored, prepare_life, restore};
+use sysfile_core::{CONTROL_FILE, OPEN};
 
 const SIX: Shape = Shape {
     nodes: 6,
@@ -16,13 +17,52 @@ const SIX: Shape = Shape {
     fragments: 7,
 };
 
-/// Rows of all groups come back, and each node has those of its own.
+/// Rows of all groups come back, and each node has those of its own. Where disks have changed places a restart gives
+/// the same rows, or is refused.
 pub fn three_groups(alloc: Global) -> Result<(), Trouble> {
     let mut disks = six_disks(alloc)?;
     prepare_six(alloc, &mut disks, &letters(alloc, 1)?)?;
     let found = restore_six(alloc, &mut disks)?;
     is_as(alloc, &found, &letters(alloc, 2)?)?;
-    each_row_stands_twice(&mut disks)
+    each_row_stands_twice(&mut disks)?;
+    exchanged_disks(alloc, &mut disks)
+}
+
+// Where disks have changed places a restart gives the same rows, or names the first node that has those of another
+// group.
+fn exchanged_disks(alloc: Global, disks: &mut [MemDisk]) -> Result<(), Trouble> {
+    let wanted = letters(alloc, 2)?;
+    exchange(disks, 0, 1)?;
+    is_as(alloc, &restore_six(alloc, disks)?, &wanted)?;
+    exchange(disks, 1, 3)?;
+    is_as(alloc, &restore_six(alloc, disks)?, &wanted)?;
+    exchange(disks, 2, 4)?;
+    is_refused(alloc, disks, 3)?;
+    exchange(disks, 0, 5)?;
+    is_refused(alloc, disks, 1)
+}
+
+fn exchange(disks: &mut [MemDisk], one: usize, other: usize) -> Result<(), Trouble> {
+    if one >= disks.len() || other >= disks.len() {
+        return Err(Trouble::Layout);
+    }
+    disks.swap(one, other);
+    Ok(())
+}
+
+// A restart is refused by what is wrong with this node's disk, whose control slot stands at place 0.
+fn is_refused(alloc: Global, disks: &mut [MemDisk], node: u8) -> Result<(), Trouble> {
+    let wanted = RestartFault::Damaged {
+        node,
+        file: CONTROL_FILE,
+        at: 0,
+        byte: OPEN,
+    };
+    match restore_six(alloc, disks) {
+        Ok(_) => Err(Trouble::NotRefused),
+        Err(Trouble::Fault(found)) if found == wanted => Ok(()),
+        Err(trouble) => Err(trouble),
+    }
 }
 
 fn six_disks(alloc: Global) -> Result<Vec<MemDisk>, Trouble> {

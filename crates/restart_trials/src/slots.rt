@@ -6,6 +6,7 @@ use crate::trouble::Trouble;
 use host_io::MemDisk;
 use sig_core::RestartFault;
 use std::alloc::Global;
+use sysfile_core::{CONTROL_FILE, OPEN};
 
 /// What a disk has of a life of one row.
 #[derive(Clone, Copy)]
@@ -79,6 +80,30 @@ pub fn the_later_slots(alloc: Global, earlier: u64, later: u64) -> Result<(), Tr
     let layout = layout_with(alloc, &[first, second])?;
     let wanted = wanted(alloc, 3, 10, &[SECOND.row])?;
     expect(alloc, &mut disks_of(&layout, &layout)?, &wanted)
+}
+
+/// A node whose control file lost the later of its slots has no rows of the epoch: the next one has them, or the group
+/// has none.
+pub fn a_lost_slot(alloc: Global) -> Result<(), Trouble> {
+    let second = Life {
+        generation: 3,
+        epoch: 10,
+        mask: 3,
+        serial: 2,
+        ..SECOND
+    };
+    let whole = layout_with(alloc, &[FIRST, second])?;
+    let mut lost = layout_with(alloc, &[FIRST])?;
+    lost.system(4_096, &system_of(3, 10, 3))?;
+    let wanted = wanted(alloc, 3, 10, &[SECOND.row])?;
+    expect(alloc, &mut disks_of(&lost, &whole)?, &wanted)?;
+    let fault = RestartFault::Damaged {
+        node: 1,
+        file: CONTROL_FILE,
+        at: 0,
+        byte: OPEN,
+    };
+    expect_fault(alloc, &mut disks_of(&lost, &lost)?, fault)
 }
 
 /// A greater generation counts before a greater epoch, and lists who has it.

@@ -1,1 +1,3 @@
+pub mod HashedLemmas
 pub mod ListingLemmas
+pub mod SortedLemmas

@@ -1,5 +1,5 @@
 -- Transactions that their coordinator has given up.
-use Rattle.world_core.specs.Hosts.{home, hosts}
+use Rattle.world_core.specs.Hosts.{home, first_hosts}
 use Rattle.std.specs.List.{list_any}
 use Rattle.std.specs.Prelude.{◌≡◌, ◌||◌, ℕ, Bool, true, false, List}
 use Rattle.world_core.specs.Steps.{HostStep}
@@ -52,6 +52,7 @@ CompletionsAreOfCarriedOut =
 abbrev pub KeptAreNotGivenUp : Type 0
 KeptAreNotGivenUp =
     (start : Start) (es : List HostStep) (tx : TxId) → IsRun start es
-    → (have_mark (is_applied tx) (hosts start) (logs_of start es) || have_mark (is_reported tx) (hosts start)
+    → (have_mark (is_applied tx) (first_hosts start) (logs_of start es) || have_mark (is_reported tx)
+    (first_hosts start)
     (logs_of start es)) ≡ true
     → is_given_up start (logs_of start es) tx ≡ false

@@ -14,7 +14,7 @@ use Rattle.sig_core.specs.declared.member.TxId.{TxId}
 use Rattle.sig_core.specs.declared.signal.Body.TheVariants.{Chain}
 use Rattle.sig_core.specs.declared.signal.chain.ChainSignal.TheVariants.{Commit}
 use Rattle.world_core.specs.History.{history}
-use Rattle.world_core.specs.Hosts.{hosts}
+use Rattle.world_core.specs.Hosts.{first_hosts}
 use Rattle.world_core.specs.Machine.{machine}
 use Rattle.world_core.specs.Rest.{IsAtRest, IsLiveReplica}
 use Rattle.world_core.specs.SerialLaw.{AreEpochsOrdered, IsSerial}
@@ -27,7 +27,7 @@ use Rattle.key_laws.specs.OneKey.{IsRightAt, row_at_end}
 
 -- a closed cut of right logs
 pub record IsClosedCut (start : Start) (inside logs : ℕ → List HostStep) : Type 0 where
-  pub within : IsWithin (hosts start) logs
+  pub within : IsWithin (first_hosts start) logs
   pub right : AreLogs (machine start) logs
   pub cut : IsCut inside logs
   pub closed : IsClosed (machine start) inside
@@ -36,7 +36,7 @@ pub record IsClosedCut (start : Start) (inside logs : ℕ → List HostStep) : T
 abbrev pub EpochsNeverFall : Type 0
 EpochsNeverFall =
     (start : Start) (inside logs : ℕ → List HostStep) → IsClosedCut start inside logs
-    → AreEpochsOrdered (history (hosts start) inside)
+    → AreEpochsOrdered (history (first_hosts start) inside)
 
 -- nobody installs another view than the first one, which is viable
 abbrev pub GreatestViewIsFirst : Type 0
@@ -53,7 +53,7 @@ GreatestViewIsViable =
 abbrev pub HistoriesAreStrict : Type 0
 HistoriesAreStrict =
     (start : Start) (inside logs : ℕ → List HostStep) → IsClosedCut start inside logs
-    → IsStrictOrder start (inside 0) (history (hosts start) inside)
+    → IsStrictOrder start (inside 0) (history (first_hosts start) inside)
 
 -- a row is committed for decided transactions alone: wherever a commit was taken, the decision has a lesser stamp
 abbrev pub CommitsAreOfDecided : Type 0
@@ -67,10 +67,10 @@ CommitsAreOfDecided =
 -- rest
 -- each live replica has the row that the history leaves.
 pub record AreKeysRight (start : Start) (inside : ℕ → List HostStep) : Type 0 where
-  pub right : (key : List ℕ) → IsRightAt key (map.get (rows_of start.rows) key) (history (hosts start) inside)
+  pub right : (key : List ℕ) → IsRightAt key (map.get (rows_of start.rows) key) (history (first_hosts start) inside)
   pub rows : (key : List ℕ) → IsAtRest start inside key → (member : Member) → IsLiveReplica start inside key member
       → row_in start inside member.node key
-      ≡ row_at_end key (map.get (rows_of start.rows) key) (history (hosts start) inside)
+      ≡ row_at_end key (map.get (rows_of start.rows) key) (history (first_hosts start) inside)
 
 -- with that the cut is serial
 abbrev pub KeysMakeSerial : Type 0

@@ -10,7 +10,7 @@ use Rattle.sig_core.specs.Same.{same_tx}
 use Rattle.lqh_block.specs.declared.request.Request.{Request}
 use Rattle.tc_block.specs.declared.transaction.Transaction.{Transaction}
 use Rattle.node_core.specs.declared.host.Host.{Host}
-use Rattle.world_core.specs.Hosts.{hosts}
+use Rattle.world_core.specs.Hosts.{first_hosts}
 use Rattle.world_core.specs.Machine.{after}
 use Rattle.world_core.specs.Start.{Start}
 use Rattle.tc_block.specs.Phases.{is_aborting}
@@ -34,7 +34,7 @@ abbrev pub waiting_in : TxId → Host → ℕ
 waiting_in tx host = tally (λ (q : Request). same_tx q.tx tx) (lqh_of host).waiting
 
 abbrev pub waiting_all : Start → (ℕ → List HostStep) → TxId → ℕ
-waiting_all start logs tx = total (hosts start) (λ h. waiting_in tx (after start h (logs h)))
+waiting_all start logs tx = total (first_hosts start) (λ h. waiting_in tx (after start h (logs h)))
 
 -- how many parts of operations of the transaction are in transit or wait
 abbrev pub tokens : Start → (ℕ → List HostStep) → List Addressed → TxId → ℕ

@@ -5,7 +5,7 @@ use Rattle.run_theory.specs.Runs.{Happens, IsWithin, Run, log_of}
 use Rattle.world_core.specs.Steps.{Addressed, HostStep}
 use Rattle.node_core.specs.declared.host.Host.{Host}
 use Rattle.node_core.specs.Requests.{is_request}
-use Rattle.world_core.specs.Hosts.{hosts}
+use Rattle.world_core.specs.Hosts.{first_hosts}
 use Rattle.world_core.specs.Machine.{after, machine, signals_of}
 use Rattle.world_core.specs.Start.{Start}
 
@@ -50,7 +50,7 @@ AreInTransit start (e ∷ es) xs =
 pub record IsRun (start : Start) (es : List HostStep) : Type 0 where
   pub shape : IsShape start.shape
   pub run : Run (machine start) es
-  pub within : IsWithin (hosts start) (logs_of start es)
+  pub within : IsWithin (first_hosts start) (logs_of start es)
 
 -- the step comes after these events
 pub record Comes (start : Start) (es : List HostStep) (e : HostStep) : Type 0 where

@@ -26,7 +26,7 @@ use Rattle.frag_map.specs.Replicas.{first_start}
 use Rattle.node_core.specs.Replies.{replies_of}
 use Rattle.world_core.specs.At.{row_in}
 use Rattle.world_core.specs.History.{history}
-use Rattle.world_core.specs.Hosts.{Membership, first_membership, hosts}
+use Rattle.world_core.specs.Hosts.{Membership, first_membership, first_hosts}
 use Rattle.world_core.specs.Machine.{after, headed, request_signal}
 use Rattle.world_core.specs.Marks.{have_mark}
 use Rattle.world_core.specs.Rest.{IsAtRest, IsLiveReplica}
@@ -134,8 +134,8 @@ entry = record { tx = first_tx; view = 1; stamp = 10; host = record { 0 = 2 }; e
 -- told; the key is at rest, and both nodes have it with the value that was put.
 pub record SampleIsPut : Type 0 where
   pub quiet : AreQuiet two put
-  pub history_is : history (hosts two) put ≡ entry ∷ []
-  pub reported : have_mark (is_committed_in first_tx entry.epoch) (hosts two) put ≡ true
+  pub history_is : history (first_hosts two) put ≡ entry ∷ []
+  pub reported : have_mark (is_committed_in first_tx entry.epoch) (first_hosts two) put ≡ true
   pub replies : replies_of (after two 0 (put 0)) ≡ Answered None Done ∷ Ended None (Committed entry.epoch) ∷ []
   pub rest : IsAtRest two put key
   pub at_primary : IsLiveReplica two put key (first_start 1)

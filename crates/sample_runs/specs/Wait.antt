@@ -27,7 +27,7 @@ use Rattle.lqh_block.specs.declared.request.Request.{Request}
 use Rattle.node_core.specs.Blocks.{lqh_of}
 use Rattle.world_core.specs.At.{row_in}
 use Rattle.world_core.specs.History.{history}
-use Rattle.world_core.specs.Hosts.{hosts}
+use Rattle.world_core.specs.Hosts.{first_hosts}
 use Rattle.world_core.specs.Machine.{after, headed, request_signal}
 use Rattle.world_core.specs.Steps.{HostStep}
 use Rattle.answer_laws.specs.Answered.{AreQuiet}
@@ -157,5 +157,5 @@ pub record SampleIsGranted : Type 0 where
   pub waits : (lqh_of (after lone 3 (drop 7 (waited 3)))).waiting ≡ waiter ∷ []
   pub none_waits : (lqh_of (after lone 3 (waited 3))).waiting ≡ []
   pub none_holds : (lqh_of (after lone 3 (waited 3))).locks ≡ map.empty
-  pub history_is : history (hosts lone) waited ≡ first_entry ∷ second_entry ∷ []
+  pub history_is : history (first_hosts lone) waited ≡ first_entry ∷ second_entry ∷ []
   pub row : row_in lone waited 1 key ≡ Some second_value

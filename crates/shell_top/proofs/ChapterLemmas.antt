@@ -1,5 +1,5 @@
 -- How the lives of a session are told: what a life says, and what a session says of its lives where it ends.
-use Rattle.std.proofs.Common.{◌≡◌, ◌<◌, ℕ, List, [], ◌∷◌, ◌++◌, true, false, ap, sym, subst}
+use Rattle.std.proofs.Common.{◌≡◌, ◌<◌, ℕ, List, [], ◌∷◌, ◌++◌, true, false, refl, ap, sym, subst}
 use Rattle.std.proofs.Common.{◌∙◌, append_assoc, arith}
 use Rattle.frag_map.specs.Shape.{IsShape}
 use Rattle.peace_laws.proofs.lives.Peaceful.{closings_answered, lives_plain}
@@ -45,8 +45,8 @@ is_life shape sound e commands life lived =
     record {
       lived = lived;
       run = merged_run (machine start) (is_stamped start) (hosts start) (logs_of life) lived.within lived.right;
-      safe = cuts_are_safe start (logs_of life) (begins_behind shape life) sound lived.within lived.right;
-      between = between_cuts start (logs_of life) (begins_behind shape life) sound lived.within lived.right;
+      safe = cuts_are_safe start (logs_of life) (begins_behind shape life) sound refl lived.within lived.right;
+      between = between_cuts start (logs_of life) (begins_behind shape life) sound refl lived.within lived.right;
       grows = λ small large inside cut. histories_grow start small large inside;
       reported = reported start (logs_of life) lived.right;
       peaceful = λ none peaceful wants.

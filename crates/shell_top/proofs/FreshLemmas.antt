@@ -1,5 +1,6 @@
 -- A life that has begun: nothing has happened in it.
-use Rattle.std.proofs.Common.{reverse, map, ◌≡◌, ◌⊎◌, ◌≤◌, ◌<◌, ℕ, List, [], ◌∷◌, ◌++◌, Bool, true, false, refl, ap, sym}
+use Rattle.std.proofs.Common.{reverse, map, ◌≡◌, ◌⊎◌, ◌≤◌, ◌<◌, ℕ, List, [], ◌∷◌, ◌++◌, Bool, true, false, refl, ap}
+use Rattle.std.proofs.Common.{sym}
 use Rattle.std.proofs.Common.{subst, ◌∙◌, arith, inl, inr}
 use Rattle.std.proofs.lemmas.Bool.{cases_lt}
 use Rattle.std.proofs.lemmas.List.{get_or_past}
@@ -7,6 +8,7 @@ use Rattle.sig_core.specs.declared.log.HostLog.{HostLog}
 use Rattle.shell_top.specs.Served.{AreInPeace, IsServed}
 use Rattle.shell_top.specs.Text.{down_line}
 use Rattle.shell_top.specs.Told.{text_of}
+use Rattle.world_core.proofs.MadeFirst.{nobody_starts}
 use Rattle.world_core.specs.Hosts.{hosts}
 use Rattle.world_core.specs.Start.{Start}
 use Rattle.world_core.specs.Steps.{HostStep}
@@ -57,7 +59,7 @@ module _ (start : Start) (w : Whole) (is : w ≡ new_world start) where
   fresh_served = subst (IsServed start []) (sym is)
       (record {
         given = [];
-        right = fresh_right start;
+        right = fresh_right start (nobody_starts start);
         quiet = fresh_quiet start;
         asked = ap requests (no_step start 0);
         at_quiet = fresh_asked start;
@@ -72,4 +74,4 @@ module _ (start : Start) (w : Whole) (is : w ≡ new_world start) where
 
   -- and it is sound
   pub fresh_going : IsSound start w
-  fresh_going = subst (IsSound start) (sym is) (fresh_sound start)
+  fresh_going = subst (IsSound start) (sym is) (fresh_sound start (nobody_starts start))

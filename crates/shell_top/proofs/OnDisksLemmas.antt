@@ -1,6 +1,6 @@
 -- A life goes on with its disks: it begins, asks and is driven, is given replies, and at its end a restart comes to its
 -- history.
-use Rattle.std.proofs.Common.{◌≡◌, ◌+◌, ◌∙◌, ◌++◌, ℕ, List, [], length, map, ap, subst, sym}
+use Rattle.std.proofs.Common.{◌≡◌, ◌+◌, ◌∙◌, ◌++◌, ℕ, List, [], length, map, refl, ap, subst, sym}
 use Rattle.std.specs.Global.{Vec}
 use Rattle.std.specs.Prelude.{OnOk, Option, Some, Ok, Err, Result}
 use Rattle.disk_world.specs.declared.disk_world.DiskWorld.{DiskWorld}
@@ -86,7 +86,7 @@ module _ {D : Type 0} (shape : Shape) (told : D → Option (List Call)) (before 
         starts_behind shape r w.generation w.start w.rows.items records begun read in
         subst (λ x. IsLived r x (disks_told told w) (start_from shape w.start w.rows.items)) (sym fresh)
         (subst (λ s. IsLived r (new_world s) (disks_told told w) s) (sym behind)
-        (lives_begin shape r (disks_told told w) fit.1 are (fresh_sound (start_behind shape r))))
+        (lives_begin shape r (disks_told told w) fit.1 are (fresh_sound (start_behind shape r) refl)))
 
 -- a world keeps its disks as they are
 pub same_disks : {D : Type 0} → (told : D → Option (List Call)) (w t : DiskWorld D)

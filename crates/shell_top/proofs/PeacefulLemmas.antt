@@ -15,7 +15,7 @@ use Rattle.peace_laws.specs.Peace.{is_closing_request}
 use Rattle.shell_top.specs.declared.ended.Ending.{Ending}
 use Rattle.shell_top.specs.declared.ended.Ending.TheVariants as ending
 use Rattle.shell_top.specs.Peace.{EachIsClosed, IsClosedIn, IsPeacefullyServed}
-use Rattle.world_core.specs.Hosts.{hosts}
+use Rattle.world_core.specs.Hosts.{first_hosts}
 use Rattle.world_core.specs.Machine as plain
 use Rattle.world_core.specs.Quiet as plain_quiet
 use Rattle.world_core.specs.Start.{Start}
@@ -144,7 +144,7 @@ module _ (plain_lives : PeacefulLivesArePlain) (closings : ClosingsAreAnswered) 
                 requests_answered start (plain_parts start logs) shape are_plain.right are_plain.within
                 are_plain.at_quiet newer step before request at is
                 (ends_or_goes_on e
-                (plain_quiet.IsQuiet (plain.machine start) (hosts start) (plain_parts start logs))
+                (plain_quiet.IsQuiet (plain.machine start) (first_hosts start) (plain_parts start logs))
                 (IsAskedAgain start newer) (λ kept. are_plain.quiet (quiet kept)) again);
             closed = closed;
             caused = λ inside cut closed. replies_caused start inside (plain_parts start logs) shape

@@ -7,7 +7,7 @@ use Rattle.run_theory.specs.Cuts.{IsClosed, IsCut}
 use Rattle.run_theory.specs.Lists.{IsPast}
 use Rattle.run_theory.specs.Runs.{AreLogs, IsWithin}
 use Rattle.world_core.specs.Hosts.{hosts}
-use Rattle.world_core.specs.Start.{Start}
+use Rattle.world_core.specs.Start.{NobodyStarts, Start}
 use Rattle.world_core.specs.Steps.{HostStep}
 use Rattle.world_views.proofs.SentFacts.{is_stamped}
 use Rattle.world_views.specs.Machine.{machine}
@@ -30,7 +30,7 @@ use Rattle.shell_top.specs.Safe.{AreSafe, IsSafe}
 use Rattle.shell_top.proofs.DownLemmas.{never_down}
 
 module _ (start : Start) (logs : ℕ → List HostStep) (begins : start.start_epoch < start.epoch)
-    (shape : IsShape start.shape)
+    (shape : IsShape start.shape) (nobody : NobodyStarts start)
     (within : IsWithin (hosts start) logs) (right : AreLogs (machine start) logs)
   where
     of_cluster : (inside : ℕ → List HostStep) → IsCut inside logs → IsClosed (machine start) inside
@@ -38,6 +38,7 @@ module _ (start : Start) (logs : ℕ → List HostStep) (begins : start.start_ep
     of_cluster inside cut closed =
         record {
           shape = shape;
+          nobody = nobody;
           right = logs_of_closed (machine start) (is_stamped start) inside logs right cut closed;
           within = λ h out. past_none (inside h) (subst (λ log. IsPast (inside h) log) (within h out) (cut h));
         }

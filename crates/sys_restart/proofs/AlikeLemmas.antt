@@ -1,5 +1,5 @@
 -- Disks that a restart can't tell apart.
-use Rattle.std.proofs.Common.{◌≡◌, ◌∙◌, ℕ, zero, suc, ◌+◌, ◌*◌, Bool, true, false, List, [], ◌∷◌, ◌++◌, refl, ap, sym, subst, if◌then◌else◌}
+use Rattle.std.proofs.Common.{◌≡◌, ◌∙◌, ℕ, zero, suc, ◌+◌, ◌*◌, Bool, true, false, nat_le, List, [], ◌∷◌, ◌++◌, refl, ap, sym, subst, if◌then◌else◌}
 use Rattle.std.specs.Prelude.{Option, None, Some, Result, Ok, Err}
 use Rattle.frag_map.specs.Shape.{groups}
 use Rattle.sig_core.specs.Table.{Rows}
@@ -14,11 +14,12 @@ use Rattle.sys_restart.specs.declared.groups.Source.{Source}
 use Rattle.sys_restart.specs.declared.restored.Restored.{Restored}
 use Rattle.sys_restart.specs.Answers.{on_node}
 use Rattle.sys_restart.specs.Files.{Disks, Files}
-use Rattle.sys_restart.specs.Groups.{and_rows, control_on, first_listed, is_listed, rows_by, rows_from, rows_of_group, rows_of_groups, source_of, source_or}
+use Rattle.sys_restart.specs.Groups.{and_rows, control_on, first_listed, if_saved, is_listed, rows_by, rows_from, rows_of_group, rows_of_groups, source_of, source_or}
 use Rattle.sys_restart.specs.Latest.{later, latest_from, latest_of, latest_on}
 use Rattle.sys_restart.specs.Restored.{restored_by, restored_of, with_rows}
 use Rattle.sys_restart.specs.SlotRows.{rows_of_slot}
 use Rattle.sys_restart.proofs.GroupsLemmas.{rows_fail}
+use Rattle.sys_restart.proofs.HeldLemmas.{held_alike}
 
 pub same_answer : {A E : Type 0} (a b : A) (r : Result A E) → r ≡ Ok a → r ≡ Ok b → a ≡ b
 same_answer a b r one other = cc
@@ -63,10 +64,14 @@ latest_alike shape generation one two alike node (suc more) found =
 pub control_as : (system : SystemSlot) (node : ℕ) (files : Files) (listed : Bool)
     (found : Result (Option ControlSlot) ReadFault) → is_listed system.mask node ≡ listed
     → control_of_file system.generation (files CONTROL_FILE) ≡ found
-    → control_on system node files ≡ (if listed then on_node node found else Ok None)
+    → control_on system node files ≡ (if listed then if_saved system.epoch (on_node node found) else Ok None)
 control_as system node files listed found is so =
-    ap (λ (b : Bool). if b then on_node node (control_of_file system.generation (files CONTROL_FILE)) else Ok None) is
-    ∙ ap (λ read. if listed then on_node node read else Ok None) so
+    ap
+    (λ (b : Bool).
+    if b
+    then if_saved system.epoch (on_node node (control_of_file system.generation (files CONTROL_FILE))) else Ok None)
+    is
+    ∙ ap (λ read. if listed then if_saved system.epoch (on_node node read) else Ok None) so
 
 -- the source is found on the disk of its node
 abbrev pub IsThere : SystemSlot → Disks → Source → Type 0
@@ -78,11 +83,24 @@ module _ (shape : Shape) (system : SystemSlot) (one two : Disks)
   unlisted : (node more : ℕ) (disks : Disks) (found : Result (Option ControlSlot) ReadFault) (listed : Bool)
       → is_listed system.mask node ≡ listed → control_of_file system.generation (disks node CONTROL_FILE) ≡ found
       → source_of disks system node (suc more)
-      ≡ source_or (source_of disks system (node + 1) more) node (if listed then on_node node found else Ok None)
+      ≡ source_or (source_of disks system (node + 1) more) node
+      (if listed then if_saved system.epoch (on_node node found) else Ok None)
   unfolding source_of
   unlisted node more disks found listed is so =
       ap (source_or (source_of disks system (node + 1) more) node)
       (control_as system node (disks node) listed found is so)
+
+  -- the same of a slot, where it is known whether it was saved at the epoch
+  with_slot : (node more : ℕ) (disks : Disks) (slot : ControlSlot) (saved : Bool) → is_listed system.mask node ≡ true
+      → control_of_file system.generation (disks node CONTROL_FILE) ≡ Ok (Some slot)
+      → nat_le system.epoch slot.saved ≡ saved
+      → source_of disks system node (suc more)
+      ≡ source_or (source_of disks system (node + 1) more) node (Ok (if saved then Some slot else None))
+  with_slot node more disks slot saved is so so_saved =
+      unlisted node more disks (Ok (Some slot)) true is so
+      ∙ ap
+      (λ (b : Bool). source_or (source_of disks system (node + 1) more) node (Ok (if b then Some slot else None)))
+      so_saved
 
   pub sources_alike : (node more : ℕ) (source : Source) → source_of one system node more ≡ Ok (Some source)
       → (source_of two system node more ≡ Ok (Some source)) × IsThere system one source
@@ -109,58 +127,69 @@ module _ (shape : Shape) (system : SystemSlot) (one two : Disks)
           let first = sym (unlisted node more one (Ok None) true e f) ∙ is in
           let behind = again first in
           (unlisted node more two (Ok None) true e ((alike node).slots None f) ∙ behind.0, behind.1)
-      by true (Ok (Some slot)) again e f =
-          let it : Source = record { node = node; slot = slot } in
-          let first : ◌≡◌ {A = Result (Option Source) RestartFault} (Ok (Some it)) (Ok (Some source)) =
-          sym (unlisted node more one (Ok (Some slot)) true e f) ∙ is in
-          let same : it ≡ source = cc in (
-            unlisted node more two (Ok (Some slot)) true e ((alike node).slots (Some slot) f) ∙ first,
-            subst (IsThere system one) same f,
-          )
+      by true (Ok (Some slot)) again e f = kept (nat_le system.epoch slot.saved) refl
+        where
+          kept : (saved : Bool) → nat_le system.epoch slot.saved ≡ saved
+              → (source_of two system node (suc more) ≡ Ok (Some source)) × IsThere system one source
+          kept false low =
+              let first = sym (with_slot node more one slot false e f low) ∙ is in
+              let behind = again first in
+              (with_slot node more two slot false e ((alike node).slots (Some slot) f) low ∙ behind.0, behind.1)
+          kept true up =
+              let it : Source = record { node = node; slot = slot } in
+              let first : ◌≡◌ {A = Result (Option Source) RestartFault} (Ok (Some it)) (Ok (Some source)) =
+              sym (with_slot node more one slot true e f up) ∙ is in
+              let same : it ≡ source = cc in (
+                with_slot node more two slot true e ((alike node).slots (Some slot) f) up ∙ first,
+                subst (IsThere system one) same f,
+              )
       by true (Err fault) again e f =
           absurd (no_answer _ (Some source) _ (unlisted node more one (Err fault) true e f) is)
 
-  pub group_alike : (first count : ℕ) (part : Rows) → rows_of_group one system first count ≡ Ok part
-      → rows_of_group two system first count ≡ Ok part
-  group_alike first count part is = by (source_of one system first count) refl
+  pub group_alike : (first : ℕ) (part : Rows) → rows_of_group shape one system first ≡ Ok part
+      → rows_of_group shape two system first ≡ Ok part
+  group_alike first part is = by (source_of one system first shape.replicas) refl
     where
       node : ℕ
-      node = first_listed system.mask first first count
+      node = first_listed system.mask first first shape.replicas
 
-      by : (found : Result (Option Source) RestartFault) → source_of one system first count ≡ found
-          → rows_of_group two system first count ≡ Ok part
-      by (Err fault) e = absurd (no_answer fault part _ (ap (rows_by one system.epoch node) e) is)
-      by (Ok None) e = absurd (no_answer _ part _ (ap (rows_by one system.epoch node) e) is)
+      by : (found : Result (Option Source) RestartFault) → source_of one system first shape.replicas ≡ found
+          → rows_of_group shape two system first ≡ Ok part
+      by (Err fault) e = absurd (no_answer fault part _ (ap (rows_by shape one system.epoch node) e) is)
+      by (Ok None) e = absurd (no_answer _ part _ (ap (rows_by shape one system.epoch node) e) is)
       by (Ok (Some source)) e =
-          let both = sources_alike first count source e in
-          ap (rows_by two system.epoch node) both.0
-          ∙ ap (on_node source.node) ((alike source.node).rows source.slot system.epoch both.1)
-          ∙ sym (ap (rows_by one system.epoch node) e) ∙ is
+          let both = sources_alike first shape.replicas source e in
+          ap (rows_by shape two system.epoch node) both.0
+          ∙ held_alike shape source.node (one source.node) (two source.node)
+          (on_node source.node (rows_of_slot system.epoch (one source.node) source.slot))
+          (on_node source.node (rows_of_slot system.epoch (two source.node) source.slot)) part
+          (ap (on_node source.node) ((alike source.node).rows source.slot system.epoch both.1))
+          (sym (ap (rows_by shape one system.epoch node) e) ∙ is)
 
-  pub groups_alike : (replicas group more : ℕ) (before all : List Rows)
-      → rows_from one system replicas group more (Ok before) ≡ Ok all
-      → rows_from two system replicas group more (Ok before) ≡ Ok all
+  pub groups_alike : (group more : ℕ) (before all : List Rows)
+      → rows_from shape one system group more (Ok before) ≡ Ok all
+      → rows_from shape two system group more (Ok before) ≡ Ok all
   unfolding rows_from
-  groups_alike replicas group zero before all is = is
-  groups_alike replicas group (suc more) before all is =
-      by (rows_of_group one system (group * replicas + 1) replicas)
-      (λ part. groups_alike replicas (group + 1) more (before ++ part ∷ []) all) refl
+  groups_alike group zero before all is = is
+  groups_alike group (suc more) before all is =
+      by (rows_of_group shape one system (group * shape.replicas + 1))
+      (λ part. groups_alike (group + 1) more (before ++ part ∷ []) all) refl
     where
       by : (part : Result Rows RestartFault)
-          → ((part : Rows) → rows_from one system replicas (group + 1) more (Ok (before ++ part ∷ [])) ≡ Ok all
-          → rows_from two system replicas (group + 1) more (Ok (before ++ part ∷ [])) ≡ Ok all)
-          → rows_of_group one system (group * replicas + 1) replicas ≡ part
-          → rows_from two system replicas group (suc more) (Ok before) ≡ Ok all
+          → ((part : Rows) → rows_from shape one system (group + 1) more (Ok (before ++ part ∷ [])) ≡ Ok all
+          → rows_from shape two system (group + 1) more (Ok (before ++ part ∷ [])) ≡ Ok all)
+          → rows_of_group shape one system (group * shape.replicas + 1) ≡ part
+          → rows_from shape two system group (suc more) (Ok before) ≡ Ok all
       by (Err fault) again e =
           absurd (no_answer fault all _
-          (ap (λ part. rows_from one system replicas (group + 1) more (and_rows (Ok before) part)) e
-          ∙ rows_fail one system replicas (group + 1) more fault)
+          (ap (λ part. rows_from shape one system (group + 1) more (and_rows (Ok before) part)) e
+          ∙ rows_fail shape one system (group + 1) more fault)
           is)
       by (Ok part) again e =
-          let rest : rows_from one system replicas (group + 1) more (Ok (before ++ part ∷ [])) ≡ Ok all =
-          sym (ap (λ part. rows_from one system replicas (group + 1) more (and_rows (Ok before) part)) e) ∙ is in
-          ap (λ part. rows_from two system replicas (group + 1) more (and_rows (Ok before) part))
-          (group_alike (group * replicas + 1) replicas part e)
+          let rest : rows_from shape one system (group + 1) more (Ok (before ++ part ∷ [])) ≡ Ok all =
+          sym (ap (λ part. rows_from shape one system (group + 1) more (and_rows (Ok before) part)) e) ∙ is in
+          ap (λ part. rows_from shape two system (group + 1) more (and_rows (Ok before) part))
+          (group_alike (group * shape.replicas + 1) part e)
           ∙ again part rest
 
 -- a restart from one is that from the other
@@ -184,7 +213,7 @@ restored_alike shape one two r alike is = by (latest_of shape one) refl
         let here : AllAlike shape system.generation one two =
         subst (λ (g : ℕ). AllAlike shape g one two) generation alike in
         let again : rows_of_groups shape two system ≡ Ok rows =
-        groups_alike shape system one two here shape.replicas 0 (groups shape) [] rows f in
+        groups_alike shape system one two here 0 (groups shape) [] rows f in
         ap (restored_by shape two) (latest ∙ e) ∙ ap (with_rows system) again ∙ ap Ok same
 
     by : (found : Result (Option SystemSlot) RestartFault) → latest_of shape one ≡ found

@@ -4,7 +4,9 @@ pub mod ControlLemmas
 pub mod DisksLemmas
 pub mod FaultLemmas
 pub mod FileLemmas
+pub mod GroupsHeld
 pub mod GroupsLemmas
+pub mod HeldLemmas
 pub mod KeepsLemmas
 pub mod LatestLemmas
 pub mod LifeLemmas

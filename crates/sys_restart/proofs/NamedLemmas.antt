@@ -1,5 +1,5 @@
 -- Disks on which a life is named.
-use Rattle.std.proofs.Common.{◌≡◌, ◌∙◌, ◌⊎◌, ℕ, zero, suc, ◌+◌, ◌-◌, ◌*◌, ◌≤◌, ◌<◌, true, length, take, get_or, refl, ap, sym, subst, arith, inl, inr}
+use Rattle.std.proofs.Common.{◌≡◌, ◌∙◌, ◌⊎◌, ℕ, zero, suc, ◌+◌, ◌-◌, ◌*◌, ◌≤◌, ◌<◌, length, take, get_or, refl, ap, sym, subst, arith, inl, inr}
 use Rattle.std.specs.Prelude.{Option, Some, Ok}
 use Rattle.std.specs.FinMap as finmap
 use Rattle.std.proofs.lemmas.Bool.{cases_lt}
@@ -13,12 +13,14 @@ use Rattle.sys_restart.specs.declared.restored.Restored.{Restored}
 use Rattle.sys_restart.specs.Answers.{on_node}
 use Rattle.sys_restart.specs.Calls.{next_system}
 use Rattle.sys_restart.specs.Files.{Disks}
-use Rattle.sys_restart.specs.Groups.{and_rows, first_listed, rows_by, rows_from, rows_of_group, source_of}
+use Rattle.sys_restart.specs.Groups.{and_rows, first_listed, if_held, rows_by, rows_from, rows_of_group, source_of}
 use Rattle.sys_restart.specs.Latest.{later, latest_from, latest_of, latest_on}
 use Rattle.sys_restart.specs.Prepared.{HasSlot, IsNamedOrBelow}
 use Rattle.sys_restart.specs.Restored.{restored_by, restored_of, with_rows}
-use Rattle.sys_restart.proofs.AlikeLemmas.{control_as, same_answer}
-use Rattle.sys_restart.proofs.GroupsLemmas.{source_found}
+use Rattle.sys_restart.proofs.AlikeLemmas.{same_answer}
+use Rattle.sys_restart.proofs.GroupsHeld.{AreHeldFrom, group_held_in}
+use Rattle.sys_restart.proofs.GroupsLemmas.{control_saved, source_found}
+use Rattle.sys_restart.proofs.HeldLemmas.{held_kept}
 use Rattle.sys_restart.proofs.ListedLemmas.{listed_all}
 use Rattle.sys_restart.proofs.NameLemmas.{first_named, later_either, second_named}
 use Rattle.sys_restart.proofs.SeatLemmas.{first_of_group, group_fits}
@@ -74,10 +76,10 @@ EachHasSlot shape r disks =
     (node : ℕ) → 1 ≤ node → node ≤ shape.nodes → (slot : ControlSlot) × HasSlot shape node r (disks node) slot
 
 module _ (shape : Shape) (r : Restored) (disks : Disks) (is : IsShape shape) (each : EachHasSlot shape r disks)
-    (many : length r.groups ≡ groups shape) where
+    (many : length r.groups ≡ groups shape) (held : AreHeldFrom shape 0 r.groups) where
   -- the rows of a group are those of its first node
   one_group : (group less : ℕ) → group < groups shape → shape.replicas ≡ suc less
-      → rows_of_group disks (next_system shape r) (group * shape.replicas + 1) shape.replicas
+      → rows_of_group shape disks (next_system shape r) (group * shape.replicas + 1)
       ≡ Ok (get_or r.groups group finmap.empty)
   one_group group less below size =
       let first = group * shape.replicas + 1 in
@@ -85,27 +87,31 @@ module _ (shape : Shape) (r : Restored) (disks : Disks) (is : IsShape shape) (ea
       let within : first ≤ shape.nodes = omega (arith, fits, is.replicas_some) in
       let has = each first (omega arith) within in
       let there =
-      control_as (next_system shape r) first (disks first) true (Ok (Some has.0))
-      (listed_all shape.nodes first (omega arith) within is.nodes_few) has.1.in_use in
+      control_saved (next_system shape r) first (disks first) has.0
+      (listed_all shape.nodes first (omega arith) within is.nodes_few) has.1.in_use
+      (let up : r.epoch ≤ has.0.saved = omega (arith, has.1.saved) in up) in
       let found : source_of disks (next_system shape r) first shape.replicas
       ≡ Ok (Some (record { node = first; slot = has.0 })) =
       source_found disks (next_system shape r) first shape.replicas less has.0
       (source_of disks (next_system shape r) first shape.replicas) size there refl in
-      ap (rows_by disks r.epoch (first_listed (next_system shape r).mask first first shape.replicas)) found
-      ∙ ap (on_node first) has.1.has_rows
+      ap (rows_by shape disks r.epoch (first_listed (next_system shape r).mask first first shape.replicas)) found
+      ∙ ap (if_held shape first (disks first))
+      (ap (on_node first) has.1.has_rows
       ∙ ap (λ (g : ℕ). Ok (get_or r.groups g finmap.empty))
-      (first_of_group shape.replicas group is.replicas_some is.replicas_few)
+      (first_of_group shape.replicas group is.replicas_some is.replicas_few))
+      ∙ held_kept shape first (disks first) (get_or r.groups group finmap.empty)
+      (group_held_in shape r.groups group held)
 
   groups_named : (group more less : ℕ) → group + more ≡ groups shape → shape.replicas ≡ suc less
-      → rows_from disks (next_system shape r) shape.replicas group more (Ok (take group r.groups)) ≡ Ok r.groups
+      → rows_from shape disks (next_system shape r) group more (Ok (take group r.groups)) ≡ Ok r.groups
   unfolding rows_from
   groups_named group zero less all size = ap Ok (take_all group r.groups (omega (arith, all, many)))
   groups_named group (suc more) less all size =
       ap
-      (λ part. rows_from disks (next_system shape r) shape.replicas (group + 1) more
+      (λ part. rows_from shape disks (next_system shape r) (group + 1) more
       (and_rows (Ok (take group r.groups)) part))
       (one_group group less (omega (arith, all)) size)
-      ∙ ap (λ rows. rows_from disks (next_system shape r) shape.replicas (group + 1) more (Ok rows))
+      ∙ ap (λ rows. rows_from shape disks (next_system shape r) (group + 1) more (Ok rows))
       (sym (take_more r.groups group finmap.empty (omega (arith, all, many))))
       ∙ groups_named (group + 1) more less (omega (arith, all)) size
 

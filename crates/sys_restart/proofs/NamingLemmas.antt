@@ -37,6 +37,7 @@ use Rattle.sys_restart.proofs.ControlLemmas.{in_use_names}
 use Rattle.sys_restart.proofs.KeepsLemmas.{HasNumbers}
 use Rattle.sys_restart.proofs.MomentLemmas.{kept_through}
 use Rattle.sys_restart.proofs.NameLemmas.{both_below, first_named, next_is_system, second_named, system_back, system_long, system_split}
+use Rattle.sys_restart.proofs.GroupsHeld.{AreHeldFrom, restored_held}
 use Rattle.sys_restart.proofs.NamedLemmas.{latest_named, restored_named}
 use Rattle.sys_restart.proofs.NextLemmas.{slot_on}
 use Rattle.sys_restart.proofs.SameRows.{redo_file, rows_same}
@@ -384,7 +385,7 @@ is_named : (shape : Shape) (node : ℕ) (r : Restored) (disks : Disks) (before :
 is_named shape node r disks before image is are latest same = (
   record { generation = r.generation + 1; epoch = r.epoch; groups = r.groups },
   (
-    restored_named shape r now is each_slot are.groups
+    restored_named shape r now is each_slot are.groups (held are.same)
         (latest_named shape r now 1 shape.nodes None (inr tt) each_latest
         (inr (node, (are.least, (omega (arith, are.most), here_latest))))),
     record { generation = inr refl; epoch = refl; groups = refl },
@@ -396,6 +397,11 @@ is_named shape node r disks before image is are latest same = (
 
     old : Disks
     old = with_files disks node (files_of before)
+
+    -- the rows of each group are its own, since a restart gave them
+    held : RestartsAs shape r old → AreHeldFrom shape 0 r.groups
+    held (found, (restored, as_before)) =
+        subst (AreHeldFrom shape 0) as_before.groups (restored_held shape is old found restored)
 
     here_is : (b : Bool) (files : Files) → (node == node) ≡ b → b ≡ true → (if b then files else disks node) ≡ files
     here_is true files e so = refl

@@ -16,7 +16,7 @@ none_of : {A : Type 0} (xs : List A) → length xs ≡ 0 → xs ≡ []
 none_of [] none = refl
 none_of (x ∷ xs) none = absurd (omega (arith, none))
 
-nothing_listed : (rows : Rows) → rows ≡ finmap.empty → finmap.entries rows ≡ []
+pub nothing_listed : (rows : Rows) → rows ≡ finmap.empty → finmap.entries rows ≡ []
 nothing_listed rows is =
     none_of (finmap.entries rows)
     (sym (finmap.len-entries rows) ∙ ap finmap.len is ∙ finmap.len-empty (slice_cmp nat_cmp) (List ℕ))

@@ -3,6 +3,7 @@ pub mod Calls
 pub mod Checkpoint
 pub mod Files
 pub mod Groups
+pub mod Held
 pub mod Latest
 pub mod LifeCalls
 pub mod Own

@@ -6,9 +6,10 @@ ghost use Rattle.redo_log.specs.Stored.{files_of};
 ghost use Rattle.sysfile_core.specs.Found.{HasRedo};
 ghost use Rattle.sys_restart.specs.Answers.{AreSteady, HasCauseAmong, HasCauseOf, IsCauseAmong, IsCauseOf, ReadsAll, is_outside, on_node};
 ghost use Rattle.sys_restart.specs.Files.{disks_of};
-ghost use Rattle.sys_restart.specs.Groups.{IsSource, control_on, first_listed, is_listed, lacking, rows_of_group, rows_of_groups, source_of};
+ghost use Rattle.sys_restart.specs.Groups.{IsSource, control_on, first_listed, if_held, is_listed, lacking, rows_of_group, rows_of_groups, source_of, that_saved};
 ghost use Rattle.sys_restart.specs.SlotRows.{rows_of_slot};
 
+use crate::held::are_held;
 use crate::on_node::of_node;
 use crate::slot_rows::rows_of_slot;
 use host_io::{Disk, Failed};
@@ -25,12 +26,14 @@ pub(crate) struct Source {
 }
 
 /// The rows of each group, the first group first: those of its first node that the system slot lists and that
-/// has a control slot of its generation, up to the epoch of the system slot. What other nodes have isn't read.
+/// has a control slot of its generation that was saved at its epoch, up to the epoch of the system slot. What
+/// other nodes have isn't read.
 ///
 /// # Errors
 /// `Damaged` where a group has no such node, at its first node that is listed, or else at its first, at
-/// the first byte of the control file; and where a control slot, a checkpoint or redo is damaged. The
-/// first of them by group and node. `DiskFault`, `NoMemory`.
+/// the first byte of the control file; there too, at that node, where it has rows of another group; and where
+/// a control slot, a checkpoint or redo is damaged. The first of them by group and node. `DiskFault`,
+/// `NoMemory`.
 pub(crate) fn rows_of_groups<D: Disk>(
     alloc: Global,
     disks: &mut [D],
@@ -47,7 +50,7 @@ pub(crate) fn rows_of_groups<D: Disk>(
     let mut rows = Seq::new(alloc);
     for group in 0..shape.nodes / shape.replicas {
         let first = first_of(group, &shape);
-        match rows_of_group(alloc, disks, first, shape.replicas, system) {
+        match rows_of_group(alloc, disks, first, &shape, system) {
             Err(fault) => return Err(fault),
             Ok(part) => match rows.push(part) {
                 Ok(()) => {}
@@ -69,27 +72,27 @@ fn first_of(group: u8, shape: &Shape) -> u8
     group * shape.replicas + 1
 }
 
-// The rows of the group of so many nodes from this one on.
+// The rows of the group whose first node this is.
 fn rows_of_group<D: Disk>(
     alloc: Global,
     disks: &mut [D],
     first: u8,
-    count: u8,
+    shape: &Shape,
     system: &SystemSlot,
 ) -> Result<RowMap, RestartFault>
+    requires shape { IsShape shape.now }
+    requires nodes { length disks.old ≡ shape.now.nodes }
     requires first { 1 ≤ first }
-    requires last { first + count ≤ length disks.old + 1 }
-    requires some { 1 ≤ count }
-    requires few { length disks.old ≤ 8 }
-    ensures read { (records : List (List Call)) → map D.told disks.old ≡ map Some records → ReadsAll (rows_of_group (disks_of records) system.now first count) result }
+    requires last { first + shape.now.replicas ≤ shape.now.nodes + 1 }
+    ensures read { (records : List (List Call)) → map D.told disks.old ≡ map Some records → ReadsAll (rows_of_group shape.now (disks_of records) system.now first) result }
     ensures unrecorded { map D.told disks.new ≡ map D.told disks.old }
     ensures cause { HasCauseAmong (map D.faults disks.old) (map D.faults disks.new) result }
     ensures steady { AreSteady (map D.faults disks.old) (map D.faults disks.new) }
 {
-    match source_of(disks, first, count, system) {
-        Ok(Some(source)) => rows_of_source(alloc, disks, &source, system.epoch),
+    match source_of(disks, first, shape.replicas, system) {
+        Ok(Some(source)) => rows_of_source(alloc, disks, &source, system.epoch, shape),
         Ok(None) => {
-            let node = first_listed(system.mask, first, count);
+            let node = first_listed(system.mask, first, shape.replicas);
             Err(lacking_at(disks, node))
         }
         Err(fault) => Err(fault),
@@ -102,23 +105,69 @@ fn rows_of_source<D: Disk>(
     disks: &mut [D],
     source: &Source,
     epoch: u64,
+    shape: &Shape,
 ) -> Result<RowMap, RestartFault>
+    requires shape { IsShape shape.now }
+    requires nodes { length disks.old ≡ shape.now.nodes }
     requires first { 1 ≤ source.now.node }
     requires last { source.now.node ≤ length disks.old }
     requires redo { HasRedo source.now.slot }
-    ensures read { (records : List (List Call)) → map D.told disks.old ≡ map Some records → ReadsAll (on_node source.now.node (rows_of_slot epoch (disks_of records source.now.node) source.now.slot)) result }
+    ensures read { (records : List (List Call)) → map D.told disks.old ≡ map Some records → ReadsAll (if_held shape.now source.now.node (disks_of records source.now.node) (on_node source.now.node (rows_of_slot epoch (disks_of records source.now.node) source.now.slot))) result }
     ensures unrecorded { map D.told disks.new ≡ map D.told disks.old }
     ensures cause { HasCauseAmong (map D.faults disks.old) (map D.faults disks.new) result }
     ensures steady { AreSteady (map D.faults disks.old) (map D.faults disks.new) }
 {
     let index = source.node as usize - 1;
-    match rows_of_slot(alloc, &mut disks[index], &source.slot, epoch) {
-        Ok(rows) => Ok(rows),
+    rows_on(alloc, &mut disks[index], source, epoch, shape)
+}
+
+// The same, of the disk of its node.
+fn rows_on<D: Disk>(
+    alloc: Global,
+    disk: &mut D,
+    source: &Source,
+    epoch: u64,
+    shape: &Shape,
+) -> Result<RowMap, RestartFault>
+    requires shape { IsShape shape.now }
+    requires first { 1 ≤ source.now.node }
+    requires last { source.now.node ≤ shape.now.nodes }
+    requires redo { HasRedo source.now.slot }
+    ensures read { (calls : List Call) → D.told disk.old ≡ Some calls → ReadsAll (if_held shape.now source.now.node (files_of calls) (on_node source.now.node (rows_of_slot epoch (files_of calls) source.now.slot))) result }
+    ensures unrecorded { D.told disk.new ≡ D.told disk.old }
+    ensures cause { HasCauseOf source.now.node (D.faults disk.old) (D.faults disk.new) result }
+    ensures steady { D.faults disk.old ≤ D.faults disk.new }
+{
+    match rows_of_slot(alloc, disk, &source.slot, epoch) {
+        Ok(rows) => if_held(alloc, disk, source.node, rows, shape),
         Err(fault) => Err(of_node(source.node, fault)),
     }
 }
 
-// The first of so many nodes that is listed and has a control slot of the generation.
+// Rows that were read on a node's disk, if the node holds them.
+fn if_held<D: Disk>(
+    alloc: Global,
+    disk: &mut D,
+    node: u8,
+    rows: RowMap,
+    shape: &Shape,
+) -> Result<RowMap, RestartFault>
+    requires shape { IsShape shape.now }
+    requires first { 1 ≤ node }
+    requires last { node ≤ shape.now.nodes }
+    ensures read { (calls : List Call) → D.told disk.old ≡ Some calls → ReadsAll (if_held shape.now node (files_of calls) (Ok rows)) result }
+    ensures unrecorded { D.told disk.new ≡ D.told disk.old }
+    ensures cause { HasCauseOf node (D.faults disk.old) (D.faults disk.new) result }
+    ensures steady { D.faults disk.old ≤ D.faults disk.new }
+{
+    match are_held(alloc, node, &rows, shape) {
+        Ok(true) => Ok(rows),
+        Ok(false) => Err(lacking(disk, node)),
+        Err(NoMemory) => Err(RestartFault::NoMemory),
+    }
+}
+
+// The first of so many nodes that is listed and has a control slot of the generation and the epoch.
 fn source_of<D: Disk>(
     disks: &mut [D],
     first: u8,
@@ -146,7 +195,7 @@ fn source_of<D: Disk>(
     Ok(None)
 }
 
-// The control slot in use on a node's disk, if the node is listed.
+// The control slot in use on a node's disk, if the node is listed and the slot was saved at the epoch.
 fn control_on<D: Disk>(
     disk: &mut D,
     node: u8,
@@ -164,8 +213,19 @@ fn control_on<D: Disk>(
         return Ok(None);
     }
     match read_control(disk, system.generation) {
-        Ok(slot) => Ok(slot),
+        Ok(slot) => Ok(that_saved(system.epoch, slot)),
         Err(fault) => Err(of_node(node, fault)),
+    }
+}
+
+// A control slot that was saved at an epoch or behind it.
+fn that_saved(epoch: u64, slot: Option<ControlSlot>) -> Option<ControlSlot>
+    ensures value { result ≡ that_saved epoch slot }
+    ensures redo { IfSome slot HasRedo → IfSome result HasRedo }
+{
+    match slot {
+        Some(slot) if epoch <= slot.saved => Some(slot),
+        _ => None,
     }
 }
 

@@ -3,6 +3,7 @@
 #![tactic(auto)]
 
 mod groups;
+mod held;
 mod latest;
 mod life;
 mod name;

@@ -19,9 +19,10 @@ use std::alloc::Global;
 /// open on any of them, and the rows of each group in that epoch. The disks are only read.
 ///
 /// # Errors
-/// `OtherShape` exactly where an open system slot is of another shape, `Damaged` exactly where what is
-/// read isn't in its grammar, the first of them by node and place, system slots first; `DiskFault` only
-/// where the count of that node's disk rose; `NoMemory`.
+/// `OtherShape` exactly where an open system slot is of another shape; `Damaged` exactly where what is read
+/// isn't in its grammar, no node of a group that is listed has saved the epoch, or the rows of one are of
+/// another group, the first of them by node and place, system slots first; `DiskFault` only where the count of
+/// that node's disk rose; `NoMemory`.
 pub fn restore<D: Disk>(
     alloc: Global,
     disks: &mut [D],

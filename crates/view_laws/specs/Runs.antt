@@ -11,7 +11,7 @@ use Rattle.sig_core.specs.declared.member.Member.{Member}
 use Rattle.sig_core.specs.declared.view.View.{View}
 use Rattle.qmgr_block.specs.Laws.{Event}
 use Rattle.world_core.specs.Hosts.{hosts}
-use Rattle.world_core.specs.Start.{Start, made}
+use Rattle.world_core.specs.Start.{NobodyStarts, Start, made}
 use Rattle.world_core.specs.Steps.{HostStep}
 use Rattle.world_views.specs.Machine.{after, machine}
 use Rattle.view_laws.specs.Ballots.{Ballots, IsChosen}
@@ -43,9 +43,10 @@ ballots_of start logs = record {
   grants = grants_of (members start.shape.nodes) (taken_in (events_of is_arbiter start 0 (logs 0)));
 }
 
--- a run of the hosts that there are
+-- a run of the hosts that there are, in a life in which nobody starts later
 pub record IsRun (start : Start) (es : List HostStep) : Type 0 where
   pub shape : IsShape start.shape
+  pub nobody : NobodyStarts start
   pub run : Run (machine start) es
   pub within : IsWithin (hosts start) (log_of (machine start) es)
 
@@ -64,9 +65,10 @@ pub record HasOrderlyBallots (start : Start) (es : List HostStep) : Type 0 where
 abbrev pub RunsHaveOrderlyBallots : Type 0
 RunsHaveOrderlyBallots = (start : Start) (es : List HostStep) → IsRun start es → HasOrderlyBallots start es
 
--- right logs of the hosts that there are
+-- right logs of the hosts that there are, in a life in which nobody starts later
 pub record AreOfCluster (start : Start) (logs : ℕ → List HostStep) : Type 0 where
   pub shape : IsShape start.shape
+  pub nobody : NobodyStarts start
   pub right : AreLogs (machine start) logs
   pub within : IsWithin (hosts start) logs
 

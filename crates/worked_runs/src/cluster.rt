@@ -1,30 +1,21 @@
-//! The cluster of a run: what is asked of it, and what happens to it.
+//! The cluster of a life: what is asked of it, and what happens to it.
 ghost use Rattle.std.specs.Prelude.{◌≡◌, OnOk};
 ghost use Rattle.world_views.specs.Driven.{IsWorld};
 ghost use Rattle.world_views.specs.WorldOf.{whole_of};
 
-use crate::fault::Fault;
+use disk_world::DiskWorld;
+use host_io::MemDisk;
 use script_lang::{Command, print_reply};
-use sig_core::{Answer, ApiReply, ApiReq, HostId, NoMemory, UAnswer};
+use sig_core::{Answer, ApiReply, ApiReq, NoMemory, UAnswer};
 use std::alloc::Global;
 use std::sync::Wait;
 use trial_requests::{request_of, requests};
-use world_views::{Pick, ScheduleFault, World};
-
-/// What a pick came to.
-#[derive(Clone, Copy, Debug, PartialEq, Eq)]
-pub enum Picked {
-    Done,
-    /// Nothing stands on the link.
-    Empty,
-    /// There is no such host, or none that may do so.
-    Gone,
-}
+use world_views::{Pick, ScheduleFault};
 
 // Asks the shell for something.
-fn ask(alloc: Global, world: &mut World, request: ApiReq) -> Result<(), NoMemory>
-    requires { IsWorld (whole_of world.old) }
-    ensures { OnOk result (IsWorld (whole_of world.new)) }
+fn ask(alloc: Global, world: &mut DiskWorld<MemDisk>, request: ApiReq) -> Result<(), NoMemory>
+    requires { IsWorld (whole_of world.old.world) }
+    ensures { OnOk result (IsWorld (whole_of world.new.world)) }
 {
     world.ask(alloc, request)
 }
@@ -33,17 +24,22 @@ fn ask(alloc: Global, world: &mut World, request: ApiReq) -> Result<(), NoMemory
 ///
 /// # Errors
 /// `NoMemory`.
-pub fn drive<W: Wait>(rt: &W, alloc: Global, world: &mut World) -> Result<(), NoMemory>
-    requires { IsWorld (whole_of world.old) }
-    ensures { OnOk result (IsWorld (whole_of world.new)) }
+pub fn drive<W: Wait>(rt: &W, alloc: Global, world: &mut DiskWorld<MemDisk>) -> Result<(), NoMemory>
+    requires { IsWorld (whole_of world.old.world) }
+    ensures { OnOk result (IsWorld (whole_of world.new.world)) }
 {
     world.drive(rt, alloc)
 }
 
 // Asks the shell for the request of a command at this place.
-fn ask_at(alloc: Global, world: &mut World, command: &Command, at: u8) -> Result<(), NoMemory>
-    requires { IsWorld (whole_of world.old) }
-    ensures { OnOk result (IsWorld (whole_of world.new)) }
+fn ask_at(
+    alloc: Global,
+    world: &mut DiskWorld<MemDisk>,
+    command: &Command,
+    at: u8,
+) -> Result<(), NoMemory>
+    requires { IsWorld (whole_of world.old.world) }
+    ensures { OnOk result (IsWorld (whole_of world.new.world)) }
 {
     match request_of(alloc, command, at)? {
         Some(request) => ask(alloc, world, request),
@@ -55,9 +51,13 @@ fn ask_at(alloc: Global, world: &mut World, command: &Command, at: u8) -> Result
 ///
 /// # Errors
 /// `NoMemory`.
-pub fn ask_for(alloc: Global, world: &mut World, command: &Command) -> Result<(), NoMemory>
-    requires { IsWorld (whole_of world.old) }
-    ensures { OnOk result (IsWorld (whole_of world.new)) }
+pub fn ask_for(
+    alloc: Global,
+    world: &mut DiskWorld<MemDisk>,
+    command: &Command,
+) -> Result<(), NoMemory>
+    requires { IsWorld (whole_of world.old.world) }
+    ensures { OnOk result (IsWorld (whole_of world.new.world)) }
 {
     for at in 0..requests(command) {
         ask_at(alloc, world, command, at)?;
@@ -73,11 +73,11 @@ pub fn ask_for(alloc: Global, world: &mut World, command: &Command) -> Result<()
 pub fn serve<W: Wait>(
     rt: &W,
     alloc: Global,
-    world: &mut World,
+    world: &mut DiskWorld<MemDisk>,
     command: &Command,
 ) -> Result<(), NoMemory>
-    requires { IsWorld (whole_of world.old) }
-    ensures { OnOk result (IsWorld (whole_of world.new)) }
+    requires { IsWorld (whole_of world.old.world) }
+    ensures { OnOk result (IsWorld (whole_of world.new.world)) }
 {
     for at in 0..requests(command) {
         ask_at(alloc, world, command, at)?;
@@ -86,9 +86,9 @@ pub fn serve<W: Wait>(
     ask_about(rt, alloc, world)
 }
 
-fn ask_about<W: Wait>(rt: &W, alloc: Global, world: &mut World) -> Result<(), NoMemory>
-    requires { IsWorld (whole_of world.old) }
-    ensures { OnOk result (IsWorld (whole_of world.new)) }
+fn ask_about<W: Wait>(rt: &W, alloc: Global, world: &mut DiskWorld<MemDisk>) -> Result<(), NoMemory>
+    requires { IsWorld (whole_of world.old.world) }
+    ensures { OnOk result (IsWorld (whole_of world.new.world)) }
 {
     if !world.is_left_open() {
         return Ok(());
@@ -99,60 +99,85 @@ fn ask_about<W: Wait>(rt: &W, alloc: Global, world: &mut World) -> Result<(), No
     drive(rt, alloc, world)
 }
 
-/// Does what a pick says, where it can be done.
+/// Makes a pick so many times. Adds to a text that one can't be made, and then makes no more.
 ///
 /// # Errors
 /// `NoMemory`.
-pub fn pick(alloc: Global, world: &mut World, pick: Pick) -> Result<Picked, Fault>
-    requires { IsWorld (whole_of world.old) }
-    ensures { OnOk result (IsWorld (whole_of world.new)) }
+pub fn pick_all(
+    alloc: Global,
+    world: &mut DiskWorld<MemDisk>,
+    picked: Pick,
+    times: u32,
+    text: &mut Vec<u8>,
+) -> Result<(), NoMemory>
+    requires { IsWorld (whole_of world.old.world) }
+    ensures { OnOk result (IsWorld (whole_of world.new.world)) }
 {
-    match world.schedule(alloc, &[pick]) {
-        Ok(()) => Ok(Picked::Done),
-        Err(ScheduleFault::Empty { at: _ }) => Ok(Picked::Empty),
-        Err(ScheduleFault::Gone { at: _ }) => Ok(Picked::Gone),
-        Err(ScheduleFault::NoMemory) => Err(Fault::NoMemory),
+    for _ in 0..times {
+        if let Some(why) = pick(alloc, world, picked)? {
+            text.extend_from_slice(why.as_bytes())?;
+            return Ok(());
+        }
+    }
+    Ok(())
+}
+
+// Makes a pick, and says why it can't be made.
+fn pick(
+    alloc: Global,
+    world: &mut DiskWorld<MemDisk>,
+    pick: Pick,
+) -> Result<Option<&'static str>, NoMemory>
+    requires { IsWorld (whole_of world.old.world) }
+    ensures { OnOk result (IsWorld (whole_of world.new.world)) }
+{
+    match world.pick(alloc, pick) {
+        Ok(()) => Ok(None),
+        Err(ScheduleFault::NoMemory) => Err(NoMemory),
+        Err(ScheduleFault::Empty { .. }) => Ok(Some("empty\n")),
+        Err(ScheduleFault::Gone { .. }) => Ok(Some("gone\n")),
     }
 }
 
-/// Takes the first signal of the first link that has one, of so many hosts. Says whether there was
-/// one.
+/// Takes so many signals in the order of driving, or as many as there are.
 ///
 /// # Errors
 /// `NoMemory`.
-pub fn take_first(alloc: Global, world: &mut World, hosts: u32) -> Result<bool, Fault>
-    requires { IsWorld (whole_of world.old) }
-    ensures { OnOk result (IsWorld (whole_of world.new)) }
+pub fn take_some(
+    alloc: Global,
+    world: &mut DiskWorld<MemDisk>,
+    signals: u32,
+) -> Result<(), NoMemory>
+    requires { IsWorld (whole_of world.old.world) }
+    ensures { OnOk result (IsWorld (whole_of world.new.world)) }
 {
-    for host in 0..hosts {
-        if take_at(alloc, world, hosts, HostId(host))? {
-            return Ok(true);
+    for _ in 0..signals {
+        if !take_first(alloc, world)? {
+            return Ok(());
         }
     }
-    Ok(false)
+    Ok(())
 }
 
-// The same, of the links to this host.
-fn take_at(alloc: Global, world: &mut World, hosts: u32, host: HostId) -> Result<bool, Fault>
-    requires { IsWorld (whole_of world.old) }
-    ensures { OnOk result (IsWorld (whole_of world.new)) }
+// Takes the signal that driving takes next. Says whether there was one.
+fn take_first(alloc: Global, world: &mut DiskWorld<MemDisk>) -> Result<bool, NoMemory>
+    requires { IsWorld (whole_of world.old.world) }
+    ensures { OnOk result (IsWorld (whole_of world.new.world)) }
 {
-    for from in 0..hosts {
-        let from = HostId(from);
-        if pick(alloc, world, Pick::Take { host, from })? == Picked::Done {
-            return Ok(true);
-        }
-    }
-    Ok(false)
+    world.step(alloc)
 }
 
 /// Adds the lines of all replies to a text.
 ///
 /// # Errors
 /// `NoMemory`.
-pub fn tell_replies(alloc: Global, world: &mut World, text: &mut Vec<u8>) -> Result<(), NoMemory>
-    requires { IsWorld (whole_of world.old) }
-    ensures { OnOk result (IsWorld (whole_of world.new)) }
+pub fn tell_replies(
+    alloc: Global,
+    world: &mut DiskWorld<MemDisk>,
+    text: &mut Vec<u8>,
+) -> Result<(), NoMemory>
+    requires { IsWorld (whole_of world.old.world) }
+    ensures { OnOk result (IsWorld (whole_of world.new.world)) }
 {
     for _ in 0..u64::MAX {
         match next_reply(world) {
@@ -164,9 +189,9 @@ pub fn tell_replies(alloc: Global, world: &mut World, text: &mut Vec<u8>) -> Res
 }
 
 // The next reply, in order.
-fn next_reply(world: &mut World) -> Option<ApiReply>
-    requires { IsWorld (whole_of world.old) }
-    ensures { IsWorld (whole_of world.new) }
+fn next_reply(world: &mut DiskWorld<MemDisk>) -> Option<ApiReply>
+    requires { IsWorld (whole_of world.old.world) }
+    ensures { IsWorld (whole_of world.new.world) }
 {
     // Names the type of the answers, which the check of this function wants to have seen.
     let _unused: Option<(Answer, UAnswer)> = None;

@@ -1,8 +1,7 @@
-//! Why a text has no runs, or a run no end.
-use sig_core::NoMemory;
-use std::alloc::{AllocError, AllocFailed};
+//! Why a text has no runs.
+use std::alloc::AllocError;
 
-/// Why a text has no runs, or a run no end.
+/// Why a text has no runs.
 #[derive(Clone, Copy, Debug, PartialEq, Eq)]
 pub enum Fault {
     /// The line of this number, from 1, is none of a run, or none that may stand there.
@@ -10,23 +9,8 @@ pub enum Fault {
     NoMemory,
 }
 
-impl From<NoMemory> for Fault {
-    fn from(_: NoMemory) -> Fault {
-        Fault::NoMemory
-    }
-}
-
 impl From<AllocError> for Fault {
     fn from(_: AllocError) -> Fault {
-        Fault::NoMemory
-    }
-}
-
-impl<T> From<AllocFailed<T>> for Fault
-where
-    T: Drop,
-{
-    fn from(_: AllocFailed<T>) -> Fault {
         Fault::NoMemory
     }
 }

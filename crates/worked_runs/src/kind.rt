@@ -3,8 +3,8 @@ use sig_core::{
     Body, ChainSignal, ClientSignal, EpochSignal, HostSignal, MembershipSignal, TakeoverSignal,
 };
 
-/// The name of what a signal says. Families that no host of a run has, as checkpoints of rows, files and
-/// joining, have one name each.
+/// The name of what a signal says. Those of checkpoints of rows have one name together, and so has each family that no
+/// host of a run has, as files and joining.
 pub fn kind_of(body: &Body) -> &'static str {
     match body {
         Body::Host(signal) => host_kind(signal),

@@ -1,9 +1,8 @@
 //! What a line of a run says.
-use crate::begin::{Epochs, epoch_of};
+use crate::words::{byte, cut_word, end, host, large, node, number, number_behind};
 use frag_map::is_shape;
 use script_lang::{Command, parse_line};
-use sig_core::{HostId, Key, Shape, Value};
-use std::str::SplitWhitespace;
+use sig_core::{HostId, Shape};
 use world_views::Pick;
 
 /// How many signals are taken.
@@ -16,21 +15,29 @@ pub enum Signals {
     Number(u32),
 }
 
+/// A byte of the disk of a node.
+#[derive(Clone, Copy)]
+pub struct DiskByte {
+    pub node: u8,
+    pub file: u8,
+    pub at: u64,
+}
+
 /// What a line of a run says.
 #[derive(Clone, Copy)]
 pub enum Line<'a> {
     /// It is empty, or a comment.
     Nothing,
-    /// A run of this title begins, of a fresh cluster.
+    /// A run of this title begins, on disks that were never written.
     Run(&'a str),
     /// The shape of its cluster.
     Shape(Shape),
-    /// The epochs with which its life begins.
-    Epochs(Epochs),
-    /// Its life begins with this row.
-    Row((Key, Value)),
     /// It is made at so many points.
     Points(u32),
+    /// The call of this number of a node's disk fails.
+    Fail { node: u8, call: u64 },
+    /// The next pick of a node's disk.
+    Lay { node: u8, pick: u8 },
     /// The shell is asked for this.
     Ask(Command),
     /// The same, and signals are taken to quiet.
@@ -38,18 +45,20 @@ pub enum Line<'a> {
     /// A pick is made, so many times.
     Pick { pick: Pick, times: u32 },
     Drive(Signals),
+    /// Power is cut.
+    Crash,
+    /// The next life begins.
+    Restart,
+    /// A byte of a node's disk is changed, while no life is under way.
+    Flip(DiskByte),
+    /// It is told how many calls of a node's disk were made.
+    Calls(u8),
+    /// It is told which life it is, and what it began with.
+    Life,
     /// The steps of a host are told.
     Log(HostId),
     /// It is told how many signals of a kind were taken.
     Count(&'a str),
-}
-
-// The first word of a line, and what stands behind it.
-fn cut_word(line: &str) -> (&str, &str) {
-    match line.split_once(' ') {
-        Some((first, rest)) => (first, rest),
-        None => (line, ""),
-    }
 }
 
 /// What a line says in a cluster of so many nodes, if it is a line of a run.
@@ -60,55 +69,40 @@ pub fn parse<'a>(line: &'a str, nodes: u8) -> Option<Line<'a>> {
         "#" => Some(Line::Nothing),
         "run" => Some(Line::Run(rest)),
         "shape" => shape(rest),
-        "epoch" => epochs(rest),
-        "row" => row(rest),
         "points" => points(rest),
+        "fail" => fail(rest, nodes),
+        "lay" => lay(rest, nodes),
         "ask" => Some(Line::Ask(command(rest, nodes)?)),
         "do" => Some(Line::Serve(command(rest, nodes)?)),
         "take" => take(rest),
         "stop" => stop(rest),
         "cut" => cut(rest, nodes),
         "drive" => drive(rest),
+        "crash" if rest.is_empty() => Some(Line::Crash),
+        "restart" if rest.is_empty() => Some(Line::Restart),
+        "flip" => flip(rest, nodes),
+        "calls" => calls(rest, nodes),
+        "life" if rest.is_empty() => Some(Line::Life),
         "log" => log(rest),
         "count" => Some(Line::Count(rest)),
         _ => None,
     }
 }
 
+// Something that a cluster is asked for. That it crashes and restarts has lines of its own.
 fn command(rest: &str, nodes: u8) -> Option<Command> {
     match parse_line(rest.as_bytes(), false, nodes) {
-        Ok(Some(command)) => Some(command),
-        _ => None,
-    }
-}
-
-// The next word, as a number.
-fn number(words: &mut SplitWhitespace<'_>) -> Option<u32> {
-    words.next()?.parse::<u32>().ok()
-}
-
-// The number behind this word, or the default where nothing more stands there.
-fn number_behind(words: &mut SplitWhitespace<'_>, word: &str, default: u32) -> Option<u32> {
-    match words.next() {
-        None => Some(default),
-        Some(next) if next == word => number(words),
-        Some(_) => None,
-    }
-}
-
-// That no more words stand there.
-fn end(words: &mut SplitWhitespace<'_>) -> Option<()> {
-    match words.next() {
-        None => Some(()),
-        Some(_) => None,
+        Ok(Some(Command::Crash | Command::Restart)) => None,
+        Ok(command) => command,
+        Err(_) => None,
     }
 }
 
 fn shape<'a>(rest: &'a str) -> Option<Line<'a>> {
     let mut words = rest.split_whitespace();
-    let nodes = u8::try_from(number(&mut words)?).ok()?;
-    let replicas = u8::try_from(number(&mut words)?).ok()?;
-    let fragments = u8::try_from(number(&mut words)?).ok()?;
+    let nodes = byte(&mut words)?;
+    let replicas = byte(&mut words)?;
+    let fragments = byte(&mut words)?;
     let shape = Shape {
         nodes,
         replicas,
@@ -121,23 +115,6 @@ fn shape<'a>(rest: &'a str) -> Option<Line<'a>> {
     Some(Line::Shape(shape))
 }
 
-fn epochs<'a>(rest: &'a str) -> Option<Line<'a>> {
-    let (first, start) = rest.split_once(" from ")?;
-    let first = epoch_of(first)?;
-    let start = epoch_of(start)?;
-    if start >= first {
-        return None;
-    }
-    Some(Line::Epochs(Epochs { first, start }))
-}
-
-fn row<'a>(rest: &'a str) -> Option<Line<'a>> {
-    let (key, value) = rest.split_once(' ')?;
-    let key = Key::new(key.as_bytes()).ok()?;
-    let value = Value::new(value.as_bytes()).ok()?;
-    Some(Line::Row((key, value)))
-}
-
 fn points<'a>(rest: &'a str) -> Option<Line<'a>> {
     let mut words = rest.split_whitespace();
     let points = number(&mut words)?;
@@ -145,37 +122,50 @@ fn points<'a>(rest: &'a str) -> Option<Line<'a>> {
     Some(Line::Points(points))
 }
 
+fn fail<'a>(rest: &'a str, nodes: u8) -> Option<Line<'a>> {
+    let mut words = rest.split_whitespace();
+    let node = node(&mut words, nodes)?;
+    let call = large(&mut words)?;
+    end(&mut words)?;
+    Some(Line::Fail { node, call })
+}
+
+fn lay<'a>(rest: &'a str, nodes: u8) -> Option<Line<'a>> {
+    let mut words = rest.split_whitespace();
+    let node = node(&mut words, nodes)?;
+    let pick = byte(&mut words)?;
+    end(&mut words)?;
+    Some(Line::Lay { node, pick })
+}
+
 fn take<'a>(rest: &'a str) -> Option<Line<'a>> {
     let mut words = rest.split_whitespace();
-    let host = HostId(number(&mut words)?);
-    let from = HostId(number(&mut words)?);
+    let host_taking = host(&mut words)?;
+    let from = host(&mut words)?;
     let times = number_behind(&mut words, "times", 1)?;
-    let pick = Pick::Take { host, from };
     end(&mut words)?;
+    let pick = Pick::Take {
+        host: host_taking,
+        from,
+    };
     Some(Line::Pick { pick, times })
 }
 
 fn stop<'a>(rest: &'a str) -> Option<Line<'a>> {
     let mut words = rest.split_whitespace();
-    let host = HostId(number(&mut words)?);
+    let host = host(&mut words)?;
     let lost = number_behind(&mut words, "lose", 0)?;
-    let pick = Pick::Stop { host, lost };
     end(&mut words)?;
+    let pick = Pick::Stop { host, lost };
     Some(Line::Pick { pick, times: 1 })
 }
 
 fn cut<'a>(rest: &'a str, nodes: u8) -> Option<Line<'a>> {
     let mut words = rest.split_whitespace();
-    let host = HostId(number(&mut words)?);
-    let node = number(&mut words)?;
-    if node == 0 || node > u32::from(nodes) {
-        return None;
-    }
-    let pick = Pick::Cut {
-        host,
-        node: node as u8,
-    };
+    let host = host(&mut words)?;
+    let node = node(&mut words, nodes)?;
     end(&mut words)?;
+    let pick = Pick::Cut { host, node };
     Some(Line::Pick { pick, times: 1 })
 }
 
@@ -192,9 +182,25 @@ fn drive<'a>(rest: &'a str) -> Option<Line<'a>> {
     }
 }
 
+fn flip<'a>(rest: &'a str, nodes: u8) -> Option<Line<'a>> {
+    let mut words = rest.split_whitespace();
+    let node = node(&mut words, nodes)?;
+    let file = byte(&mut words)?;
+    let at = large(&mut words)?;
+    end(&mut words)?;
+    Some(Line::Flip(DiskByte { node, file, at }))
+}
+
+fn calls<'a>(rest: &'a str, nodes: u8) -> Option<Line<'a>> {
+    let mut words = rest.split_whitespace();
+    let node = node(&mut words, nodes)?;
+    end(&mut words)?;
+    Some(Line::Calls(node))
+}
+
 fn log<'a>(rest: &'a str) -> Option<Line<'a>> {
     let mut words = rest.split_whitespace();
-    let host = HostId(number(&mut words)?);
+    let host = host(&mut words)?;
     end(&mut words)?;
     Some(Line::Log(host))
 }

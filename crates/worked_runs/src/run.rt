@@ -1,8 +1,19 @@
-//! The runs of a text.
-use crate::begin::SHAPE;
+//! The runs of a text, and the lives of a run.
+ghost use Rattle.std.specs.Prelude.{◌<◌, IfSome, length};
+ghost use Rattle.frag_map.specs.Shape.{IsShape};
+
 use crate::fault::Fault;
 use crate::line::{Line, parse};
+use frag_map::is_shape;
+use sig_core::Shape;
 use std::alloc::Global;
+
+/// The shape of a run that doesn't tell one.
+pub const SHAPE: Shape = Shape {
+    nodes: 2,
+    replicas: 2,
+    fragments: 4,
+};
 
 /// The lines of a text that say something.
 ///
@@ -16,7 +27,7 @@ pub fn lines_of<'a>(alloc: Global, text: &'a str) -> Result<Vec<Line<'a>>, Fault
         at = at.saturating_add(1);
         match parse(line, nodes) {
             Some(Line::Nothing) => {}
-            Some(line) if may_stand(lines.last(), &line) => {
+            Some(line) if may_stand(lines.last(), &line, nodes) => {
                 nodes = nodes_after(nodes, &line);
                 lines.extend_from_slice(&[line])?;
             }
@@ -26,14 +37,16 @@ pub fn lines_of<'a>(alloc: Global, text: &'a str) -> Result<Vec<Line<'a>>, Fault
     Ok(lines)
 }
 
-// Whether a line may stand behind this one: a title anywhere, a shape right behind a title, epochs and
-// rows where a life begins, and all else in a run.
-fn may_stand(before: Option<&Line>, line: &Line) -> bool {
+// Whether a line may stand behind this one, in a run of so many nodes: a title anywhere, a shape right behind a
+// title, or behind a restart if it has the same nodes, what disks do where a run begins, and all else in a run.
+fn may_stand(before: Option<&Line>, line: &Line, nodes: u8) -> bool {
     match (before, line) {
         (_, Line::Run(_)) => true,
         (Some(Line::Run(_)), Line::Shape(_)) => true,
+        (Some(Line::Restart), Line::Shape(shape)) => shape.nodes == nodes,
         (_, Line::Shape(_)) => false,
-        (Some(before), Line::Epochs(_) | Line::Row(_)) => is_beginning(before),
+        (Some(before), Line::Fail { .. } | Line::Lay { .. }) => is_beginning(before),
+        (Some(before), Line::Flip(_)) => is_down(before),
         (before, _) => before.is_some(),
     }
 }
@@ -42,8 +55,13 @@ fn may_stand(before: Option<&Line>, line: &Line) -> bool {
 fn is_beginning(line: &Line) -> bool {
     matches!(
         line,
-        Line::Run(_) | Line::Shape(_) | Line::Epochs(_) | Line::Row(_)
+        Line::Run(_) | Line::Shape(_) | Line::Fail { .. } | Line::Lay { .. }
     )
+}
+
+// Whether the cluster is surely down behind a line.
+fn is_down(line: &Line) -> bool {
+    matches!(line, Line::Crash | Line::Flip(_))
 }
 
 // How many nodes there are in the lines behind one.
@@ -72,4 +90,66 @@ pub fn points_of(lines: &[Line]) -> Option<u32> {
         }
     }
     points
+}
+
+/// The lines of the life that these begin with, up to the restart behind it.
+pub fn life_of<'a, 'b>(lines: &'b [Line<'a>]) -> &'b [Line<'a>] {
+    match lines.iter().position(|line| matches!(line, Line::Restart)) {
+        Some(end) => &lines[..end],
+        None => lines,
+    }
+}
+
+/// The lines behind the first so many and the restart that follows them.
+pub fn behind<'a, 'b>(lines: &'b [Line<'a>], count: usize) -> &'b [Line<'a>] {
+    let from = count.saturating_add(1);
+    if from < lines.len() {
+        &lines[from..]
+    } else {
+        &[]
+    }
+}
+
+/// How many lives there are in these lines.
+pub fn lives_in(lines: &[Line]) -> u32 {
+    let mut lives = 1u32;
+    for line in lines {
+        if matches!(line, Line::Restart) {
+            lives = lives.saturating_add(1);
+        }
+    }
+    lives
+}
+
+/// The lines of a life in front of the first loss of power.
+pub fn lines_up<'a, 'b>(lines: &'b [Line<'a>]) -> &'b [Line<'a>] {
+    match crash_in(lines) {
+        Some(end) => &lines[..end],
+        None => lines,
+    }
+}
+
+/// The lines of a life from the first loss of power on.
+pub fn lines_down<'a, 'b>(lines: &'b [Line<'a>]) -> &'b [Line<'a>] {
+    match crash_in(lines) {
+        Some(end) => &lines[end..],
+        None => &[],
+    }
+}
+
+fn crash_in(lines: &[Line]) -> Option<usize>
+    ensures { IfSome result (λ end. end < length lines.now) }
+{
+    lines.iter().position(|line| matches!(line, Line::Crash))
+}
+
+/// The shape that lines tell in front of all others, or else this one.
+pub fn shape_of(lines: &[Line], before: Shape) -> Shape
+    requires { IsShape before }
+    ensures { IsShape result }
+{
+    match lines.first() {
+        Some(Line::Shape(shape)) if is_shape(shape) => *shape,
+        _ => before,
+    }
 }

@@ -1,4 +1,4 @@
-//! What is told of the logs of a run.
+//! What is told of the logs of a life.
 use crate::kind::kind_of;
 use crate::line::Line;
 use script_lang::print_reply;

@@ -6,7 +6,7 @@ use Rattle.std.specs.Prelude.{Some}
 use Rattle.std.specs.List.{position_or_len}
 use Rattle.std.proofs.lemmas.Bool.{cases_lt, eq-eqb, eqb-true, false≢true}
 use Rattle.std.proofs.lemmas.Bool.Decides.{nat_tests}
-use Rattle.std.proofs.lemmas.List.{append-nil, get_or_append_left, get_or_push, length_push}
+use Rattle.std.proofs.lemmas.List.{append-nil, get_or_append_left, get_or_push, length-append, length_push}
 use Rattle.std.proofs.lemmas.List.Elements.{filter-append}
 use Rattle.std.proofs.lemmas.List.Sums.{position_or_len_is}
 use Rattle.std.proofs.lemmas.Nat.{div-mul-add, mod-mul-add}
@@ -34,11 +34,12 @@ use Rattle.node_core.proofs.HostCases.{api_stays, rows_stay, tc_stays}
 use Rattle.node_core.specs.Blocks.{has_api, has_lqh, has_tc}
 use Rattle.node_core.specs.Fresh.{fresh_part, fresh_shell}
 use Rattle.node_core.specs.Requests.{is_request}
-use Rattle.world_core.specs.Hosts.{first_membership, host_at, host_by, host_for, hosts, member_of, number_of, part_by}
+use Rattle.world_core.specs.Hosts.{first_hosts, first_membership, host_at, host_by, host_for, hosts, member_of}
+use Rattle.world_core.specs.Hosts.{number_of, part_by}
 use Rattle.world_core.specs.Hosts.{receiver, rows_host, started, tc_host}
 use Rattle.world_core.specs.Machine.{after, all_addressed, asked_rightly, counted, machine, sent_count, signals_of}
 use Rattle.world_core.specs.Machine.{step_after}
-use Rattle.world_core.specs.Start.{Start, made}
+use Rattle.world_core.specs.Start.{Start, late_members, made}
 use Rattle.world_core.specs.Steps.{Addressed, HostStep}
 
 -- the nodes that begin a life, in their order
@@ -59,6 +60,18 @@ members_at (suc n) k d low = go (members_at n k d) (cases_lt k n)
         get_or_push (members n) (first_start (n + 1)) d k (omega (arith, at, members_length n))
         ∙ ap (λ i. first_start (i + 1)) at
 
+-- they are the first of those that are made
+pub made_at : (start : Start) (k : ℕ) (d : Member) → k < start.shape.nodes
+    → slice_index_or (made start) k d ≡ first_start (k + 1)
+made_at start k d low =
+    get_or_append_left (members start.shape.nodes) (late_members start) d k
+    (omega (arith, low, members_length start.shape.nodes))
+    ∙ members_at start.shape.nodes k d low
+
+pub hosts_low : (start : Start) → first_hosts start ≤ hosts start
+hosts_low start =
+    omega (arith, length-append (members start.shape.nodes) (late_members start), members_length start.shape.nodes)
+
 -- the place of a node among them
 apart_members : (node k : ℕ) → node ≢ k + 1 → is_member (first_start node) (first_start (k + 1)) ≡ false
 apart_members node k apart = go (node == k + 1) refl
@@ -67,26 +80,29 @@ apart_members node k apart = go (node == k + 1) refl
     go true e = absurd (apart (eqb-true node (k + 1) e))
     go false e = refl
 
-place_of : (n node : ℕ) → 1 ≤ node → node ≤ n → position (is_member (first_start node)) (members n) ≡ Some (node - 1)
-place_of n node some low = ap (λ i. if nat_lt i (length (members n)) then Some i else None) at
-    ∙ go (nat_lt (node - 1) (length (members n))) refl
+place_of : (start : Start) (node : ℕ) → 1 ≤ node → node ≤ start.shape.nodes
+    → position (is_member (first_start node)) (made start) ≡ Some (node - 1)
+place_of start node some low = ap (λ i. if nat_lt i (length (made start)) then Some i else None) at
+    ∙ go (nat_lt (node - 1) (length (made start))) refl
   where
-    at : position_or_len (is_member (first_start node)) (members n) ≡ node - 1
+    few : node - 1 < length (made start)
+    few = omega (arith, hosts_low start, some, low)
+
+    at : position_or_len (is_member (first_start node)) (made start) ≡ node - 1
     at =
-        position_or_len_is (is_member (first_start node)) (members n) (node - 1) nobody
-        (omega (arith, low, members_length n))
-        (λ k below. ap (is_member (first_start node)) (members_at n k nobody (omega (arith, below, low)))
+        position_or_len_is (is_member (first_start node)) (made start) (node - 1) nobody (omega (arith, few))
+        (λ k below. ap (is_member (first_start node)) (made_at start k nobody (omega (arith, below, low)))
         ∙ apart_members node k (λ same. absurd (omega (arith, same, below))))
         (λ there.
         let own : node - 1 + 1 ≡ node = omega (arith, some) in
         ap (is_member (first_start node))
-        (members_at n (node - 1) nobody (omega (arith, some, low)) ∙ ap first_start own)
+        (made_at start (node - 1) nobody (omega (arith, some, low)) ∙ ap first_start own)
         ∙ ap (λ b. b && true) (eq-eqb node node refl))
 
-    go : (b : Bool) → nat_lt (node - 1) (length (members n)) ≡ b
+    go : (b : Bool) → nat_lt (node - 1) (length (made start)) ≡ b
         → (if b then Some (node - 1) else None) ≡ Some (node - 1)
     go true e = refl
-    go false e = absurd (grind (arith, nat_tests, e, some, low, members_length n))
+    go false e = absurd (grind (arith, nat_tests, e, few))
 
 -- the member of a node in the view in which all begin
 abbrev is_node : ℕ → Member → Bool
@@ -165,18 +181,20 @@ module _ (start : Start) where
   node_host to some low =
       by_member to some
       ∙ ap (host_by (made start) (part_of to.block)) (the_member start.shape.nodes to.node some low)
-      ∙ ap (host_at (length (made start) * 3 + 1) (part_of to.block)) (place_of start.shape.nodes to.node some low)
+      ∙ ap (host_at (length (made start) * 3 + 1) (part_of to.block)) (place_of start to.node some low)
 
   pub beyond_host : (to : Place) → start.shape.nodes < to.node → host_for start to ≡ hosts start
   beyond_host to above =
       by_member to (omega (arith, above))
       ∙ ap (host_by (made start) (part_of to.block)) (no_member start.shape.nodes to.node above)
-      ∙ ap (λ n. n * 3 + 1) (members_length start.shape.nodes)
+
+  pub beyond_first : (to : Place) → start.shape.nodes < to.node → first_hosts start ≤ host_for start to
+  beyond_first to above = omega (arith, beyond_host to above, hosts_low start)
 
   pub host_some : (to : Place) → 1 ≤ to.node → to.node ≤ start.shape.nodes → 1 ≤ host_for start to
   host_some to some low = omega (arith, node_host to some low, number_some (part_of to.block))
 
-  pub host_below : (to : Place) → 1 ≤ to.node → to.node ≤ start.shape.nodes → host_for start to < hosts start
+  pub host_below : (to : Place) → 1 ≤ to.node → to.node ≤ start.shape.nodes → host_for start to < first_hosts start
   host_below to some low = omega (arith, node_host to some low, number_few (part_of to.block), some, low)
 
   -- two places of one host are places of one part of one node
@@ -220,7 +238,7 @@ module _ (start : Start) where
       (first_layout start.shape) start.epoch start.rows) (mod-mul-add (node - 1) 3 left few)
       ∙ ap (λ m. fresh_part (part_by left) m (first_layout start.shape) start.epoch start.rows)
       (ap (λ i. slice_index_or (made start) i nobody) (div-mul-add (node - 1) 3 left few)
-      ∙ members_at start.shape.nodes (node - 1) nobody (omega (arith, some, low)) ∙ ap first_start own)
+      ∙ made_at start (node - 1) nobody (omega (arith, some, low)) ∙ ap first_start own)
 
   pub main_started : (node : ℕ) → 1 ≤ node → node ≤ start.shape.nodes
       → started start (main_host node) ≡ fresh_part Main (first_start node) (first_layout start.shape) start.epoch
@@ -253,7 +271,7 @@ pub record IsNodes (start : Start) (number : ℕ → ℕ) (h : ℕ) : Type 0 whe
   pub low : node ≤ start.shape.nodes
   pub is : h ≡ number node
 
--- a host that is there is the shell's, or one of the three of a node
+-- a host that is there from the beginning is the shell's, or one of the three of a node
 pub data HostIs (start : Start) (h : ℕ) : Type 0 where
   is_shell : h ≡ 0 → HostIs start h
   is_main : IsNodes start (main_host start) h → HostIs start h
@@ -261,7 +279,7 @@ pub data HostIs (start : Start) (h : ℕ) : Type 0 where
   is_rows : IsNodes start (rows_host start) h → HostIs start h
 
 module _ (start : Start) where
-  pub host_is : (h : ℕ) → h < hosts start → HostIs start h
+  pub host_is : (h : ℕ) → h < first_hosts start → HostIs start h
   host_is zero low = is_shell refl
   host_is (suc k) low = go (k % 3) refl
     where
@@ -360,7 +378,7 @@ module _ (start : Start) where
   tc_runs node log some low = tc_after start (tc_host start node) log ∙ ap has_tc (tc_started start node some low)
       ∙ part_tc Tc (first_start node) start
 
-  pub tc_found : (h : ℕ) (log : List HostStep) → h < hosts start → has_tc (after start h log) ≡ true
+  pub tc_found : (h : ℕ) (log : List HostStep) → h < first_hosts start → has_tc (after start h log) ≡ true
       → IsNodes start (tc_host start) h
   tc_found h log low runs = go (host_is start h low)
     where
@@ -381,7 +399,7 @@ module _ (start : Start) where
   rows_run node log some low = rows_after start (rows_host start node) log
       ∙ ap has_lqh (rows_started start node some low) ∙ part_rows Ldm (first_start node) start
 
-  pub rows_found : (h : ℕ) (log : List HostStep) → h < hosts start → has_lqh (after start h log) ≡ true
+  pub rows_found : (h : ℕ) (log : List HostStep) → h < first_hosts start → has_lqh (after start h log) ≡ true
       → IsNodes start (rows_host start) h
   rows_found h log low runs = go (host_is start h low)
     where

@@ -27,9 +27,13 @@ pub record Membership : Type 0 where
 abbrev pub first_membership : Start → Membership
 first_membership start = record { made = made start; view = first_view start.shape.nodes }
 
--- how many hosts there are
+-- how many hosts a life has: three of each member, and the shell's
 abbrev pub hosts : Start → ℕ
-hosts start = start.shape.nodes * 3 + 1
+hosts start = length (made start) * 3 + 1
+
+-- how many of them there are as it begins; where nothing can fail there are no others
+abbrev pub first_hosts : Start → ℕ
+first_hosts start = start.shape.nodes * 3 + 1
 
 -- the place of a part among the hosts of its member, from 1
 abbrev pub number_of : Part → ℕ

@@ -3,6 +3,7 @@ pub mod Entries
 pub mod History
 pub mod Hosts
 pub mod Labels
+pub mod Late
 pub mod Lives
 pub mod Machine
 pub mod Marks

@@ -8,7 +8,7 @@ use Rattle.sig_core.specs.declared.signal.Body.{Body}
 use Rattle.sig_core.specs.declared.signal.Body.TheVariants.{Host}
 use Rattle.sig_core.specs.declared.signal.host.HostSignal.TheVariants.{Continue}
 use Rattle.sig_core.specs.declared.signal.host.Work.TheVariants.{Request}
-use Rattle.world_core.specs.Hosts.{hosts}
+use Rattle.world_core.specs.Hosts.{first_hosts}
 use Rattle.world_core.specs.Machine.{machine}
 use Rattle.world_core.specs.Quiet.{IsQuiet}
 use Rattle.world_core.specs.Start.{Start}
@@ -30,7 +30,7 @@ pub record QuietBefore (start : Start) (logs : ℕ → List HostStep) (before : 
   pub cut : IsCut inside logs
   pub at : inside 0 ≡ before
   pub right : AreLogs (machine start) inside
-  pub quiet : IsQuiet (machine start) (hosts start) inside
+  pub quiet : IsQuiet (machine start) (first_hosts start) inside
 
 -- the cut before each request is quiet
 abbrev pub AreAskedAtQuiet : Start → (ℕ → List HostStep) → Type 0

@@ -1,6 +1,6 @@
 -- What stopping does to the links of the host that stops.
 use Rattle.std.proofs.Common.{◌≡◌, inl, ℕ, ◌+◌, ◌-◌, ◌*◌, ◌<◌, List, [], ◌∷◌, ◌++◌, length, take, drop, Bool, true}
-use Rattle.std.proofs.Common.{false, refl, ap, sym, ◌∙◌, subst, arith}
+use Rattle.std.proofs.Common.{false, refl, ap, sym, ◌∙◌, subst}
 use Rattle.std.specs.Prelude.{if◌then◌else◌, ◌==◌, ◌||◌}
 use Rattle.std.specs.List.{list_any}
 use Rattle.std.proofs.lemmas.Bool.{eq-eqb, eqb-true, true≢false}
@@ -17,7 +17,6 @@ use Rattle.sig_core.specs.Step.{Effects, Step}
 use Rattle.api_views.specs.Members.{greater_view}
 use Rattle.node_views.specs.declared.host_body.HostBody.{HostBody}
 use Rattle.node_views.specs.Row.{is_cut, is_one_of}
-use Rattle.world_core.proofs.HostNumbers.{members_length}
 use Rattle.world_core.specs.Hosts.{hosts}
 use Rattle.world_core.specs.Start.{Start, made}
 use Rattle.world_core.specs.Steps.{Addressed, HostStep}
@@ -143,7 +142,7 @@ module _ (start : Start) (given : List ApiReply) (w : Whole) (lost : ℕ) (x : A
       → link closed_links x.to j ≡ ended_if (stays j) (last_to j) (without lost (link w.links x.to j))
   ended j low =
       close_own (hosts start) (length (made start) * 3 + 1) shorter x.to stays last_to j shorter_are ready.there low
-      (omega (arith, low, members_length start.shape.nodes))
+      low
       ∙ ap (ended_if (stays j) (last_to j))
       (lose_own (hosts start) w.links x.to lost j ready.sizes.links ready.there low)
 

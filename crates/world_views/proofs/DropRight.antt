@@ -61,6 +61,7 @@ module _ (start : Start) (given : List ApiReply) (w : Whole) (new : Links) (i j 
       record {
         shape = right.shape;
         made = right.made;
+        nobody = right.nobody;
         sizes = record {
           bodies = right.sizes.bodies;
           stopped = right.sizes.stopped;

@@ -18,7 +18,6 @@ use Rattle.world_core.specs.Hosts.{hosts}
 use Rattle.world_core.specs.Start.{Start}
 use Rattle.world_core.specs.Steps.{Addressed, HostStep}
 use Rattle.world_core.specs.World.{logs_at}
-use Rattle.world_core.proofs.HostNumbers.{members_length}
 use Rattle.world_views.specs.Driven.{IsDriven}
 use Rattle.world_views.specs.Links.{AreLinks, LinkState, Links, close_below, closed_by, link, lose, without}
 use Rattle.world_views.specs.Machine.{IsOwnCause, has_stopped}
@@ -163,7 +162,7 @@ module _ (start : Start) (given : List ApiReply) (w : Whole) (right : IsRight st
         }
       where
         all : length w.made * 3 + 1 ≡ hosts start
-        all = ap (λ ms. length ms * 3 + 1) right.made ∙ ap (λ n. n * 3 + 1) (members_length start.shape.nodes)
+        all = ap (λ ms. length ms * 3 + 1) right.made
 
         shortened : IsShortened (hosts start)
             (halted (with_body w h left) h (body_at w.bodies h).standing.view cause 0).links

@@ -39,6 +39,7 @@ module _ (start : Start) where
         epoch = start.epoch;
         start_epoch = start.start_epoch;
         rows = start.rows;
+        late = start.late;
       }) part member
       → body ≡ started start (k + 1)
   part_begins k there layout part member body are first part_is member_is is =
@@ -49,6 +50,7 @@ module _ (start : Start) where
         epoch = start.epoch;
         start_epoch = start.start_epoch;
         rows = start.rows;
+        late = start.late;
       }) part member) first
       ∙ ap (λ p. part_started start p member) part_is
       ∙ ap (part_started start (part_by (k % 3)))

@@ -15,10 +15,9 @@ use Rattle.sig_core.specs.declared.member.Member.{Member}
 use Rattle.sig_core.specs.declared.reply.ApiReply.{ApiReply}
 use Rattle.world_core.specs.Hosts.{hosts}
 use Rattle.world_core.specs.Right.{IsLabelled}
-use Rattle.world_core.specs.Start.{Start, made}
+use Rattle.world_core.specs.Start.{NobodyStarts, Start, made}
 use Rattle.world_core.specs.Steps.{HostStep}
 use Rattle.world_core.specs.World.{for_each, logs_at, no_steps, of_host}
-use Rattle.world_core.proofs.HostNumbers.{members_length}
 use Rattle.world_core.proofs.FreshWorld.{each_at, each_length}
 use Rattle.world_core.specs.Machine.{last_stamp}
 use Rattle.world_views.specs.Driven.{IsSound}
@@ -77,11 +76,12 @@ module _ (start : Start) where
       (subst (λ log. IsLinked start i j log (logs_at (new_world start).logs j) new_link) (sym (no_log i))
       (subst (λ log. IsLinked start i j [] log new_link) (sym (no_log j)) (new_linked i j)))
 
-  pub fresh_right : IsRight start [] (new_world start)
-  fresh_right =
+  pub fresh_right : NobodyStarts start → IsRight start [] (new_world start)
+  fresh_right nobody =
       record {
         shape = refl;
         made = refl;
+        nobody = nobody;
         sizes = record {
           bodies = each_length (hosts start) (started start);
           stopped = length-replicate (hosts start) false;
@@ -110,8 +110,8 @@ module _ (start : Start) where
         replies = ap (replies_in start 0) (no_log 0);
       }
 
-  pub fresh_sound : IsSound start (new_world start)
-  fresh_sound = record { given = []; right = fresh_right }
+  pub fresh_sound : NobodyStarts start → IsSound start (new_world start)
+  fresh_sound nobody = record { given = []; right = fresh_right nobody }
 
   -- nothing was asked
   pub fresh_asked : AreAskedAtQuiet start (logs_at (new_world start).logs)
@@ -154,8 +154,7 @@ pub begins : (start : Start) (made_now : List Member) (n : ℕ) (bodies : List H
     } ≡ new_world start
 begins start made_now n bodies stopped links stamps logs replies are count bodies_are stopped_are links_are stamps_are
     logs_are none =
-    let all : n ≡ hosts start =
-    count ∙ ap (λ ms. length ms * 3 + 1) are ∙ ap (λ k. k * 3 + 1) (members_length start.shape.nodes) in
+    let all : n ≡ hosts start = count ∙ ap (λ ms. length ms * 3 + 1) are in
     ap₂ (λ ms bs. record {
       shape = start.shape;
       made = ms;

@@ -212,6 +212,7 @@ module _ (start : Start) (given : List ApiReply) (w : Whole) (lost : ℕ) (x : A
       record {
         shape = ready.shape;
         made = ready.made;
+        nobody = ready.nobody;
         sizes = record {
           bodies = length-set w.bodies x.to (told x.to t) ∙ ready.sizes.bodies;
           stopped = length-set w.stopped x.to (stops_by t.effects.marks) ∙ ready.sizes.stopped;

@@ -131,6 +131,7 @@ module _ (start : Start) (given : List ApiReply) (w : Whole) (right : IsRight st
         record {
           shape = right.shape;
           made = right.made;
+          nobody = right.nobody;
           sizes = record {
             bodies = few;
             stopped = right.sizes.stopped;

@@ -10,7 +10,7 @@ use Rattle.sig_core.specs.Step.{Step}
 use Rattle.node_views.specs.declared.host_body.HostBody.{HostBody}
 use Rattle.world_core.specs.Hosts.{hosts}
 use Rattle.world_core.specs.Right.{IsLabelled}
-use Rattle.world_core.specs.Start.{Start, made}
+use Rattle.world_core.specs.Start.{NobodyStarts, Start, made}
 use Rattle.world_core.specs.Steps.{Addressed, HostStep}
 use Rattle.world_core.specs.World.{logs_at, no_steps, of_host}
 use Rattle.world_core.specs.Machine.{last_stamp}
@@ -49,6 +49,7 @@ pub record IsReady (start : Start) (given : List ApiReply) (w : Whole) (x : Addr
   where
     pub shape : w.shape ≡ start.shape
     pub made : w.made ≡ made start
+    pub nobody : NobodyStarts start
     pub sizes : IsOf (hosts start) w
     pub there : x.to < hosts start
     pub runs : has_stopped (logs_at w.logs x.to) ≡ false

@@ -13,7 +13,7 @@ use Rattle.node_views.specs.declared.host_body.HostBody.{HostBody}
 use Rattle.world_core.specs.Hosts.{hosts}
 use Rattle.world_core.specs.Labels.{AreLabelled}
 use Rattle.world_core.specs.Right.{arriving}
-use Rattle.world_core.specs.Start.{Start}
+use Rattle.world_core.specs.Start.{NobodyStarts, Start}
 use Rattle.world_core.specs.Steps.{Addressed, HostStep}
 use Rattle.world_core.specs.World.{logs_at, next_stamp}
 use Rattle.world_views.specs.Driven.{HasAsked, HaveGrown, IsDriven, IsSound, IsStepped, IsWorld}
@@ -214,8 +214,9 @@ is_quiet w a b false is way stepped =
     subst IsIdle (sym stayed.0) stayed.1
 
 -- a world as it begins
-pub begun_world : (w : Whole) (start : Start) → w ≡ new_world start → IsWorld w
-begun_world w start same = record { start = start; sound = subst (IsSound start) (sym same) (fresh_sound start) }
+pub begun_world : (w : Whole) (start : Start) → NobodyStarts start → w ≡ new_world start → IsWorld w
+begun_world w start nobody same =
+    record { start = start; sound = subst (IsSound start) (sym same) (fresh_sound start nobody) }
 
 -- a world that was asked for something
 pub asked_sound : (start : Start) (request : ApiReq) (w t : Whole) → HasAsked start request w t → IsSound start w
@@ -247,6 +248,7 @@ told_right start given w t reply same right =
     record {
       shape = was.shape;
       made = was.made;
+      nobody = was.nobody;
       sizes = record {
         bodies = was.sizes.bodies;
         stopped = was.sizes.stopped;

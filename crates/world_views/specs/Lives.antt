@@ -7,7 +7,7 @@ use Rattle.world_core.specs.Start.{Start}
 
 -- a fresh world is in the first epoch of the first checkpoint number, and has no rows
 abbrev pub fresh : Shape → Start
-fresh shape = record { shape = shape; epoch = MICROS; start_epoch = 0; rows = [] }
+fresh shape = record { shape = shape; epoch = MICROS; start_epoch = 0; rows = []; late = [] }
 
 -- how a life of a cluster of this shape began: in the first epoch of the checkpoint number behind that of its start
 -- epoch, with its start rows
@@ -18,4 +18,5 @@ start_of shape life =
       epoch = (life.start_epoch / MICROS + 1) * MICROS;
       start_epoch = life.start_epoch;
       rows = life.start_rows;
+      late = [];
     }

@@ -7,7 +7,7 @@ use Rattle.sig_core.specs.declared.reply.ApiReply.{ApiReply}
 use Rattle.sig_core.specs.declared.signal.Signal.{Signal}
 use Rattle.world_core.specs.Hosts.{hosts}
 use Rattle.world_core.specs.Right.{IsLabelled, arriving}
-use Rattle.world_core.specs.Start.{Start, made}
+use Rattle.world_core.specs.Start.{NobodyStarts, Start, made}
 use Rattle.world_core.specs.Steps.{Addressed, HostStep}
 use Rattle.world_core.specs.World.{logs_at, no_steps}
 use Rattle.world_core.specs.Machine.{last_stamp}
@@ -55,6 +55,7 @@ pub record IsLinked (start : Start) (i j : ℕ) (sender taker : List HostStep) (
 pub record IsRight (start : Start) (given : List ApiReply) (w : Whole) : Type 0 where
   pub shape : w.shape ≡ start.shape
   pub made : w.made ≡ made start
+  pub nobody : NobodyStarts start
   pub sizes : IsOf (hosts start) w
   pub local : (h : ℕ) → h < hosts start → IsLog (machine start) h (logs_at w.logs h)
   pub next : (h : ℕ) → HaveNextStamps (logs_at w.logs h)

@@ -1,11 +1,10 @@
 //! Hosts as they begin.
 ghost use Rattle.std.specs.Prelude.{◌≡◌, ◌<◌, ◌+◌, ◌-◌, ◌*◌, ◌%◌, ◌^◌, ◌∷◌, [], IfOk, OnOk};
-ghost use Rattle.frag_map.specs.Layout.{first_layout};
+ghost use Rattle.frag_map.specs.Layout.{first_layout, members};
 ghost use Rattle.frag_map.specs.Shape.{IsShape};
 ghost use Rattle.sig_core.specs.Rows.{no_rows};
 ghost use Rattle.node_core.specs.Fresh.{own_rows, with_rows};
 ghost use Rattle.world_core.specs.Hosts.{member_at, part_by};
-ghost use Rattle.world_core.specs.Start.{made};
 ghost use Rattle.world_core.specs.World.{for_each};
 ghost use Rattle.world_views.specs.Hosts.{part_started, started};
 
@@ -18,7 +17,7 @@ use std::alloc::Global;
 
 /// The hosts as a life of a cluster of this shape begins in this epoch, from the epoch `start`, with
 /// these rows, whose keys are distinct: the shell's, and three of each member, of which those are
-/// there.
+/// there. Nobody starts later.
 ///
 /// # Errors
 /// `NoMemory`.
@@ -31,8 +30,8 @@ pub fn fresh_bodies(
     rows: &[(Key, Value)],
 ) -> Result<Vec<HostBody>, NoMemory>
     requires shape { IsShape shape }
-    requires there { there.now ≡ made (record { shape = shape; epoch = epoch; start_epoch = start; rows = rows.now }) }
-    ensures { IfOk result (λ bodies. bodies.items ≡ for_each (shape.nodes * 3 + 1) (started (record { shape = shape; epoch = epoch; start_epoch = start; rows = rows.now }))) }
+    requires there { there.now ≡ members shape.nodes }
+    ensures { IfOk result (λ bodies. bodies.items ≡ for_each (shape.nodes * 3 + 1) (started (record { shape = shape; epoch = epoch; start_epoch = start; rows = rows.now; late = [] }))) }
 {
     let behind = u32::from(shape.nodes) * PARTS;
     let layout = Layout::first(shape);
@@ -58,7 +57,7 @@ fn part_started(
 ) -> Result<HostBody, NoMemory>
     requires shape { IsShape layout.now.shape }
     requires first { layout.now ≡ first_layout layout.now.shape }
-    ensures { IfOk result (λ host. host ≡ part_started (record { shape = layout.now.shape; epoch = epoch; start_epoch = start; rows = rows.now }) part member) }
+    ensures { IfOk result (λ host. host ≡ part_started (record { shape = layout.now.shape; epoch = epoch; start_epoch = start; rows = rows.now; late = [] }) part member) }
 {
     match part {
         Part::Main => HostBody::main(alloc, member, layout, epoch),

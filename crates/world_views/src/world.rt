@@ -69,7 +69,8 @@ impl World {
     ghost use Rattle.world_views.specs.WorldOf.{whole_of};
 
     /// A world in which nothing has happened: a cluster of this shape begins a life in this epoch, from
-    /// the epoch `start`, which is below it, with these rows, whose keys are distinct.
+    /// the epoch `start`, which is below it, with these rows, whose keys are distinct. Nobody starts later
+    /// in it.
     ///
     /// # Errors
     /// `NoMemory`.
@@ -81,7 +82,7 @@ impl World {
         rows: &[(Key, Value)],
     ) -> Result<World, NoMemory>
         requires { IsShape shape }
-        ensures { IfOk result (λ w. whole_of w ≡ new_world (record { shape = shape; epoch = epoch; start_epoch = start; rows = rows.now })) }
+        ensures { IfOk result (λ w. whole_of w ≡ new_world (record { shape = shape; epoch = epoch; start_epoch = start; rows = rows.now; late = [] })) }
     {
         let made = Made::first(alloc, shape.nodes)?;
         let hosts = made.hosts();

@@ -14,7 +14,7 @@ use Rattle.node_core.specs.Fresh.{fresh_part}
 use Rattle.node_core.specs.Requests.{is_request}
 use Rattle.node_core.specs.Row.{row}
 use Rattle.world_core.proofs.HostNumbers.{tc_found, tc_started}
-use Rattle.world_core.specs.Hosts.{hosts, started}
+use Rattle.world_core.specs.Hosts.{first_hosts, started}
 use Rattle.world_core.specs.Machine.{after, signals_of}
 use Rattle.world_core.specs.Start.{Start}
 use Rattle.world_core.specs.Steps.{Addressed, HostStep}
@@ -76,7 +76,7 @@ module _ (start : Start) where
     }
 
   -- a coordinator is of a member that began the life
-  tc_first : (h : ℕ) (log : List HostStep) → h < hosts start → has_tc (after start h log) ≡ true
+  tc_first : (h : ℕ) (log : List HostStep) → h < first_hosts start → has_tc (after start h log) ≡ true
       → IsFirst start (tc_of (after start h log))
   unfolding fresh_part
   tc_first h log low runs =

@@ -15,16 +15,16 @@ use Rattle.sig_core.specs.declared.member.Member.{Member}
 use Rattle.sig_core.specs.declared.signal.Signal.{Signal}
 use Rattle.sig_core.specs.declared.view.Shape.{Shape}
 use Rattle.sig_core.specs.Members.{nobody}
-use Rattle.world_core.proofs.HostNumbers.{members_at}
-use Rattle.world_core.specs.Hosts.{hosts, member_at}
+use Rattle.world_core.proofs.HostNumbers.{made_at}
+use Rattle.world_core.specs.Hosts.{first_hosts, member_at}
 use Rattle.world_core.specs.Start.{Start, made}
 use Rattle.calm_laws.specs.Alike.{first}
 use Rattle.calm_laws.proofs.lives.WellFormed.{sender_sound}
 
 -- a host behind the shell's is of one of them
-pub member_first : (start : Start) (h : ℕ) → suc h < hosts start
+pub member_first : (start : Start) (h : ℕ) → suc h < first_hosts start
     → member_at (made start) (suc h) ≡ first_start (h / 3 + 1)
-member_first start h low = members_at start.shape.nodes (h / 3) nobody (omega (arith, low))
+member_first start h low = made_at start (h / 3) nobody (omega (arith, low))
 
 among : (n k : ℕ) → k < n → is_among (members n) (first_start (k + 1)) ≡ true
 among zero k low = absurd (omega (arith, low))
@@ -45,7 +45,7 @@ among (suc n) k low =
         (list_any (same_member (first_start (k + 1))) (first_start (n + 1) ∷ []))
         (ap (λ b. (b && true) || false) (eq-eqb (k + 1) (n + 1) at))
 
-pub member_known : (start : Start) (h : ℕ) → suc h < hosts start
+pub member_known : (start : Start) (h : ℕ) → suc h < first_hosts start
     → is_member (first start) (member_at (made start) (suc h)) ≡ true
 unfolding is_member
 member_known start h low =
@@ -72,7 +72,7 @@ view_there of =
     (and_from true (are_nodes of (members of.nodes)) refl (all_nodes of of.nodes (omega arith))) refl
 
 -- a signal of the first view, from a host that is there
-pub first_fine : (start : Start) (h : ℕ) (x : Signal) → h < hosts start → x.view ≡ first start
+pub first_fine : (start : Start) (h : ℕ) (x : Signal) → h < first_hosts start → x.view ≡ first start
     → x.member ≡ member_at (made start) h → is_body_sound start.shape x.body ≡ true
     → is_well_formed start.shape x ≡ true
 unfolding is_well_formed

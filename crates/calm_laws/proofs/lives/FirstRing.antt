@@ -18,7 +18,7 @@ use Rattle.frag_map.specs.Shape.{IsShape}
 use Rattle.qmgr_block.specs.declared.ring.Sides.{Sides}
 use Rattle.qmgr_block.specs.Ring.{place_behind, place_in_front, sides, sides_at}
 use Rattle.qmgr_block.specs.Sets.{members_of, same_member}
-use Rattle.world_core.proofs.HostNumbers.{main_host, members_at, members_length, node_host}
+use Rattle.world_core.proofs.HostNumbers.{made_at, main_host, members_at, members_length, node_host}
 use Rattle.world_core.specs.Hosts.{member_at}
 use Rattle.world_core.specs.Start.{Start, made}
 use Rattle.calm_laws.proofs.plain_steps.Resting.{ring}
@@ -107,7 +107,7 @@ module _ (start : Start) (shape : IsShape start.shape) where
       let own : node - 1 + 1 ≡ node = omega (arith, some) in
       ap (member_at (made start)) at
       ∙ ap (λ i. slice_index_or (made start) i nobody) (div-mul-add (node - 1) 3 0 (omega arith))
-      ∙ members_at start.shape.nodes (node - 1) nobody (omega (arith, some, low)) ∙ ap first_start own
+      ∙ made_at start (node - 1) nobody (omega (arith, some, low)) ∙ ap first_start own
 
   module _ (node : ℕ) (some : 1 ≤ node) (low : node ≤ start.shape.nodes) where
     ring_at : ring start (main_host start node) ≡ sides_at (members start.shape.nodes) (Some (node - 1))

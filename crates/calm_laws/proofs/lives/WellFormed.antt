@@ -10,8 +10,8 @@ use Rattle.sig_core.specs.Members.{nobody}
 use Rattle.frag_map.specs.Layout.{first_view}
 use Rattle.node_core.specs.Requests.{is_request}
 use Rattle.node_views.specs.WellFormed.{is_body_sound, is_sender, is_view, is_well_formed}
-use Rattle.world_core.proofs.HostNumbers.{members_at}
-use Rattle.world_core.specs.Hosts.{first_membership, hosts, member_at, receiver}
+use Rattle.world_core.proofs.HostNumbers.{made_at}
+use Rattle.world_core.specs.Hosts.{first_membership, first_hosts, member_at, receiver}
 use Rattle.world_core.specs.Machine.{IsAsked, all_addressed, asked_rightly, counted, sent_count}
 use Rattle.world_core.specs.Machine.{signals_of, step_after}
 use Rattle.world_core.specs.Start.{Start, made}
@@ -36,16 +36,16 @@ module _ (start : Start) where
   AreHeaded xs = Each (λ (x : Addressed). IsHeaded x.signal) xs
 
   -- who stands at a host is one that may send
-  pub sender_sound : (h : ℕ) → h < hosts start → is_sender start.shape (member_at (made start) h) ≡ true
+  pub sender_sound : (h : ℕ) → h < first_hosts start → is_sender start.shape (member_at (made start) h) ≡ true
   sender_sound zero low = refl
   sender_sound (suc h) low =
       let few : h / 3 + 1 ≤ start.shape.nodes = omega (arith, low) in
       let own = h / 3 + 1 in
       subst (λ m. is_sender start.shape m ≡ true)
-      (sym (members_at start.shape.nodes (h / 3) nobody (omega (arith, few))))
+      (sym (made_at start (h / 3) nobody (omega (arith, few))))
       (or_left _ _ (node_sound start own (omega arith) few))
 
-  sends_headed : (h stamp : ℕ) (count : ℕ → ℕ) (sends : List Outgoing) → h < hosts start
+  sends_headed : (h stamp : ℕ) (count : ℕ → ℕ) (sends : List Outgoing) → h < first_hosts start
       → AreHeaded (all_addressed (first_membership start) h stamp count sends)
   sends_headed h stamp count [] low = tt
   sends_headed h stamp count (o ∷ more) low = (

@@ -23,7 +23,7 @@ use Rattle.sig_core.specs.declared.signal.host.HostSignal.TheVariants.{Round}
 use Rattle.sig_core.specs.declared.signal.membership.MembershipSignal.TheVariants.{Heartbeat}
 use Rattle.sig_core.specs.Place.{membership}
 use Rattle.sig_core.specs.Step.{to_place}
-use Rattle.world_core.specs.Hosts.{first_membership, host_for, hosts, part_by, receiver}
+use Rattle.world_core.specs.Hosts.{first_membership, host_for, first_hosts, part_by, receiver}
 use Rattle.world_core.specs.Machine.{all_addressed, counted}
 use Rattle.world_core.specs.Start.{Start}
 use Rattle.world_core.specs.Steps.{Addressed}
@@ -62,10 +62,10 @@ module _ (start : Start) where
   -- whoever is to take it takes it in calm
   abbrev IsTaken : Outgoing → Type 0
   IsTaken one =
-      host_for start one.to < hosts start
+      host_for start one.to < first_hosts start
       → (has_block (host_for start one.to) one.to.block && is_for one.to.block one.body) ≡ true
 
-  plain_apart : (h : ℕ) (one : Outgoing) → IsPlainSend h one → IsTaken one → host_for start one.to < hosts start
+  plain_apart : (h : ℕ) (one : Outgoing) → IsPlainSend h one → IsTaken one → host_for start one.to < first_hosts start
       → is_beating (host_for start one.to) ≡ true → ⊥
   plain_apart h one plain takes low beats =
       plain_place h one.to plain.place
@@ -74,7 +74,7 @@ module _ (start : Start) where
 
   -- what a plain host sends, which is calm
   pub plain_fine : (h stamp : ℕ) (count : ℕ → ℕ) (sends : List Outgoing)
-      → Each (λ (x : Addressed). x.to < hosts start → is_calm x.to x.signal ≡ true)
+      → Each (λ (x : Addressed). x.to < first_hosts start → is_calm x.to x.signal ≡ true)
       (all_addressed (first_membership start) h stamp count sends)
       → Each (IsPlainSend h) sends → Each (IsFineSend start h) sends
   plain_fine h stamp count [] all plain = tt
@@ -88,13 +88,13 @@ module _ (start : Start) where
     plain_fine h stamp (counted (receiver (first_membership start) one.to) count) more all.1 plain.1,
   )
 
-  pub plain_none : (h j : ℕ) (sends : List Outgoing) → j < hosts start → is_beating j ≡ true
+  pub plain_none : (h j : ℕ) (sends : List Outgoing) → j < first_hosts start → is_beating j ≡ true
       → Each (IsPlainSend h) sends → Each (IsFineSend start h) sends → tally (goes_to start j) sends ≡ 0
   plain_none h j [] low beats plain fine = refl
   plain_none h j (one ∷ more) low beats plain fine =
       let apart : host_for start one.to ≢ j =
       λ same.
-      plain_apart h one plain.0 fine.0.calm (subst (λ k. k < hosts start) (sym same) low)
+      plain_apart h one plain.0 fine.0.calm (subst (λ k. k < first_hosts start) (sym same) low)
       (ap is_beating same ∙ beats) in
       omega (arith, ap one_if (ne_eqb (host_for start one.to) j apart), plain_none h j more low beats plain.1 fine.1)
 

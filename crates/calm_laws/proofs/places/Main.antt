@@ -8,7 +8,7 @@ use Rattle.frag_map.specs.Shape.{IsShape}
 use Rattle.qmgr_block.specs.Ring.{place_behind, place_in_front}
 use Rattle.sig_core.specs.Place.{membership}
 use Rattle.world_core.proofs.HostNumbers.{node_host}
-use Rattle.world_core.specs.Hosts.{host_for, hosts, member_at, part_by}
+use Rattle.world_core.specs.Hosts.{host_for, first_hosts, member_at, part_by}
 use Rattle.world_core.specs.Start.{Start, made}
 use Rattle.calm_laws.specs.Plain.{is_beating, is_main}
 use Rattle.calm_laws.proofs.lives.FirstMembers.{member_first}
@@ -36,13 +36,13 @@ pub record IsMainAt (start : Start) (h : ℕ) : Type 0 where
   pub low : place < start.shape.nodes
   pub is : h ≡ main_at place
 
-pub main_place : (start : Start) (h : ℕ) → h < hosts start → is_beating h ≡ true → IsMainAt start h
+pub main_place : (start : Start) (h : ℕ) → h < first_hosts start → is_beating h ≡ true → IsMainAt start h
 main_place start zero low beats = absurd (false≢true beats)
 main_place start (suc m) low beats =
     let left : m % 3 ≡ 0 = left_main (m % 3) beats in
     record { place = m / 3; low = omega (arith, low); is = ap suc (omega (arith, left)) }
 
-pub main_low : (start : Start) (k : ℕ) → k < start.shape.nodes → main_at k < hosts start
+pub main_low : (start : Start) (k : ℕ) → k < start.shape.nodes → main_at k < first_hosts start
 main_low start k low = omega (arith, low)
 
 pub main_member : (start : Start) (k : ℕ) → k < start.shape.nodes

@@ -9,8 +9,8 @@ use Rattle.sig_core.specs.declared.place.Place.{Place}
 use Rattle.sig_core.specs.declared.signal.Body.{Body}
 use Rattle.sig_core.specs.Part.{part_of}
 use Rattle.sig_core.specs.Place.{client}
-use Rattle.world_core.proofs.HostNumbers.{beyond_host, node_host}
-use Rattle.world_core.specs.Hosts.{host_for, hosts, number_of, part_by}
+use Rattle.world_core.proofs.HostNumbers.{beyond_first, node_host}
+use Rattle.world_core.specs.Hosts.{host_for, first_hosts, number_of, part_by}
 use Rattle.world_core.specs.Start.{Start}
 use Rattle.host_laws.proofs.hosts.LinkCounts.{at_shell}
 use Rattle.calm_laws.specs.Calm.{has_block, is_for, is_for_client, is_for_coordinator, is_for_epochs, is_for_rows}
@@ -61,15 +61,15 @@ module _ (start : Start) where
       ap (λ h. has_block h at) own ∙ ap (λ r. is_in (part_by r) at) (mod-mul-add (to.node - 1) 3 left few) ∙ inside
 
   -- a node whose host is there is one
-  node_low : (to : Place) → host_for start to < hosts start → to.node ≤ start.shape.nodes
+  node_low : (to : Place) → host_for start to < first_hosts start → to.node ≤ start.shape.nodes
   node_low to low = by (cases_lt start.shape.nodes to.node)
     where
       by : (start.shape.nodes < to.node) ⊎ (to.node ≤ start.shape.nodes) → to.node ≤ start.shape.nodes
-      by (inl above) = absurd (omega (arith, beyond_host start to above, low))
+      by (inl above) = absurd (omega (arith, beyond_first start to above, low))
       by (inr few) = few
 
   place_has : (to : Place) (body : Body) (at : BlockId) → to.block ≡ at → is_for at body ≡ true
-      → is_place at to.node ≡ true → host_for start to < hosts start → has_block (host_for start to) at ≡ true
+      → is_place at to.node ≡ true → host_for start to < first_hosts start → has_block (host_for start to) at ≡ true
   place_has to body block.Api is takes there low =
       ap (λ h. has_block h block.Api) (eqb-true (host_for start to) 0 (at_shell start to ∙ there))
   place_has to body block.Qmgr is takes there low =
@@ -83,7 +83,7 @@ module _ (start : Start) where
   place_has to body at is takes there low = absurd (false≢true takes)
 
   -- so the host of a place that is there takes it in calm
-  pub fit_calm : (to : Place) (body : Body) → IsFit to body → host_for start to < hosts start
+  pub fit_calm : (to : Place) (body : Body) → IsFit to body → host_for start to < first_hosts start
       → (has_block (host_for start to) to.block && is_for to.block body) ≡ true
   fit_calm to body fits low =
       and_from (has_block (host_for start to) to.block) (is_for to.block body)

@@ -15,8 +15,9 @@ use Rattle.sig_core.specs.declared.place.Part.TheVariants.{Main, Tc, Ldm}
 use Rattle.sig_core.specs.declared.place.Place.{Place}
 use Rattle.sig_core.specs.Part.{part_of}
 use Rattle.sig_core.specs.Place.{client}
-use Rattle.world_core.proofs.HostNumbers.{beyond_host, client_host, node_host}
-use Rattle.world_core.specs.Hosts.{first_membership, host_by, host_for, hosts, member_of, number_of, part_by, receiver}
+use Rattle.world_core.proofs.HostNumbers.{beyond_first, client_host, node_host}
+use Rattle.world_core.specs.Hosts.{first_membership, host_by, host_for, first_hosts, member_of, number_of, part_by}
+use Rattle.world_core.specs.Hosts.{receiver}
 use Rattle.world_core.specs.Machine.{addressed, all_addressed, counted, machine, sent_count, step_after}
 use Rattle.world_core.specs.Start.{Start, made}
 use Rattle.world_core.specs.Steps.{Addressed, HostStep}
@@ -64,7 +65,7 @@ module _ (start : Start) where
   client_rests to is = ap is_beating (ap (host_for start) is ∙ client_host start)
 
   -- and what is for a node that isn't there to none of the hosts
-  module _ (j : ℕ) (low : j < hosts start) (beats : is_beating j ≡ true) where
+  module _ (j : ℕ) (low : j < first_hosts start) (beats : is_beating j ≡ true) where
     rests_apart : (to : Place) → is_beating (host_for start to) ≡ false → host_for start to ≡ j → ⊥
     rests_apart to rests same = false≢true (sym rests ∙ ap is_beating same ∙ beats)
 
@@ -72,7 +73,7 @@ module _ (start : Start) where
     parts_apart to parts same = go (cases_lt start.shape.nodes to.node)
       where
         go : (start.shape.nodes < to.node) ⊎ (to.node ≤ start.shape.nodes) → ⊥
-        go (inl above) = absurd (omega (arith, beyond_host start to above, same, low))
+        go (inl above) = absurd (omega (arith, beyond_first start to above, same, low))
         go (inr there) = rests_apart to (parts_rest to parts there) same
 
     place_apart : (h : ℕ) (to : Place) → IsPlainPlace h to → host_for start to ≡ j → ⊥

@@ -13,7 +13,7 @@ use Rattle.node_core.specs.Dih.{DihState, dih_table}
 use Rattle.node_core.specs.Fresh.{fresh_part, fresh_shell}
 use Rattle.node_core.specs.Row.{row}
 use Rattle.world_core.proofs.HostNumbers.{api_found, tc_found, tc_started}
-use Rattle.world_core.specs.Hosts.{Membership, first_membership, host_for, hosts, receiver, started}
+use Rattle.world_core.specs.Hosts.{Membership, first_membership, host_for, first_hosts, receiver, started}
 use Rattle.world_core.specs.Machine.{after, all_addressed, counted, sent_count, signals_of, step_after}
 use Rattle.world_core.specs.Start.{Start}
 use Rattle.world_core.specs.Steps.{Addressed, HostStep}
@@ -78,7 +78,7 @@ module _ (start : Start) where
   dih_along R h kept first (e ∷ log) =
       keeps_dih R (λ d x was. kept d x.body was) (after start h log) e.step.taken (dih_along R h kept first log)
 
-  dih_some : (h : ℕ) (log : List HostStep) → h < hosts start → has_tc (after start h log) ≡ true
+  dih_some : (h : ℕ) (log : List HostStep) → h < first_hosts start → has_tc (after start h log) ≡ true
       → 1 ≤ (dih_of (after start h log)).node
   unfolding fresh_part
   dih_some h log low runs =
@@ -102,7 +102,7 @@ module _ (start : Start) where
     takes : IsTaking start es e
     takes = taking start es e comes
 
-    low : e.host < hosts start
+    low : e.host < first_hosts start
     low = comes_below start es e comes
 
     routed : AllRouted start es takes.before
@@ -164,17 +164,17 @@ module _ (start : Start) where
       set : IsSet x.signal.to x.signal.body
       to : x.to ≡ host_for start x.signal.to
 
-    calm : (x : Addressed) → IsSent x → x.to < hosts start → is_calm x.to x.signal ≡ true
+    calm : (x : Addressed) → IsSent x → x.to < first_hosts start → is_calm x.to x.signal ≡ true
     calm x is there =
         let fits = set_fits start comes.before.shape x.signal.to x.signal.body is.known is.way is.set in
         subst (λ h. is_calm h x.signal ≡ true) (sym is.to)
-        (fit_calm start x.signal.to x.signal.body fits (subst (λ h. h < hosts start) is.to there))
+        (fit_calm start x.signal.to x.signal.body fits (subst (λ h. h < first_hosts start) is.to there))
 
     each_sent : (xs : List Addressed) → Each (λ (x : Addressed). IsKnown start x.signal.body) xs
         → Each (λ (x : Addressed). IsOnWay start x.signal.to x.signal.body) xs
         → Each (λ (x : Addressed). IsSet x.signal.to x.signal.body) xs
         → Each (λ (x : Addressed). x.to ≡ host_for start x.signal.to) xs
-        → Each (λ (x : Addressed). x.to < hosts start → is_calm x.to x.signal ≡ true) xs
+        → Each (λ (x : Addressed). x.to < first_hosts start → is_calm x.to x.signal ≡ true) xs
     each_sent [] known way set to = tt
     each_sent (x ∷ xs) known way set to = (
       calm x (record { known = known.0; way = way.0; set = set.0; to = to.0 }),

@@ -1,6 +1,6 @@
 -- Where hosts send in the first view: to the hosts to which those of the plain machine do.
 use Rattle.std.proofs.Common.{◌≡◌, ◌≢◌, ◌⊎◌, inl, inr, ℕ, zero, suc, ◌+◌, ◌-◌, ◌*◌, ◌<◌, ◌≤◌, List, [], ◌∷◌, ◌++◌, Bool}
-use Rattle.std.proofs.Common.{true, false, refl, ap, sym, ◌∙◌, eq-eqb, ne_eqb, arith}
+use Rattle.std.proofs.Common.{length, true, false, refl, ap, sym, ◌∙◌, eq-eqb, ne_eqb, arith}
 use Rattle.std.specs.Prelude.{◌==◌, if◌then◌else◌, Option, None, Some}
 use Rattle.std.proofs.lemmas.Bool.{cases_eq, cases_lt}
 use Rattle.std.proofs.lemmas.Bool.Decides.{nat_tests}
@@ -12,6 +12,7 @@ use Rattle.sig_core.specs.declared.member.Member.{Member}
 use Rattle.sig_core.specs.declared.place.BlockId.TheVariants.{Qmgr}
 use Rattle.sig_core.specs.declared.place.Place.{Place}
 use Rattle.sig_core.specs.Part.{part_of}
+use Rattle.world_core.proofs.MadeFirst.{made_first, nobody_starts}
 use Rattle.world_core.proofs.HostNumbers.{beyond_host, no_member, node_host, the_member}
 use Rattle.world_core.specs.Hosts.{host_by, host_for, member_of, number_of, part_by, receiver}
 use Rattle.world_core.specs.Start.{Start, made}
@@ -68,7 +69,9 @@ reached_first start zero to = go (to.node == 0) refl
     go true e = refl
     go false e =
         let some : 1 ≤ to.node = grind (arith, nat_tests, e) in
-        ap (host_by (made start) (part_of to.block)) (latest_first start.shape.nodes to.node some)
+        ap (host_by (made start) (part_of to.block))
+        (ap (λ ms. latest ms to.node) (made_first start (nobody_starts start))
+        ∙ latest_first start.shape.nodes to.node some)
 
 -- what is for the membership of a node goes to a main part, or to nobody, who counts as one
 main_beats : (a : ℕ) → is_beating (a * 3 + 1) ≡ true
@@ -80,7 +83,7 @@ pub node_beats : (start : Start) (to : Place) → to.block ≡ Qmgr → 1 ≤ to
 node_beats start to is some = go (cases_lt start.shape.nodes to.node)
   where
     go : (start.shape.nodes < to.node) ⊎ (to.node ≤ start.shape.nodes) → is_beating (host_for start to) ≡ true
-    go (inl above) = ap is_beating (beyond_host start to above) ∙ main_beats start.shape.nodes
+    go (inl above) = ap is_beating (beyond_host start to above) ∙ main_beats (length (made start))
     go (inr low) =
         ap is_beating (node_host start to some low ∙ ap (λ block. (to.node - 1) * 3 + number_of (part_of block)) is)
         ∙ main_beats (to.node - 1)

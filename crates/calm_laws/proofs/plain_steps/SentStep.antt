@@ -10,7 +10,7 @@ use Rattle.run_theory.specs.Lists.{Each}
 use Rattle.sig_core.specs.declared.outs.Outgoing.{Outgoing}
 use Rattle.sig_core.specs.declared.signal.Body.TheVariants.{Host}
 use Rattle.sig_core.specs.declared.signal.host.HostSignal.TheVariants.{Round}
-use Rattle.world_core.specs.Hosts.{host_for, hosts}
+use Rattle.world_core.specs.Hosts.{host_for, first_hosts}
 use Rattle.world_core.specs.Machine.{counted}
 use Rattle.world_core.specs.Start.{Start, made}
 use Rattle.world_core.specs.Steps.{Addressed, HostStep}
@@ -28,19 +28,20 @@ use Rattle.calm_laws.proofs.plain_steps.SentAlike.{here, kept, plainly}
 -- A thing that host i sends: whoever is to take it takes it in calm; the shell alone tells main parts of rounds, and
 -- tells them of nothing else; and it is nothing that a host asks of itself alone.
 pub record IsFineSend (start : Start) (i : ℕ) (one : Outgoing) : Type 0 where
-  pub calm : host_for start one.to < hosts start
+  pub calm : host_for start one.to < first_hosts start
       → (has_block (host_for start one.to) one.to.block && is_for one.to.block one.body) ≡ true
-  pub round : host_for start one.to < hosts start → is_beating (host_for start one.to) ≡ true → one.body ≡ Host Round
+  pub round : host_for start one.to < first_hosts start → is_beating (host_for start one.to) ≡ true
+      → one.body ≡ Host Round
       → i ≡ 0
-  pub told : host_for start one.to < hosts start → is_beating (host_for start one.to) ≡ true → i ≡ 0
+  pub told : host_for start one.to < first_hosts start → is_beating (host_for start one.to) ≡ true → i ≡ 0
       → one.body ≡ Host Round
   pub work : is_own_work one.body ≡ false
 
 -- the same of a signal on its way
 pub record IsFine (start : Start) (i : ℕ) (x : Addressed) : Type 0 where
-  pub calm : x.to < hosts start → is_calm x.to x.signal ≡ true
-  pub round : x.to < hosts start → is_beating x.to ≡ true → x.signal.body ≡ Host Round → i ≡ 0
-  pub told : x.to < hosts start → is_beating x.to ≡ true → i ≡ 0 → x.signal.body ≡ Host Round
+  pub calm : x.to < first_hosts start → is_calm x.to x.signal ≡ true
+  pub round : x.to < first_hosts start → is_beating x.to ≡ true → x.signal.body ≡ Host Round → i ≡ 0
+  pub told : x.to < first_hosts start → is_beating x.to ≡ true → i ≡ 0 → x.signal.body ≡ Host Round
 
 -- What host i has sent to host j since it had such a log.
 pub record IsSince (start : Start) (i j : ℕ) (base log : List HostStep) : Type 0 where

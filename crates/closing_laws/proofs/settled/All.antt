@@ -7,7 +7,7 @@ use Rattle.std.specs.List.{list_any}
 use Rattle.run_theory.proofs.Pasts.{past_nil, past_self}
 use Rattle.run_theory.specs.Cuts.{IsCut}
 use Rattle.run_theory.specs.Lists.{IsIn, IsPast}
-use Rattle.frag_map.specs.Layout.{first_layout}
+use Rattle.frag_map.specs.Layout.{first_layout, members}
 use Rattle.lqh_block.specs.Views.{was_begun_by}
 use Rattle.sig_core.proofs.Keys.{same_tx-self}
 use Rattle.sig_core.specs.declared.entry.Entry.{Entry}
@@ -18,6 +18,7 @@ use Rattle.sig_core.specs.declared.op.Answer.{Answer}
 use Rattle.sig_core.specs.declared.op.Op.{Op}
 use Rattle.sig_core.specs.declared.view.View.{View}
 use Rattle.sig_core.specs.Same.{same_tx}
+use Rattle.world_core.proofs.MadeFirst.{made_begins, nobody_starts}
 use Rattle.world_core.specs.Entries.{entries}
 use Rattle.world_core.specs.History.{history, is_done, is_kept, writes}
 use Rattle.world_core.specs.Hosts.{hosts}
@@ -209,7 +210,8 @@ module _ (start : Start) (large : ℕ → List HostStep) (more : AreOfCluster st
           not_first : current start (logs_of start (e ∷ older)) ≡ (first_layout start.shape).view → ⊥
           not_first same =
               true≢false (sym (ap (λ (v : View). list_any (was_begun_by z.tx) v.full) same
-              ∙ any_in (was_begun_by z.tx) (coordinator_member z.tx) (made start) coordinator_made
+              ∙ any_in (was_begun_by z.tx) (coordinator_member z.tx) (members start.shape.nodes)
+              (made_begins start (nobody_starts start) (coordinator_member z.tx) coordinator_made)
               (λ i. eq-eqb z.tx.tc z.tx.tc refl i && eq-eqb z.tx.start z.tx.start refl i)) ∙ gone)
 
           first_is : current start (logs_of start []) ≡ (first_layout start.shape).view

@@ -20,7 +20,7 @@ use Rattle.api_block.specs.Members.{is_full}
 use Rattle.api_block.specs.State.{ApiState}
 use Rattle.node_core.specs.Blocks.{api_of}
 use Rattle.node_core.specs.Requests.{is_request}
-use Rattle.world_core.specs.Hosts.{hosts}
+use Rattle.world_core.specs.Hosts.{first_hosts}
 use Rattle.world_core.specs.Machine.{after, machine}
 use Rattle.world_core.specs.Requests.{AreAskedAtQuiet, QuietBefore, request_in, requests}
 use Rattle.world_core.specs.Start.{Start}
@@ -113,7 +113,7 @@ no_requests (e ∷ newer) plain =
     ∙ none_in e.step.taken.body plain.0
 
 module _ (start : Start) (logs : ℕ → List HostStep) (right : AreLogs (machine start) logs)
-    (within : IsWithin (hosts start) logs)
+    (within : IsWithin (first_hosts start) logs)
     (at_quiet : AreAskedAtQuiet start logs) (shape : IsShape start.shape) where
   -- none is where none was at each earlier one
   none_if : (was : ℕ → List HostStep) → AreQuiet start was → IsCut was logs

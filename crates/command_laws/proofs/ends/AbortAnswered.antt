@@ -25,7 +25,7 @@ use Rattle.api_block.specs.declared.opened.OpenTransaction.{OpenTransaction}
 use Rattle.node_core.specs.Blocks.{api_of, tc_of}
 use Rattle.node_core.specs.Replies.{replies_of}
 use Rattle.node_core.specs.Requests.{is_request}
-use Rattle.world_core.specs.Hosts.{home, hosts}
+use Rattle.world_core.specs.Hosts.{home, first_hosts}
 use Rattle.world_core.specs.Machine.{after, step_after}
 use Rattle.world_core.specs.Start.{Start}
 use Rattle.world_core.specs.Steps.{HostStep}
@@ -177,7 +177,7 @@ module _ (answered : EachIsAnswered) (start : Start) (was now : ℕ → List Hos
       (none_at (is_more_to tx) (more_request tx))
       (none_taken start was now served.before served.since cut (is_more_to tx) (λ i low. no_more i) h)
 
-  run : (h : ℕ) → h < hosts start → (sent_since start (is_wrong tx) h (cut h).newer (was h) ≡ 0)
+  run : (h : ℕ) → h < first_hosts start → (sent_since start (is_wrong tx) h (cut h).newer (was h) ≡ 0)
       × (home start tx ≡ h → OnTc (IsLooseNow tx (rolled tx (cut h).newer)) (after start h ((cut h).newer ++ was h)))
   run h low = host_run tx start h low (cut h).newer (was h) (none_more h) (loose_was h)
 
@@ -197,7 +197,7 @@ module _ (answered : EachIsAnswered) (start : Start) (was now : ℕ → List Hos
       right = fails_at_end tx (Some name) start f.later (f.first ∷ was 0) f.first (is_wrong tx) ended f.plain none_wrong
 
   -- its coordinator is there
-  home_low : home start tx < hosts start
+  home_low : home start tx < first_hosts start
   home_low = live_low start was tx is_open.transaction served.before (home start tx) is_open.live
 
   -- the wish comes to it

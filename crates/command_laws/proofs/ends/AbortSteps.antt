@@ -22,7 +22,7 @@ use Rattle.node_core.specs.Row.{row}
 use Rattle.tc_block.specs.declared.transaction.Transaction.{Transaction}
 use Rattle.tc_block.specs.State.{TcState}
 use Rattle.tc_block.specs.Tc.{tc_row, tc_table}
-use Rattle.world_core.specs.Hosts.{home, hosts}
+use Rattle.world_core.specs.Hosts.{home, first_hosts}
 use Rattle.world_core.specs.Machine.{after}
 use Rattle.world_core.specs.Start.{Start}
 use Rattle.world_core.specs.Steps.{HostStep}
@@ -227,7 +227,7 @@ module _ (tx : TxId) where
   rolled [] = false
   rolled (e ∷ newer) = if is_wish_back_to tx e.step.taken.to e.step.taken.body then true else rolled newer
 
-  module _ (start : Start) (h : ℕ) (low : h < hosts start) where
+  module _ (start : Start) (h : ℕ) (low : h < first_hosts start) where
     record HostRun (newer log : List HostStep) : Type 0 where
       silent : sent_since start (is_wrong tx) h newer log ≡ 0
       loose : home start tx ≡ h → OnTc (IsLooseNow tx (rolled newer)) (after start h (newer ++ log))

@@ -16,7 +16,7 @@ use Rattle.api_block.specs.declared.opened.OpenTransaction.{OpenTransaction}
 use Rattle.api_block.specs.Opened.{is_beginning}
 use Rattle.node_core.specs.Blocks.{api_of}
 use Rattle.node_core.specs.Requests.{is_request}
-use Rattle.world_core.specs.Hosts.{home, hosts}
+use Rattle.world_core.specs.Hosts.{home, first_hosts}
 use Rattle.world_core.specs.Machine.{after, step_after}
 use Rattle.world_core.specs.Start.{Start}
 use Rattle.world_core.specs.Steps.{HostStep}
@@ -116,7 +116,7 @@ module _ (answered : EachIsAnswered) (start : Start) (was now : ℕ → List Hos
       (none_taken start was now served.before served.since cut (is_push_to tx) (λ i low. no_pushes i) h)
 
   -- nobody reports its abort, and so the shell's host isn't told of one
-  no_backs : (h : ℕ) → h < hosts start → sent_since start (is_back tx) h (cut h).newer (was h) ≡ 0
+  no_backs : (h : ℕ) → h < first_hosts start → sent_since start (is_back tx) h (cut h).newer (was h) ≡ 0
   no_backs h low = (firm_since tx start h (cut h).newer (was h) (firm_at start tx was is_open h low) (none_pushed h)).1
 
   none_told : Each (λ (e : HostStep). is_request e.step.taken.body ≡ false → back_of tx e.step.taken.body ≡ false)

@@ -8,7 +8,7 @@ use Rattle.sig_core.specs.Same.{same_tx}
 use Rattle.node_core.specs.Blocks.{tc_of}
 use Rattle.tc_block.specs.declared.phase.Phase.TheVariants.{Open}
 use Rattle.tc_block.specs.declared.transaction.Transaction.{Transaction}
-use Rattle.world_core.specs.Hosts.{home, hosts}
+use Rattle.world_core.specs.Hosts.{home, first_hosts}
 use Rattle.world_core.specs.Machine.{after}
 use Rattle.world_core.specs.Start.{Start}
 use Rattle.world_core.specs.Steps.{HostStep}
@@ -23,7 +23,7 @@ use Rattle.command_laws.proofs.ends.FirmHosts.{FirmHost}
 use Rattle.command_laws.proofs.quiet.Homes.{lives_home, sound_at}
 
 module _ (start : Start) (tx : TxId) (logs : ℕ → List HostStep) where
-  pub firm_at : IsOpenAt tx (after start (home start tx) (logs (home start tx))) → (h : ℕ) → h < hosts start
+  pub firm_at : IsOpenAt tx (after start (home start tx) (logs (home start tx))) → (h : ℕ) → h < first_hosts start
       → FirmHost tx (after start h (logs h))
   firm_at open_there h low = each_from (λ (e : TxId × Transaction). same_tx e.0 tx ≡ true
       → is_firm e.1.phase e.1.asked ≡ true) (tc_of (after start h (logs h))).live here

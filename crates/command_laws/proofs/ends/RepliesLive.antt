@@ -30,7 +30,7 @@ use Rattle.node_core.specs.Row.{row}
 use Rattle.tc_block.specs.State.{TcState}
 use Rattle.tc_block.specs.Tc.{tc_row}
 use Rattle.world_core.proofs.Stamped.{stamped}
-use Rattle.world_core.specs.Hosts.{Membership, first_membership, hosts, member_at, part_by, receiver, started}
+use Rattle.world_core.specs.Hosts.{Membership, first_membership, first_hosts, member_at, part_by, receiver, started}
 use Rattle.world_core.specs.Machine.{after, all_addressed, counted, machine, sent_count, signals_of, step_after}
 use Rattle.world_core.specs.Start.{Start, made}
 use Rattle.world_core.specs.Steps.{Addressed, HostStep}
@@ -161,4 +161,4 @@ pub replies_live : RepliesAreOfTheLiving
 replies_live start logs within right =
     subst (Each (λ (reply : ApiReply). is_of_living reply ≡ true)) (sym (replies_are (after start 0 (logs 0))))
     ((along_signals_of_logs (machine start) (stamped start) (Sound start) (AllHosts start) (living_kept start)
-    (hosts start) logs within right).law 0).replies
+    (first_hosts start) logs within right).law 0).replies

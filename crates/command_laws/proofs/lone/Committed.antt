@@ -28,7 +28,7 @@ use Rattle.tc_block.specs.declared.transaction.Transaction.{Transaction}
 use Rattle.tc_block.specs.State.{TcState}
 use Rattle.world_core.proofs.HostNumbers.{addressed_at}
 use Rattle.world_core.proofs.Replies.{replies_grow}
-use Rattle.world_core.specs.Hosts.{home, hosts}
+use Rattle.world_core.specs.Hosts.{home, first_hosts}
 use Rattle.world_core.specs.Machine.{after, machine, step_after}
 use Rattle.world_core.specs.Start.{Start}
 use Rattle.world_core.specs.Steps.{HostStep}
@@ -166,7 +166,7 @@ module _ (start : Start) (was now : ℕ → List HostStep) (op : Op)
           tally_append (λ (e : HostStep). is_start tx e.step.taken.to e.step.taken.body) f.later (f.first ∷ was 0),
         )
 
-    module _ (h : ℕ) (low : suc h < hosts start) where
+    module _ (h : ℕ) (low : suc h < first_hosts start) where
       abbrev s : TcState
       s = tc_of (after start (suc h) (was (suc h)))
 
@@ -272,17 +272,17 @@ module _ (start : Start) (was now : ℕ → List HostStep) (op : Op)
         omega (arith, taken, few_taken start was now served.before served.since cut (is_reply l.tx) i 0)
 
     -- its coordinator answered it, and so no host reports its abort
-    no_backs_at : (k : ℕ) → l.step.step.taken.from.0 ≡ k → (h : ℕ) → h < hosts start
+    no_backs_at : (k : ℕ) → l.step.step.taken.from.0 ≡ k → (h : ℕ) → h < first_hosts start
         → sent_since start (is_back l.tx) h (cut h).newer (was h) ≡ 0
     no_backs_at k at zero low = (shell_tells (cut 0).newer (was 0)).1
     no_backs_at zero at (suc h) low = absurd (omega (arith, was_sent zero at, (shell_tells (cut 0).newer (was 0)).0))
     no_backs_at (suc k) at (suc h) low = home_is (cases_eq (home start l.tx) (suc k))
-        (cases_eq (home start l.tx) (suc h)) (cases_lt (suc k) (hosts start))
+        (cases_eq (home start l.tx) (suc h)) (cases_lt (suc k) (first_hosts start))
       where
         some : 1 ≤ sent_since start (is_reply l.tx) (suc k) (cut (suc k)).newer (was (suc k))
         some = was_sent (suc k) at
 
-        away : (j : ℕ) → j < hosts start → home start l.tx ≢ j
+        away : (j : ℕ) → j < first_hosts start → home start l.tx ≢ j
             → (sent_since start (is_reply l.tx) j (cut j).newer (was j) ≡ 0)
             × (sent_since start (is_back l.tx) j (cut j).newer (was j) ≡ 0)
         away j there differs =
@@ -303,7 +303,7 @@ module _ (start : Start) (was now : ℕ → List HostStep) (op : Op)
             by (inr none) = none
 
         home_is : (home start l.tx ≡ suc k) ⊎ (home start l.tx ≢ suc k) → (home start l.tx ≡ suc h)
-            ⊎ (home start l.tx ≢ suc h) → (suc k < hosts start) ⊎ (hosts start ≤ suc k)
+            ⊎ (home start l.tx ≢ suc h) → (suc k < first_hosts start) ⊎ (first_hosts start ≤ suc k)
             → sent_since start (is_back l.tx) (suc h) (cut (suc h)).newer (was (suc h)) ≡ 0
         home_is one other (inr high) =
             let none : (cut (suc k)).newer

@@ -29,7 +29,7 @@ use Rattle.tc_block.specs.declared.transaction.Transaction.{Transaction}
 use Rattle.tc_block.specs.State.{TcState}
 use Rattle.world_core.proofs.HostNumbers.{given_past}
 use Rattle.world_core.proofs.Stamped.{stamped}
-use Rattle.world_core.specs.Hosts.{home, hosts}
+use Rattle.world_core.specs.Hosts.{home, first_hosts}
 use Rattle.world_core.specs.Machine.{after, machine}
 use Rattle.world_core.specs.Start.{Start}
 use Rattle.world_core.specs.Steps.{Addressed, HostStep}
@@ -85,8 +85,9 @@ module _ (start : Start) (was now : ℕ → List HostStep) (before : AreQuiet st
     less : IsCut (log_of (machine start) es) now
     less h = past_trans (log_of-past (machine start) e es h) (inside h)
 
-    within : IsWithin (hosts start) (log_of (machine start) es)
-    within = within_cut (machine start) (stamped start) (hosts start) (log_of (machine start) es) now since.within less
+    within : IsWithin (first_hosts start) (log_of (machine start) es)
+    within = within_cut (machine start) (stamped start) (first_hosts start) (log_of (machine start) es) now since.within
+        less
 
     -- the step is one of the later logs
     is_now : now e.host ≡ (inside e.host).newer ++ e ∷ (newer_in all.more e.host ++ was e.host)
@@ -106,14 +107,14 @@ module _ (start : Start) (was now : ℕ → List HostStep) (before : AreQuiet st
         (wishes e.host)
         (subst (IsIn e) (sym is_newer) (in_middle (inside e.host).newer e (newer_in all.more e.host)))
 
-    low : e.host < hosts start
-    low = by (cases_lt e.host (hosts start))
+    low : e.host < first_hosts start
+    low = by (cases_lt e.host (first_hosts start))
       where
         none : (xs ys : List HostStep) → [] ≡ xs ++ e ∷ ys → ⊥
         none [] ys is = cc
         none (x ∷ xs) ys is = cc
 
-        by : (e.host < hosts start) ⊎ (hosts start ≤ e.host) → e.host < hosts start
+        by : (e.host < first_hosts start) ⊎ (first_hosts start ≤ e.host) → e.host < first_hosts start
         by (inl under) = under
         by (inr high) = absurd (none _ _ (sym (since.within e.host high) ∙ is_now))
 
@@ -124,9 +125,9 @@ module _ (start : Start) (was now : ℕ → List HostStep) (before : AreQuiet st
     few_losses : IsClean all.more → (i : ℕ)
         → signals (is_loss tx) (sent (machine start) i e.host (log_of (machine start) es i))
         ≤ signals (is_loss tx) (taken (machine start) i (was e.host))
-    few_losses clean i = by (cases_lt i (hosts start))
+    few_losses clean i = by (cases_lt i (first_hosts start))
       where
-        by : (i < hosts start) ⊎ (hosts start ≤ i)
+        by : (i < first_hosts start) ⊎ (first_hosts start ≤ i)
             → signals (is_loss tx) (sent (machine start) i e.host (log_of (machine start) es i))
             ≤ signals (is_loss tx) (taken (machine start) i (was e.host))
         by (inr high) =
@@ -283,7 +284,8 @@ module _ (start : Start) (was now : ℕ → List HostStep) (before : AreQuiet st
       }
 
       all : AllHold now
-      all = (along_cuts (machine start) (stamped start) Holds event_holds (hosts start) was now since.within since.right
+      all = (along_cuts (machine start) (stamped start) Holds event_holds (first_hosts start) was now since.within
+          since.right
           before.right cut begin).holds (λ k. past_self (now k))
 
       same : (cut h).newer ≡ newer_in all.more h

@@ -28,7 +28,7 @@ use Rattle.tc_block.specs.declared.transaction.Transaction.{Transaction}
 use Rattle.tc_block.specs.Phases.{is_aborting}
 use Rattle.world_core.proofs.HostNumbers.{host_below, rows_run}
 use Rattle.world_core.proofs.Stamped.{stamped}
-use Rattle.world_core.specs.Hosts.{home, hosts, rows_host}
+use Rattle.world_core.specs.Hosts.{home, first_hosts, rows_host}
 use Rattle.world_core.specs.Machine.{after, machine}
 use Rattle.world_core.specs.Start.{Start}
 use Rattle.world_core.specs.Steps.{HostStep}
@@ -96,19 +96,19 @@ few_budget false None = omega arith
 -- the run that these logs are
 module _ (start : Start) (logs : ℕ → List HostStep) (quiet : AreQuiet start logs) where
   es : List HostStep
-  es = merged (machine start) (hosts start) logs
+  es = merged (machine start) (first_hosts start) logs
 
   same : logs_of start es ≡ logs
   unfolding es
-  same = logs_merged (machine start) (hosts start) logs quiet.within quiet.right
+  same = logs_merged (machine start) (first_hosts start) logs quiet.within quiet.right
 
   run : IsRun start es
   unfolding es
   run = record {
     shape = quiet.shape;
-    run = merged_run (machine start) (stamped start) (hosts start) logs quiet.within quiet.right;
-    within = subst (IsWithin (hosts start))
-        (sym (logs_merged (machine start) (hosts start) logs quiet.within quiet.right)) quiet.within;
+    run = merged_run (machine start) (stamped start) (first_hosts start) logs quiet.within quiet.right;
+    within = subst (IsWithin (first_hosts start))
+        (sym (logs_merged (machine start) (first_hosts start) logs quiet.within quiet.right)) quiet.within;
   }
 
   -- at most one request of a transaction waits
@@ -132,7 +132,7 @@ module _ (start : Start) (logs : ℕ → List HostStep) (quiet : AreQuiet start 
     served : IsKeptByCoordinator start logs t tx
     served = each_served start logs t quiet inside tx own
 
-    low : home start tx < hosts start
+    low : home start tx < first_hosts start
     low = live_low start logs tx served.transaction quiet (home start tx) served.live
 
     -- its operation is unanswered at its coordinator
@@ -167,7 +167,7 @@ module _ (start : Start) (logs : ℕ → List HostStep) (quiet : AreQuiet start 
       abbrev waits_host : ℕ
       waits_host = rows_host start waits.node
 
-      queued_low : queued_host < hosts start
+      queued_low : queued_host < first_hosts start
       queued_low = host_below start (rows_of queued.node) queued.from queued.to
 
       same_host : queued_host ≡ waits_host
@@ -179,7 +179,8 @@ module _ (start : Start) (logs : ℕ → List HostStep) (quiet : AreQuiet start 
               absurd (omega (
                 arith,
                 few_waiting tx,
-                total_two (hosts start) (λ h. waiting_in tx (after start h (logs h))) queued_host waits_host queued_low
+                total_two (first_hosts start) (λ h. waiting_in tx (after start h (logs h))) queued_host waits_host
+                    queued_low
                     (host_below start (rows_of waits.node) waits.from waits.to) apart,
                 some_queued (after start queued_host (logs queued_host)) queued.there,
                 some_waiting (after start waits_host (logs waits_host)) waits.there,
@@ -219,7 +220,7 @@ module _ (start : Start) (logs : ℕ → List HostStep) (quiet : AreQuiet start 
           (omega (
             arith,
             few_waiting tx,
-            total_at (hosts start) (λ h. waiting_in tx (after start h (logs h)))
+            total_at (first_hosts start) (λ h. waiting_in tx (after start h (logs h)))
                 queued_host queued_low,
           ))
           (routed queued_host) queued.there

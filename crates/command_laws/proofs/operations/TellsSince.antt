@@ -7,7 +7,7 @@ use Rattle.sig_core.specs.Step.{Step}
 use Rattle.node_core.specs.Blocks.{tc_of}
 use Rattle.node_core.specs.declared.host.Host.{Host}
 use Rattle.tc_block.specs.State.{TcState}
-use Rattle.world_core.specs.Hosts.{home, hosts}
+use Rattle.world_core.specs.Hosts.{home, first_hosts}
 use Rattle.world_core.specs.Machine.{after, step_after}
 use Rattle.world_core.specs.Start.{Start}
 use Rattle.world_core.specs.Steps.{HostStep}
@@ -57,7 +57,7 @@ module _ (start : Start) (tx : TxId) where
           before)
 
   -- another host than its home tells nothing of it
-  pub away_since : (h : ℕ) → h < hosts start → home start tx ≢ h → (newer log : List HostStep)
+  pub away_since : (h : ℕ) → h < first_hosts start → home start tx ≢ h → (newer log : List HostStep)
       → sent_since start (is_told tx) h newer log ≡ 0
   away_since h low away [] log = refl
   away_since h low away (e ∷ newer) log = omega (arith, away_since h low away newer log, here)

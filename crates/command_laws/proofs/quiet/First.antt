@@ -26,7 +26,7 @@ use Rattle.node_core.specs.Blocks.{api_of}
 use Rattle.node_core.specs.Requests.{is_request}
 use Rattle.world_core.proofs.HostNumbers.{api_runs, given_past}
 use Rattle.world_core.proofs.Stamped.{stamped}
-use Rattle.world_core.specs.Hosts.{hosts, first_membership}
+use Rattle.world_core.specs.Hosts.{first_hosts, first_membership}
 use Rattle.world_core.specs.Machine.{IsAsked, after, asked_rightly, machine, step_after}
 use Rattle.world_core.specs.Requests.{request_in, requests}
 use Rattle.world_core.specs.Start.{Start}
@@ -117,7 +117,7 @@ module _ (start : Start) (was now : ℕ → List HostStep) (request : ApiReq)
     (served : IsServedBetween start was now request) where
   -- what comes at a quiet moment is no signal that a link gave
   first_asked : (es : List HostStep) (e : HostStep) → log_of (machine start) es ≡ was → Happens (machine start) es e
-      → e.host < hosts start → is_request e.step.taken.body ≡ true
+      → e.host < first_hosts start → is_request e.step.taken.body ≡ true
   first_asked es e same happens low = by (is_request e.step.taken.body) refl
     where
       by : (b : Bool) → is_request e.step.taken.body ≡ b → b ≡ true
@@ -159,10 +159,10 @@ module _ (start : Start) (was now : ℕ → List HostStep) (request : ApiReq)
       first_logs at (suc h) = log_of-other (machine start) e es (suc h) (λ other. absurd (omega (arith, at, other)))
           ∙ ap (λ logs. logs (suc h)) same
 
-      low : e.host < hosts start
-      low = by (cases_lt e.host (hosts start))
+      low : e.host < first_hosts start
+      low = by (cases_lt e.host (first_hosts start))
         where
-          by : (e.host < hosts start) ⊎ (hosts start ≤ e.host) → e.host < hosts start
+          by : (e.host < first_hosts start) ⊎ (first_hosts start ≤ e.host) → e.host < first_hosts start
           by (inl under) = under
           by (inr high) = absurd (nonempty _ _ (sym (served.since.within e.host high) ∙ own e.host refl))
 
@@ -198,7 +198,7 @@ module _ (start : Start) (was now : ℕ → List HostStep) (request : ApiReq)
   request_first = by (oldest grown.more)
     where
       n : ℕ
-      n = hosts start
+      n = first_hosts start
 
       es : List HostStep
       es = merged (machine start) n was

@@ -14,7 +14,7 @@ use Rattle.sig_core.specs.declared.outs.Outgoing.{Outgoing}
 use Rattle.sig_core.specs.declared.request.ApiReq.{ApiReq}
 use Rattle.node_core.specs.Requests.{is_request}
 use Rattle.world_core.proofs.Stamped.{stamped}
-use Rattle.world_core.specs.Hosts.{first_membership, host_for, hosts}
+use Rattle.world_core.specs.Hosts.{first_membership, host_for, first_hosts}
 use Rattle.world_core.specs.Machine.{addressed, machine, sent_count, step_after}
 use Rattle.world_core.specs.Start.{Start}
 use Rattle.world_core.specs.Steps.{Addressed, HostStep}
@@ -27,7 +27,7 @@ use Rattle.command_laws.specs.Served.{IsServedBetween}
 module _ (start : Start) (was now : ℕ → List HostStep) (asked : ApiReq) (served : IsServedBetween start was now asked)
     (f : IsFirst start was now asked) (out : Outgoing)
     (one : (step_after start 0 (was 0) f.first).effects.sends ≡ out ∷ [])
-    (there : host_for start out.to < hosts start) where
+    (there : host_for start out.to < first_hosts start) where
   abbrev m : Machine HostStep Addressed
   m = machine start
 
@@ -44,7 +44,7 @@ module _ (start : Start) (was now : ℕ → List HostStep) (asked : ApiReq) (ser
   at_shell : f.first.host ≡ 0
   at_shell = (f.right.local 0).0.at
 
-  first_low : f.first.host < hosts start
+  first_low : f.first.host < first_hosts start
   first_low = omega (arith, at_shell)
 
   next : IsNext was (with_first was f.first) f.first
@@ -131,7 +131,7 @@ module _ (start : Start) (was now : ℕ → List HostStep) (asked : ApiReq) (ser
 
   goes_now : Goes now
   goes_now =
-      along_cuts m (stamped start) Goes goes_step (hosts start) (with_first was f.first) now served.since.within
+      along_cuts m (stamped start) Goes goes_step (first_hosts start) (with_first was f.first) now served.since.within
       served.since.right f.right (cut_first start P D was now asked served f at_shell)
       (record { since = past_self (f.first ∷ was 0); taken_so = λ cut. inl (λ h. refl) })
 

@@ -9,7 +9,7 @@ use Rattle.row_locks.specs.Tables.{ahead_at}
 use Rattle.node_core.specs.Blocks.{has_lqh, lqh_of, tc_of}
 use Rattle.tc_block.specs.declared.transaction.Transaction.{Transaction}
 use Rattle.world_core.proofs.HostNumbers.{IsNodes, rows_found}
-use Rattle.world_core.specs.Hosts.{home, hosts, rows_host}
+use Rattle.world_core.specs.Hosts.{home, first_hosts, rows_host}
 use Rattle.world_core.specs.Machine.{after, machine}
 use Rattle.world_core.specs.Start.{Start}
 use Rattle.world_core.specs.Steps.{HostStep}
@@ -29,20 +29,21 @@ module _ (start : Start) (tx : TxId) (h : ℕ) (log : List HostStep) where
   sound_at = let at = at_tc start tx h log in record { few = at.once; own = at.own }
 
   -- who has the transaction is its home
-  pub lives_home : h < hosts start → (t : Transaction) → of_live tx (tc_of (after start h log)).live ≡ Some t
+  pub lives_home : h < first_hosts start → (t : Transaction) → of_live tx (tc_of (after start h log)).live ≡ Some t
       → home start tx ≡ h
   lives_home low t live = sym (at_home start tx h log t low live).is
 
 -- what a coordinator has at quiet the shell's host was told of
 module _ (start : Start) (logs : ℕ → List HostStep) (quiet : AreQuiet start logs) (tx : TxId) (h : ℕ) where
   pub lives_begun : tally (is_keyed tx) (tc_of (after start h (logs h))).live ≤ steps (is_start tx) (logs 0)
-  lives_begun = by (cases_lt h (hosts start))
+  lives_begun = by (cases_lt h (first_hosts start))
     where
       began : tally (is_keyed tx) (tc_of (after start h (logs h))).live ≤ signals (is_start tx)
           (sent (machine start) h 0 (logs h))
       began = (keeps start tx h (logs h)).keeps.began
 
-      by : (h < hosts start) ⊎ (hosts start ≤ h) → tally (is_keyed tx) (tc_of (after start h (logs h))).live ≤ steps
+      by : (h < first_hosts start) ⊎ (first_hosts start ≤ h)
+          → tally (is_keyed tx) (tc_of (after start h (logs h))).live ≤ steps
           (is_start tx) (logs 0)
       by (inl low) = omega (
         arith,
@@ -62,7 +63,7 @@ module _ (start : Start) (logs : ℕ → List HostStep) (quiet : AreQuiet start 
   unborn_there none = live_none tx (tc_of (after start h (logs h))).live (omega (arith, lives_begun, none))
 
 -- where a transaction waits behind another there are rows
-pub ahead_rows : (start : Start) (h : ℕ) (log : List HostStep) → h < hosts start → (key : List ℕ) (tx who : TxId)
+pub ahead_rows : (start : Start) (h : ℕ) (log : List HostStep) → h < first_hosts start → (key : List ℕ) (tx who : TxId)
     → ahead_at (lqh_of (after start h log)).locks key tx ≡ Some who → IsNodes start (rows_host start) h
 ahead_rows start h log low key tx who is = by (has_lqh (after start h log)) refl
   where

@@ -33,7 +33,7 @@ use Rattle.tc_block.specs.declared.transaction.Transaction.{Transaction}
 use Rattle.tc_block.specs.Phases.{is_aborting, is_committing}
 use Rattle.node_core.specs.Blocks.{lqh_of, tc_of}
 use Rattle.world_core.proofs.Stamped.{stamped}
-use Rattle.world_core.specs.Hosts.{home, hosts, rows_host}
+use Rattle.world_core.specs.Hosts.{home, first_hosts, rows_host}
 use Rattle.world_core.specs.Machine.{after, machine}
 use Rattle.world_core.specs.Quiet.{IsQuiet}
 use Rattle.world_core.specs.Start.{Start}
@@ -128,7 +128,7 @@ module _ (start : Start) (es : List HostStep) (run : IsRun start es) (quiet : Ar
   routed h = (signals_are_routed start es still.0 run still.1.transit).hosts h
 
   -- so it is of each that has an operation unanswered
-  stuck_at : (tx : TxId) (t : Transaction) (asked : Asked) → home start tx < hosts start
+  stuck_at : (tx : TxId) (t : Transaction) (asked : Asked) → home start tx < first_hosts start
       → IsLiveAs tx t (after start (home start tx) (logs_of start es (home start tx))) → t.asked ≡ Some asked
       → IsStuckSomewhere tx
   stuck_at tx t asked low live is =
@@ -149,7 +149,7 @@ module _ (start : Start) (es : List HostStep) (run : IsRun start es) (quiet : Ar
           key : List ℕ
           key = work_key q.work
 
-          h_low : h < hosts start
+          h_low : h < first_hosts start
           h_low = host_below start (rows_of w.node) w.from w.to
 
           way : IsRequestRouted start s.node q
@@ -200,10 +200,11 @@ module _ (start : Start) (es : List HostStep) (run : IsRun start es) (quiet : Ar
           }
 
   -- a request that waits is at a host that is there
-  waits_low : (h : ℕ) (q : Request) → IsIn q (lqh_of (after start h (logs_of start es h))).waiting → h < hosts start
-  waits_low h q there = by (cases_lt h (hosts start))
+  waits_low : (h : ℕ) (q : Request) → IsIn q (lqh_of (after start h (logs_of start es h))).waiting
+      → h < first_hosts start
+  waits_low h q there = by (cases_lt h (first_hosts start))
     where
-      by : (h < hosts start) ⊎ (hosts start ≤ h) → h < hosts start
+      by : (h < first_hosts start) ⊎ (first_hosts start ≤ h) → h < first_hosts start
       by (inl low) = low
       by (inr high) =
           absurd (nobody (ap (λ log. (lqh_of (after start h log)).waiting) (run.within h high) ∙ first_waiting start h)
@@ -234,7 +235,8 @@ module _ (start : Start) (es : List HostStep) (run : IsRun start es) (quiet : Ar
       some = omega (
         arith,
         parts_are_unanswered start es still.0 tx key run still.1.transit,
-        total_at (hosts start) (λ k. waiting_on tx key (after start k (logs_of start es k))) h (waits_low h q inside),
+        total_at (first_hosts start) (λ k. waiting_on tx key (after start k (logs_of start es k))) h
+            (waits_low h q inside),
         tally_in (is_for tx key) q (lqh_of (after start h (logs_of start es h))).waiting inside
             (counts tx key q own on),
       )
@@ -279,7 +281,7 @@ module _ (start : Start) (es : List HostStep) (run : IsRun start es) (quiet : Ar
       f : ℕ → ℕ
       f k = waiting_on tx key (after start k (logs_of start es k))
 
-      few : total (hosts start) f ≤ 1
+      few : total (first_hosts start) f ≤ 1
       few = omega (
         arith,
         parts_are_unanswered start es still.0 tx key run still.1.transit,
@@ -289,14 +291,14 @@ module _ (start : Start) (es : List HostStep) (run : IsRun start es) (quiet : Ar
       by : (h ≡ j) ⊎ (h ≢ j) → q ≡ r
       by (inl same) =
           only_one (is_for tx key) (lqh_of (after start h (logs_of start es h))).waiting q r
-          (omega (arith, few, total_at (hosts start) f h (waits_low h q there))) there
+          (omega (arith, few, total_at (first_hosts start) f h (waits_low h q there))) there
           (subst (λ k. IsIn r (lqh_of (after start k (logs_of start es k))).waiting) (sym same) here)
           (counts tx key q own on) (counts tx key r its at)
       by (inr apart) =
           absurd (omega (
             arith,
             few,
-            total_two (hosts start) f h j (waits_low h q there) (waits_low j r here) apart,
+            total_two (first_hosts start) f h j (waits_low h q there) (waits_low j r here) apart,
             tally_in (is_for tx key) q (lqh_of (after start h (logs_of start es h))).waiting there
                 (counts tx key q own on),
             tally_in (is_for tx key) r (lqh_of (after start j (logs_of start es j))).waiting here
@@ -375,7 +377,7 @@ module _ (start : Start) (es : List HostStep) (run : IsRun start es) (quiet : Ar
               found_in k.who a.transaction
               (tc_of (after start (home start k.who) (logs_of start es (home start k.who)))).live a.there
 
-          home_there : home start k.who < hosts start
+          home_there : home start k.who < first_hosts start
           home_there = home_low start es k.who run (inl over)
 
           of : IsHome start k.who (home start k.who)
@@ -428,7 +430,7 @@ module _ (start : Start) (es : List HostStep) (run : IsRun start es) (quiet : Ar
                   by (inl lt) = lt
                   by (inr ge) = absurd (apart (omega (arith, le, ge)))
 
-  none_aborts : (tx : TxId) (t : Transaction) (asked : Asked) → home start tx < hosts start
+  none_aborts : (tx : TxId) (t : Transaction) (asked : Asked) → home start tx < first_hosts start
       → IsLiveAs tx t (after start (home start tx) (logs_of start es (home start tx))) → t.asked ≡ Some asked
       → is_aborting t.phase ≡ true → ⊥
   none_aborts tx t asked low live is on =
@@ -453,12 +455,13 @@ module _ (start : Start) (es : List HostStep) (run : IsRun start es) (quiet : Ar
 
 -- quiet logs are those of a run
 pub quiet_runs : (start : Start) (logs : ℕ → List HostStep) → AreQuiet start logs
-    → IsRun start (merged (machine start) (hosts start) logs)
+    → IsRun start (merged (machine start) (first_hosts start) logs)
 quiet_runs start logs quiet = record {
   shape = quiet.shape;
-  run = merged_run (machine start) (stamped start) (hosts start) logs quiet.within quiet.right;
+  run = merged_run (machine start) (stamped start) (first_hosts start) logs quiet.within quiet.right;
   within =
-      subst (IsWithin (hosts start)) (sym (logs_merged (machine start) (hosts start) logs quiet.within quiet.right))
+      subst (IsWithin (first_hosts start))
+      (sym (logs_merged (machine start) (first_hosts start) logs quiet.within quiet.right))
       quiet.within;
 }
 
@@ -466,10 +469,10 @@ pub no_abort_waits : NoAbortWaits
 no_abort_waits start logs h tx t asked quiet low live is = by (is_aborting t.phase) refl
   where
     es : List HostStep
-    es = merged (machine start) (hosts start) logs
+    es = merged (machine start) (first_hosts start) logs
 
-    same : logs_of start (merged (machine start) (hosts start) logs) ≡ logs
-    same = logs_merged (machine start) (hosts start) logs quiet.within quiet.right
+    same : logs_of start (merged (machine start) (first_hosts start) logs) ≡ logs
+    same = logs_merged (machine start) (first_hosts start) logs quiet.within quiet.right
 
     at : h ≡ home start tx
     at = (at_home start tx h (logs h) t low (live_tx start tx h (logs h) t live)).is
@@ -477,7 +480,7 @@ no_abort_waits start logs h tx t asked quiet low live is = by (is_aborting t.pha
     by : (b : Bool) → is_aborting t.phase ≡ b → b ≡ false
     by false e = refl
     by true e =
-        absurd (none_aborts start (merged (machine start) (hosts start) logs) (quiet_runs start logs quiet)
+        absurd (none_aborts start (merged (machine start) (first_hosts start) logs) (quiet_runs start logs quiet)
         (subst (AreQuiet start) (sym same) quiet) tx t asked (omega (arith, low, at))
         (subst (λ (l : ℕ → List HostStep). IsLiveAs tx t (after start (home start tx) (l (home start tx)))) (sym same)
         (subst (λ k. IsLiveAs tx t (after start k (logs k))) at live)) is e)

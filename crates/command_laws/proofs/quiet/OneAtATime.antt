@@ -19,7 +19,7 @@ use Rattle.sig_core.specs.declared.request.ApiReq.{ApiReq}
 use Rattle.node_core.specs.Requests.{is_request}
 use Rattle.world_core.proofs.HostNumbers.{given_past}
 use Rattle.world_core.proofs.Stamped.{stamped}
-use Rattle.world_core.specs.Hosts.{first_membership, host_for, hosts}
+use Rattle.world_core.specs.Hosts.{first_membership, host_for, first_hosts}
 use Rattle.world_core.specs.Machine.{addressed, all_addressed, machine, sent_count, step_after}
 use Rattle.world_core.specs.Quiet.{IsQuiet}
 use Rattle.world_core.specs.Start.{Start}
@@ -42,11 +42,11 @@ first_of x y xs past = by (past_cases y past)
 
 -- one signal alone is under way
 pub record IsUnderWay (start : Start) (logs : ℕ → List HostStep) (x : Addressed) : Type 0 where
-  pub from : x.signal.from.0 < hosts start
-  pub to : x.to < hosts start
+  pub from : x.signal.from.0 < first_hosts start
+  pub to : x.to < first_hosts start
   pub ahead : sent (machine start) x.signal.from.0 x.to (logs x.signal.from.0)
       ≡ x ∷ taken (machine start) x.signal.from.0 (logs x.to)
-  pub others : (i j : ℕ) → i < hosts start → j < hosts start → (i ≡ x.signal.from.0 → j ≡ x.to → ⊥)
+  pub others : (i j : ℕ) → i < first_hosts start → j < first_hosts start → (i ≡ x.signal.from.0 → j ≡ x.to → ⊥)
       → taken (machine start) i (logs j) ≡ sent (machine start) i j (logs i)
 
 -- the logs with one more step
@@ -59,7 +59,7 @@ pub record GoesOn (start : Start) (P : Addressed → (ℕ → List HostStep) →
     (logs : ℕ → List HostStep) : Type 0 where
   pub out : Outgoing
   pub is : sends ≡ out ∷ []
-  pub there : host_for start out.to < hosts start
+  pub there : host_for start out.to < first_hosts start
   pub holds : (y : Addressed) → y.to ≡ host_for start out.to → y.signal.to ≡ out.to → y.signal.body ≡ out.body
       → P y logs
 
@@ -76,16 +76,17 @@ module _ (start : Start) (P : Addressed → (ℕ → List HostStep) → Type 0) 
 
   -- one signal is under way, or the command is done
   abbrev pub IsPhase : (ℕ → List HostStep) → Type 0
-  IsPhase logs = ((x : Addressed) × (IsUnderWay start logs x × P x logs)) ⊎ (IsQuiet m (hosts start) logs × D logs)
+  IsPhase logs =
+      ((x : Addressed) × (IsUnderWay start logs x × P x logs)) ⊎ (IsQuiet m (first_hosts start) logs × D logs)
 
   module _ (before after : ℕ → List HostStep) (e : HostStep) (next : IsNext before after e)
-      (low : e.host < hosts start) where
+      (low : e.host < first_hosts start) where
     abbrev sends : List Outgoing
     sends = (step_after start e.host (before e.host) e).effects.sends
 
     -- after the step all is taken that was sent before it
     abbrev AllTaken : Type 0
-    AllTaken = (i j : ℕ) → i < hosts start → j < hosts start → taken m i (after j) ≡ sent m i j (before i)
+    AllTaken = (i j : ℕ) → i < first_hosts start → j < first_hosts start → taken m i (after j) ≡ sent m i j (before i)
 
     -- what is so of the log of its host, and of the others as they were
     next_each : (Q : ℕ → List HostStep → Type 0) → Q e.host (e ∷ before e.host)
@@ -110,7 +111,7 @@ module _ (start : Start) (P : Addressed → (ℕ → List HostStep) → Type 0) 
     sent_none none i j =
         next_each (λ k log. sent m k j log ≡ sent m k j (before k)) (sent_put [] none j) (λ k off. refl) i
 
-    ends_quiet : AllTaken → sends ≡ [] → IsQuiet m (hosts start) after
+    ends_quiet : AllTaken → sends ≡ [] → IsQuiet m (first_hosts start) after
     ends_quiet all none i j under low = all i j under low ∙ sym (sent_none none i j)
 
     module _ (out : Outgoing) (one : sends ≡ out ∷ []) where
@@ -133,7 +134,7 @@ module _ (start : Start) (P : Addressed → (ℕ → List HostStep) → Type 0) 
           (ne_eqb (host_for start out.to) j (λ at. apart refl (sym at))))
           (λ k off apart. refl) i
 
-      pub goes_under_way : AllTaken → host_for start out.to < hosts start → IsUnderWay start after y
+      pub goes_under_way : AllTaken → host_for start out.to < first_hosts start → IsUnderWay start after y
       goes_under_way all there = record {
         from = low;
         to = there;
@@ -154,9 +155,9 @@ module _ (start : Start) (P : Addressed → (ℕ → List HostStep) → Type 0) 
         )
 
     -- a request takes nothing from a link
-    pub asked_all : is_request e.step.taken.body ≡ true → IsQuiet m (hosts start) before → AllTaken
+    pub asked_all : is_request e.step.taken.body ≡ true → IsQuiet m (first_hosts start) before → AllTaken
     asked_all asked quiet i j under =
-        next_each (λ k log. k < hosts start → taken m i log ≡ sent m i k (before i))
+        next_each (λ k log. k < first_hosts start → taken m i log ≡ sent m i k (before i))
         (λ below. taken-asked m i e (before e.host) asked ∙ quiet i e.host under below)
         (λ k off below. quiet i k under below) j
 
@@ -166,7 +167,7 @@ module _ (start : Start) (P : Addressed → (ℕ → List HostStep) → Type 0) 
     abbrev it : Addressed
     it = record { to = e.host; signal = e.step.taken }
 
-    module _ (plain : is_request e.step.taken.body ≡ false) (source_low : source < hosts start)
+    module _ (plain : is_request e.step.taken.body ≡ false) (source_low : source < first_hosts start)
         (past : IsPast (it ∷ taken m source (before e.host)) (sent m source e.host (before source))) where
       not_at_quiet : taken m source (before e.host) ≡ sent m source e.host (before source) → ⊥
       not_at_quiet even = longer it (taken m source (before e.host))
@@ -199,7 +200,7 @@ module _ (start : Start) (P : Addressed → (ℕ → List HostStep) → Type 0) 
 
         taken_all : AllTaken
         taken_all i j under =
-            next_each (λ k log. k < hosts start → taken m i log ≡ sent m i k (before i))
+            next_each (λ k log. k < first_hosts start → taken m i log ≡ sent m i k (before i))
             (λ below. here (cases_eq source i))
             (λ k off below. way.others i k under below (λ same at. off (same_host ∙ sym at))) j
           where
@@ -266,10 +267,10 @@ module _ (start : Start) (P : Addressed → (ℕ → List HostStep) → Type 0) 
       pub cut_before : IsCut before now
       cut_before h = past_trans (log_of-past m e es h) (cut h)
 
-      pub low_here : e.host < hosts start
-      low_here = by (cases_lt e.host (hosts start))
+      pub low_here : e.host < first_hosts start
+      low_here = by (cases_lt e.host (first_hosts start))
         where
-          by : (e.host < hosts start) ⊎ (hosts start ≤ e.host) → e.host < hosts start
+          by : (e.host < first_hosts start) ⊎ (first_hosts start ≤ e.host) → e.host < first_hosts start
           by (inl low) = low
           by (inr high) =
               let p = cut e.host in
@@ -301,8 +302,8 @@ module _ (start : Start) (P : Addressed → (ℕ → List HostStep) → Type 0) 
           (sent m from_here e.host (before from_here))
       past_here = given_past start from_here e.host (before from_here) _ (happens.takes plain_here)
 
-      pub source_here : from_here < hosts start
-      source_here = by (cases_lt from_here (hosts start))
+      pub source_here : from_here < first_hosts start
+      source_here = by (cases_lt from_here (first_hosts start))
         where
           empty : (xs : List HostStep) (log : List HostStep) → [] ≡ xs ++ log → log ≡ []
           empty [] log is = sym is
@@ -312,7 +313,7 @@ module _ (start : Start) (P : Addressed → (ℕ → List HostStep) → Type 0) 
           nothing [] x ys is = cc
           nothing (z ∷ xs) x ys is = cc
 
-          by : (from_here < hosts start) ⊎ (hosts start ≤ from_here) → from_here < hosts start
+          by : (from_here < first_hosts start) ⊎ (first_hosts start ≤ from_here) → from_here < first_hosts start
           by (inl under) = under
           by (inr high) =
               let none : before from_here ≡ [] =
@@ -330,7 +331,7 @@ module _ (start : Start) (P : Addressed → (ℕ → List HostStep) → Type 0) 
           (asked_all was (with_first was f.first) f.first next_first first_low
           (ap is_request f.body) served.before.quiet) steered.begins
         where
-          first_low : f.first.host < hosts start
+          first_low : f.first.host < first_hosts start
           first_low = omega (arith, at_shell)
 
       -- all along the steps since the request, as far as they are those of these logs
@@ -347,7 +348,7 @@ module _ (start : Start) (P : Addressed → (ℕ → List HostStep) → Type 0) 
           next : IsNext (log_of m es) (log_of m (e ∷ es)) e
           next = next_here es e run happens since cut
 
-          low : e.host < hosts start
+          low : e.host < first_hosts start
           low = low_here es e run happens since cut
 
           by : IsPhase (log_of m es) → IsPhase (log_of m (e ∷ es))
@@ -374,7 +375,7 @@ module _ (start : Start) (P : Addressed → (ℕ → List HostStep) → Type 0) 
 
       phase_now : IsPhase now
       phase_now =
-          (along_cuts m (stamped start) Goes goes_step (hosts start)
+          (along_cuts m (stamped start) Goes goes_step (first_hosts start)
           (with_first was f.first) now served.since.within served.since.right f.right cut_first
           (record { since = past_self (f.first ∷ was 0); phase = λ cut. phase_first })).phase (λ h. past_self (now h))
 

@@ -17,7 +17,7 @@ use Rattle.sig_core.specs.declared.signal.host.Work.TheVariants.{Request}
 use Rattle.frag_map.specs.Shape.{IsShape}
 use Rattle.node_core.specs.Requests.{is_request}
 use Rattle.world_core.proofs.Stamped.{stamped}
-use Rattle.world_core.specs.Hosts.{hosts}
+use Rattle.world_core.specs.Hosts.{first_hosts}
 use Rattle.world_core.specs.Machine.{machine}
 use Rattle.world_core.specs.Quiet.{IsQuiet}
 use Rattle.world_core.specs.Requests.{AreAskedAtQuiet, QuietBefore, request_in, requests}
@@ -80,7 +80,7 @@ only_first start =
     }
 
 module _ (start : Start) (logs : ℕ → List HostStep) (right : AreLogs (machine start) logs)
-    (within : IsWithin (hosts start) logs) (at_quiet : AreAskedAtQuiet start logs) where
+    (within : IsWithin (first_hosts start) logs) (at_quiet : AreAskedAtQuiet start logs) where
   -- behind this log of host 0 comes a quiet moment before anything else is asked for
   pub record IsDriven (log : List HostStep) : Type 0 where
     pub between : List HostStep
@@ -88,11 +88,11 @@ module _ (start : Start) (logs : ℕ → List HostStep) (right : AreLogs (machin
     pub ends : QuietBefore start logs (between ++ log)
 
   driven : (newer log : List HostStep) → logs 0 ≡ newer ++ log
-      → IsQuiet (machine start) (hosts start) logs ⊎ IsAskedAgain start newer → IsDriven log
+      → IsQuiet (machine start) (first_hosts start) logs ⊎ IsAskedAgain start newer → IsDriven log
   driven newer log is ends = by (first_asked newer) ends
     where
       by : (requests newer ≡ []) ⊎ FirstAsked newer
-          → IsQuiet (machine start) (hosts start) logs ⊎ IsAskedAgain start newer → IsDriven log
+          → IsQuiet (machine start) (first_hosts start) logs ⊎ IsAskedAgain start newer → IsDriven log
       by (inr first) ends =
           record {
             between = first.between;
@@ -125,7 +125,7 @@ module _ (start : Start) (logs : ℕ → List HostStep) (right : AreLogs (machin
         record {
           shape = shape;
           right = q.right;
-          within = within_cut (machine start) (stamped start) (hosts start) q.inside logs within q.cut;
+          within = within_cut (machine start) (stamped start) (first_hosts start) q.inside logs within q.cut;
           quiet = q.quiet;
         }
 
@@ -153,7 +153,8 @@ module _ (start : Start) (logs : ℕ → List HostStep) (right : AreLogs (machin
 
         cut : IsCut begins.inside d.ends.inside
         cut =
-            quiet_cut (machine start) (stamped start) (only_first start) (hosts start) begins.inside d.ends.inside logs
+            quiet_cut (machine start) (stamped start) (only_first start) (first_hosts start) begins.inside d.ends.inside
+            logs
             (record {
               was_cut = begins.cut;
               now_cut = d.ends.cut;

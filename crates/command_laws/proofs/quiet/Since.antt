@@ -12,7 +12,7 @@ use Rattle.sig_core.specs.declared.place.Place.{Place}
 use Rattle.sig_core.specs.declared.signal.Body.{Body}
 use Rattle.node_core.specs.Requests.{is_request}
 use Rattle.world_core.proofs.HostNumbers.{given_past}
-use Rattle.world_core.specs.Hosts.{hosts}
+use Rattle.world_core.specs.Hosts.{first_hosts}
 use Rattle.world_core.specs.Machine.{machine, step_after}
 use Rattle.world_core.specs.Start.{Start}
 use Rattle.world_core.specs.Steps.{Addressed, HostStep}
@@ -88,20 +88,20 @@ module _ (start : Start) (was now : ℕ → List HostStep) (before : AreQuiet st
 
   module _ (test : Place → Body → Bool) where
     -- all that was sent before was taken
-    pub all_taken : (i j : ℕ) → j < hosts start
+    pub all_taken : (i j : ℕ) → j < first_hosts start
         → signals test (sent (machine start) i j (was i)) ≤ signals test (taken (machine start) i (was j))
-    all_taken i j low = by (cases_lt i (hosts start))
+    all_taken i j low = by (cases_lt i (first_hosts start))
       where
-        by : (i < hosts start) ⊎ (hosts start ≤ i)
+        by : (i < first_hosts start) ⊎ (first_hosts start ≤ i)
             → signals test (sent (machine start) i j (was i)) ≤ signals test (taken (machine start) i (was j))
         by (inl under) = omega (arith, ap (signals test) (before.quiet i j under low))
         by (inr high) = omega (arith, ap (λ log. signals test (sent (machine start) i j log)) (before.within i high))
 
     -- of the signals that pass a test no more were taken from a link than were sent
     pub few_taken : (i j : ℕ) → taken_since start test i (newer_at j) ≤ sent_since start test i (newer_at i) (was i)
-    few_taken i j = by (cases_lt j (hosts start))
+    few_taken i j = by (cases_lt j (first_hosts start))
       where
-        by : (j < hosts start) ⊎ (hosts start ≤ j)
+        by : (j < first_hosts start) ⊎ (first_hosts start ≤ j)
             → taken_since start test i (newer_at j) ≤ sent_since start test i (newer_at i) (was i)
         by (inl low) =
             omega (
@@ -130,17 +130,17 @@ module _ (start : Start) (was now : ℕ → List HostStep) (before : AreQuiet st
         go true b p q = cc
 
     -- a host that isn't there sends nothing
-    pub none_sent : ((i : ℕ) → i < hosts start → sent_since start test i (newer_at i) (was i) ≡ 0) → (i : ℕ)
+    pub none_sent : ((i : ℕ) → i < first_hosts start → sent_since start test i (newer_at i) (was i) ≡ 0) → (i : ℕ)
         → sent_since start test i (newer_at i) (was i) ≡ 0
-    none_sent none i = by (cases_lt i (hosts start))
+    none_sent none i = by (cases_lt i (first_hosts start))
       where
-        by : (i < hosts start) ⊎ (hosts start ≤ i) → sent_since start test i (newer_at i) (was i) ≡ 0
+        by : (i < first_hosts start) ⊎ (first_hosts start ≤ i) → sent_since start test i (newer_at i) (was i) ≡ 0
         by (inl low) = none i low
         by (inr high) = ap (λ newer. sent_since start test i newer (was i))
             (front_nil (newer_at i) (was i) (sym (since.within i high) ∙ (cut i).is))
 
     -- what no host has sent since then none has taken
-    pub none_taken : ((i : ℕ) → i < hosts start → sent_since start test i (newer_at i) (was i) ≡ 0) → (j : ℕ)
+    pub none_taken : ((i : ℕ) → i < first_hosts start → sent_since start test i (newer_at i) (was i) ≡ 0) → (j : ℕ)
         → Each (λ (e : HostStep). is_request e.step.taken.body ≡ false → test e.step.taken.to e.step.taken.body ≡ false)
         (newer_at j)
     none_taken none j = each_from _ (newer_at j) one
@@ -155,7 +155,7 @@ module _ (start : Start) (was now : ℕ → List HostStep) (before : AreQuiet st
             ap (λ b. b && test e.step.taken.to e.step.taken.body) (sym (from_link i e plain refl)) ∙ off
 
     -- all that was sent to a host since then was taken there
-    pub all_arrive : (i j : ℕ) → i < hosts start → j < hosts start
+    pub all_arrive : (i j : ℕ) → i < first_hosts start → j < first_hosts start
         → sent_since_to start test i j (newer_at i) (was i) ≤ taken_since start test i (newer_at j)
     all_arrive i j under low =
         omega (
@@ -169,6 +169,7 @@ module _ (start : Start) (was now : ℕ → List HostStep) (before : AreQuiet st
         )
 
     -- so what was sent to a host since then came to it
-    pub arrives : (i j : ℕ) → i < hosts start → j < hosts start → 1 ≤ sent_since_to start test i j (newer_at i) (was i)
+    pub arrives : (i j : ℕ) → i < first_hosts start → j < first_hosts start
+        → 1 ≤ sent_since_to start test i j (newer_at i) (was i)
         → 1 ≤ steps test (newer_at j)
     arrives i j under low some = omega (arith, some, all_arrive i j under low, taken_few start test i (newer_at j))

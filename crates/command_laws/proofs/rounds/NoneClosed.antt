@@ -22,7 +22,7 @@ use Rattle.node_core.specs.Blocks.{lqh_of}
 use Rattle.node_core.specs.Fresh.{fresh_part}
 use Rattle.node_core.specs.Requests.{is_request}
 use Rattle.world_core.proofs.HostNumbers.{host_below, rows_run, rows_started}
-use Rattle.world_core.specs.Hosts.{host_for, hosts, rows_host}
+use Rattle.world_core.specs.Hosts.{host_for, first_hosts, rows_host}
 use Rattle.world_core.specs.Machine.{after, machine, step_after}
 use Rattle.world_core.specs.Start.{Start}
 use Rattle.world_core.specs.Steps.{HostStep}
@@ -88,7 +88,7 @@ module _ (start : Start) (key : List ℕ) (node : ℕ) (some_node : 1 ≤ node) 
   abbrev closed : List HostStep → Bool
   closed log = is_closed key (lqh_of (after start at log)).locks
 
-  low : at < hosts start
+  low : at < first_hosts start
   low = host_below start (rows_of node) some_node few_nodes
 
   -- while a wait is closed the rows go on

@@ -36,7 +36,7 @@ use Rattle.node_core.specs.Replies.{replies_of}
 use Rattle.node_core.specs.Requests.{is_request}
 use Rattle.world_core.proofs.HostNumbers.{api_runs, host_below, rows_host_apart}
 use Rattle.world_core.proofs.Replies.{replies_grow}
-use Rattle.world_core.specs.Hosts.{hosts, rows_host}
+use Rattle.world_core.specs.Hosts.{first_hosts, rows_host}
 use Rattle.world_core.specs.Machine.{after, machine, step_after}
 use Rattle.world_core.specs.Start.{Start}
 use Rattle.world_core.specs.Steps.{HostStep}
@@ -297,7 +297,7 @@ module _ (start : Start) (was now : ℕ → List HostStep) (round of : ℕ)
     abbrev r : ℕ
     r = rows_host start node
 
-    there : r < hosts start
+    there : r < first_hosts start
     there = host_below start (rows_of node) some low
 
     first_sends : sends_of (to_host start r is_round_to) (step_after start 0 (was 0) f.first).effects.sends ≡ 1

@@ -35,7 +35,7 @@ use Rattle.tc_block.specs.declared.phase.Phase.{Phase}
 use Rattle.tc_block.specs.declared.phase.Phase.TheVariants.{Open, Verifying, Committing, Completing, Aborting}
 use Rattle.tc_block.specs.declared.transaction.Transaction.{Transaction}
 use Rattle.tc_block.specs.Phases.{is_aborting}
-use Rattle.world_core.specs.Hosts.{home, hosts}
+use Rattle.world_core.specs.Hosts.{home, first_hosts}
 use Rattle.world_core.specs.Machine.{after, step_after}
 use Rattle.world_core.specs.Start.{Start}
 use Rattle.world_core.specs.Steps.{HostStep}
@@ -131,7 +131,7 @@ module _ (start : Start) (was now : ℕ → List HostStep) (request : ApiReq) (c
   held : IsHeldUp start was tx
   held = each_held_up start was item served.before there tx own operating
 
-  low : home start tx < hosts start
+  low : home start tx < first_hosts start
   low = live_low start was tx held.transaction served.before (home start tx) held.live
 
   taken_so : IsTaken start was now request served f out one_sent low now
@@ -176,7 +176,7 @@ module _ (start : Start) (was now : ℕ → List HostStep) (request : ApiReq) (c
   run =
       rolled_since tx start (home start tx) taken_so.newer (was (home start tx)) taken_so.step is_roll_taken rolled_was
 
-  silent : (h : ℕ) → h < hosts start → sent_since start (is_stray tx) h (cut h).newer (was h) ≡ 0
+  silent : (h : ℕ) → h < first_hosts start → sent_since start (is_stray tx) h (cut h).newer (was h) ≡ 0
   silent h under = by (cases_eq (home start tx) h)
     where
       by : (home start tx ≡ h) ⊎ (home start tx ≢ h) → sent_since start (is_stray tx) h (cut h).newer (was h) ≡ 0

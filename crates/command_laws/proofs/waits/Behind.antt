@@ -22,7 +22,7 @@ use Rattle.row_locks.specs.Tables.{Locks, ahead_at, lock_at, some_if}
 use Rattle.node_core.specs.Blocks.{lqh_of}
 use Rattle.node_core.specs.Requests.{is_request}
 use Rattle.node_core.specs.Row.{row}
-use Rattle.world_core.specs.Hosts.{hosts, rows_host}
+use Rattle.world_core.specs.Hosts.{first_hosts, rows_host}
 use Rattle.world_core.specs.Machine.{after}
 use Rattle.world_core.specs.Start.{Start}
 use Rattle.world_core.specs.Steps.{HostStep}
@@ -167,7 +167,7 @@ module _ (start : Start) (was mid : ℕ → List HostStep) (tx who : TxId) (befo
         shell_silent (is_finding_who tx who) (no_find_api tx who)
             start (cut 0).newer (was 0),
       ))
-      by (suc k) at = there (cases_lt (suc k) (hosts start))
+      by (suc k) at = there (cases_lt (suc k) (first_hosts start))
         where
           b : SentBy start (is_finding_who tx who) (suc k) (cut (suc k)).newer (was (suc k))
           b = sent_by start (is_finding_who tx who) (suc k) (cut (suc k)).newer (was (suc k)) (sent_at (suc k) at)
@@ -188,7 +188,7 @@ module _ (start : Start) (was mid : ℕ → List HostStep) (tx who : TxId) (befo
               (logs_keep_well start (suc k) (was (suc k))).orderly none found.is)
 
           -- who has locks is the host of a node's rows
-          there : (suc k < hosts start) ⊎ (hosts start ≤ suc k) → IsBehindThere
+          there : (suc k < first_hosts start) ⊎ (first_hosts start ≤ suc k) → IsBehindThere
           there (inl low) =
               let n = ahead_rows start (suc k) (was (suc k)) low found.key tx who found.is in
               record {

@@ -27,7 +27,7 @@ use Rattle.node_core.specs.declared.host.Host.TheVariants.{Ldm, Main, Shell, Tc}
 use Rattle.node_core.specs.Replies.{is_left_open, replies_of}
 use Rattle.tc_block.specs.declared.transaction.Transaction.{Transaction}
 use Rattle.world_core.proofs.HostNumbers.{api_runs, host_below}
-use Rattle.world_core.specs.Hosts.{home, hosts, receiver, rows_host}
+use Rattle.world_core.specs.Hosts.{home, first_hosts, receiver, rows_host}
 use Rattle.world_core.specs.Machine.{after, machine, step_after}
 use Rattle.world_core.specs.Requests.{request_in, requests}
 use Rattle.world_core.specs.Start.{Start}
@@ -185,20 +185,20 @@ module _ (answered : EachIsAnswered) (held_up : EachIsHeldUp) (start : Start) (w
   cut (suc h) = record { newer = log_of (machine start) all.more (suc h); is = all.is (suc h) }
 
   -- where it is held up is a host that is there
-  held_low : m_host < hosts start
+  held_low : m_host < first_hosts start
   held_low = by up.member.node refl
     where
-      by : (node : ℕ) → up.member.node ≡ node → m_host < hosts start
+      by : (node : ℕ) → up.member.node ≡ node → m_host < first_hosts start
       by zero is = omega (arith, ap (rows_host start) is, shell_place start)
       by (suc n) is = host_below start (rows_of up.member.node) (omega (arith, is)) up.low
 
   -- the question goes to the coordinator, from there to the node where the lock is, and the answer back
   module _ (c m : ℕ) (c_is : c_host ≡ suc c) (m_is : m_host ≡ suc m) where
-    c_low : suc c < hosts start
+    c_low : suc c < first_hosts start
     c_low =
         let low = live_low start was w.tx up.transaction first_served.before c_host up.live in omega (arith, low, c_is)
 
-    m_low : suc m < hosts start
+    m_low : suc m < first_hosts start
     m_low = omega (arith, held_low, m_is)
 
     -- a host sends on to host k as many as it takes

@@ -26,7 +26,7 @@ use Rattle.tc_block.specs.declared.phase.Asked.{Asked}
 use Rattle.tc_block.specs.declared.transaction.Transaction.{Transaction}
 use Rattle.world_core.proofs.HostNumbers.{given_past}
 use Rattle.world_core.proofs.Stamped.{stamped}
-use Rattle.world_core.specs.Hosts.{first_membership, home, hosts, rows_host}
+use Rattle.world_core.specs.Hosts.{first_membership, home, first_hosts, rows_host}
 use Rattle.world_core.specs.Machine.{IsAsked, after, machine, step_after}
 use Rattle.world_core.specs.Requests.{request_in, requests}
 use Rattle.world_core.specs.Start.{Start}
@@ -77,16 +77,17 @@ module _ (start : Start) (was : ℕ → List HostStep) (before : AreQuiet start 
 
   -- as long as nothing else is asked for
   record Holds (logs : ℕ → List HostStep) : Type 0 where
-    holds : IsWithin (hosts start) logs → length (requests (logs 0)) ≤ length (requests (first ∷ was 0)) → AllHold logs
+    holds : IsWithin (first_hosts start) logs → length (requests (logs 0)) ≤ length (requests (first ∷ was 0))
+        → AllHold logs
 
   module _ (logs : ℕ → List HostStep) (all : AllHold logs) where
     -- of other signals no more are sent than were taken before
-    few_others : (i j : ℕ) → j < hosts start → IsWithin (hosts start) logs
+    few_others : (i j : ℕ) → j < first_hosts start → IsWithin (first_hosts start) logs
         → signals (is_other tx) (sent (machine start) i j (logs i))
         ≤ signals (is_other tx) (taken (machine start) i (was j))
-    few_others i j low within = by i (cases_lt i (hosts start))
+    few_others i j low within = by i (cases_lt i (first_hosts start))
       where
-        by : (i : ℕ) → (i < hosts start) ⊎ (hosts start ≤ i)
+        by : (i : ℕ) → (i < first_hosts start) ⊎ (first_hosts start ≤ i)
             → signals (is_other tx) (sent (machine start) i j (logs i))
             ≤ signals (is_other tx) (taken (machine start) i (was j))
         by i (inr high) =
@@ -124,7 +125,8 @@ module _ (start : Start) (was : ℕ → List HostStep) (before : AreQuiet start 
 
   -- so what comes is a question or an answer to one
   comes_wait : (es : List HostStep) (e : HostStep) → Happens (machine start) es e → AllHold (log_of (machine start) es)
-      → IsWithin (hosts start) (log_of (machine start) es) → e.host < hosts start → is_request e.step.taken.body ≡ false
+      → IsWithin (first_hosts start) (log_of (machine start) es) → e.host < first_hosts start
+      → is_request e.step.taken.body ≡ false
       → is_wait_of tx e.step.taken.body ≡ true
   comes_wait es e happens all within low plain =
       is_wait (is_wait_of tx e.step.taken.body) (by (is_other tx e.step.taken.to e.step.taken.body) refl)
@@ -202,8 +204,8 @@ module _ (start : Start) (was : ℕ → List HostStep) (before : AreQuiet start 
             length-append (requests (first ∷ was 0)) (requests (log_of (machine start) all.more 0)),
           ))
 
-  within_less : (es : List HostStep) (e : HostStep) → IsWithin (hosts start) (log_of (machine start) (e ∷ es))
-      → IsWithin (hosts start) (log_of (machine start) es)
+  within_less : (es : List HostStep) (e : HostStep) → IsWithin (first_hosts start) (log_of (machine start) (e ∷ es))
+      → IsWithin (first_hosts start) (log_of (machine start) es)
   within_less es e within h high = let past = log_of-past (machine start) e es h in
       older_nil past.newer (log_of (machine start) es h) (sym (within h high) ∙ past.is)
     where
@@ -211,11 +213,11 @@ module _ (start : Start) (was : ℕ → List HostStep) (before : AreQuiet start 
       older_nil [] log is = sym is
       older_nil (x ∷ newer) log is = absurd cc
 
-  under_hosts : (es : List HostStep) (e : HostStep) → IsWithin (hosts start) (log_of (machine start) (e ∷ es))
-      → e.host < hosts start
-  under_hosts es e within = by (cases_lt e.host (hosts start))
+  under_hosts : (es : List HostStep) (e : HostStep) → IsWithin (first_hosts start) (log_of (machine start) (e ∷ es))
+      → e.host < first_hosts start
+  under_hosts es e within = by (cases_lt e.host (first_hosts start))
     where
-      by : (e.host < hosts start) ⊎ (hosts start ≤ e.host) → e.host < hosts start
+      by : (e.host < first_hosts start) ⊎ (first_hosts start ≤ e.host) → e.host < first_hosts start
       by (inl low) = low
       by (inr high) = absurd (let none : e ∷ log_of (machine start) es e.host ≡ [] = sym
           (log_of-own (machine start) e es e.host refl) ∙ within e.host high in cc)
@@ -235,7 +237,7 @@ module _ (start : Start) (was : ℕ → List HostStep) (before : AreQuiet start 
       → Holds (log_of (machine start) es) → Holds (log_of (machine start) (e ∷ es))
   event_holds es e run happens h = record { holds = now }
     where
-      now : IsWithin (hosts start) (log_of (machine start) (e ∷ es))
+      now : IsWithin (first_hosts start) (log_of (machine start) (e ∷ es))
           → length (requests (log_of (machine start) (e ∷ es) 0)) ≤ length (requests (first ∷ was 0))
           → AllHold (log_of (machine start) (e ∷ es))
       now within few =
@@ -249,7 +251,7 @@ module _ (start : Start) (was : ℕ → List HostStep) (before : AreQuiet start 
       → IsCut (with_first was first) now → requests (now 0) ≡ requests (first ∷ was 0)
       → IsAboutOne front t back own None (api_of (after start 0 (first ∷ was 0))) → AllHold now
   all_hold now right quiet cut same about =
-      (along_cuts (machine start) (stamped start) Holds event_holds (hosts start) (with_first was first) now
+      (along_cuts (machine start) (stamped start) Holds event_holds (first_hosts start) (with_first was first) now
       quiet.within quiet.right right cut begin).holds quiet.within (omega (arith, ap length same))
     where
       begin : Holds (with_first was first)

@@ -6,6 +6,7 @@ use Rattle.host_laws.proofs.hosts.Sums.{total_one, total_zero}
 use Rattle.sig_core.specs.declared.member.Member.{Member}
 use Rattle.sig_core.specs.declared.member.TxId.{TxId}
 use Rattle.frag_map.specs.Replicas.{first_start}
+use Rattle.world_core.proofs.MadeFirst.{begins_made, made_begins, nobody_starts}
 use Rattle.world_core.specs.Hosts.{hosts}
 use Rattle.world_core.specs.Start.{Start, made}
 use Rattle.world_core.specs.Steps.{HostStep}
@@ -19,7 +20,7 @@ use Rattle.moment_laws.proofs.MomentViews.{moment_less}
 use Rattle.outcome_laws.specs.Counts.{coordinator_member}
 use Rattle.request_laws.specs.Tokens.{all_sent, sent_along}
 use Rattle.request_laws.proofs.routes.Hosts.{PartHost, beside_sends, coordinates, is_beside, keeps_rows, part_host}
-use Rattle.request_laws.proofs.tokens.FirstInView.{node_of, sent_now, total_of_one, total_of_zero}
+use Rattle.request_laws.proofs.tokens.FirstInView.{node_of, sent_now, total_of_made, total_of_zero}
 use Rattle.commit_laws.specs.Once.{owners_sent}
 use Rattle.commit_laws.proofs.drive.Foreign.{IsLedIn, none_now, other_now, rows_now}
 use Rattle.commit_laws.proofs.drive.Kinds.{Drive, goes, numbered}
@@ -92,15 +93,15 @@ module _ (start : Start) (all : ℕ → List HostStep) (tx : TxId) (number : ℕ
 
       own_is : node_of me.node ≡ me
       own_is =
-          let first = first_of start.shape.nodes me there in
+          let first = first_of start.shape.nodes me (made_begins start (nobody_starts start) me there) in
           ap first_start (ap (λ (m : Member). m.node) first.is) ∙ sym first.is
 
       pub owners_own : (drive : Drive) (wk : List ℕ → Bool)
           → owners_sent start (numbered number (goes drive (mine tx wk))) logs ≤ along drive wk me
       owners_own drive wk =
-          let all_of = total_of_one start.shape.nodes (λ m. 0) (λ m. along drive wk m) me.node
+          let all_of = total_of_made start (λ m. 0) (λ m. along drive wk m) me.node
           (node_some start me there) (node_low start me there)
           (λ k some low off.
-          no_keys es moment (node_of k) (first_in start.shape.nodes k some low)
+          no_keys es moment (node_of k) (begins_made start _ (first_in start.shape.nodes k some low))
           (λ is. off (sym (ap (λ (m : Member). m.node) is))) drive wk) in
           omega (arith, all_of, total_of_zero (made start) (λ m. 0) (λ m there. refl), ap (along drive wk) own_is)

@@ -11,6 +11,7 @@ use Rattle.sig_core.specs.declared.member.Member.{Member}
 use Rattle.sig_core.specs.declared.signal.Signal.{Signal}
 use Rattle.frag_map.specs.Replicas.{first_start}
 use Rattle.tc_block.specs.Complete.{one_if}
+use Rattle.world_core.proofs.MadeFirst.{begins_made, made_begins, nobody_starts}
 use Rattle.world_core.specs.Hosts.{hosts}
 use Rattle.world_core.specs.Start.{Start, made}
 use Rattle.world_core.specs.Steps.{Addressed, HostStep}
@@ -30,7 +31,7 @@ use Rattle.request_laws.proofs.routes.Hosts.{PartHost, coordinates, is_beside, k
 use Rattle.request_laws.proofs.tokens.RowHosts.{sent_few}
 use Rattle.request_laws.proofs.tokens.SumsOverHosts.{takes_few}
 use Rattle.request_laws.proofs.tokens.FirstInView.{all_sent_more, all_taken_more, node_of, sent_now, taken_now}
-use Rattle.request_laws.proofs.tokens.FirstInView.{total_of_one}
+use Rattle.request_laws.proofs.tokens.FirstInView.{total_of_made}
 use Rattle.commit_laws.specs.Once.{owners_sent}
 use Rattle.commit_laws.proofs.drive.Hosts.{beside_none, coordinator_tells_none, other_none, rows_few}
 use Rattle.commit_laws.proofs.drive.Kinds.{Drive, Keys, comes, either, either_aside, either_parts, goes, numbered}
@@ -153,7 +154,7 @@ module _ (start : Start) (all : ℕ → List HostStep) (e : HostStep) (es : List
     module _ (me : Member) (there : IsIn me (made start)) (at : e.host ≡ tc_of start me) where
       own_is : node_of me.node ≡ me
       own_is =
-          let first = first_of start.shape.nodes me there in
+          let first = first_of start.shape.nodes me (made_begins start (nobody_starts start) me there) in
           ap first_start (ap (λ (m : Member). m.node) first.is) ∙ sym first.is
 
       others : (k : ℕ) → 1 ≤ k → k ≤ start.shape.nodes → k ≢ me.node
@@ -163,7 +164,7 @@ module _ (start : Start) (all : ℕ → List HostStep) (e : HostStep) (es : List
           (λ same.
           off
           (let own = tc_number start me there in
-          let other = tc_number start (node_of k) (first_in start.shape.nodes k some low) in
+          let other = tc_number start (node_of k) (begins_made start _ (first_in start.shape.nodes k some low)) in
           omega (arith, own, other, at, same, node_some start me there, some)))
 
       pub owners_more : owners_sent start p behind ≡ owners_sent start p before + sent_now start all e es moment p
@@ -171,7 +172,7 @@ module _ (start : Start) (all : ℕ → List HostStep) (e : HostStep) (es : List
           let swapped : owners_sent start p behind + along me before ≡ owners_sent start p before + along me behind =
           subst
           (λ one. owners_sent start p behind + along one before ≡ owners_sent start p before + along one behind) own_is
-          (total_of_one start.shape.nodes (λ m. along m before) (λ m. along m behind) me.node
+          (total_of_made start (λ m. along m before) (λ m. along m behind) me.node
           (node_some start me there) (node_low start me there) others) in
           omega (arith, swapped, along_own (tc_of start me) at)
 

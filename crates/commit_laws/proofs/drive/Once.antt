@@ -17,6 +17,8 @@ use Rattle.sig_core.specs.declared.signal.Signal.{Signal}
 use Rattle.sig_core.specs.declared.view.View.{View}
 use Rattle.tc_block.specs.Complete.{one_if}
 use Rattle.lqh_block.specs.Views.{is_coordinated, was_begun_by}
+use Rattle.frag_map.specs.Layout.{members}
+use Rattle.world_core.proofs.MadeFirst.{begins_made}
 use Rattle.world_core.specs.Hosts.{hosts}
 use Rattle.world_core.specs.Start.{Start, made}
 use Rattle.world_core.specs.Steps.{Addressed, HostStep}
@@ -96,15 +98,15 @@ module _ (start : Start) (all : ℕ → List HostStep) (es : List HostStep) (mom
       subst (λ m. IsIn m (made start)) (same one.item (eqb-true one.item.node tx.tc parts.0)
       (eqb-true one.item.start tx.start parts.1))
       (inside one.item
-      (each_in (λ (m : Member). IsIn m (made start) ⊎ ⊥) one.item view.full
+      (each_in (λ (m : Member). IsIn m (members start.shape.nodes) ⊎ ⊥) one.item view.full
       (first_part start all moment.cluster view was).full
       one.there))
     where
       same : (m : Member) → m.node ≡ tx.tc → m.start ≡ tx.start → m ≡ coordinator_member tx
       same m node begun = λ i. record { node = node i; start = begun i }
 
-      inside : (m : Member) → IsIn m (made start) ⊎ ⊥ → IsIn m (made start)
-      inside m (inl there) = there
+      inside : (m : Member) → IsIn m (members start.shape.nodes) ⊎ ⊥ → IsIn m (made start)
+      inside m (inl there) = begins_made start m there
       inside m (inr nowhere) = absurd nowhere
 
 module _ (takeovers : TakeoversDriveOnce) (start : Start) (tx : TxId) (number : ℕ) (drive : Drive) (key : List ℕ) where

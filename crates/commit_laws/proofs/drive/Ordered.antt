@@ -14,6 +14,7 @@ use Rattle.sig_core.specs.declared.member.TxId.{TxId}
 use Rattle.sig_core.specs.declared.signal.Signal.{Signal}
 use Rattle.sig_core.specs.declared.view.View.{View}
 use Rattle.lqh_block.specs.Views.{is_coordinated}
+use Rattle.world_core.proofs.MadeFirst.{hosts_first, made_first, nobody_starts}
 use Rattle.world_core.specs.Hosts.{hosts}
 use Rattle.world_core.specs.Start.{Start, made}
 use Rattle.world_core.specs.Steps.{HostStep}
@@ -99,12 +100,14 @@ takeovers_drive_once orders start all es moment tx number was drive key =
           (λ me. taken_along start q (logs (suc ((me.node - 1) * 3 + 1))))
           (λ me there. ap (λ h. taken_along start q (logs h)) (tc_number start me there)),
       members_few start.shape.nodes (λ h. taken_along start q (logs h)),
+      ap (λ ms. total_of ms (λ me. taken_along start q (logs (suc ((me.node - 1) * 3 + 1)))))
+          (made_first start (nobody_starts start)),
       ap (λ k. total k (λ h. taken_along start q (logs h))) as_many,
       orders start all es moment number,
     )
   where
     as_many : suc (start.shape.nodes * 3) ≡ hosts start
-    as_many = omega arith
+    as_many = omega (arith, hosts_first start (nobody_starts start))
 
     logs : ℕ → List HostStep
     logs = logs_of start es

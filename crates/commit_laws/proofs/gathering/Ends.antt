@@ -24,6 +24,7 @@ use Rattle.lqh_views.specs.State.{ReplicaState}
 use Rattle.lqh_views.specs.WholeReports.{asks, ends}
 use Rattle.node_views.specs.declared.host_body.HostBody as hosts_of
 use Rattle.node_views.specs.Fence.{is_body_fenced}
+use Rattle.world_core.proofs.HostNumbers.{hosts_low}
 use Rattle.world_core.specs.Hosts.{hosts}
 use Rattle.world_core.specs.Start.{Start, made}
 use Rattle.world_core.specs.Steps.{HostStep}
@@ -78,7 +79,7 @@ module _ (start : Start) (all : ℕ → List HostStep) (member : Member) (there 
         let is = ldm_number start member there in
         let node = node_low start member there in
         let some = node_some start member there in
-        omega (arith, is, node, some)
+        omega (arith, is, node, some, hosts_low start)
 
     -- in the view so many ends were sent, reports are under way, and asks were taken
     abbrev sent_of : List HostStep → ℕ

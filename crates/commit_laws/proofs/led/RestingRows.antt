@@ -31,6 +31,7 @@ use Rattle.key_laws.specs.Records.{AreOnce, found, if_committed, unless_committe
 use Rattle.key_laws.specs.Replica.{Cell, Replica, aborts, at_key, completes, key_after}
 use Rattle.key_laws.proofs.EpochLemmas.{state_found}
 use Rattle.key_laws.proofs.RecordLemmas.{if_keeps, unless_keeps}
+use Rattle.world_core.proofs.MadeFirst.{begins_made}
 use Rattle.world_core.proofs.HostNumbers.{node_host}
 use Rattle.world_core.specs.Hosts.{rows_host}
 use Rattle.world_core.specs.Marks.{has_mark}
@@ -333,7 +334,8 @@ module _ (start : Start) (all : ℕ → List HostStep) (es : List HostStep) (mom
       is : sits.one ≡ member
       is =
           made_same start sits.one member
-          (chain_full start key moment.cluster.shape first (nobody_later_first start.shape.nodes) sits.one sits.there)
+          (begins_made start sits.one
+          (chain_full start key moment.cluster.shape first (nobody_later_first start.shape.nodes) sits.one sits.there))
           in_made (sym sits.node ∙ own.is)
 
       chained_first : IsIn member (chain_of (layout_in start first) key)

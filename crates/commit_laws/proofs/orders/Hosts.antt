@@ -4,6 +4,7 @@ use Rattle.std.proofs.lemmas.Nat.{mod_below}
 use Rattle.frag_map.specs.Replicas.{first_start}
 use Rattle.run_theory.specs.Lists.{IsIn}
 use Rattle.sig_core.specs.declared.member.Member.{Member}
+use Rattle.world_core.proofs.MadeFirst.{begins_made, hosts_first, nobody_starts}
 use Rattle.world_core.specs.Hosts.{hosts}
 use Rattle.world_core.specs.Start.{Start, made}
 use Rattle.view_laws.specs.Votes.{main_of}
@@ -28,7 +29,9 @@ host_is start zero low = inr (is_client refl)
 host_is start (suc k) low = by (k % 3) refl
   where
     there : IsIn (first_start (k / 3 + 1)) (made start)
-    there = first_in start.shape.nodes (k / 3 + 1) (omega arith) (omega (arith, low))
+    there = begins_made start _
+        (first_in start.shape.nodes (k / 3 + 1) (omega arith)
+        (omega (arith, low, hosts_first start (nobody_starts start))))
 
     by : (left : ℕ) → k % 3 ≡ left → MainHost start (suc k) ⊎ OtherHost start (suc k)
     by zero e =

@@ -19,6 +19,7 @@ use Rattle.sig_core.specs.declared.member.Member.{Member}
 use Rattle.sig_core.specs.declared.signal.Signal.{Signal}
 use Rattle.sig_core.specs.declared.view.View.{View}
 use Rattle.qmgr_block.specs.Install.{is_oldest_of}
+use Rattle.world_core.proofs.MadeFirst.{nobody_starts}
 use Rattle.world_core.specs.Hosts.{hosts}
 use Rattle.world_core.specs.Start.{Start, made}
 use Rattle.world_core.specs.Steps.{Addressed, HostStep}
@@ -119,6 +120,7 @@ module _ (come_rightly : ViewsComeRightly) (start : Start) (is_shape : IsShape s
             (record {
               shape =
                   is_shape;
+              nobody = nobody_starts start;
               right = logs_of_run (machine start) (e ∷ es) (come.run, come.happens);
               within = within;
             })

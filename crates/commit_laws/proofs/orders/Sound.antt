@@ -16,7 +16,8 @@ use Rattle.sig_core.specs.declared.signal.host.HostSignal.TheVariants.{Closed}
 use Rattle.sig_core.specs.declared.signal.takeover.TakeoverSignal.TheVariants.{TakeoverOrd}
 use Rattle.sig_core.specs.Members.{nobody}
 use Rattle.node_views.specs.WellFormed.{is_body_sound, is_node, is_sender, is_view, is_well_formed}
-use Rattle.world_core.proofs.HostNumbers.{members_at}
+use Rattle.world_core.proofs.MadeFirst.{hosts_first, nobody_starts}
+use Rattle.world_core.proofs.HostNumbers.{made_at}
 use Rattle.world_core.specs.Hosts.{hosts, member_at}
 use Rattle.world_core.specs.Start.{Start, made}
 use Rattle.world_core.specs.Steps.{Addressed, HostStep}
@@ -70,9 +71,9 @@ module _ (start : Start) where
   sender_sound : (h : ℕ) → h < hosts start → is_sender start.shape (member_at (made start) h) ≡ true
   sender_sound zero low = refl
   sender_sound (suc h) low =
-      let few : h / 3 + 1 ≤ start.shape.nodes = omega (arith, low) in
+      let few : h / 3 + 1 ≤ start.shape.nodes = omega (arith, low, hosts_first start (nobody_starts start)) in
       subst (λ (member : Member). is_sender start.shape member ≡ true)
-      (sym (members_at start.shape.nodes (h / 3) nobody (omega (arith, few))))
+      (sym (made_at start (h / 3) nobody (omega (arith, few))))
       (or_left (is_node start.shape (h / 3 + 1)) _ (node_sound (h / 3 + 1) (omega arith) few))
 
   abbrev IsFrom : Addressed → Type 0

@@ -24,9 +24,11 @@ use Rattle.node_core.specs.Fresh.{fresh_part, fresh_shell}
 use Rattle.node_core.specs.Replies.{replies_of}
 use Rattle.tc_block.specs.State.{TcState}
 use Rattle.tc_block.specs.Tc.{tc_row}
-use Rattle.world_core.proofs.HostNumbers.{api_found, beyond_host, host_below, host_some, node_host, same_node, tc_after}
+use Rattle.world_core.proofs.HostNumbers.{api_found, beyond_first, host_below, host_some, node_host, same_node}
+use Rattle.world_core.proofs.HostNumbers.{tc_after}
 use Rattle.world_core.proofs.HostNumbers.{tc_found, tc_started}
-use Rattle.world_core.specs.Hosts.{home, host_for, hosts, member_at, number_of, part_by, rows_host, started, tc_host}
+use Rattle.world_core.specs.Hosts.{home, host_for, first_hosts, member_at, number_of, part_by, rows_host, started}
+use Rattle.world_core.specs.Hosts.{tc_host}
 use Rattle.world_core.specs.Machine.{after}
 use Rattle.world_core.specs.Start.{Start, made}
 use Rattle.world_core.specs.Steps.{HostStep}
@@ -111,7 +113,7 @@ module _ (start : Start) where
     pub low : s.node ≤ start.shape.nodes
     pub is : h ≡ tc_host start s.node
 
-  pub at_own_node : (h : ℕ) (log : List HostStep) → h < hosts start → has_tc (after start h log) ≡ true
+  pub at_own_node : (h : ℕ) (log : List HostStep) → h < first_hosts start → has_tc (after start h log) ≡ true
       → IsAtNode h (tc_of (after start h log))
   at_own_node h log low runs =
       let of = tc_found start h log low runs in
@@ -176,7 +178,7 @@ module _ (start : Start) where
                 low,
           ))
       there same (inl behind) (inl above) =
-          absurd (omega (arith, same, beyond_host start to above, host_below start one some low))
+          absurd (omega (arith, same, beyond_first start to above, host_below start one some low))
       there same (inl behind) (inr under) = same_node start to one (omega (arith, behind)) under some low same
 
       back : to.node ≡ one.node → host_for start to ≡ host_for start one
@@ -228,10 +230,10 @@ module _ (start : Start) where
   sent_to_tc node some low test only sends = sent_to_part (coordinator node) some low test only sends
 
   -- what is for a node that is there, or for the shell, goes to a host that is there
-  pub reaches : (to : Place) → to.node ≤ start.shape.nodes → host_for start to < hosts start
+  pub reaches : (to : Place) → to.node ≤ start.shape.nodes → host_for start to < first_hosts start
   reaches to low = go (cases_lt 0 to.node)
     where
-      go : (0 < to.node) ⊎ (to.node ≤ 0) → host_for start to < hosts start
+      go : (0 < to.node) ⊎ (to.node ≤ 0) → host_for start to < first_hosts start
       go (inl behind) = host_below start to (omega (arith, behind)) low
       go (inr none) =
           omega (arith, eqb-true (host_for start to) 0 (at_shell start to ∙ eq-eqb to.node 0 (omega (arith, none))))

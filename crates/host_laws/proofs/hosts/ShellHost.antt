@@ -32,7 +32,7 @@ use Rattle.node_core.specs.Fresh.{fresh_shell}
 use Rattle.node_core.specs.Row.{row, shell_row}
 use Rattle.tc_block.specs.State.{TcState}
 use Rattle.tc_block.specs.Tc.{next_tx, tc_table}
-use Rattle.world_core.specs.Hosts.{host_for, hosts, started}
+use Rattle.world_core.specs.Hosts.{host_for, first_hosts, started}
 use Rattle.world_core.specs.Machine.{after, machine, step_after}
 use Rattle.world_core.specs.Start.{Start}
 use Rattle.world_core.specs.Steps.{Addressed, HostStep}
@@ -276,7 +276,7 @@ module _ (start : Start) where
   opened_next e log = ap (λ h. opened_in (row h e.step.taken).state) (shell_after log).is
 
   -- what a host sends tells truly
-  pub told : (h j : ℕ) (log : List HostStep) → h < hosts start
+  pub told : (h j : ℕ) (log : List HostStep) → h < first_hosts start
       → Each (λ (x : Addressed). TellsHome start h x.signal.body) (sent (machine start) h j log)
   told h j log low =
       sent_truths start (λ (x : Addressed). TellsHome start h x.signal.body) h j

@@ -1,6 +1,6 @@
 -- What hosts have as they begin, and which of them have it.
 use Rattle.std.proofs.Common.{◌≡◌, ◌≤◌, ◌<◌, ◌⊎◌, inl, inr, ℕ, zero, suc, ◌+◌, ◌*◌, ◌%◌, Bool, true, false, List, []}
-use Rattle.std.proofs.Common.{refl, ap, sym, ◌∙◌, arith}
+use Rattle.std.proofs.Common.{length, refl, ap, sym, ◌∙◌, arith}
 use Rattle.std.specs.Prelude.{◌==◌}
 use Rattle.std.proofs.lemmas.Bool.{cases_lt, eq-eqb, false≢true}
 use Rattle.std.proofs.lemmas.Nat.{mod-mul-add}
@@ -12,7 +12,7 @@ use Rattle.sig_core.specs.Place.{epochs}
 use Rattle.frag_map.specs.Layout.{Layout, first_layout}
 use Rattle.node_core.specs.Blocks.{api_of, dih_of, has_tc, tc_of}
 use Rattle.node_core.specs.Fresh.{fresh_part, fresh_shell}
-use Rattle.world_core.specs.Hosts.{host_for, hosts, member_at, part_by, receiver, started, tc_host}
+use Rattle.world_core.specs.Hosts.{first_hosts, host_for, hosts, member_at, part_by, receiver, started, tc_host}
 use Rattle.world_core.specs.Machine.{after}
 use Rattle.world_core.specs.Start.{Start, made}
 use Rattle.world_core.specs.Steps.{HostStep}
@@ -71,11 +71,11 @@ to_shell start to low = by (to.node == 0) refl
     by true is = rw is refl
     by false is = absurd (let zero : to.node ≡ 0 = omega (arith, low) in false≢true (sym is ∙ eq-eqb to.node 0 zero))
 
-place_host : (start : Start) (to : Place) → (host_for start to < hosts start) ⊎ (host_for start to ≡ hosts start)
+place_host : (start : Start) (to : Place) → (host_for start to < first_hosts start) ⊎ (host_for start to ≡ hosts start)
 place_host start to = go (cases_lt to.node 1) (cases_lt start.shape.nodes to.node)
   where
     go : (to.node < 1) ⊎ (1 ≤ to.node) → (start.shape.nodes < to.node) ⊎ (to.node ≤ start.shape.nodes)
-        → (host_for start to < hosts start) ⊎ (host_for start to ≡ hosts start)
+        → (host_for start to < first_hosts start) ⊎ (host_for start to ≡ hosts start)
     go (inl low) any = inl (omega (arith, to_shell start to low))
     go (inr some) (inl above) = inr (beyond_host start to above)
     go (inr some) (inr low) = inl (host_below start to some low)
@@ -91,9 +91,9 @@ beyond_idle : (start : Start) (h : ℕ) → h ≡ hosts start → has_tc (starte
 unfolding started
 beyond_idle start zero is runs = omega (arith, is)
 beyond_idle start (suc k) is runs =
-    let last : k ≡ start.shape.nodes * 3 + 0 = omega (arith, is) in
+    let last : k ≡ length (made start) * 3 + 0 = omega (arith, is) in
     beyond_part start (member_at (made start) (suc k)) (k % 3)
-    (ap (λ n. n % 3) last ∙ mod-mul-add start.shape.nodes 3 0 (omega arith)) runs
+    (ap (λ n. n % 3) last ∙ mod-mul-add (length (made start)) 3 0 (omega arith)) runs
 
 -- the node of a host's coordinator
 abbrev pub node_at : Start → ℕ → ℕ
@@ -111,7 +111,8 @@ tc_home start h log to sent runs = go (place_host start to)
     own : IsNodes start (tc_host start) h → h ≡ tc_host start (node_at start h)
     own of = of.is ∙ ap (tc_host start) (sym (ap (node_at start) of.is ∙ tc_node start of.node of.some of.low))
 
-    go : (host_for start to < hosts start) ⊎ (host_for start to ≡ hosts start) → h ≡ tc_host start (node_at start h)
+    go : (host_for start to < first_hosts start) ⊎ (host_for start to ≡ hosts start)
+        → h ≡ tc_host start (node_at start h)
     go (inl low) = own (tc_found start h log (omega (arith, low, sent)) runs)
     go (inr last) = absurd (beyond_idle start h (sym sent ∙ last) (sym (tc_after start h log) ∙ runs))
 

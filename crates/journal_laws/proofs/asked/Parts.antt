@@ -1,5 +1,6 @@
 -- Whatever the blocks of a host take that asks well for operations, they ask well for operations themselves.
-use Rattle.std.proofs.Common.{◌≡◌, ◌<◌, ◌+◌, ◌%◌, ◌/◌, ◌^◌, ℕ, zero, suc, Bool, true, List, [], ◌∷◌, refl, arith}
+use Rattle.std.proofs.Common.{◌≡◌, ◌<◌, ◌+◌, ◌%◌, ◌/◌, ◌^◌, ℕ, zero, suc, Bool, true, List, [], ◌∷◌, refl, sym, subst}
+use Rattle.std.proofs.Common.{arith}
 use Rattle.std.specs.Prelude.{slice_index_or}
 use Rattle.run_theory.specs.Lists.{Each}
 use Rattle.run_theory.proofs.Pasts.{each_append, each_map}
@@ -51,6 +52,7 @@ use Rattle.node_views.specs.declared.parts.Parts.TheVariants.{Shell, Main, Tc, L
 use Rattle.node_views.specs.declared.shell_part.ShellPart.{ShellPart}
 use Rattle.node_views.specs.declared.tc_part.TcPart.{TcPart}
 use Rattle.node_views.specs.Parts.{ldm_row, main_row, shell_row, tc_row}
+use Rattle.world_core.proofs.MadeFirst.{made_first, nobody_starts}
 use Rattle.world_core.specs.Hosts.{member_at, part_by}
 use Rattle.world_core.specs.Start.{Start, made}
 use Rattle.world_views.specs.Hosts.{part_started, started}
@@ -235,7 +237,9 @@ part_begins : (start : Start) (part : Part) (k : ℕ)
     → PartsWell (part_started start part (member_at (made start) (suc k))).parts
 part_begins start kind.Main k = tt
 part_begins start kind.Tc k =
-    let first = index_first (made start) (members_first start.shape.nodes) (k / 3) in
+    let all = subst (Each (λ (member : Member). member.start ≡ 0)) (sym (made_first start (nobody_starts start)))
+    (members_first start.shape.nodes) in
+    let first = index_first (made start) all (k / 3) in
     coordinator_begins (member_at (made start) (suc k)) (omega (arith, first)) start
 part_begins start kind.Ldm k = tt
 

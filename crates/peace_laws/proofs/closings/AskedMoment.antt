@@ -44,7 +44,7 @@ use Rattle.sig_core.specs.declared.signal.host.Work.TheVariants.{Request}
 use Rattle.sig_core.specs.declared.view.View.{View}
 use Rattle.sig_core.specs.Place.{checkpoints, client}
 use Rattle.sig_core.specs.Step.{Step, to_place}
-use Rattle.world_core.specs.Hosts.{host_for, hosts}
+use Rattle.world_core.specs.Hosts.{host_for, first_hosts}
 use Rattle.world_core.specs.Start.{Start}
 use Rattle.world_core.specs.Steps.{HostStep}
 use Rattle.world_views.specs.Machine.{IsOwn, after, has_stopped, machine, replies_at, step_after, step_by, stops_by}
@@ -137,7 +137,7 @@ given_kind closing.Lcp = refl
 -- The step.
 module _ (hosts_level : HostsAreLevel) (start : Start) (shape : IsShape start.shape) (request : ApiReq)
     (asks : is_closing_request request ≡ true) (epoch : ℕ) (es : List HostStep) (e : HostStep)
-    (run : Run (machine start) (e ∷ es)) (within_now : IsWithin (hosts start) (log_of (machine start) (e ∷ es)))
+    (run : Run (machine start) (e ∷ es)) (within_now : IsWithin (first_hosts start) (log_of (machine start) (e ∷ es)))
     (kept : IsKept start es) (rests : AreAtRestIn start epoch (log_of (machine start) es))
     (running : (h : ℕ) → has_stopped (log_of (machine start) es h) ≡ false)
     (shell : e.host ≡ 0) (asked : is_asked e.host e.step.taken ≡ true)
@@ -155,11 +155,11 @@ module _ (hosts_level : HostsAreLevel) (start : Start) (shape : IsShape start.sh
   abbrev pub kind_of : Closing
   kind_of = closing_of request
 
-  within : IsWithin (hosts start) log
-  within = within_before start (hosts start) e es within_now
+  within : IsWithin (first_hosts start) log
+  within = within_before start (first_hosts start) e es within_now
 
-  low : e.host < hosts start
-  low = host_there start (hosts start) e es within_now
+  low : e.host < first_hosts start
+  low = host_there start (first_hosts start) e es within_now
 
   abbrev s : host.HostBody
   s = after start 0 (log 0)

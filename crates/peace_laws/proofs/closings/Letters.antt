@@ -24,7 +24,7 @@ use Rattle.sig_core.specs.declared.signal.epoch.EpochSignal.TheVariants as signa
 use Rattle.sig_core.specs.declared.signal.host.HostSignal.TheVariants.{Closed}
 use Rattle.sig_core.specs.Place.{checkpoints}
 use Rattle.sig_core.specs.Step.{to_place}
-use Rattle.world_core.specs.Hosts.{hosts, part_by}
+use Rattle.world_core.specs.Hosts.{first_hosts, part_by}
 use Rattle.world_core.specs.Start.{Start}
 use Rattle.calm_laws.specs.Plain.{is_beating, is_main}
 use Rattle.peace_laws.specs.Closing.{Course, closes_epoch, host_in, main}
@@ -51,7 +51,7 @@ member_rests place false = ap (λ left. is_main (part_by left)) (mod-mul-add pla
 member_rests place true = ap (λ left. is_main (part_by left)) (mod-mul-add place 3 2 (omega arith))
 
 member_low : (start : Start) (place : ℕ) (rows : Bool) → place < start.shape.nodes
-    → host_in place rows < hosts start
+    → host_in place rows < first_hosts start
 member_low start place false low = omega (arith, low)
 member_low start place true low = omega (arith, low)
 
@@ -73,8 +73,8 @@ mask_fits (suc (suc (suc (suc (suc (suc (suc (suc (suc n))))))))) some few = abs
 -- A thing that is under way between hosts that are there, to a block that takes something of closings: it is well
 -- formed, and no end of a link; and whoever may send it sends it for a closing.
 pub record IsFit (start : Start) (i h : ℕ) (one : Outgoing) : Type 0 where
-  pub from_low : i < hosts start
-  pub low : h < hosts start
+  pub from_low : i < first_hosts start
+  pub low : h < first_hosts start
   pub beats : is_beating h ≡ true → h ≡ main
   pub block : has_closer h one.to.block ≡ true
   pub sound : is_body_sound start.shape one.body ≡ true
@@ -88,7 +88,7 @@ fit_at start i h k l one other from to is fit =
     (subst (λ b. IsFit start k b one) (sym to) (subst (IsFit start k l) (sym is) fit))
 
 module _ (start : Start) (shape : IsShape start.shape) (c : Course) where
-  main_there : main < hosts start
+  main_there : main < first_hosts start
   main_there = omega (arith, shape.nodes_some)
 
   -- an order of the master

@@ -19,7 +19,7 @@ use Rattle.sig_core.specs.declared.outs.Outgoing.{Outgoing}
 use Rattle.sig_core.specs.declared.reply.ApiReply.{ApiReply}
 use Rattle.sig_core.specs.declared.signal.Signal.{Signal}
 use Rattle.sig_core.specs.Step.{Step}
-use Rattle.world_core.specs.Hosts.{host_for, hosts, member_at}
+use Rattle.world_core.specs.Hosts.{host_for, first_hosts, member_at}
 use Rattle.world_core.specs.Start.{Start, made}
 use Rattle.world_core.specs.Steps.{HostStep}
 use Rattle.world_views.specs.Machine.{after, has_stopped, machine, replies_at, step_after, step_by, stops_by, told}
@@ -87,7 +87,7 @@ in_back one (first ∷ front) = inr (in_back one front)
 -- One more step, which nobody asked for, where all that is under way fits.
 module _ (hosts_level : HostsAreLevel) (start : Start) (shape : IsShape start.shape) (base : ℕ → List HostStep)
     (all : AllTaken start base) (es : List HostStep) (e : HostStep) (run : Run (machine start) (e ∷ es))
-    (within_now : IsWithin (hosts start) (log_of (machine start) (e ∷ es))) (kept : IsKept start es)
+    (within_now : IsWithin (first_hosts start) (log_of (machine start) (e ∷ es))) (kept : IsKept start es)
     (running : (h : ℕ) → has_stopped (log_of (machine start) es h) ≡ false)
     (unasked : is_asked e.host e.step.taken ≡ false) (unspent : list_any is_spent e.step.marks ≡ false)
     (links : Links start base es)
@@ -104,21 +104,21 @@ module _ (hosts_level : HostsAreLevel) (start : Start) (shape : IsShape start.sh
   abbrev pub log : ℕ → List HostStep
   log k = log_of (machine start) es k
 
-  within : IsWithin (hosts start) (log_of (machine start) es)
-  within = within_before start (hosts start) e es within_now
+  within : IsWithin (first_hosts start) (log_of (machine start) es)
+  within = within_before start (first_hosts start) e es within_now
 
-  pub low : h < hosts start
-  low = host_there start (hosts start) e es within_now
+  pub low : h < first_hosts start
+  low = host_there start (first_hosts start) e es within_now
 
   given : IsPast (arriving h x ∷ taken (machine start) i (log h)) (sent (machine start) i h (log i))
   given =
       given_running start i h (log i) (arriving h x ∷ taken (machine start) i (log h)) (running i)
       (run.1.takes unasked)
 
-  from_low : i < hosts start
-  from_low = go (cases_lt i (hosts start))
+  from_low : i < first_hosts start
+  from_low = go (cases_lt i (first_hosts start))
     where
-      go : (i < hosts start) ⊎ (hosts start ≤ i) → i < hosts start
+      go : (i < first_hosts start) ⊎ (first_hosts start ≤ i) → i < first_hosts start
       go (inl under) = under
       go (inr above) =
           absurd

@@ -15,7 +15,7 @@ use Rattle.run_theory.specs.Runs.{GivesNext, Happens, IsWithin, log_of}
 use Rattle.sig_core.specs.declared.outs.Outgoing.{Outgoing}
 use Rattle.sig_core.specs.declared.reply.ApiReply.{ApiReply}
 use Rattle.sig_core.specs.declared.signal.Signal.{Signal}
-use Rattle.world_core.specs.Hosts.{hosts}
+use Rattle.world_core.specs.Hosts.{first_hosts}
 use Rattle.world_core.specs.Start.{Start}
 use Rattle.world_core.specs.Steps.{HostStep}
 use Rattle.world_views.specs.Machine.{after, machine, replies_at, step_after, step_by, stops_by, told}
@@ -53,8 +53,8 @@ masters_send h (sent ∷ more) all masters =
     (master_send h sent all.0 masters.0, masters_send h more all.1 masters.1)
 
 module _ (hosts_level : HostsAreLevel) (start : Start) (shape : IsShape start.shape) (es : List HostStep) (e : HostStep)
-    (happens : Happens (machine start) es e) (within : IsWithin (hosts start) (log_of (machine start) es))
-    (low : e.host < hosts start) (kept : IsKept start es) where
+    (happens : Happens (machine start) es e) (within : IsWithin (first_hosts start) (log_of (machine start) es))
+    (low : e.host < first_hosts start) (kept : IsKept start es) where
   abbrev h : ℕ
   h = e.host
 
@@ -74,7 +74,7 @@ module _ (hosts_level : HostsAreLevel) (start : Start) (shape : IsShape start.sh
   sends = (step_after start h log e).effects.sends
 
   plain_run : IsRun start (plain_events start es)
-  plain_run = record { shape = shape; run = kept.run; within = plain_within start (hosts start) es within }
+  plain_run = record { shape = shape; run = kept.run; within = plain_within start (first_hosts start) es within }
 
   -- A step of a closing, which stops nobody.
   module _ (steps_near : ClosingsStepNear) (closing : is_closing h x ≡ true)
@@ -175,8 +175,8 @@ shell_kind zero x asks = asks_kind x asks
 shell_kind (suc h) x asks = absurd cc
 
 module _ (hosts_level : HostsAreLevel) (start : Start) (shape : IsShape start.shape) (es : List HostStep) (e : HostStep)
-    (happens : Happens (machine start) es e) (within : IsWithin (hosts start) (log_of (machine start) es))
-    (low : e.host < hosts start) (kept : IsKept start es) (asking : ClosingsAreAskedNear)
+    (happens : Happens (machine start) es e) (within : IsWithin (first_hosts start) (log_of (machine start) es))
+    (low : e.host < first_hosts start) (kept : IsKept start es) (asking : ClosingsAreAskedNear)
     (asks : asks_closing e.host e.step.taken ≡ true)
     (rests : RestsOfClosings (after start e.host (log_of (machine start) es e.host)).parts) where
   abbrev those : List HostStep

@@ -20,7 +20,7 @@ use Rattle.sig_core.specs.declared.request.ApiReq.{ApiReq}
 use Rattle.sig_core.specs.declared.signal.Signal.{Signal}
 use Rattle.sig_core.specs.Place.{checkpoints}
 use Rattle.sig_core.specs.Step.{to_place}
-use Rattle.world_core.specs.Hosts.{hosts, part_by}
+use Rattle.world_core.specs.Hosts.{first_hosts, part_by}
 use Rattle.world_core.specs.Requests.{request_in}
 use Rattle.world_core.specs.Start.{Start}
 use Rattle.world_core.specs.Steps.{HostStep}
@@ -59,7 +59,7 @@ pub record AreOn (start : Start) (epoch : ℕ) (base : ℕ → List HostStep) (e
   pub kept : IsKept start es
   pub running : (h : ℕ) → has_stopped (log_of (machine start) es h) ≡ false
   pub peaceful : ArePeaceful (log_of (machine start) es)
-  pub beating : (h : ℕ) → h < hosts start → is_beating h ≡ true
+  pub beating : (h : ℕ) → h < first_hosts start → is_beating h ≡ true
       → IsRestingPart start h 1 (after start h (log_of (machine start) es h)).parts
   pub aside : (h : ℕ) → is_beating h ≡ true → h ≢ main
       → (after start h (log_of (machine start) es h)).parts ≡ (after start h (base h)).parts
@@ -137,7 +137,7 @@ third false false c is = absurd (false≢true is)
 -- One more step, where all that is under way fits.
 module _ (hosts_level : HostsAreLevel) (start : Start) (shape : IsShape start.shape) (epoch : ℕ)
     (base : ℕ → List HostStep) (all : AllTaken start base) (es : List HostStep) (e : HostStep)
-    (run : Run (machine start) (e ∷ es)) (within_now : IsWithin (hosts start) (log_of (machine start) (e ∷ es)))
+    (run : Run (machine start) (e ∷ es)) (within_now : IsWithin (first_hosts start) (log_of (machine start) (e ∷ es)))
     (unasked : is_asked e.host e.step.taken ≡ false) (unspent : list_any is_spent e.step.marks ≡ false)
     (on : AreOn start epoch base es) (links : Links start base es)
     (fit : (i h : ℕ) (one : Outgoing) → IsIn one (map said (links i h).under) → IsFit start i h one) where
@@ -166,7 +166,7 @@ module _ (hosts_level : HostsAreLevel) (start : Start) (shape : IsShape start.sh
       moments.parts_stay hosts_level start shape base all es e run within_now on.kept on.running unasked unspent links
       fit
 
-  beating : (k : ℕ) → k < hosts start → is_beating k ≡ true
+  beating : (k : ℕ) → k < first_hosts start → is_beating k ≡ true
       → IsRestingPart start k 1 (after start k (log_of (machine start) (e ∷ es) k)).parts
   beating k low beats = go (cases_eq k h)
     where
@@ -256,7 +256,7 @@ module _ (hosts_level : HostsAreLevel) (start : Start) (shape : IsShape start.sh
 module _ (hosts_level : HostsAreLevel) (start : Start) (shape : IsShape start.shape) (c : Course)
     (next_is : next_of c.kind c.epoch ≡ Some c.next) (base : ℕ → List HostStep) (all : AllTaken start base)
     (es : List HostStep) (e : HostStep) (run : Run (machine start) (e ∷ es))
-    (within_now : IsWithin (hosts start) (log_of (machine start) (e ∷ es)))
+    (within_now : IsWithin (first_hosts start) (log_of (machine start) (e ∷ es)))
     (unasked : is_asked e.host e.step.taken ≡ false) (unspent : list_any is_spent e.step.marks ≡ false)
     (on : IsOn start c base es) where
   abbrev was : Moment

@@ -28,7 +28,7 @@ use Rattle.sig_core.specs.declared.signal.Body.{Body}
 use Rattle.sig_core.specs.declared.signal.Signal.{Signal}
 use Rattle.sig_core.specs.Place.{checkpoints}
 use Rattle.sig_core.specs.Step.{Step, to_place}
-use Rattle.world_core.specs.Hosts.{hosts, member_at}
+use Rattle.world_core.specs.Hosts.{first_hosts, member_at}
 use Rattle.world_core.specs.Start.{Start, made}
 use Rattle.world_core.specs.Steps.{HostStep}
 use Rattle.world_views.specs.Machine.{after, machine}
@@ -125,7 +125,7 @@ main_spent start epoch (Ldm p) rests kind closes none x body at node = absurd re
 module _ (hosts_level : HostsAreLevel) (start : Start) (shape : IsShape start.shape) (c : Course)
     (none : next_of c.kind c.epoch ≡ None) (base : ℕ → List HostStep) (all : AllTaken start base)
     (es : List HostStep) (e : HostStep) (run : Run (machine start) (e ∷ es))
-    (within_now : IsWithin (hosts start) (log_of (machine start) (e ∷ es)))
+    (within_now : IsWithin (first_hosts start) (log_of (machine start) (e ∷ es)))
     (unasked : is_asked e.host e.step.taken ≡ false) (unspent : list_any is_spent e.step.marks ≡ false)
     (on : AreOn start c.epoch base es) (links : Links start base es)
     (asked : IsAskedFor start c (moment start base es links)) where

@@ -27,7 +27,7 @@ use Rattle.sig_core.specs.declared.signal.Signal.{Signal}
 use Rattle.sig_core.specs.declared.signal.host.HostSignal.TheVariants.{Closed, Continue}
 use Rattle.sig_core.specs.declared.signal.host.Work.TheVariants.{Request}
 use Rattle.world_core.proofs.SentFacts.{IsBetween, sent_between}
-use Rattle.world_core.specs.Hosts.{first_membership, hosts, member_at}
+use Rattle.world_core.specs.Hosts.{first_membership, first_hosts, member_at}
 use Rattle.world_core.specs.Machine as plain
 use Rattle.world_core.specs.Machine.{IsAsked, asked_rightly, last_stamp}
 use Rattle.world_core.specs.Start.{Start, made}
@@ -142,7 +142,7 @@ given_sent start i j (e ∷ log) x xs links (inr c) = absurd (never c)
         links (cause_in e.step.marks) (ap (λ (y : Addressed). y.signal.body) same)
 
 module _ (start : Start) (es : List HostStep) (h : ℕ) (x : Signal)
-    (within : IsWithin (hosts start) (log_of (machine start) es))
+    (within : IsWithin (first_hosts start) (log_of (machine start) es))
     (mirrored : (k : ℕ) → IsMirrored start k (log_of (machine start) es k)) where
   abbrev i : ℕ
   i = x.from.0
@@ -162,10 +162,10 @@ module _ (start : Start) (es : List HostStep) (h : ℕ) (x : Signal)
     pub seen : IsSeen start i (arriving h x)
     seen = each_in (IsSeen start i) (arriving h x) (sent (machine start) i h (log i)) ((mirrored i).seen h) there
 
-    sender_low : i < hosts start
-    sender_low = go (cases_lt i (hosts start))
+    sender_low : i < first_hosts start
+    sender_low = go (cases_lt i (first_hosts start))
       where
-        go : (i < hosts start) ⊎ (hosts start ≤ i) → i < hosts start
+        go : (i < first_hosts start) ⊎ (first_hosts start ≤ i) → i < first_hosts start
         go (inl low) = low
         go (inr above) =
             absurd (subst (λ rest. IsIn (arriving h x) (sent (machine start) i h rest)) (within i above) there)
@@ -232,7 +232,7 @@ module _ (start : Start) (es : List HostStep) (h : ℕ) (x : Signal)
       is_vouched_for : is_vouched x.body ≡ true → is_member (first start) x.member ≡ true
       is_vouched_for vouched = go i sender_low seen.member seen.send
         where
-          go : (k : ℕ) → k < hosts start → x.member ≡ member_at (made start) k → IsSend k x.to.block x.body
+          go : (k : ℕ) → k < first_hosts start → x.member ≡ member_at (made start) k → IsSend k x.to.block x.body
               → is_member (first start) x.member ≡ true
           go zero low member (inl calm) = absurd (false≢true (sym (calm.shell refl) ∙ kind.client vouched))
           go zero low member (inr closing) = absurd (false≢true (sym kind.apart ∙ closing.closing))
@@ -304,7 +304,8 @@ module _ (start : Start) (es : List HostStep) (h : ℕ) (x : Signal)
       closing_comes fine =
           record { closing = closing; fine = fine; view = (seen no_link given).view; client = asks_shell }
 
-      module _ (takes : is_beating h ≡ false) (low : h < hosts start) (run : IsRun start (plain_events start es)) where
+      module _ (takes : is_beating h ≡ false) (low : h < first_hosts start)
+          (run : IsRun start (plain_events start es)) where
         pub from_main : is_beating i ≡ true
         from_main = go (is_beating i) refl
           where
@@ -326,7 +327,7 @@ module _ (start : Start) (es : List HostStep) (h : ℕ) (x : Signal)
         pub of_member : 1 ≤ x.member.node
         of_member = go i (sender_low no_link given) from_main (seen no_link given).member
           where
-            go : (k : ℕ) → k < hosts start → is_beating k ≡ true → x.member ≡ member_at (made start) k
+            go : (k : ℕ) → k < first_hosts start → is_beating k ≡ true → x.member ≡ member_at (made start) k
                 → 1 ≤ x.member.node
             go zero low beats member = absurd (false≢true beats)
             go (suc k) low beats member =

@@ -22,7 +22,8 @@ use Rattle.run_theory.proofs.EventCases.{event_each}
 use Rattle.sig_core.specs.declared.mark.Mark.{Mark}
 use Rattle.sig_core.specs.declared.mark.Mark.TheVariants.{Decided}
 use Rattle.sig_core.specs.declared.request.ApiReq.{ApiReq}
-use Rattle.world_core.specs.Hosts.{hosts}
+use Rattle.peace_laws.proofs.lives.FirstHosts.{go_within}
+use Rattle.world_core.specs.Hosts.{first_hosts}
 use Rattle.world_core.specs.Start.{Start}
 use Rattle.world_core.specs.Steps.{HostStep}
 use Rattle.world_views.proofs.SentFacts.{is_stamped}
@@ -69,7 +70,7 @@ record AreGood (start : Start) (epoch : ℕ) (base : ℕ → List HostStep) (es 
   kept : IsKept start es
   peaceful : ArePeaceful (log_of (machine start) es)
   running : (h : ℕ) → has_stopped (log_of (machine start) es h) ≡ false
-  stays : (h : ℕ) → h < hosts start → StaysIn start h epoch (after start h (log_of (machine start) es h)).parts
+  stays : (h : ℕ) → h < first_hosts start → StaysIn start h epoch (after start h (log_of (machine start) es h)).parts
   good : (h : ℕ) → IsGood start base h (log_of (machine start) es h)
   below : (h : ℕ) → AreBelow epoch (log_of (machine start) es h)
 
@@ -85,14 +86,14 @@ module _ (hosts_level : HostsAreLevel) (start : Start) (shape : IsShape start.sh
     abbrev log : List HostStep
     log = log_of (machine start) es e.host
 
-    within : IsWithin (hosts start) (log_of (machine start) (e ∷ es))
+    within : IsWithin (first_hosts start) (log_of (machine start) (e ∷ es))
     within = within_now start request was more all by asks_calmly es e run upto are.running are.good
 
-    low : e.host < hosts start
-    low = host_there start (hosts start) e es within
+    low : e.host < first_hosts start
+    low = host_there start (first_hosts start) e es within
 
-    within_then : IsWithin (hosts start) (log_of (machine start) es)
-    within_then = within_before start (hosts start) e es within
+    within_then : IsWithin (first_hosts start) (log_of (machine start) es)
+    within_then = within_before start (first_hosts start) e es within
 
     calm : is_calm e.host e.step.taken ≡ true
     calm = next_calm start request was more all by asks_calmly es e run upto are.running are.good
@@ -155,7 +156,7 @@ module _ (hosts_level : HostsAreLevel) (start : Start) (shape : IsShape start.sh
                 are.peaceful e.host,
               ) are.peaceful;
           running = each_host (λ h those. has_stopped those ≡ false) known.goes_on are.running;
-          stays = each_host (λ h those. h < hosts start → StaysIn start h epoch (after start h those).parts)
+          stays = each_host (λ h those. h < first_hosts start → StaysIn start h epoch (after start h those).parts)
               (λ there. (here (is_beating e.host) refl).1) are.stays;
           good = each_host (IsGood start was) (here (is_beating e.host) refl).0 are.good;
           below = each_host (λ h those. AreBelow epoch those)
@@ -210,7 +211,9 @@ module _ (hosts_level : HostsAreLevel) (start : Start) (shape : IsShape start.sh
   -- the run to it goes on
   grows : Grows (machine start) first more
   grows =
-      grow (machine start) (is_stamped start) (hosts start) first more rests.stands.run by.within by.right
+      grow (machine start) (is_stamped start) (first_hosts start) first more rests.stands.run
+      (go_within start request was more by)
+      by.right
       (subst (λ (logs : ℕ → List HostStep). (h : ℕ) → IsPast (logs h) (more h)) (sym rests.stands.is) by.past)
 
   -- and stays good
@@ -240,7 +243,7 @@ module _ (hosts_level : HostsAreLevel) (start : Start) (shape : IsShape start.sh
         es = grows.more ++ first;
         run = grows.run;
         is = logs_are;
-        within = by.within;
+        within = go_within start request was more by;
         kept = all_good.kept;
         peaceful = subst ArePeaceful logs_are all_good.peaceful;
         running = λ h.

@@ -29,7 +29,8 @@ use Rattle.sig_core.specs.declared.signal.host.HostSignal.TheVariants.{Continue}
 use Rattle.sig_core.specs.declared.signal.host.Work.TheVariants.{Request}
 use Rattle.sig_core.specs.Place.{checkpoints}
 use Rattle.sig_core.specs.Step.{to_place}
-use Rattle.world_core.specs.Hosts.{hosts}
+use Rattle.peace_laws.proofs.lives.FirstHosts.{go_within}
+use Rattle.world_core.specs.Hosts.{first_hosts}
 use Rattle.world_core.specs.Requests.{request_in}
 use Rattle.world_core.specs.Start.{Start}
 use Rattle.world_core.specs.Steps.{Addressed, HostStep}
@@ -170,8 +171,9 @@ module _ (hosts_level : HostsAreLevel) (start : Start) (shape : IsShape start.sh
   abbrev Upto : List HostStep → Type 0
   Upto those = (h : ℕ) → IsPast (log_of (machine start) those h) (more h)
 
-  within : (those : List HostStep) → Upto those → IsWithin (hosts start) (log_of (machine start) those)
-  within those upto h above = none_before (log_of (machine start) those h) (more h) (upto h) (by.within h above)
+  within : (those : List HostStep) → Upto those → IsWithin (first_hosts start) (log_of (machine start) those)
+  within those upto h above =
+      none_before (log_of (machine start) those h) (more h) (upto h) (go_within start request was more by h above)
 
   module _ (those : List HostStep) (e : HostStep) (upto : Upto (e ∷ those)) where
     own_past : IsPast (e ∷ log_of (machine start) those e.host) (more e.host)
@@ -351,7 +353,7 @@ module _ (hosts_level : HostsAreLevel) (start : Start) (shape : IsShape start.sh
         es = whole;
         run = grows.run;
         is = logs_are;
-        within = by.within;
+        within = go_within start request was more by;
         kept = on.kept;
         peaceful = subst ArePeaceful logs_are on.peaceful;
         running = λ h. subst (λ (logs : ℕ → List HostStep). has_stopped (logs h) ≡ false) logs_are (on.running h);
@@ -364,7 +366,7 @@ module _ (hosts_level : HostsAreLevel) (start : Start) (shape : IsShape start.sh
     all_again : AllTaken start (log_of (machine start) whole)
     all_again = subst (AllTaken start) (sym logs_are) (taken_by_all start more (stands_by on) again)
 
-    low_still : (i j : ℕ) → i < hosts start → j < hosts start → (links i j).under ≡ []
+    low_still : (i j : ℕ) → i < first_hosts start → j < first_hosts start → (links i j).under ≡ []
     low_still i j i_low low =
         none_front (links i j).under (taken (machine start) i (log_of (machine start) whole j))
         (ap (λ (those : List Addressed). (links i j).under ++ those)

@@ -22,7 +22,8 @@ use Rattle.sig_core.specs.declared.signal.Body.TheVariants.{Host}
 use Rattle.sig_core.specs.declared.signal.host.HostSignal.TheVariants.{Continue}
 use Rattle.sig_core.specs.declared.signal.host.Work.TheVariants.{Request}
 use Rattle.sig_core.specs.declared.signal.Signal.{Signal}
-use Rattle.world_core.specs.Hosts.{hosts}
+use Rattle.peace_laws.proofs.lives.FirstHosts.{go_within}
+use Rattle.world_core.specs.Hosts.{first_hosts}
 use Rattle.world_core.specs.Machine as plain
 use Rattle.world_core.specs.Quiet as plain_quiet
 use Rattle.world_core.specs.Requests.{request_in}
@@ -86,7 +87,8 @@ module _ (start : Start) (request : ApiReq) (was more : ℕ → List HostStep) (
   -- the run to it goes on
   pub grows : Grows (machine start) es more
   grows =
-      grow (machine start) (is_stamped start) (hosts start) es more stands.run by.within by.right
+      grow (machine start) (is_stamped start) (first_hosts start) es more stands.run
+      (go_within start request was more by) by.right
       (subst (λ (logs : ℕ → List HostStep). (h : ℕ) → IsPast (logs h) (more h)) (sym stands.is) by.past)
 
   pub logs_are : log_of (machine start) (grows.more ++ es) ≡ more
@@ -114,16 +116,17 @@ module _ (start : Start) (request : ApiReq) (was more : ℕ → List HostStep) (
         subst (λ (logs : ℕ → List HostStep). IsPast (e ∷ logs e.host) (more e.host)) stands.is
         (subst (λ those. IsPast those (more e.host)) (log_of-own (machine start) e es e.host refl) (upto e.host))
 
-    low : e.host < hosts start
-    low = go (cases_lt e.host (hosts start))
+    low : e.host < first_hosts start
+    low = go (cases_lt e.host (first_hosts start))
       where
-        go : (e.host < hosts start) ⊎ (hosts start ≤ e.host) → e.host < hosts start
+        go : (e.host < first_hosts start) ⊎ (first_hosts start ≤ e.host) → e.host < first_hosts start
         go (inl under) = under
         go (inr above) =
-            absurd (cc (none_before (e ∷ was e.host) (more e.host) upto_own (by.within e.host above)))
+            absurd (cc (none_before (e ∷ was e.host) (more e.host) upto_own
+            (go_within start request was more by e.host above)))
 
     pub not_given : is_asked e.host x ≡ false → ⊥
-    not_given unasked = go (cases_lt x.from.0 (hosts start))
+    not_given unasked = go (cases_lt x.from.0 (first_hosts start))
       where
         given : IsPast (arriving e.host x ∷ taken (machine start) x.from.0 (was e.host))
             (sent (machine start) x.from.0 e.host (was x.from.0))
@@ -136,7 +139,7 @@ module _ (start : Start) (request : ApiReq) (was more : ℕ → List HostStep) (
             (subst (λ (logs : ℕ → List HostStep). has_stopped (logs x.from.0) ≡ false) (sym stands.is)
             (stands.running x.from.0)) (run.1.takes unasked))
 
-        go : (x.from.0 < hosts start) ⊎ (hosts start ≤ x.from.0) → ⊥
+        go : (x.from.0 < first_hosts start) ⊎ (first_hosts start ≤ x.from.0) → ⊥
         go (inl under) = absurd (omega (arith, past_short given, ap length (all x.from.0 e.host under low)))
         go (inr above) =
             absurd
@@ -260,7 +263,7 @@ split_at (p ∷ front) base (n ∷ newer) before one e none asks is =
 module _ (start : Start) (request : ApiReq) (was more : ℕ → List HostStep) (stands : Stands start was)
     (now : Stands start more) (all : AllTaken start was) (by : GoOnBy start request was more)
     (right : AreLogs (plain.machine start) (plain_parts start was))
-    (quiet : plain_quiet.IsQuiet (plain.machine start) (hosts start) (plain_parts start was))
+    (quiet : plain_quiet.IsQuiet (plain.machine start) (first_hosts start) (plain_parts start was))
     (before_it : plain_requests.AreAskedAtQuiet start (plain_parts start was)) where
   f : IsFirst (was 0) (more 0)
   f = request_first start request was more stands all by

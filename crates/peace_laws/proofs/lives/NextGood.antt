@@ -16,7 +16,7 @@ use Rattle.run_theory.specs.Runs.{log_of}
 use Rattle.sig_core.specs.declared.outs.Outgoing.{Outgoing}
 use Rattle.sig_core.specs.declared.signal.Signal.{Signal}
 use Rattle.sig_core.specs.Step.{Step}
-use Rattle.world_core.specs.Hosts.{Membership, first_membership, hosts, member_at, receiver}
+use Rattle.world_core.specs.Hosts.{Membership, first_membership, first_hosts, member_at, receiver}
 use Rattle.world_core.specs.Machine as plain
 use Rattle.world_core.specs.Machine.{addressed, all_addressed, counted}
 use Rattle.world_core.specs.Start.{Start, made}
@@ -73,7 +73,7 @@ pub record IsNextInCalm (start : Start) (es : List HostStep) (e : HostStep)
 
 module _ (hosts_level : HostsAreLevel) (start : Start) (shape : IsShape start.shape) (epoch : ℕ)
     (base : ℕ → List HostStep) (es : List HostStep) (e : HostStep)
-    (mirrored : (h : ℕ) → IsMirrored start h (log_of (machine start) es h)) (low : e.host < hosts start)
+    (mirrored : (h : ℕ) → IsMirrored start h (log_of (machine start) es h)) (low : e.host < first_hosts start)
     (next : IsNextInCalm start es e (mirrored e.host))
     (stays : StaysIn start e.host epoch (after start e.host (log_of (machine start) es e.host)).parts)
     (fine : is_asked e.host e.step.taken ≡ false → IsFine start e.step.taken.from.0 (arriving e.host e.step.taken))

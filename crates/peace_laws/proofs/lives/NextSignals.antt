@@ -22,7 +22,8 @@ use Rattle.sig_core.specs.declared.signal.Body.TheVariants.{Host}
 use Rattle.sig_core.specs.declared.signal.host.HostSignal.TheVariants.{Continue}
 use Rattle.sig_core.specs.declared.signal.host.Work.TheVariants.{Request}
 use Rattle.sig_core.specs.declared.signal.Signal.{Signal}
-use Rattle.world_core.specs.Hosts.{hosts}
+use Rattle.peace_laws.proofs.lives.FirstHosts.{go_within}
+use Rattle.world_core.specs.Hosts.{first_hosts}
 use Rattle.world_core.specs.Requests.{request_in}
 use Rattle.world_core.specs.Start.{Start, made}
 use Rattle.world_core.specs.Steps.{HostStep}
@@ -42,7 +43,7 @@ use Rattle.peace_laws.specs.Laws.{GoOnBy}
 -- each host has taken all that the others sent to it
 abbrev pub AllTaken : Start → (ℕ → List HostStep) → Type 0
 AllTaken start logs =
-    (i j : ℕ) → i < hosts start → j < hosts start
+    (i j : ℕ) → i < first_hosts start → j < first_hosts start
     → taken (machine start) i (logs j) ≡ sent (machine start) i j (logs i)
 
 -- what comes behind a part that was taken is newer
@@ -90,17 +91,18 @@ module _ (start : Start) (request : ApiReq) (logs more : ℕ → List HostStep) 
   abbrev i : ℕ
   i = x.from.0
 
-  pub within_now : IsWithin (hosts start) (log_of (machine start) (e ∷ es))
-  within_now h above = none_before (log_of (machine start) (e ∷ es) h) (more h) (upto h) (by.within h above)
+  pub within_now : IsWithin (first_hosts start) (log_of (machine start) (e ∷ es))
+  within_now h above =
+      none_before (log_of (machine start) (e ∷ es) h) (more h) (upto h) (go_within start request logs more by h above)
 
-  within_then : IsWithin (hosts start) (log_of (machine start) es)
-  within_then = within_before start (hosts start) e es within_now
+  within_then : IsWithin (first_hosts start) (log_of (machine start) es)
+  within_then = within_before start (first_hosts start) e es within_now
 
   upto_own : IsPast (e ∷ log e.host) (more e.host)
   upto_own = subst (λ all. IsPast all (more e.host)) (log_of-own (machine start) e es e.host refl) (upto e.host)
 
-  pub host_low : e.host < hosts start
-  host_low = host_there start (hosts start) e es within_now
+  pub host_low : e.host < first_hosts start
+  host_low = host_there start (first_hosts start) e es within_now
 
   -- the signal that a link gave was sent since the quiet moment
   module _ (unasked : is_asked e.host x ≡ false) where
@@ -109,10 +111,10 @@ module _ (start : Start) (request : ApiReq) (logs more : ℕ → List HostStep) 
         given_running start i e.host (log i) (arriving e.host x ∷ taken (machine start) i (log e.host)) (running i)
         (run.1.takes unasked)
 
-    from_low : i < hosts start
-    from_low = go (cases_lt i (hosts start))
+    from_low : i < first_hosts start
+    from_low = go (cases_lt i (first_hosts start))
       where
-        go : (i < hosts start) ⊎ (hosts start ≤ i) → i < hosts start
+        go : (i < first_hosts start) ⊎ (first_hosts start ≤ i) → i < first_hosts start
         go (inl low) = low
         go (inr above) =
             absurd

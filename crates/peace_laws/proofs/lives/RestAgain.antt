@@ -17,7 +17,7 @@ use Rattle.sig_core.specs.declared.mark.Mark.{Mark}
 use Rattle.sig_core.specs.declared.mark.Mark.TheVariants.{Decided}
 use Rattle.sig_core.specs.declared.member.Member.{Member}
 use Rattle.sig_core.specs.declared.reply.ApiReply.{ApiReply}
-use Rattle.world_core.specs.Hosts.{hosts, member_at}
+use Rattle.world_core.specs.Hosts.{first_hosts, member_at}
 use Rattle.world_core.specs.Start.{Start, made}
 use Rattle.world_core.specs.Steps.{HostStep}
 use Rattle.world_views.specs.Machine.{after}
@@ -131,7 +131,7 @@ module _ (start : Start) (shape : IsShape start.shape) where
   -- Each host is one of these.
   module _ (epoch next : ℕ) (base now : ℕ → List HostStep)
       (mirrored : (h : ℕ) → IsMirrored start h (base h))
-      (rests : (h : ℕ) → h < hosts start → RestsIn start h epoch (after start h (base h)).parts)
+      (rests : (h : ℕ) → h < first_hosts start → RestsIn start h epoch (after start h (base h)).parts)
       (aside : (h : ℕ) → is_beating h ≡ true → h ≢ main
       → (after start h (now h)).parts ≡ (after start h (base h)).parts)
       (shell : ShellWaits start None (after start 0 (now 0)).parts) (owns : ShellOwns (after start 0 (now 0)).parts)
@@ -155,7 +155,7 @@ module _ (start : Start) (shape : IsShape start.shape) where
             (other_main k low apart epoch next (base (main_at k)) (mirrored (main_at k))
             (rests (main_at k) (omega (arith, low))))
 
-    at_part : (m left : ℕ) → m % 3 ≡ left → suc m < hosts start → Rested (suc m)
+    at_part : (m left : ℕ) → m % 3 ≡ left → suc m < first_hosts start → Rested (suc m)
     at_part m zero is low =
         let at : suc m ≡ main_at (m / 3) = omega (arith, is) in
         subst Rested (sym at) (at_main (m / 3) (omega (arith, low)))
@@ -168,6 +168,6 @@ module _ (start : Start) (shape : IsShape start.shape) where
         subst Rested (sym at) (rows_rest start (host_in (m / 3) true) next _ (rows (m / 3) (omega (arith, low))))
     at_part m (suc (suc (suc left))) is low = absurd (omega (arith, is))
 
-    pub all_rest : (h : ℕ) → h < hosts start → Rested h
+    pub all_rest : (h : ℕ) → h < first_hosts start → Rested h
     all_rest zero low = shell_rests start next (after start 0 (now 0)).parts shell owns
     all_rest (suc m) low = at_part m (m % 3) refl low

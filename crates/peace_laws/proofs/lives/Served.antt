@@ -20,6 +20,8 @@ use Rattle.sig_core.specs.declared.member.TxId.{TxId}
 use Rattle.sig_core.specs.declared.outcome.Outcome.TheVariants.{Committed}
 use Rattle.sig_core.specs.declared.request.ApiReq.{ApiReq}
 use Rattle.view_laws.specs.Runs.{AreOfCluster}
+use Rattle.peace_laws.proofs.lives.FirstHosts.{all_within}
+use Rattle.world_core.proofs.MadeFirst.{nobody_starts}
 use Rattle.world_core.specs.Entries.{entries, entries_in, entries_of}
 use Rattle.world_core.specs.Hosts.{hosts}
 use Rattle.world_core.specs.Requests as plain_requests
@@ -173,10 +175,11 @@ module _ (start : Start) (shape : IsShape start.shape) (epoch : ℕ) (logs : ℕ
   of_cluster =
       record {
         shape = shape;
+        nobody = nobody_starts start;
         right =
             subst (AreLogs (machine start)) rests.stands.is
             (logs_of_run (machine start) rests.stands.es rests.stands.run);
-        within = rests.stands.within;
+        within = all_within start logs rests.stands.within;
       }
 
   -- so whoever was reported committed has no later one

@@ -7,7 +7,7 @@ use Rattle.sig_core.specs.declared.mark.Mark.{Mark}
 use Rattle.sig_core.specs.declared.mark.Mark.TheVariants.{Decided}
 use Rattle.sig_core.specs.declared.place.Part.{Part}
 use Rattle.sig_core.specs.declared.place.Part.TheVariants as part
-use Rattle.world_core.specs.Hosts.{hosts, member_at, part_by}
+use Rattle.world_core.specs.Hosts.{first_hosts, member_at, part_by}
 use Rattle.world_core.specs.Start.{Start, made}
 use Rattle.world_core.specs.Steps.{HostStep}
 use Rattle.world_views.specs.Hosts.{part_started, started}
@@ -34,7 +34,7 @@ pub record Stands (start : Start) (logs : ℕ → List HostStep) : Type 0 where
   pub es : List HostStep
   pub run : Run (machine start) es
   pub is : log_of (machine start) es ≡ logs
-  pub within : IsWithin (hosts start) logs
+  pub within : IsWithin (first_hosts start) logs
   pub kept : IsKept start es
   pub peaceful : ArePeaceful logs
   pub running : (h : ℕ) → has_stopped (logs h) ≡ false

@@ -4,7 +4,7 @@ use Rattle.frag_map.specs.Shape.{IsShape}
 use Rattle.run_laws.specs.Transit.{Comes}
 use Rattle.run_theory.proofs.Runs.{log_of-own}
 use Rattle.run_theory.specs.Runs.{IsWithin, Run, log_of}
-use Rattle.world_core.specs.Hosts.{hosts}
+use Rattle.world_core.specs.Hosts.{first_hosts}
 use Rattle.world_core.specs.Machine as plain
 use Rattle.world_core.specs.Start.{Start}
 use Rattle.world_core.specs.Steps.{HostStep}
@@ -30,7 +30,7 @@ use Rattle.peace_laws.proofs.near.Runs.{IsKept, arrival, fine, known}
 
 module _ (hosts_level : HostsAreLevel) (start : Start) (shape : IsShape start.shape) (es : List HostStep) (e : HostStep)
     (run : Run (machine start) (e ∷ es)) (calm : is_calm e.host e.step.taken ≡ true)
-    (within : IsWithin (hosts start) (log_of (machine start) es)) (low : e.host < hosts start)
+    (within : IsWithin (first_hosts start) (log_of (machine start) es)) (low : e.host < first_hosts start)
     (kept : IsKept start es) (rests : RestsOfClosings (after start e.host (log_of (machine start) es e.host)).parts)
   where
     abbrev log : List HostStep
@@ -80,15 +80,15 @@ module _ (hosts_level : HostsAreLevel) (start : Start) (shape : IsShape start.sh
           let runs : Run (plain.machine start) (levelled start.epoch e ∷ plain_events start es) =
           subst (λ b. Run (plain.machine start) (running_if b (levelled start.epoch e) (plain_events start es)))
           (left_none e takes (not_closing e.host e.step.taken (calm_apart e.host e.step.taken calm))) next.kept.run in
-          let here : IsWithin (hosts start) (log_of (plain.machine start) (plain_events start es)) =
-          plain_within start (hosts start) es within in
+          let here : IsWithin (first_hosts start) (log_of (plain.machine start) (plain_events start es)) =
+          plain_within start (first_hosts start) es within in
           record {
             before = record { shape = shape; run = runs.0; within = here };
             happens = runs.1;
             now = record {
               shape = shape;
               run = runs;
-              within = within_next start (hosts start) (levelled start.epoch e) (plain_events start es) low here;
+              within = within_next start (first_hosts start) (levelled start.epoch e) (plain_events start es) low here;
             };
           }
 

@@ -10,7 +10,7 @@ use Rattle.run_theory.specs.Links.{sent, taken}
 use Rattle.run_theory.specs.Lists.{Each}
 use Rattle.sig_core.specs.declared.outs.Outgoing.{Outgoing}
 use Rattle.sig_core.specs.Step.{Step}
-use Rattle.world_core.specs.Hosts.{hosts}
+use Rattle.world_core.specs.Hosts.{first_hosts}
 use Rattle.world_core.specs.Machine as plain
 use Rattle.world_core.specs.Machine.{last_stamp}
 use Rattle.world_core.specs.Start.{Start, made}
@@ -47,7 +47,7 @@ pub record IsMirrored (start : Start) (h : ℕ) (log : List HostStep) : Type 0 w
   pub took : (i : ℕ) → is_beating h ≡ false → is_beating i ≡ false
       → taken (plain.machine start) i (plain_part start h log)
       ≡ map (addressed_at start.epoch) (taken (machine start) i log)
-  pub none : (j : ℕ) → j < hosts start → is_beating h ≡ false → is_beating j ≡ true
+  pub none : (j : ℕ) → j < first_hosts start → is_beating h ≡ false → is_beating j ≡ true
       → sent (plain.machine start) h j (plain_part start h log) ≡ []
   pub seen : (j : ℕ) → Each (IsSeen start h) (sent (machine start) h j log)
   pub asked : is_beating h ≡ false → Each IsAskedAlike log

@@ -2,7 +2,7 @@
 use Rattle.std.proofs.Common.{◌≡◌, ◌<◌, List, ◌∷◌, Bool, true, false, refl, ap, ◌∙◌}
 use Rattle.frag_map.specs.Shape.{IsShape}
 use Rattle.run_theory.specs.Runs.{Happens, IsWithin, log_of}
-use Rattle.world_core.specs.Hosts.{hosts}
+use Rattle.world_core.specs.Hosts.{first_hosts}
 use Rattle.world_core.specs.Start.{Start}
 use Rattle.world_core.specs.Steps.{HostStep}
 use Rattle.world_views.specs.Machine.{after, machine, stops_by}
@@ -26,7 +26,7 @@ pub record IsCalmNext (start : Start) (es : List HostStep) (e : HostStep) : Type
 
 module _ (hosts_level : HostsAreLevel) (start : Start) (shape : IsShape start.shape) (es : List HostStep) (e : HostStep)
     (happens : Happens (machine start) es e) (calm : is_calm e.host e.step.taken ≡ true)
-    (within : IsWithin (hosts start) (log_of (machine start) es)) (low : e.host < hosts start)
+    (within : IsWithin (first_hosts start) (log_of (machine start) es)) (low : e.host < first_hosts start)
     (kept : IsKept start es) (rests : RestsOfClosings (after start e.host (log_of (machine start) es e.host)).parts)
   where
     abbrev log : List HostStep

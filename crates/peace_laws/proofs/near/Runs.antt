@@ -22,7 +22,7 @@ use Rattle.sig_core.specs.declared.member.Member.{Member}
 use Rattle.sig_core.specs.declared.place.Part.{Part}
 use Rattle.sig_core.specs.declared.place.Part.TheVariants as part
 use Rattle.sig_core.specs.Step.{Step}
-use Rattle.world_core.specs.Hosts.{hosts, member_at, part_by}
+use Rattle.world_core.specs.Hosts.{first_hosts, member_at, part_by}
 use Rattle.world_core.specs.Machine as plain
 use Rattle.world_core.specs.Machine.{last_stamp}
 use Rattle.world_core.specs.Start.{Start, made}
@@ -120,8 +120,8 @@ marked e marks = record { host = e.host; step = record e.step { marks = marks } 
 
 -- One more step.
 module _ (hosts_level : HostsAreLevel) (start : Start) (shape : IsShape start.shape) (es : List HostStep) (e : HostStep)
-    (happens : Happens (machine start) es e) (within : IsWithin (hosts start) (log_of (machine start) es))
-    (low : e.host < hosts start) (kept : IsKept start es) where
+    (happens : Happens (machine start) es e) (within : IsWithin (first_hosts start) (log_of (machine start) es))
+    (low : e.host < first_hosts start) (kept : IsKept start es) where
   abbrev log : List HostStep
   log = log_of (machine start) es e.host
 
@@ -190,8 +190,8 @@ module _ (hosts_level : HostsAreLevel) (start : Start) (shape : IsShape start.sh
 
     coming : Comes start (plain_events start es) other
     coming =
-        let here : IsWithin (hosts start) (log_of (plain.machine start) (plain_events start es)) =
-        plain_within start (hosts start) es within in
+        let here : IsWithin (first_hosts start) (log_of (plain.machine start) (plain_events start es)) =
+        plain_within start (first_hosts start) es within in
         let now : Happens (plain.machine start) (plain_events start es) other =
         happens_plain (row before.inner e.step.taken).effects.marks refl in
         record {
@@ -200,7 +200,7 @@ module _ (hosts_level : HostsAreLevel) (start : Start) (shape : IsShape start.sh
           now = record {
             shape = shape;
             run = (kept.run, now);
-            within = within_next start (hosts start) other (plain_events start es) low here;
+            within = within_next start (first_hosts start) other (plain_events start es) low here;
           };
         }
 

@@ -9,7 +9,7 @@ use Rattle.run_theory.specs.Links.{sent}
 use Rattle.run_theory.specs.Lists.{Each, IsIn}
 use Rattle.run_theory.proofs.EventCases.{event_each}
 use Rattle.world_core.proofs.SentFacts.{IsBetween, sent_between}
-use Rattle.world_core.specs.Hosts.{hosts}
+use Rattle.world_core.specs.Hosts.{first_hosts}
 use Rattle.world_core.specs.Machine.{last_stamp, machine, signals_of}
 use Rattle.world_core.specs.Start.{Start}
 use Rattle.world_core.specs.Steps.{Addressed, HostStep}
@@ -18,7 +18,7 @@ use Rattle.calm_laws.proofs.places.PlainSends.{plain_sends_calm}
 
 -- whoever is to take it takes it in calm
 abbrev pub IsTakenCalmly : Start → Addressed → Type 0
-IsTakenCalmly start x = x.to < hosts start → is_calm x.to x.signal ≡ true
+IsTakenCalmly start x = x.to < first_hosts start → is_calm x.to x.signal ≡ true
 
 module _ (start : Start) where
   all_calm : (es : List HostStep) → IsRun start es → (i j : ℕ)
@@ -34,7 +34,7 @@ module _ (start : Start) where
       (λ i apart. before i)
 
   -- what was sent to host j
-  pub sent_calm : (es : List HostStep) → IsRun start es → (i j : ℕ) → j < hosts start → (x : Addressed)
+  pub sent_calm : (es : List HostStep) → IsRun start es → (i j : ℕ) → j < first_hosts start → (x : Addressed)
       → IsIn x (sent (machine start) i j (logs_of start es i)) → is_calm j x.signal ≡ true
   sent_calm es run i j low x there =
       let log : List HostStep = logs_of start es i in
@@ -43,4 +43,4 @@ module _ (start : Start) where
       (sent_between start i j log ((logs_of_run (machine start) es run.run).local i)) there in
       subst (λ k. is_calm k x.signal ≡ true) between.to
       (each_in (IsTakenCalmly start) x (sent (machine start) i j log) (all_calm es run i j) there
-      (subst (λ k. k < hosts start) (sym between.to) low))
+      (subst (λ k. k < first_hosts start) (sym between.to) low))

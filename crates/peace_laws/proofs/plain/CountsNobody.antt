@@ -10,7 +10,7 @@ use Rattle.node_views.specs.declared.parts.Parts.{Parts}
 use Rattle.node_views.specs.declared.parts.Parts.TheVariants.{Shell, Main, Tc, Ldm}
 use Rattle.sig_core.specs.declared.reply.ApiReply.{ApiReply}
 use Rattle.world_core.proofs.HostNumbers.{IsNodes, tc_found}
-use Rattle.world_core.specs.Hosts.{hosts, tc_host}
+use Rattle.world_core.specs.Hosts.{first_hosts, tc_host}
 use Rattle.world_core.specs.Machine as plain
 use Rattle.world_core.specs.Start.{Start}
 use Rattle.world_core.specs.Steps.{HostStep}
@@ -40,7 +40,8 @@ module _ (start : Start) (shape : IsShape start.shape) (logs : ℕ → List Host
         quiet = quiet_plain start stands.es logs (has start logs stands) stands.kept stands.running quiet;
       }
 
-  plain_counts_nobody : (h : ℕ) → h < hosts start → has_tc (plain.after start h (plain_part start h (logs h))) ≡ true
+  plain_counts_nobody : (h : ℕ) → h < first_hosts start
+      → has_tc (plain.after start h (plain_part start h (logs h))) ≡ true
       → (dih_of (plain.after start h (plain_part start h (logs h)))).counted ≡ []
   plain_counts_nobody h low runs =
       let found : IsNodes start (tc_host start) h =
@@ -69,7 +70,7 @@ module _ (start : Start) (shape : IsShape start.shape) (logs : ℕ → List Host
   near_counts given (Main p) other near none = tt
   near_counts given (Ldm p) other near none = tt
 
-  pub counts_nobody : (h : ℕ) → h < hosts start → CountsNobody (after start h (logs h)).parts
+  pub counts_nobody : (h : ℕ) → h < first_hosts start → CountsNobody (after start h (logs h)).parts
   counts_nobody h low =
       let m : IsMirrored start h (logs h) = mirrored start stands.es logs (has start logs stands) stands.kept h in
       near_counts (plain_replies (replies_in start h (logs h))) (after start h (logs h)).parts m.inner m.near.parts

@@ -1,7 +1,7 @@
 -- The plain parts of the logs of a run that is kept: they are logs of the plain machine, which replied the same but for
 -- epochs, and was asked for the same; and where nothing is under way, nothing is there.
 use Rattle.std.proofs.Common.{◌≡◌, ◌<◌, inl, inr, ℕ, Bool, true, false, List, [], ◌∷◌, ◌++◌, refl, sym, ap, ◌∙◌, subst}
-use Rattle.std.proofs.Common.{append-nil}
+use Rattle.std.proofs.Common.{append-nil, arith}
 use Rattle.std.proofs.Math.Path.{fun_ext}
 use Rattle.std.specs.List.{list_any}
 use Rattle.std.specs.Prelude.{if◌then◌else◌, filter, map, not, Option, None, option_to_list}
@@ -31,7 +31,8 @@ use Rattle.sig_core.specs.declared.signal.client.ClientSignal.TheVariants.{TcCom
 use Rattle.sig_core.specs.declared.signal.epoch.EpochSignal.TheVariants.{DiVerifyConf}
 use Rattle.sig_core.specs.declared.signal.host.HostSignal.TheVariants.{Continue}
 use Rattle.sig_core.specs.declared.signal.host.Work.TheVariants as work
-use Rattle.world_core.specs.Hosts.{hosts}
+use Rattle.world_core.proofs.HostNumbers.{hosts_low}
+use Rattle.world_core.specs.Hosts.{first_hosts}
 use Rattle.world_core.specs.Machine as plain
 use Rattle.world_core.specs.Quiet as plain_quiet
 use Rattle.world_core.specs.Requests.{request_in}
@@ -123,7 +124,7 @@ module _ (start : Start) (es : List HostStep) (logs : ℕ → List HostStep) (ha
   right =
       subst (AreLogs (plain.machine start)) same (logs_of_run (plain.machine start) (plain_events start es) kept.run)
 
-  pub within : IsWithin (hosts start) logs → IsWithin (hosts start) (plain_parts start logs)
+  pub within : IsWithin (first_hosts start) logs → IsWithin (first_hosts start) (plain_parts start logs)
   within there h above = ap (plain_part start h) (there h above) ∙ no_part start h
 
   pub replies : levelled_replies start.epoch (replies_in start 0 (logs 0))
@@ -145,13 +146,14 @@ module _ (start : Start) (es : List HostStep) (logs : ℕ → List HostStep) (ha
     none_cut h other =
         ap (λ (cut : List HostId). list_any (is_one_of (record { 0 = other })) cut) (mirrored h).near.standing.uncut
 
-    pub all_taken : (i j : ℕ) → i < hosts start → j < hosts start
+    pub all_taken : (i j : ℕ) → i < first_hosts start → j < first_hosts start
         → taken (machine start) i (logs j) ≡ sent (machine start) i j (logs i)
     all_taken i j i_low low =
         subst (λ b. holds_by b start i j (logs i) (taken (machine start) i (logs j))) (goes_on i)
-        (quiet i j i_low low (record { runs = goes_on j; takes = none_cut j i }))
+        (quiet i j (omega (arith, i_low, hosts_low start)) (omega (arith, low, hosts_low start))
+        (record { runs = goes_on j; takes = none_cut j i }))
 
-    quiet_between : (i j : ℕ) → i < hosts start → j < hosts start
+    quiet_between : (i j : ℕ) → i < first_hosts start → j < first_hosts start
         → (a b : Bool) → is_beating i ≡ a → is_beating j ≡ b
         → taken (plain.machine start) i (plain_parts start logs j)
         ≡ sent (plain.machine start) i j (plain_parts start logs i)
@@ -166,5 +168,5 @@ module _ (start : Start) (es : List HostStep) (logs : ℕ → List HostStep) (ha
         ∙ ap (map (addressed_at start.epoch)) (all_taken i j i_low low)
         ∙ sym ((mirrored i).links j at to)
 
-    pub quiet_plain : plain_quiet.IsQuiet (plain.machine start) (hosts start) (plain_parts start logs)
+    pub quiet_plain : plain_quiet.IsQuiet (plain.machine start) (first_hosts start) (plain_parts start logs)
     quiet_plain i j i_low low = quiet_between i j i_low low (is_beating i) (is_beating j) refl refl

@@ -42,7 +42,7 @@ use Rattle.node_core.specs.Blocks.{has_lqh, lqh_of, tc_of}
 use Rattle.node_core.specs.declared.host.Host as host
 use Rattle.node_core.specs.Requests.{is_request}
 use Rattle.node_core.specs.Row.{row}
-use Rattle.world_core.specs.Hosts.{home, host_for, hosts, tc_host}
+use Rattle.world_core.specs.Hosts.{home, host_for, first_hosts, tc_host}
 use Rattle.world_core.specs.Machine.{after, machine, signals_of, step_after}
 use Rattle.world_core.specs.Start.{Start}
 use Rattle.world_core.specs.Steps.{Addressed, HostStep}
@@ -374,15 +374,15 @@ module _ (start : Start) (tx : TxId) where
 
   -- where nothing is under way
   none_stands : (es : List HostStep) (xs : List Addressed) (run : IsRun start es) (still : IsStill start es xs)
-      → home start tx < hosts start → (list : List Outgoing) → in_transit (stands tx list) xs ≡ 0
+      → home start tx < first_hosts start → (list : List Outgoing) → in_transit (stands tx list) xs ≡ 0
   none_stands es xs run still low list = none_weigh start es xs run still (stands tx list) at_place
     where
-      at_home_none : (to : Place) (n : ℕ) → hosts start ≤ host_for start to → (b c : Bool) → is_home tx to ≡ b
+      at_home_none : (to : Place) (n : ℕ) → first_hosts start ≤ host_for start to → (b c : Bool) → is_home tx to ≡ b
           → (if b && c then n else 0) ≡ 0
       at_home_none to n high true c is = absurd (omega (arith, high, home_for start tx low to is))
       at_home_none to n high false c is = refl
 
-      one_none : (to : Place) → hosts start ≤ host_for start to → (b c : Bool) → is_home tx to ≡ b
+      one_none : (to : Place) → first_hosts start ≤ host_for start to → (b c : Bool) → is_home tx to ≡ b
           → one_if (b && c) ≡ 0
       one_none to high true c is = absurd (omega (arith, high, home_for start tx low to is))
       one_none to high false c is = refl
@@ -404,14 +404,15 @@ module _ (start : Start) (tx : TxId) where
 
 -- no transaction of quiet logs is being completed
 pub none_completes : (start : Start) (logs : ℕ → List HostStep) (h : ℕ) (tx : TxId) (t : Transaction)
-    → AreQuiet start logs → h < hosts start → IsLiveAs tx t (after start h (logs h)) → is_completing t.phase ≡ false
+    → AreQuiet start logs → h < first_hosts start → IsLiveAs tx t (after start h (logs h))
+    → is_completing t.phase ≡ false
 none_completes start logs h tx t quiet low live = by (is_completing t.phase) refl
   where
     es : List HostStep
-    es = merged (machine start) (hosts start) logs
+    es = merged (machine start) (first_hosts start) logs
 
-    same : logs_of start (merged (machine start) (hosts start) logs) ≡ logs
-    same = logs_merged (machine start) (hosts start) logs quiet.within quiet.right
+    same : logs_of start (merged (machine start) (first_hosts start) logs) ≡ logs
+    same = logs_merged (machine start) (first_hosts start) logs quiet.within quiet.right
 
     there : of_host tx (after start h (logs h)) ≡ Some t
     there = live_tx start tx h (logs h) t live
@@ -419,14 +420,14 @@ none_completes start logs h tx t quiet low live = by (is_completing t.phase) ref
     at : h ≡ home start tx
     at = (at_home start tx h (logs h) t low there).is
 
-    here : live_at start (logs_of start (merged (machine start) (hosts start) logs)) tx ≡ Some t
+    here : live_at start (logs_of start (merged (machine start) (first_hosts start) logs)) tx ≡ Some t
     here =
         ap (λ (l : ℕ → List HostStep). live_at start l tx) same
         ∙ subst (λ k. of_host tx (after start k (logs k)) ≡ Some t) at there
 
-    still : (xs : List Addressed) × IsStill start (merged (machine start) (hosts start) logs) xs
+    still : (xs : List Addressed) × IsStill start (merged (machine start) (first_hosts start) logs) xs
     still =
-        still_at_quiet start (merged (machine start) (hosts start) logs) (quiet_runs start logs quiet)
+        still_at_quiet start (merged (machine start) (first_hosts start) logs) (quiet_runs start logs quiet)
         (subst (λ (l : ℕ → List HostStep). AreQuiet start l) (sym same) quiet).quiet
 
     by : (b : Bool) → is_completing t.phase ≡ b → b ≡ false
@@ -434,13 +435,15 @@ none_completes start logs h tx t quiet low live = by (is_completing t.phase) ref
     by true e =
         let w : IsOnWay start tx still.0 t =
         subst (Claim start tx still.0) here
-        (completions_come start tx (merged (machine start) (hosts start) logs) still.0 (quiet_runs start logs quiet)
+        (completions_come start tx (merged (machine start) (first_hosts start) logs) still.0
+        (quiet_runs start logs quiet)
         still.1.transit) e in
         absurd (omega (
           arith,
           w.some,
           w.way,
-          none_stands start tx (merged (machine start) (hosts start) logs) still.0 (quiet_runs start logs quiet) still.1
+          none_stands start tx (merged (machine start) (first_hosts start) logs) still.0 (quiet_runs start logs quiet)
+              still.1
               (omega (arith, low, at))
               (list_at start tx t),
         ))

@@ -13,7 +13,7 @@ use Rattle.tc_block.specs.declared.transaction.Transaction.{Transaction}
 use Rattle.tc_block.specs.Phases.{is_aborting, is_committing, is_completing}
 use Rattle.node_core.specs.Blocks.{dih_of, tc_of}
 use Rattle.world_core.proofs.HostNumbers.{host_below}
-use Rattle.world_core.specs.Hosts.{hosts, tc_host}
+use Rattle.world_core.specs.Hosts.{first_hosts, tc_host}
 use Rattle.world_core.specs.Machine.{after}
 use Rattle.world_core.specs.Start.{Start}
 use Rattle.world_core.specs.Steps.{HostStep}
@@ -49,7 +49,7 @@ nobody (x ∷ xs) is = absurd (omega (arith, is))
 
 module _ (start : Start) (logs : ℕ → List HostStep) (quiet : AreQuiet start logs) (node : ℕ) (some : 1 ≤ node)
     (few : node ≤ start.shape.nodes) where
-  low : tc_host start node < hosts start
+  low : tc_host start node < first_hosts start
   low = host_below start (coordinator node) some few
 
   one_off : (e : TxId × Transaction)

@@ -16,7 +16,7 @@ use Rattle.sig_core.specs.Part.{part_of}
 use Rattle.sig_core.specs.Place.{rows_of}
 use Rattle.lqh_views.specs.State.{ReplicaState}
 use Rattle.node_views.specs.WellFormed.{is_well_formed}
-use Rattle.world_core.proofs.HostNumbers.{members_length}
+use Rattle.world_core.proofs.HostNumbers.{hosts_low}
 use Rattle.world_core.specs.Hosts.{host_by, hosts, member_of}
 use Rattle.world_core.specs.Start.{Start, made}
 use Rattle.world_core.specs.Steps.{Addressed, HostStep}
@@ -61,11 +61,11 @@ module _ (start : Start) where
           let number = ldm_number start me there in
           let node = node_low start me there in
           let some = node_some start me there in
-          omega (arith, number, node, some)
+          omega (arith, number, node, some, hosts_low start)
 
       found : (o : Option Member) → member_of view to.node ≡ o
           → host_by (made start) (part_of to.block) o ≡ ldm_of start me → to.node ≡ me.node
-      found None e same = let many = members_length start.shape.nodes in absurd (omega (arith, same, low, many))
+      found None e same = absurd (omega (arith, same, low))
       found (Some m) e same =
           let made_m = host_made start (part_of to.block) m (omega (arith, same, low)) in
           sym (node_of view to.node m e)

@@ -9,6 +9,7 @@ use Rattle.run_theory.specs.Lists.{IsPast}
 use Rattle.run_theory.specs.Runs.{IsWithin, log_of}
 use Rattle.run_theory.proofs.EventCases.{event_cases}
 use Rattle.sig_core.specs.declared.view.View.{View}
+use Rattle.world_core.proofs.MadeFirst.{nobody_starts}
 use Rattle.world_core.specs.Hosts.{hosts}
 use Rattle.world_core.specs.Start.{Start}
 use Rattle.world_core.specs.Steps.{HostStep}
@@ -54,6 +55,7 @@ module _ (start : Start) (shape : IsShape start.shape) where
       old = log_of (machine start) es;
       are = record {
         shape = shape;
+        nobody = nobody_starts start;
         right = logs_of_run (machine start) es come.run;
         within = within_less start e es within;
       };

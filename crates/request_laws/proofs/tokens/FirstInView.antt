@@ -1,6 +1,6 @@
 -- The first moment in a view: no token has its number yet, and no host stands in it; and sums over members.
 use Rattle.std.proofs.Common.{◌≡◌, ◌≢◌, ◌≤◌, ◌<◌, ◌+◌, ◌⊎◌, ◌==◌, ◌&&◌, ◌++◌, ℕ, zero, suc, Bool, true, false, List, []}
-use Rattle.std.proofs.Common.{◌∷◌, refl, sym, ap, arith, inl, inr}
+use Rattle.std.proofs.Common.{◌∷◌, refl, sym, ap, subst, arith, inl, inr}
 use Rattle.std.proofs.lemmas.Bool.{cases_eq, eqb-true}
 use Rattle.std.specs.Prelude.{if◌then◌else◌}
 use Rattle.std.specs.List.{count_by}
@@ -15,8 +15,9 @@ use Rattle.sig_core.specs.declared.signal.Body.{Body}
 use Rattle.sig_core.specs.declared.signal.Signal.{Signal}
 use Rattle.sig_core.specs.declared.view.View.{View}
 use Rattle.tc_block.specs.Complete.{one_if}
+use Rattle.world_core.proofs.MadeFirst.{made_first, nobody_starts}
 use Rattle.world_core.specs.Hosts.{hosts}
-use Rattle.world_core.specs.Start.{Start}
+use Rattle.world_core.specs.Start.{Start, made}
 use Rattle.world_core.specs.Steps.{Addressed, HostStep}
 use Rattle.world_views.specs.Machine.{signals_of}
 use Rattle.view_laws.specs.Order.{is_sound, sound_machine}
@@ -95,6 +96,14 @@ total_of_one (suc n) f g node some low same =
           same (n + 1) (omega arith) (omega arith) other,
           rest (omega (arith, low, other)) (λ k some low. same k some (omega (arith, low))),
         )
+
+-- so it is of those that are made
+pub total_of_made : (start : Start) (f g : Member → ℕ) (node : ℕ) → 1 ≤ node → node ≤ start.shape.nodes
+    → ((k : ℕ) → 1 ≤ k → k ≤ start.shape.nodes → k ≢ node → g (node_of k) ≡ f (node_of k))
+    → total_of (made start) g + f (node_of node) ≡ total_of (made start) f + g (node_of node)
+total_of_made start f g node some low same =
+    subst (λ (ms : List Member). total_of ms g + f (node_of node) ≡ total_of ms f + g (node_of node))
+    (sym (made_first start (nobody_starts start))) (total_of_one start.shape.nodes f g node some low same)
 
 -- signals that pass a test of their bodies, in the view of a number
 module _ (start : Start) (q : Body → Bool) (number : ℕ) where

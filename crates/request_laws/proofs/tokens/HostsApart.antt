@@ -2,6 +2,7 @@
 use Rattle.std.proofs.Common.{◌≡◌, ◌≢◌, ◌<◌, arith}
 use Rattle.run_theory.specs.Lists.{IsIn}
 use Rattle.sig_core.specs.declared.member.Member.{Member}
+use Rattle.world_core.proofs.HostNumbers.{hosts_low}
 use Rattle.world_core.specs.Hosts.{hosts}
 use Rattle.world_core.specs.Start.{Start, made}
 use Rattle.view_laws.proofs.runs.FirstMembers.{made_same, node_low, node_some}
@@ -14,7 +15,7 @@ module _ (start : Start) where
       let is = ldm_number start me there in
       let few = node_low start me there in
       let some = node_some start me there in
-      omega (arith, is, few, some)
+      omega (arith, is, few, some, hosts_low start)
 
   module _ (one other : Member) (there : IsIn one (made start)) (there_too : IsIn other (made start)) where
     pub ldm_no_tc : ldm_of start one ≢ tc_of start other

@@ -19,6 +19,7 @@ use Rattle.frag_map.specs.Replicas.{first_start}
 use Rattle.tc_block.specs.Phases.{is_aborting}
 use Rattle.tc_block.specs.Complete.{one_if}
 use Rattle.node_views.specs.declared.host_body.HostBody as node
+use Rattle.world_core.proofs.MadeFirst.{begins_made, made_begins, nobody_starts}
 use Rattle.world_core.specs.Hosts.{hosts}
 use Rattle.world_core.specs.Start.{Start, made}
 use Rattle.world_core.specs.Steps.{Addressed, HostStep}
@@ -54,7 +55,7 @@ use Rattle.request_laws.proofs.tokens.OtherBlocks.{aside_none}
 use Rattle.request_laws.proofs.tokens.HostsApart.{ldm_low, ldm_no_tc, ldm_same}
 use Rattle.request_laws.proofs.tokens.Steps.{TokenMove, quiet, sends_one}
 use Rattle.request_laws.proofs.tokens.FirstInView.{all_sent_more, all_sent_none, all_taken_more, node_of, sent_now}
-use Rattle.request_laws.proofs.tokens.FirstInView.{taken_now, total_of_one, total_of_same, total_of_zero}
+use Rattle.request_laws.proofs.tokens.FirstInView.{taken_now, total_of_made, total_of_same, total_of_zero}
 
 -- a request is a token: where none of them is sent, none was asked for
 unasked : (tx : TxId) (sends : List Outgoing) → count_sent (is_token tx) sends ≡ 0
@@ -254,7 +255,7 @@ module _ (start : Start) (all : ℕ → List HostStep) (e : HostStep) (es : List
 
       own_is : node_of me.node ≡ me
       own_is =
-          let first = first_of start.shape.nodes me there in
+          let first = first_of start.shape.nodes me (made_begins start (nobody_starts start) me there) in
           ap first_start (ap (λ (m : Member). m.node) first.is) ∙ sym first.is
 
       all_rows : all_waiting start new tx now + waiting_at start old tx now me
@@ -264,13 +265,14 @@ module _ (start : Start) (all : ℕ → List HostStep) (e : HostStep) (es : List
           (λ one. all_waiting start new tx now + waiting_at start old tx now one
           ≡ all_waiting start old tx now + waiting_at start new tx now one)
           own_is
-          (total_of_one start.shape.nodes (waiting_at start old tx now) (waiting_at start new tx now) me.node
+          (total_of_made start (waiting_at start old tx now) (waiting_at start new tx now) me.node
           (node_some start me there) (node_low start me there)
           (λ k some low off.
           waits_elsewhere (node_of k)
           (λ same.
           off (ap (λ (m : Member). m.node)
-          (ldm_same start (node_of k) me (first_in start.shape.nodes k some low) there (sym same ∙ at))))))
+          (ldm_same start (node_of k) me (begins_made start _ (first_in start.shape.nodes k some low)) there
+          (sym same ∙ at))))))
 
     -- whichever host it is
     module _ (there : IsIn member (made start)) where

@@ -23,6 +23,7 @@ use Rattle.sys_restart.specs.Calls.{rows_of_node}
 use Rattle.sys_restart.specs.Files.{Disks}
 use Rattle.sys_restart.specs.Groups.{is_listed}
 use Rattle.sys_restart.specs.Restored.{restored_of}
+use Rattle.world_core.proofs.MadeFirst.{begins_made}
 use Rattle.world_core.specs.Hosts.{hosts}
 use Rattle.world_core.specs.Start.{Start, made}
 use Rattle.world_core.specs.Steps.{HostStep}
@@ -45,6 +46,7 @@ use Rattle.saved_laws.specs.Keys.{OtherKeysStay}
 use Rattle.disk_laws.specs.Found.{HasSavedRows}
 use Rattle.restart_laws.specs.Restart.{AreGrouped, AreLeft, IsOfLife, RestartsAreHistory}
 use Rattle.restart_laws.proofs.groups.Done.{WasMarked, told_done}
+use Rattle.restart_laws.proofs.groups.Held.{rows_held}
 use Rattle.restart_laws.proofs.groups.Left.{begins, told_durable}
 use Rattle.restart_laws.proofs.groups.Nodes.{first_below, group_low, has_full, node_group, node_low_group}
 use Rattle.restart_laws.proofs.groups.Sources.{AreGroups, AreOfOne, HasOwnRows, IsGroup, all_groups, group_is}
@@ -113,7 +115,7 @@ module _ (copied : CopiedWereSaved) (durable : DurableWereNoted) (done : DoneWer
 
   -- the disk of each node that it lists has such
   own_rows : (node : ℕ) → 1 ≤ node → node ≤ start.shape.nodes → is_listed system.mask node ≡ true
-      → HasOwnRows images system AreHistory node
+      → HasOwnRows start.shape images system AreHistory node
   own_rows node some low listed = record {
     slot = has.slot;
     rows = replayed system.epoch before (records_behind (first_rows start member) has.events);
@@ -121,7 +123,9 @@ module _ (copied : CopiedWereSaved) (durable : DurableWereNoted) (done : DoneWer
         ap (λ generation. control_of_file generation (images node CONTROL_FILE))
         (system_generation start r logs images left ∙ sym has.generation_is)
         ∙ has.restores.0;
+    saved = saved_up;
     rows_are = has.restores.1 system.epoch (least_low member there);
+    held = rows_held start.shape node _ others;
     so = (own, others);
   }
     where
@@ -129,13 +133,16 @@ module _ (copied : CopiedWereSaved) (durable : DurableWereNoted) (done : DoneWer
       member = first_start node
 
       there : IsIn member (made start)
-      there = first_in start.shape.nodes node some low
+      there = begins_made start _ (first_in start.shape.nodes node some low)
 
       before : Rows
       before = rows_of_node start.shape node r
 
       has : HasSavedRows start member before (r.generation + 1) (logs (ldm_of start member)) (images node)
       has = (left.each member there).saved
+
+      saved_up : system.epoch ≤ has.slot.saved
+      saved_up = listed_saved start r logs images left copied member there listed
 
       own : (key : List ℕ) → holds start.shape node key ≡ true
           → map.get (replayed system.epoch before (records_behind (first_rows start member) has.events)) key
@@ -145,7 +152,7 @@ module _ (copied : CopiedWereSaved) (durable : DurableWereNoted) (done : DoneWer
           (replays (first_rows start member) before has.events system.epoch (first_pending start member there))
           ∙ saved start logs (begins start r logs images left) left.cluster member there has.older has.past has.events
           has.events_of before (left.each member there).begun system.epoch
-          (subst (λ k. system.epoch ≤ k) has.saved (listed_saved start r logs images left copied member there listed))
+          (subst (λ k. system.epoch ≤ k) has.saved saved_up)
           key
           holding
 
@@ -160,15 +167,15 @@ module _ (copied : CopiedWereSaved) (durable : DurableWereNoted) (done : DoneWer
           ∙ left.grouped node key some low apart
 
   group_rows : (group : ℕ) → group < groups start.shape
-      → IsGroup images system AreHistory (group * start.shape.replicas + 1) start.shape.replicas
+      → IsGroup start.shape images system AreHistory (group * start.shape.replicas + 1)
   group_rows group below =
       let whole = group_low start.shape left.cluster.shape group below in
-      group_is images system AreHistory (group * start.shape.replicas + 1) start.shape.replicas
+      group_is start.shape images system AreHistory (group * start.shape.replicas + 1)
       (λ node from under. own_rows node (omega (arith, from)) (omega (arith, under, whole)))
       (manned start r logs images left copied group below)
 
-  all : AreGroups images system AreHistory start.shape.replicas 0 (groups start.shape) []
-  all = all_groups images system AreHistory start.shape group_rows
+  all : AreGroups start.shape images system AreHistory 0 (groups start.shape) []
+  all = all_groups start.shape images system AreHistory group_rows
 
   abbrev restored : Restored
   restored = record { generation = system.generation; epoch = system.epoch; groups = all.all }
@@ -180,11 +187,11 @@ module _ (copied : CopiedWereSaved) (durable : DurableWereNoted) (done : DoneWer
 
   -- those of each node are the rows of one of its group
   of_one : (node : ℕ) → 1 ≤ node → node ≤ start.shape.nodes
-      → AreOfOne images system AreHistory (group_of start.shape node * start.shape.replicas + 1)
+      → AreOfOne start.shape images system AreHistory (group_of start.shape node * start.shape.replicas + 1)
       start.shape.replicas (get_or all.all (group_of start.shape node) map.empty)
   of_one node some low =
       subst
-      (λ group. AreOfOne images system AreHistory (group * start.shape.replicas + 1) start.shape.replicas
+      (λ group. AreOfOne start.shape images system AreHistory (group * start.shape.replicas + 1) start.shape.replicas
       (get_or all.all (group_of start.shape node) map.empty))
       (let e : 0 + group_of start.shape node ≡ group_of start.shape node = omega arith in e)
       (all.each (group_of start.shape node) (node_low_group start.shape left.cluster.shape node some low))

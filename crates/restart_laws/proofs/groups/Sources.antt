@@ -12,12 +12,14 @@ use Rattle.sig_core.specs.declared.slots.SystemSlot.{SystemSlot}
 use Rattle.sig_core.specs.declared.view.Shape.{Shape}
 use Rattle.sysfile_core.specs.declared.place.TheConstants.{CONTROL_FILE}
 use Rattle.sysfile_core.specs.Reading.{control_of_file}
-use Rattle.sys_restart.proofs.GroupsLemmas.{control_listed, control_unlisted, rows_end, rows_more, source_found}
+use Rattle.sys_restart.proofs.GroupsLemmas.{control_saved, control_unlisted, rows_end, rows_more, source_found}
 use Rattle.sys_restart.proofs.GroupsLemmas.{source_more}
+use Rattle.sys_restart.proofs.HeldLemmas.{held_kept}
 use Rattle.sys_restart.specs.Answers.{on_node}
 use Rattle.sys_restart.specs.Files.{Disks}
-use Rattle.sys_restart.specs.Groups.{first_listed, is_listed, rows_by, rows_from, rows_of_group}
+use Rattle.sys_restart.specs.Groups.{first_listed, if_held, is_listed, rows_by, rows_from, rows_of_group}
 use Rattle.sys_restart.specs.Groups.{source_of}
+use Rattle.sys_restart.specs.Held.{are_held}
 use Rattle.sys_restart.specs.SlotRows.{rows_of_slot}
 
 -- a node among so many is listed
@@ -28,13 +30,15 @@ pub record IsManned (system : SystemSlot) (first count : ℕ) : Type 0 where
   pub listed : is_listed system.mask node ≡ true
 
 -- what is so of a node's rows
-module _ (disks : Disks) (system : SystemSlot) (Q : ℕ → Rows → Type 0) where
-  -- the disk of a node has rows as of the system slot, and they are so
+module _ (shape : Shape) (disks : Disks) (system : SystemSlot) (Q : ℕ → Rows → Type 0) where
+  -- the disk of a node has rows of its group as of the system slot, and they are so
   pub record HasOwnRows (node : ℕ) : Type 0 where
     pub slot : ControlSlot
     pub rows : Rows
     pub control : control_of_file system.generation (disks node CONTROL_FILE) ≡ Ok (Some slot)
+    pub saved : system.epoch ≤ slot.saved
     pub rows_are : rows_of_slot system.epoch (disks node) slot ≡ Ok rows
+    pub held : are_held shape node rows ≡ true
     pub so : Q node rows
 
   -- the source is one of so many nodes
@@ -68,8 +72,7 @@ module _ (disks : Disks) (system : SystemSlot) (Q : ℕ → Rows → Type 0) whe
             has = has;
             is =
                 source_found disks system node (suc more) more has.slot (source_of disks system node (suc more)) refl
-                (control_listed system node (disks node) (Ok (Some has.slot)) listed (ap (on_node node) has.control))
-                refl;
+                (control_saved system node (disks node) has.slot listed has.control has.saved) refl;
           }
       by false off rest =
           let one = rest (record {
@@ -102,50 +105,52 @@ module _ (disks : Disks) (system : SystemSlot) (Q : ℕ → Rows → Type 0) whe
     pub below : node < first + count
     pub so : Q node part
 
-  pub record IsGroup (first count : ℕ) : Type 0 where
+  pub record IsGroup (first : ℕ) : Type 0 where
     pub part : Rows
-    pub is : rows_of_group disks system first count ≡ Ok part
-    pub of_one : AreOfOne first count part
+    pub is : rows_of_group shape disks system first ≡ Ok part
+    pub of_one : AreOfOne first shape.replicas part
 
-  pub group_is : (first count : ℕ) → AreOwned first count → IsManned system first count → IsGroup first count
-  group_is first count each some =
-      let found = source_is first count each some in
+  pub group_is : (first : ℕ) → AreOwned first shape.replicas → IsManned system first shape.replicas → IsGroup first
+  group_is first each some =
+      let found = source_is first shape.replicas each some in
       record {
         part = found.has.rows;
         is =
-            ap (rows_by disks system.epoch (first_listed system.mask first first count)) found.is
-            ∙ ap (on_node found.at) found.has.rows_are;
+            ap (rows_by shape disks system.epoch (first_listed system.mask first first shape.replicas)) found.is
+            ∙ ap (if_held shape found.at (disks found.at)) (ap (on_node found.at) found.has.rows_are)
+            ∙ held_kept shape found.at (disks found.at) found.has.rows found.has.held;
         of_one = record { node = found.at; from = found.from; below = found.below; so = found.has.so };
       }
 
   -- Of so many groups, from one on, the rows of each are of one of its nodes.
-  pub record AreGroups (replicas group more : ℕ) (before : List Rows) : Type 0 where
+  pub record AreGroups (group more : ℕ) (before : List Rows) : Type 0 where
     pub all : List Rows
-    pub is : rows_from disks system replicas group more (Ok before) ≡ Ok (before ++ all)
+    pub is : rows_from shape disks system group more (Ok before) ≡ Ok (before ++ all)
     pub many : length all ≡ more
-    pub each : (i : ℕ) → i < more → AreOfOne ((group + i) * replicas + 1) replicas (get_or all i map.empty)
+    pub each :
+        (i : ℕ) → i < more → AreOfOne ((group + i) * shape.replicas + 1) shape.replicas (get_or all i map.empty)
 
-  groups_are : (replicas group more : ℕ) (before : List Rows)
-      → ((g : ℕ) → group ≤ g → g < group + more → IsGroup (g * replicas + 1) replicas)
-      → AreGroups replicas group more before
-  groups_are replicas group zero before each = record {
+  groups_are : (group more : ℕ) (before : List Rows)
+      → ((g : ℕ) → group ≤ g → g < group + more → IsGroup (g * shape.replicas + 1))
+      → AreGroups group more before
+  groups_are group zero before each = record {
     all = [];
-    is = rows_end disks system replicas group 0 (Ok before) refl ∙ ap Ok (sym (append-nil before));
+    is = rows_end shape disks system group 0 (Ok before) refl ∙ ap Ok (sym (append-nil before));
     many = refl;
     each = λ i below. absurd (omega (arith, below));
   }
-  groups_are replicas group (suc more) before each =
+  groups_are group (suc more) before each =
       let own = each group (omega arith) (omega arith) in
       with_own own
-      (groups_are replicas (group + 1) more (before ++ own.part ∷ [])
+      (groups_are (group + 1) more (before ++ own.part ∷ [])
       (λ g from below. each g (omega (arith, from)) (omega (arith, below))))
     where
-      with_own : (own : IsGroup (group * replicas + 1) replicas)
-          → AreGroups replicas (group + 1) more (before ++ own.part ∷ []) → AreGroups replicas group (suc more) before
+      with_own : (own : IsGroup (group * shape.replicas + 1))
+          → AreGroups (group + 1) more (before ++ own.part ∷ []) → AreGroups group (suc more) before
       with_own own rest = record {
         all = own.part ∷ rest.all;
         is =
-            sym (rows_more disks system replicas group (suc more) more before (before ++ own.part ∷ []) own.part refl
+            sym (rows_more shape disks system group (suc more) more before (before ++ own.part ∷ []) own.part refl
             own.is refl)
             ∙ rest.is
             ∙ ap Ok (append_assoc before (own.part ∷ []) rest.all);
@@ -154,15 +159,13 @@ module _ (disks : Disks) (system : SystemSlot) (Q : ℕ → Rows → Type 0) whe
       }
         where
           at : (i : ℕ) → i < suc more
-              → AreOfOne ((group + i) * replicas + 1) replicas (get_or (own.part ∷ rest.all) i map.empty)
+              → AreOfOne ((group + i) * shape.replicas + 1) shape.replicas (get_or (own.part ∷ rest.all) i map.empty)
           at zero below =
-              subst (λ g. AreOfOne (g * replicas + 1) replicas own.part) (let e : group ≡ group + 0 = omega arith in e)
-              own.of_one
+              subst (λ g. AreOfOne (g * shape.replicas + 1) shape.replicas own.part)
+              (let e : group ≡ group + 0 = omega arith in e) own.of_one
           at (suc i) below =
-              subst (λ g. AreOfOne (g * replicas + 1) replicas (get_or rest.all i map.empty))
+              subst (λ g. AreOfOne (g * shape.replicas + 1) shape.replicas (get_or rest.all i map.empty))
               (let e : group + 1 + i ≡ group + suc i = omega arith in e) (rest.each i (omega (arith, below)))
 
-  pub all_groups : (shape : Shape) → ((g : ℕ) → g < groups shape → IsGroup (g * shape.replicas + 1) shape.replicas)
-      → AreGroups shape.replicas 0 (groups shape) []
-  all_groups shape each =
-      groups_are shape.replicas 0 (groups shape) [] (λ g from below. each g (omega (arith, below)))
+  pub all_groups : ((g : ℕ) → g < groups shape → IsGroup (g * shape.replicas + 1)) → AreGroups 0 (groups shape) []
+  all_groups each = groups_are 0 (groups shape) [] (λ g from below. each g (omega (arith, below)))

@@ -16,6 +16,7 @@ use Rattle.sys_restart.specs.declared.restored.Restored.{Restored}
 use Rattle.sys_restart.specs.Calls.{next_system}
 use Rattle.sys_restart.specs.Files.{Disks}
 use Rattle.sys_restart.specs.Groups.{is_listed}
+use Rattle.world_core.proofs.MadeFirst.{begins_made}
 use Rattle.world_core.specs.Start.{Start, made}
 use Rattle.world_core.specs.Steps.{HostStep}
 use Rattle.view_laws.proofs.ballots.Found.{found}
@@ -58,7 +59,7 @@ module _ (start : Start) (r : Restored) (logs : ℕ → List HostStep) (images :
   has_slot : (n : ℕ) → 1 ≤ n → n ≤ start.shape.nodes
       → HasSlot start.shape images (r.generation + 1) IsInUse of_generation n
   has_slot n some low =
-      let there = first_in start.shape.nodes n some low in
+      let there = begins_made start _ (first_in start.shape.nodes n some low) in
       let of = left.each (first_start n) there in
       record {
         slot = of.noted.slot;

@@ -16,6 +16,7 @@ use Rattle.sys_restart.specs.LifeCalls.{record_of}
 use Rattle.sys_restart.specs.Prepared.{HasKept}
 use Rattle.sys_restart.specs.Restored.{restored_of}
 use Rattle.node_restart.proofs.StorableLaw.{restored_storable}
+use Rattle.world_core.proofs.MadeFirst.{begins_made}
 use Rattle.world_core.specs.Start.{Start, made}
 use Rattle.world_core.specs.World.{logs_at}
 use Rattle.world_views.specs.World.{Whole}
@@ -46,7 +47,7 @@ module _ (start : Start) (r : Restored) (w : Whole) (disks : Disks) (records : L
       member = first_start node
 
       there : IsIn member (made start)
-      there = first_in start.shape.nodes node some few
+      there = begins_made start _ (first_in start.shape.nodes node some few)
 
       up : KeepsUp start member (rows_of_node start.shape node r) (next_system start.shape r) w disks
       up = (lived.each member there).up

@@ -14,6 +14,7 @@ use Rattle.sys_restart.specs.declared.restored.Restored.{Restored}
 use Rattle.sig_core.specs.declared.view.Shape.{Shape}
 use Rattle.sys_restart.specs.Latest.{same_shape}
 use Rattle.sys_restart.specs.Calls.{next_system, rows_of_node}
+use Rattle.world_core.proofs.MadeFirst.{begins_made}
 use Rattle.world_core.specs.Start.{Start, made}
 use Rattle.world_core.specs.Steps.{HostStep}
 use Rattle.world_core.specs.World.{logs_at}
@@ -104,7 +105,7 @@ module _ (start : Start) (r : Restored) where
     last = first_start start.shape.nodes
 
     up : KeepsUp start last (rows_of_node start.shape last.node r) (next_system start.shape r) t disks
-    up = each last (first_in start.shape.nodes start.shape.nodes shape.nodes_some (omega arith))
+    up = each last (begins_made start _ (first_in start.shape.nodes start.shape.nodes shape.nodes_some (omega arith)))
 
     pub all_told : start.shape.nodes ≤ length disks.told
     all_told = let inside = in_range disks.told (last.node - 1) up.calls up.told in omega (arith, inside)

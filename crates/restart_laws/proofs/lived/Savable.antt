@@ -43,6 +43,7 @@ pub cluster : (start : Start) (w : Whole) → IsShape start.shape → IsSound st
     → AreOfCluster start (logs_at w.logs)
 cluster start w shape sound = record {
   shape = shape;
+  nobody = sound.right.nobody;
   right = right_logs start sound.given w sound.right;
   within = within start sound.given w sound.right;
 }

@@ -34,6 +34,7 @@ use Rattle.node_views.specs.declared.ldm_part.LdmPart.{LdmPart}
 use Rattle.node_views.specs.declared.parts.Parts.{Parts}
 use Rattle.node_views.specs.Parts.{ldm_row}
 use Rattle.node_views.specs.Words.{parts_marks}
+use Rattle.world_core.proofs.HostNumbers.{hosts_low}
 use Rattle.world_core.specs.Start.{Start, made}
 use Rattle.world_core.specs.Steps.{HostStep}
 use Rattle.world_views.specs.Machine.{after, step_after}
@@ -209,7 +210,7 @@ module _ (start : Start) (member : Member) (there : IsIn member (made start)) wh
         let is = ldm_number start member there in
         let node = node_some start member there in
         let few = node_low start member there in
-        omega (arith, is, node, few);
+        omega (arith, is, node, few, hosts_low start);
     grows = λ log e body tells epoch told.
         let before = tells epoch told in
         let rises = (rows_tell log e).rises in

@@ -11,7 +11,6 @@ use Rattle.sig_core.specs.declared.signal.Body.TheVariants as body
 use Rattle.sig_core.specs.declared.signal.Signal.{Signal}
 use Rattle.sig_core.specs.declared.signal.host.HostSignal.TheVariants.{Closed}
 use Rattle.node_views.specs.Row.{stopping}
-use Rattle.world_core.proofs.HostNumbers.{members_length}
 use Rattle.world_core.proofs.LogIndex.{logs_at_other, logs_at_own}
 use Rattle.world_core.specs.Hosts.{hosts}
 use Rattle.world_core.specs.Start.{Start}
@@ -72,7 +71,7 @@ module _ (start : Start) (given : List ApiReply) (w : Whole) (right : IsRight st
     (there : g < hosts start)
   where
     all : length w.made * 3 + 1 ≡ hosts start
-    all = ap (λ ms. length ms * 3 + 1) right.made ∙ ap (λ n. n * 3 + 1) (members_length start.shape.nodes)
+    all = ap (λ ms. length ms * 3 + 1) right.made
 
     pub link_own : (j : ℕ) → j < hosts start → IsLeft count (link w.links g j) (link (ended w g count).links g j)
     link_own j low = by (e.stays j) is

@@ -15,7 +15,7 @@ use Rattle.node_core.specs.declared.host.Host as host
 use Rattle.node_core.specs.Blocks.{tc_of}
 use Rattle.node_core.specs.Requests.{is_request}
 use Rattle.node_core.specs.Row.{row}
-use Rattle.world_core.specs.Hosts.{first_membership, home, host_for, hosts}
+use Rattle.world_core.specs.Hosts.{first_membership, home, host_for, first_hosts}
 use Rattle.world_core.specs.Machine.{addressed, after, all_addressed, counted as one_counted, machine, sent_count}
 use Rattle.world_core.specs.Machine.{step_after}
 use Rattle.world_core.specs.Start.{Start}
@@ -115,7 +115,7 @@ module _ (start : Start) (tx : TxId) where
       }
 
   -- neither is told by another host
-  pub silent_start : (h : ℕ) (log : List HostStep) → h < hosts start → h ≢ home start tx
+  pub silent_start : (h : ℕ) (log : List HostStep) → h < first_hosts start → h ≢ home start tx
       → signals (is_start tx) (sent (machine start) h 0 log) ≡ 0
   silent_start h log low differs =
       tally_none (λ (x : Addressed). is_start tx x.signal.to x.signal.body) (sent (machine start) h 0 log)
@@ -134,7 +134,7 @@ module _ (start : Start) (tx : TxId) where
       fails x tells true e = absurd (differs (by_home x.signal.body tells
           (right_of (is_api x.signal.to.block) (start_of tx x.signal.body) e)))
 
-  pub silent_end : (h : ℕ) (log : List HostStep) → h < hosts start → h ≢ home start tx
+  pub silent_end : (h : ℕ) (log : List HostStep) → h < first_hosts start → h ≢ home start tx
       → signals (is_end tx) (sent (machine start) h 0 log) ≡ 0
   silent_end h log low differs = go (cases_lt 0 (signals (is_end tx) (sent (machine start) h 0 log)))
     where

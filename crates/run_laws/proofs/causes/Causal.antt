@@ -24,7 +24,7 @@ use Rattle.node_core.specs.declared.host.Host.{Host}
 use Rattle.node_core.specs.Blocks.{api_of, has_api, tc_of}
 use Rattle.node_core.specs.Requests.{is_request}
 use Rattle.world_core.specs.History.{is_reported}
-use Rattle.world_core.specs.Hosts.{first_membership, home, host_for, hosts, started, tc_host}
+use Rattle.world_core.specs.Hosts.{first_membership, home, host_for, first_hosts, started, tc_host}
 use Rattle.world_core.specs.Machine.{addressed, after, all_addressed, counted, last_stamp, machine, sent_count}
 use Rattle.world_core.specs.Machine.{signals_of, step_after}
 use Rattle.world_core.specs.Start.{Start}
@@ -337,4 +337,4 @@ module _ (start : Start) where
   pub cuts_are_causal : (inside logs : ℕ → List HostStep) → IsClosedCut start inside logs → AreCausal inside
   cuts_are_causal inside logs is =
       (along_signals_of_cuts (machine start) (stamped start) (SignalSays start) AreCausal causal_kept
-      (hosts start) inside logs is.within is.right is.cut is.closed).law
+      (first_hosts start) inside logs is.within is.right is.cut is.closed).law

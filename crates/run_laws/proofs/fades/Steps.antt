@@ -15,7 +15,7 @@ use Rattle.node_core.specs.Row.{row}
 use Rattle.node_core.specs.declared.host.Host as host
 use Rattle.node_core.specs.Requests.{is_request}
 use Rattle.world_core.specs.History.{is_applied}
-use Rattle.world_core.specs.Hosts.{hosts}
+use Rattle.world_core.specs.Hosts.{first_hosts}
 use Rattle.world_core.specs.Machine.{after, machine, step_after}
 use Rattle.world_core.specs.Marks.{has_mark}
 use Rattle.world_core.specs.Start.{Start}
@@ -77,7 +77,7 @@ module _ (start : Start) (es : List HostStep) (e : HostStep) (come : Comes start
       wait_none = omega (
         arith,
         none,
-        total_at (hosts start) (λ k. waiting_in tx (after start k (logs_of start es k))) h
+        total_at (first_hosts start) (λ k. waiting_in tx (after start k (logs_of start es k))) h
             (comes_below start es e come),
       )
 

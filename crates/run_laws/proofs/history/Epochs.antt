@@ -12,7 +12,7 @@ use Rattle.sig_core.specs.declared.mark.Mark.TheVariants as mark
 use Rattle.sig_core.specs.declared.view.View.{View}
 use Rattle.world_core.specs.Entries.{entries_in, entries_of}
 use Rattle.world_core.specs.History.{history}
-use Rattle.world_core.specs.Hosts.{hosts}
+use Rattle.world_core.specs.Hosts.{first_hosts, hosts}
 use Rattle.world_core.specs.Machine.{after, machine}
 use Rattle.world_core.specs.SerialLaw.{AreEpochsOrdered}
 use Rattle.frag_map.specs.Groups.{is_viable}
@@ -94,8 +94,8 @@ module _ (start : Start) where
 
 pub epochs_ordered : EpochsNeverFall
 epochs_ordered start inside logs is =
-    one_epoch start.epoch (history (hosts start) inside)
-    (each_kept (λ b. b.epoch ≡ start.epoch) (hosts start) inside
+    one_epoch start.epoch (history (first_hosts start) inside)
+    (each_kept (λ b. b.epoch ≡ start.epoch) (first_hosts start) inside
     (λ h. log_epochs start h (inside h) ((inside_right start inside logs is).local h)))
 
 pub view_first : GreatestViewIsFirst

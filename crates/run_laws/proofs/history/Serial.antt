@@ -2,7 +2,7 @@
 use Rattle.std.proofs.Common.{sym, ◌∙◌}
 use Rattle.serial_model.specs.Legal.{rows_of}
 use Rattle.world_core.specs.History.{history}
-use Rattle.world_core.specs.Hosts.{hosts}
+use Rattle.world_core.specs.Hosts.{first_hosts}
 use Rattle.run_laws.specs.Laws.{KeysMakeSerial}
 use Rattle.run_laws.proofs.history.Epochs.{epochs_ordered, view_viable}
 use Rattle.key_laws.proofs.KeysJoin.{keys_join, rows_join}
@@ -10,10 +10,10 @@ use Rattle.run_laws.proofs.history.StrictOrder.{histories_strict}
 
 pub keys_serial : KeysMakeSerial
 keys_serial start inside logs pos is keys = record {
-  legal = keys_join (rows_of start.rows) (history (hosts start) inside) keys.right;
+  legal = keys_join (rows_of start.rows) (history (first_hosts start) inside) keys.right;
   strict = histories_strict start inside logs is;
   epochs = epochs_ordered start inside logs is;
   viable = view_viable start inside logs pos is;
   rows = λ key rest member live. keys.rows key rest member live
-      ∙ sym (rows_join (rows_of start.rows) (history (hosts start) inside) key);
+      ∙ sym (rows_join (rows_of start.rows) (history (first_hosts start) inside) key);
 }

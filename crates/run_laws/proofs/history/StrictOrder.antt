@@ -22,7 +22,7 @@ use Rattle.sig_core.specs.Same.{same_tx}
 use Rattle.node_core.specs.Requests.{is_request}
 use Rattle.world_core.specs.Entries.{entries_in, entries_of, installed_in, view_at}
 use Rattle.world_core.specs.History.{history, is_reported}
-use Rattle.world_core.specs.Hosts.{home, hosts}
+use Rattle.world_core.specs.Hosts.{home, first_hosts}
 use Rattle.world_core.specs.Machine.{machine}
 use Rattle.world_core.specs.Marks.{has_mark}
 use Rattle.frag_map.specs.Layout.{first_number}
@@ -202,23 +202,23 @@ module _ (start : Start) where
       of = ap begun_of is;
     }
 
-    strictly : IsStrictOrder start (logs 0) (history (hosts start) logs)
+    strictly : IsStrictOrder start (logs 0) (history (first_hosts start) logs)
     strictly a b before in_a in_b asked reported =
-        stands_before a b (history (hosts start) logs)
-        (sorted_history first_number (hosts start) logs
+        stands_before a b (history (first_hosts start) logs)
+        (sorted_history first_number (first_hosts start) logs
         (λ h. each_map (IsEntryOf h (logs h)) (λ (c : Entry). c.view ≡ first_number) (entries_of h (logs h))
         (λ c is. is.view) (entries_are h (logs h) (right.local h))))
         in_a in_b lesser
       where
-        kept : Each (HasHost logs) (history (hosts start) logs)
-        kept = each_kept (HasHost logs) (hosts start) logs
+        kept : Each (HasHost logs) (history (first_hosts start) logs)
+        kept = each_kept (HasHost logs) (first_hosts start) logs
             (λ h. each_map (IsEntryOf h (logs h)) (HasHost logs) (entries_of h (logs h))
             (λ c is. record { host = h; is = is }) (entries_are h (logs h) (right.local h)))
 
         lesser : a.stamp < b.stamp
         lesser =
-            let of_a = each_in (HasHost logs) a (history (hosts start) logs) kept in_a in
-            let of_b = each_in (HasHost logs) b (history (hosts start) logs) kept in_b in
+            let of_a = each_in (HasHost logs) a (history (first_hosts start) logs) kept in_a in
+            let of_b = each_in (HasHost logs) b (history (first_hosts start) logs) kept in_b in
             let report = has_report a.tx before reported in
             let parts : logs 0 ≡ asked.newer ++ (asked.told ∷ (asked.between ++ asked.asking ∷ before)) =
             asked.is ∙ append_assoc asked.newer (asked.told ∷ asked.between) (asked.asking ∷ before) in

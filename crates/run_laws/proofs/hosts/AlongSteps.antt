@@ -23,7 +23,7 @@ use Rattle.tc_block.specs.declared.transaction.Transaction.{Transaction}
 use Rattle.tc_block.specs.State.{TcState}
 use Rattle.world_core.proofs.HostNumbers.{addressed_rightly, given_past, rows_run}
 use Rattle.world_core.proofs.Stamped.{stamped}
-use Rattle.world_core.specs.Hosts.{home, host_for, hosts, tc_host}
+use Rattle.world_core.specs.Hosts.{home, host_for, first_hosts, tc_host}
 use Rattle.world_core.specs.Machine.{after, machine, step_after}
 use Rattle.world_core.specs.Start.{Start}
 use Rattle.world_core.specs.Steps.{Addressed, HostStep}
@@ -82,11 +82,11 @@ module _ (start : Start) where
   -- host h makes the step e behind these logs
   pub record Goes (logs now : ℕ → List HostStep) (h : ℕ) (e : HostStep) : Type 0 where
     pub at : e.host ≡ h
-    pub low : h < hosts start
+    pub low : h < first_hosts start
     pub before : AreLogs (machine start) logs
     pub right : AreLogs (machine start) now
-    pub was_within : IsWithin (hosts start) logs
-    pub within : IsWithin (hosts start) now
+    pub was_within : IsWithin (first_hosts start) logs
+    pub within : IsWithin (first_hosts start) now
     pub own : now h ≡ e ∷ logs h
     pub others : (k : ℕ) → k ≢ h → now k ≡ logs k
     pub takes : is_request e.step.taken.body ≡ false
@@ -109,20 +109,20 @@ module _ (start : Start) where
   -- what holds at the start, and is kept by each step of a host, holds of all right logs
   pub along : (Q : (ℕ → List HostStep) → Type 0) → Q (log_of (machine start) [])
       → ((logs now : ℕ → List HostStep) (h : ℕ) (e : HostStep) → Goes logs now h e → Q logs → Q now)
-      → (logs : ℕ → List HostStep) → IsWithin (hosts start) logs → AreLogs (machine start) logs → Q logs
+      → (logs : ℕ → List HostStep) → IsWithin (first_hosts start) logs → AreLogs (machine start) logs → Q logs
   along Q first next logs in_n right =
-      of_runs (machine start) (stamped start) (λ ls. IsWithin (hosts start) ls → Q ls)
-      (along_run (machine start) (λ es. IsWithin (hosts start) (log_of (machine start) es) → Q
-      (log_of (machine start) es)) (λ w. first) run_next) (hosts start) logs in_n right in_n
+      of_runs (machine start) (stamped start) (λ ls. IsWithin (first_hosts start) ls → Q ls)
+      (along_run (machine start) (λ es. IsWithin (first_hosts start) (log_of (machine start) es) → Q
+      (log_of (machine start) es)) (λ w. first) run_next) (first_hosts start) logs in_n right in_n
     where
       run_next : (es : List HostStep) (e : HostStep) → Run (machine start) es → Happens (machine start) es e
-          → (IsWithin (hosts start) (log_of (machine start) es) → Q (log_of (machine start) es))
-          → IsWithin (hosts start) (log_of (machine start) (e ∷ es)) → Q (log_of (machine start) (e ∷ es))
+          → (IsWithin (first_hosts start) (log_of (machine start) es) → Q (log_of (machine start) es))
+          → IsWithin (first_hosts start) (log_of (machine start) (e ∷ es)) → Q (log_of (machine start) (e ∷ es))
       run_next es e run happens before in_now =
           next (log_of (machine start) es) (log_of (machine start) (e ∷ es)) e.host e
           (record {
             at = refl;
-            low = under (cases_lt e.host (hosts start));
+            low = under (cases_lt e.host (first_hosts start));
             before = logs_of_run (machine start) es run;
             right = logs_of_run (machine start) (e ∷ es) (run, happens);
             was_within = was;
@@ -133,11 +133,11 @@ module _ (start : Start) where
           })
           (before was)
         where
-          was : IsWithin (hosts start) (log_of (machine start) es)
+          was : IsWithin (first_hosts start) (log_of (machine start) es)
           was k high = let past = log_of-past (machine start) e es k in
               log_nil past.newer (log_of (machine start) es k) (sym (in_now k high) ∙ past.is)
 
-          under : (e.host < hosts start) ⊎ (hosts start ≤ e.host) → e.host < hosts start
+          under : (e.host < first_hosts start) ⊎ (first_hosts start ≤ e.host) → e.host < first_hosts start
           under (inl fine) = fine
           under (inr high) = absurd (nothing (sym (log_of-own (machine start) e es e.host refl) ∙ in_now e.host high))
             where
@@ -154,13 +154,14 @@ module _ (start : Start) where
   few_taken logs right test i j = tally_past (λ (x : Addressed). test x.signal.to x.signal.body) (link logs right i j)
 
   -- where one host alone that is there sends such signals to the shell's host, that takes none of another
-  pub none_else : (logs : ℕ → List HostStep) → AreLogs (machine start) logs → IsWithin (hosts start) logs
+  pub none_else : (logs : ℕ → List HostStep) → AreLogs (machine start) logs → IsWithin (first_hosts start) logs
       → (test : Place → Body → Bool) (i : ℕ)
-      → ((h : ℕ) (log : List HostStep) → h < hosts start → h ≢ i → signals test (sent (machine start) h 0 log) ≡ 0)
+      → ((h : ℕ) (log : List HostStep) → h < first_hosts start → h ≢ i → signals test (sent (machine start) h 0 log) ≡
+      0)
       → (k : ℕ) → k ≢ i → signals test (taken (machine start) k (logs 0)) ≡ 0
-  none_else logs right in_n test i silent k differs = go (cases_lt k (hosts start))
+  none_else logs right in_n test i silent k differs = go (cases_lt k (first_hosts start))
     where
-      go : (k < hosts start) ⊎ (hosts start ≤ k) → signals test (taken (machine start) k (logs 0)) ≡ 0
+      go : (k < first_hosts start) ⊎ (first_hosts start ≤ k) → signals test (taken (machine start) k (logs 0)) ≡ 0
       go (inl low) = omega (arith, silent k (logs k) low differs, few_taken logs right test k 0)
       go (inr high) = omega (
         arith,
@@ -214,7 +215,7 @@ module _ (start : Start) where
   live_tx tx h log t live = live_in tx t (tc_of (after start h log)).live (at_tc tx h log).once live
 
   -- a transaction is at its home
-  pub at_home : (tx : TxId) (h : ℕ) (log : List HostStep) (t : Transaction) → h < hosts start
+  pub at_home : (tx : TxId) (h : ℕ) (log : List HostStep) (t : Transaction) → h < first_hosts start
       → tx_at tx (after start h log) ≡ Some t → IsHome start tx h
   at_home tx h log t low at =
       let number = live_home tx (tc_of (after start h log)) t at (at_tc tx h log).own in
@@ -235,7 +236,7 @@ module _ (start : Start) where
   turn_at tx h log e = let x = at_tc tx h log in host_turn tx (after start h log) e.step.taken x.once x.own
 
   -- at another host than its home it is left as it is
-  pub other_turn : (tx : TxId) (h : ℕ) (log : List HostStep) (e : HostStep) → h < hosts start → h ≢ home start tx
+  pub other_turn : (tx : TxId) (h : ℕ) (log : List HostStep) (e : HostStep) → h < first_hosts start → h ≢ home start tx
       → IsRowsStep (after start h log) e.step.taken (step_after start h log e)
       ⊎ IsAside tx (after start h log) e.step.taken (step_after start h log e)
   other_turn tx h log e low differs = by (turn_at tx h log e)

@@ -10,7 +10,7 @@ use Rattle.tc_block.specs.State.{TcState}
 use Rattle.node_core.specs.declared.host.Host.{Host}
 use Rattle.node_core.specs.Blocks.{has_tc, tc_of}
 use Rattle.node_core.specs.Row.{row}
-use Rattle.world_core.specs.Hosts.{home, hosts, tc_host}
+use Rattle.world_core.specs.Hosts.{home, first_hosts, tc_host}
 use Rattle.world_core.specs.Machine.{after, machine}
 use Rattle.world_core.specs.Start.{Start}
 use Rattle.world_core.specs.Steps.{HostStep}
@@ -47,7 +47,7 @@ module _ (start : Start) (tx : TxId) (h : ℕ) (log : List HostStep) where
       live_none tx s.live (unborn_none tx s.node s.next_seq s.live (all_home start tx h log).own early)
 
   -- its coordinator is another host's
-  pub away_absent : h < hosts start → (h ≡ home start tx → ⊥) → of_host tx (after start h log) ≡ None
+  pub away_absent : h < first_hosts start → (h ≡ home start tx → ⊥) → of_host tx (after start h log) ≡ None
   away_absent low apart = by (has_tc (after start h log)) refl
     where
       by : (b : Bool) → has_tc (after start h log) ≡ b → of_host tx (after start h log) ≡ None

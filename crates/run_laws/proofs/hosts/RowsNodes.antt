@@ -5,7 +5,7 @@ use Rattle.sig_core.specs.Part.{part_of}
 use Rattle.node_core.specs.Blocks.{has_lqh, lqh_of}
 use Rattle.node_core.specs.Fresh.{fresh_part}
 use Rattle.world_core.proofs.HostNumbers.{rows_found, rows_started}
-use Rattle.world_core.specs.Hosts.{hosts, rows_host, started}
+use Rattle.world_core.specs.Hosts.{first_hosts, rows_host, started}
 use Rattle.world_core.specs.Machine.{after}
 use Rattle.world_core.specs.Start.{Start}
 use Rattle.world_core.specs.Steps.{HostStep}
@@ -25,7 +25,7 @@ module _ (start : Start) where
   unfolding fresh_part
   begun node some low = ap (λ s. (lqh_of s).node) (rows_started start node some low)
 
-  pub rows_node : (h : ℕ) (log : List HostStep) → h < hosts start → has_lqh (after start h log) ≡ true
+  pub rows_node : (h : ℕ) (log : List HostStep) → h < first_hosts start → has_lqh (after start h log) ≡ true
       → IsRowsHost start h (lqh_of (after start h log)).node
   rows_node h log low runs =
       let found = rows_found start h log low runs in

@@ -8,7 +8,7 @@ use Rattle.sig_core.specs.declared.place.Part.TheVariants.{Tc, Ldm}
 use Rattle.sig_core.specs.declared.place.Place.{Place}
 use Rattle.sig_core.specs.Part.{part_of}
 use Rattle.world_core.proofs.HostNumbers.{addressed_rightly}
-use Rattle.world_core.specs.Hosts.{host_for, hosts, rows_host, tc_host}
+use Rattle.world_core.specs.Hosts.{host_for, first_hosts, rows_host, tc_host}
 use Rattle.world_core.specs.Machine.{machine}
 use Rattle.world_core.specs.Start.{Start}
 use Rattle.world_core.specs.Steps.{HostStep}
@@ -26,10 +26,10 @@ module _ (start : Start) (es : List HostStep) (e : HostStep) (comes : Comes star
       sym (subst (Each (λ (d : HostStep). host_for start d.step.taken.to ≡ e.host)) own_log all).0
 
   -- it is one of the hosts that there are
-  pub comes_below : e.host < hosts start
-  comes_below = by (cases_lt e.host (hosts start))
+  pub comes_below : e.host < first_hosts start
+  comes_below = by (cases_lt e.host (first_hosts start))
     where
-      by : (e.host < hosts start) ⊎ (hosts start ≤ e.host) → e.host < hosts start
+      by : (e.host < first_hosts start) ⊎ (first_hosts start ≤ e.host) → e.host < first_hosts start
       by (inl low) = low
       by (inr high) =
           absurd (let none : e ∷ logs_of start es e.host ≡ [] = sym own_log ∙ comes.now.within e.host high in cc)

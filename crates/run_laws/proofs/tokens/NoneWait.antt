@@ -11,7 +11,7 @@ use Rattle.sig_core.specs.Same.{same_tx}
 use Rattle.lqh_block.specs.declared.request.Request.{Request}
 use Rattle.node_core.specs.Blocks.{lqh_of}
 use Rattle.node_core.specs.declared.host.Host.{Host}
-use Rattle.world_core.specs.Hosts.{hosts}
+use Rattle.world_core.specs.Hosts.{first_hosts}
 use Rattle.world_core.specs.Machine.{after}
 use Rattle.world_core.specs.Start.{Start}
 use Rattle.key_laws.specs.PrimaryEvents.{NoneOf}
@@ -62,10 +62,11 @@ module _ (start : Start) (es : List HostStep) (run : IsRun start es) where
 
   -- what waits at a host is part of what waits
   waits_less : (tx : TxId) (h : ℕ) → waiting_in tx (after start h (logs h)) ≤ waiting_all start logs tx
-  waits_less tx h = by (cases_lt h (hosts start))
+  waits_less tx h = by (cases_lt h (first_hosts start))
     where
-      by : (h < hosts start) ⊎ (hosts start ≤ h) → waiting_in tx (after start h (logs h)) ≤ waiting_all start logs tx
-      by (inl low) = total_at (hosts start) (λ k. waiting_in tx (after start k (logs k))) h low
+      by : (h < first_hosts start) ⊎ (first_hosts start ≤ h)
+          → waiting_in tx (after start h (logs h)) ≤ waiting_all start logs tx
+      by (inl low) = total_at (first_hosts start) (λ k. waiting_in tx (after start k (logs k))) h low
       by (inr high) =
           omega (arith, ap (λ log. waiting_in tx (after start h log)) (run.within h high), none_waits_first start tx h)
 

@@ -14,7 +14,7 @@ use Rattle.sig_core.specs.declared.signal.chain.ChainSignal.TheVariants.{LqhKeyR
 use Rattle.sig_core.specs.Same.{same_tx}
 use Rattle.lqh_block.specs.declared.request.Request.{Request}
 use Rattle.node_core.specs.Requests.{is_request}
-use Rattle.world_core.specs.Hosts.{home, hosts}
+use Rattle.world_core.specs.Hosts.{home, first_hosts}
 use Rattle.world_core.specs.Machine.{after, machine, signals_of, step_after}
 use Rattle.world_core.specs.Start.{Start}
 use Rattle.host_laws.specs.Ways.{back_by, sent_ways}
@@ -102,14 +102,15 @@ module _ (start : Start) (tx : TxId) where
     waiting_now =
         omega (
           arith,
-          total_one (hosts start) (λ k. waiting_in tx (after start k (was k)))
+          total_one (first_hosts start) (λ k. waiting_in tx (after start k (was k)))
               (λ k. waiting_in tx (after start k (now k))) h (comes_below start es e come)
               (λ k off. ap (λ log. waiting_in tx (after start k log)) (other_log k off)),
           ap (λ log. waiting_in tx (after start h log)) own_log,
         )
 
     waiting_some : waits_was ≤ waiting_all start was tx
-    waiting_some = total_at (hosts start) (λ k. waiting_in tx (after start k (was k))) h (comes_below start es e come)
+    waiting_some =
+        total_at (first_hosts start) (λ k. waiting_in tx (after start k (was k))) h (comes_below start es e come)
 
     kept : Kept tx (sent_ways start back_by h (was h)) (after start h (was h)) e.step.taken
     kept = host_kept tx (sent_ways start back_by h (was h)) (after start h (was h)) e.step.taken
@@ -151,7 +152,7 @@ module _ (start : Start) (tx : TxId) where
   none_waits_first k = ap (tally (λ (q : Request). same_tx q.tx tx)) (first_waiting start k)
 
   none_first : tokens start (logs_of start []) [] tx ≤ budget start (logs_of start []) tx
-  none_first = omega (arith, none (hosts start))
+  none_first = omega (arith, none (first_hosts start))
     where
       none : (n : ℕ) → total n (λ k. waiting_in tx (after start k [])) ≡ 0
       none zero = refl

@@ -13,7 +13,7 @@ use Rattle.node_core.specs.Blocks.{lqh_of}
 use Rattle.tc_block.specs.declared.phase.Phase.{Phase}
 use Rattle.tc_block.specs.declared.phase.Phase.TheVariants.{Open, Verifying, Committing, Completing, Aborting}
 use Rattle.tc_block.specs.declared.transaction.Transaction.{Transaction}
-use Rattle.world_core.specs.Hosts.{hosts}
+use Rattle.world_core.specs.Hosts.{first_hosts}
 use Rattle.world_core.specs.Machine.{after}
 use Rattle.world_core.specs.Start.{Start}
 use Rattle.key_laws.specs.Replica.{asks_for, is_by}
@@ -60,20 +60,20 @@ module _ (tx : TxId) (key : List ℕ) where
   module _ (start : Start) (es : List HostStep) (run : IsRun start es) where
     none_wait : waiting_all start (logs_of start es) tx ≡ 0 → (h : ℕ)
         → (view_of start (logs_of start es) tx key).waits h ≡ []
-    none_wait none h = by (nat_lt h (hosts start)) refl
+    none_wait none h = by (nat_lt h (first_hosts start)) refl
       where
         none_begun : (h : ℕ) → waits_of tx (key_in key (after start h [])) ≡ []
         none_begun h = ap (λ waiting. filter (is_by tx) (filter (asks_for key) waiting)) (first_waiting start h)
 
-        by : (b : Bool) → nat_lt h (hosts start) ≡ b
+        by : (b : Bool) → nat_lt h (first_hosts start) ≡ b
             → waits_of tx (key_in key (after start h (logs_of start es h))) ≡ []
         by true e =
             let few : waiting_in tx (after start h (logs_of start es h)) ≤ waiting_all start (logs_of start es) tx =
-            total_at (hosts start) (λ h. waiting_in tx (after start h (logs_of start es h))) h
+            total_at (first_hosts start) (λ h. waiting_in tx (after start h (logs_of start es h))) h
             (grind (arith, nat_tests, e)) in
             host_none (after start h (logs_of start es h)) (omega (arith, few, none))
         by false e =
-            let high : hosts start ≤ h = grind (arith, nat_tests, e) in
+            let high : first_hosts start ≤ h = grind (arith, nat_tests, e) in
             ap (λ log. waits_of tx (key_in key (after start h log))) (run.within h high) ∙ none_begun h
 
     module _ (xs : List Addressed) (transit : AreInTransit start es xs) (t : Transaction)

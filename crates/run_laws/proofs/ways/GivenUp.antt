@@ -13,7 +13,7 @@ use Rattle.sig_core.specs.declared.outcome.Outcome.TheVariants as outcome
 use Rattle.sig_core.specs.Same.{same_tx}
 use Rattle.sig_core.proofs.TxLemmas.{same_tx-is, same_tx-swap}
 use Rattle.world_core.specs.History.{is_applied, is_reported}
-use Rattle.world_core.specs.Hosts.{home, hosts}
+use Rattle.world_core.specs.Hosts.{home, first_hosts}
 use Rattle.world_core.specs.Marks.{has_mark, have_mark}
 use Rattle.world_core.specs.Start.{Start}
 use Rattle.host_laws.specs.Ways.{back_by, forth_by, sent_ways, way_of}
@@ -116,21 +116,23 @@ module _ (start : Start) (logs : ℕ → List HostStep) (tx : TxId) where
   reported_shows _ own told = absurd cc
 
   kept_carried : ((h : ℕ) → Each (λ (e : HostStep). Each (IsMarkTold start logs) e.step.marks) (logs h))
-      → (have_mark (is_applied tx) (hosts start) logs ≡ true) ⊎ (have_mark (is_reported tx) (hosts start) logs ≡ true)
+      → (have_mark (is_applied tx) (first_hosts start) logs ≡ true)
+      ⊎ (have_mark (is_reported tx) (first_hosts start) logs ≡ true)
       → is_carried_out start logs tx ≡ true
-  kept_carried all (inl is) = hosts_carried (is_applied tx) applied_shows (hosts start) all is
-  kept_carried all (inr is) = hosts_carried (is_reported tx) reported_shows (hosts start) all is
+  kept_carried all (inl is) = hosts_carried (is_applied tx) applied_shows (first_hosts start) all is
+  kept_carried all (inr is) = hosts_carried (is_reported tx) reported_shows (first_hosts start) all is
 
 -- what was applied or reported committed is carried out
 pub kept_are_carried_out : (start : Start) (es : List HostStep) (tx : TxId) → IsRun start es
-    → (have_mark (is_applied tx) (hosts start) (logs_of start es) || have_mark (is_reported tx) (hosts start)
+    → (have_mark (is_applied tx) (first_hosts start) (logs_of start es) || have_mark (is_reported tx)
+    (first_hosts start)
     (logs_of start es)) ≡ true
     → is_carried_out start (logs_of start es) tx ≡ true
 kept_are_carried_out start es tx run kept =
     let (xs, transit) = runs_have_transit start es run in
     kept_carried start (logs_of start es) tx (all_told start es xs run transit).marks
-    (or_cases (have_mark (is_applied tx) (hosts start) (logs_of start es))
-    (have_mark (is_reported tx) (hosts start) (logs_of start es)) kept)
+    (or_cases (have_mark (is_applied tx) (first_hosts start) (logs_of start es))
+    (have_mark (is_reported tx) (first_hosts start) (logs_of start es)) kept)
 
 pub kept_are_not_given_up : KeptAreNotGivenUp
 kept_are_not_given_up start es tx run kept =

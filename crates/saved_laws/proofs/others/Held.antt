@@ -9,6 +9,7 @@ use Rattle.frag_map.specs.Layout.{first_view, holds}
 use Rattle.frag_map.specs.Replicas.{is_member}
 use Rattle.sig_core.specs.declared.member.Member.{Member}
 use Rattle.sig_core.specs.declared.view.View.{View}
+use Rattle.world_core.proofs.MadeFirst.{made_begins, nobody_starts}
 use Rattle.world_core.specs.Start.{Start}
 use Rattle.world_core.specs.Steps.{HostStep}
 use Rattle.moment_laws.proofs.MomentMembers.{current_made}
@@ -50,4 +51,6 @@ replica_holds start all es moment key member is =
         (turn_in start.shape (frag_of start.shape key) view first start.shape.replicas member
         (in_turns start key moment.cluster.shape view
         (nobody_later start all moment.cluster view (moment_installed start all es moment)) member is.chained)
-        (any_in (is_member member) member first.full (current_made start all es moment member is.full) (self member))))
+        (any_in (is_member member) member first.full
+        (made_begins start (nobody_starts start) member (current_made start all es moment member is.full))
+        (self member))))

@@ -5,7 +5,7 @@ use Rattle.std.proofs.Common.{◌++◌, sym, ap, subst, inl, inr}
 use Rattle.std.proofs.lemmas.Bool.{true≢false}
 use Rattle.std.specs.List.{list_any}
 use Rattle.run_theory.specs.Lists.{IsIn, IsPast}
-use Rattle.frag_map.specs.Layout.{first_layout}
+use Rattle.frag_map.specs.Layout.{first_layout, members}
 use Rattle.lqh_block.specs.Views.{was_begun_by}
 use Rattle.sig_core.proofs.Keys.{same_tx-self}
 use Rattle.sig_core.specs.declared.entry.Entry.{Entry}
@@ -13,7 +13,8 @@ use Rattle.sig_core.specs.declared.mark.Mark.TheVariants.{Closed, Decided}
 use Rattle.sig_core.specs.declared.member.TxId.{TxId}
 use Rattle.sig_core.specs.declared.view.View.{View}
 use Rattle.sig_core.specs.Same.{same_tx}
-use Rattle.world_core.specs.Start.{Start, made}
+use Rattle.world_core.proofs.MadeFirst.{made_begins, nobody_starts}
+use Rattle.world_core.specs.Start.{Start}
 use Rattle.world_core.specs.Steps.{HostStep}
 use Rattle.moment_laws.specs.Moments.{IsMoment, current, logs_of}
 use Rattle.moment_laws.specs.Places.{tc_of}
@@ -81,7 +82,8 @@ module _ (start : Start) (all : ℕ → List HostStep) (e : HostStep) (es : List
         → current start (logs_of start (e ∷ es)) ≡ (first_layout start.shape).view → ⊥
     not_first gone same =
         true≢false (sym (ap (λ (v : View). list_any (was_begun_by tx) v.full) same
-        ∙ any_in (was_begun_by tx) (coordinator_member tx) (made start) (forth_made start all end last tx forth)
+        ∙ any_in (was_begun_by tx) (coordinator_member tx) (members start.shape.nodes)
+        (made_begins start (nobody_starts start) (coordinator_member tx) (forth_made start all end last tx forth))
         (λ i. eq-eqb tx.tc tx.tc refl i && eq-eqb tx.start tx.start refl i)) ∙ gone)
 
     none : is_led_by_full start (logs_of start (e ∷ es)) tx ≡ false → LeavesNone start (logs_of start (e ∷ es))

@@ -32,7 +32,8 @@ use Rattle.node_views.specs.declared.standing.Standing.{Standing}
 use Rattle.node_views.specs.WellFormed.{is_well_formed}
 use Rattle.qmgr_block.specs.Laws.{Event, installs, takes}
 use Rattle.qmgr_block.specs.Promise.{is_ldm}
-use Rattle.world_core.proofs.HostNumbers.{members_at}
+use Rattle.world_core.proofs.MadeFirst.{hosts_first, nobody_starts}
+use Rattle.world_core.proofs.HostNumbers.{made_at}
 use Rattle.world_core.specs.Hosts.{host_of, hosts, member_at}
 use Rattle.world_core.specs.Machine.{counted}
 use Rattle.world_core.specs.Start.{Start, made}
@@ -223,7 +224,7 @@ module _ (start : Start) (logs : ℕ → List HostStep) (are : AreOfCluster star
   node_at : (before left : ℕ) → suc before < hosts start → (member_at (made start) (suc before)).node ≡ before / 3 + 1
   node_at before left low =
       ap (λ (m : Member). m.node)
-      (members_at start.shape.nodes (before / 3) nobody (omega (arith, low)))
+      (made_at start (before / 3) nobody (omega (arith, low, hosts_first start (nobody_starts start))))
 
   module _ (me : Member) (there : IsIn me (made start)) where
     abbrev main : ℕ

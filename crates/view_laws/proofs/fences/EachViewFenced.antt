@@ -3,7 +3,7 @@ use Rattle.std.proofs.Common.{◌≡◌, ◌⊎◌, ◌≤◌, ◌<◌, ℕ, Boo
 use Rattle.std.proofs.Common.{subst, arith, inl, inr}
 use Rattle.std.specs.List.{list_any}
 use Rattle.std.specs.Prelude.{if◌then◌else◌, None}
-use Rattle.frag_map.specs.Layout.{first_layout, first_view}
+use Rattle.frag_map.specs.Layout.{first_layout, first_view, members}
 use Rattle.frag_map.specs.Replicas.{is_member}
 use Rattle.run_theory.specs.Lists.{IsIn}
 use Rattle.run_theory.proofs.Pasts.{each_in}
@@ -11,6 +11,7 @@ use Rattle.sig_core.specs.declared.member.Member.{Member}
 use Rattle.sig_core.specs.declared.place.BlockId.{BlockId}
 use Rattle.sig_core.specs.declared.view.View.{View}
 use Rattle.sig_core.specs.Part.{part_of}
+use Rattle.world_core.proofs.MadeFirst.{begins_made}
 use Rattle.world_core.specs.Hosts.{host_of}
 use Rattle.world_core.specs.Start.{Start, made}
 use Rattle.world_core.specs.Steps.{HostStep}
@@ -72,7 +73,8 @@ each_view_by confirmed start logs are view was me of at fenced =
     host = host_of (made start) (part_of at) me
 
     first_made : IsIn me (all_of (first_view start.shape.nodes)) → IsIn me (made start)
-    first_made there = subst (IsIn me) (append-nil (made start)) there
+    first_made there =
+        begins_made start me (subst (IsIn me) (append-nil (members start.shape.nodes)) there)
 
     by : IsChosen start.shape (ballots_of start logs) view → view.number ≤ fence_after start host (logs host) at
     by (inl is) =

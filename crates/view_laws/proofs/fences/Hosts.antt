@@ -16,7 +16,8 @@ use Rattle.sig_core.specs.declared.place.Part.{Part}
 use Rattle.sig_core.specs.declared.place.Part.TheVariants.{Ldm, Main, Tc}
 use Rattle.sig_core.specs.declared.view.View.{View}
 use Rattle.sig_core.specs.Part.{part_of}
-use Rattle.world_core.proofs.HostNumbers.{members_length, node_host, the_member}
+use Rattle.world_core.proofs.MadeFirst.{hosts_first, made_begins, nobody_starts}
+use Rattle.world_core.proofs.HostNumbers.{node_host, the_member}
 use Rattle.world_core.specs.Hosts.{host_at, host_by, host_for, host_of, member_of, number_of, receiver}
 use Rattle.world_core.specs.Start.{Start, made}
 use Rattle.world_views.specs.Hosts.{reached}
@@ -77,7 +78,7 @@ module _ (start : Start) where
   pub block_host : (me : Member) → IsIn me (made start) → (b : BlockId)
       → host_of (made start) (part_of b) me ≡ (me.node - 1) * 3 + number_of (part_of b)
   block_host me there b =
-      let first = first_of start.shape.nodes me there in
+      let first = first_of start.shape.nodes me (made_begins start (nobody_starts start) me there) in
       subst (λ (m : Member). host_of (made start) (part_of b) m ≡ (m.node - 1) * 3 + number_of (part_of b))
       (sym first.is) (first_host first.node b first.some first.low)
 
@@ -113,7 +114,7 @@ module _ (start : Start) where
       )
 
   absent_is : (part : Part) → host_by (made start) part None ≡ start.shape.nodes * 3 + 1
-  absent_is part = omega (arith, members_length start.shape.nodes)
+  absent_is part = hosts_first start (nobody_starts start)
 
   -- a member that a host sends to was made
   found_made : (m me : Member) → IsIn me (made start) → (b at : BlockId)

@@ -13,7 +13,8 @@ use Rattle.sig_core.specs.declared.place.Part.TheVariants.{Main}
 use Rattle.sig_core.specs.Members.{nobody}
 use Rattle.node_views.specs.declared.host_body.HostBody as hosts
 use Rattle.node_views.specs.Fresh.{fresh_main}
-use Rattle.world_core.proofs.HostNumbers.{members_at, node_host, the_member}
+use Rattle.world_core.proofs.MadeFirst.{made_begins, nobody_starts}
+use Rattle.world_core.proofs.HostNumbers.{made_at, node_host, the_member}
 use Rattle.world_core.specs.Hosts.{host_by, host_for, member_at, member_of, part_by, receiver}
 use Rattle.world_core.specs.Start.{Start, made}
 use Rattle.world_views.specs.Hosts.{part_started, started}
@@ -93,12 +94,12 @@ module _ (start : Start) where
       (mod-mul-add (node - 1) 3 0 (omega arith))
       ∙ ap (part_started start Main)
       (ap (λ i. slice_index_or (made start) i nobody) (div-mul-add (node - 1) 3 0 (omega arith))
-      ∙ members_at start.shape.nodes (node - 1) nobody (omega (arith, some, low)) ∙ ap first_start own)
+      ∙ made_at start (node - 1) nobody (omega (arith, some, low)) ∙ ap first_start own)
 
   pub main_started : (member : Member) → IsIn member (made start)
       → started start (main_of start member) ≡ fresh_main member (first_layout start.shape) start.epoch
   main_started member there =
-      let first = first_of start.shape.nodes member there in
+      let first = first_of start.shape.nodes member (made_begins start (nobody_starts start) member there) in
       ap (λ m. started start (main_of start m)) first.is
       ∙ node_started first.node first.some first.low
       ∙ sym (ap (λ m. fresh_main m (first_layout start.shape) start.epoch) first.is)

@@ -9,7 +9,6 @@ use Rattle.sig_core.specs.declared.member.Member.{Member}
 use Rattle.sig_core.specs.declared.place.Place.{Place}
 use Rattle.sig_core.specs.declared.view.View.{View}
 use Rattle.sig_core.specs.Part.{part_of}
-use Rattle.world_core.proofs.HostNumbers.{members_length}
 use Rattle.world_core.specs.Hosts.{host_by, hosts, member_of}
 use Rattle.world_core.specs.Start.{Start, made}
 use Rattle.world_core.specs.Steps.{Addressed}
@@ -38,7 +37,7 @@ module _ (start : Start) where
     where
       found : (member : Option Member) → member_of view to.node ≡ member
           → x.to ≡ host_by (made start) (part_of to.block) member → IsForMember start x
-      found None e is = absurd (omega (arith, low, is, members_length start.shape.nodes))
+      found None e is = absurd (omega (arith, low, is))
       found (Some member) e is = record {
         member = member;
         of = subst (λ (v : View). IsIn member (all_of v)) (sym view_is) (known_in view to.node member e);

@@ -13,7 +13,7 @@ use Rattle.run_theory.proofs.EventCases.{event_cases}
 use Rattle.sig_core.specs.declared.view.View.{View}
 use Rattle.api_views.specs.Members.{greater_view}
 use Rattle.world_core.specs.Hosts.{hosts}
-use Rattle.world_core.specs.Start.{Start}
+use Rattle.world_core.specs.Start.{NobodyStarts, Start}
 use Rattle.world_core.specs.Steps.{HostStep}
 use Rattle.world_views.proofs.SentFacts.{is_stamped}
 use Rattle.world_views.specs.Machine.{machine}
@@ -51,7 +51,7 @@ module _ (start : Start) where
 
   run_less : (e : HostStep) (es : List HostStep) → IsRun start (e ∷ es) → IsRun start es
   run_less e es run =
-      record { shape = run.shape; run = run.run.0; within = within_less e es run.within }
+      record { shape = run.shape; nobody = run.nobody; run = run.run.0; within = within_less e es run.within }
 
   -- ballots are orderly, and each view in which a host stood after a part of its log is chosen
   pub record AreChosen (logs : ℕ → List HostStep) : Type 0 where
@@ -90,16 +90,16 @@ module _ (start : Start) where
             ((runs start (e ∷ es) run).chosen h low)
         own at (inr older) before = still_chosen e es h log (before older)
 
-    run_chosen : IsShape start.shape → (es : List HostStep) → Run (machine start) es
+    run_chosen : IsShape start.shape → NobodyStarts start → (es : List HostStep) → Run (machine start) es
         → IsWithin (hosts start) (log_of (machine start) es) → AreChosen (log_of (machine start) es)
-    run_chosen shape es run within =
-        let is_run : IsRun start es = record { shape = shape; run = run; within = within } in
+    run_chosen shape nobody es run within =
+        let is_run : IsRun start es = record { shape = shape; nobody = nobody; run = run; within = within } in
         record { orderly = (runs start es is_run).orderly; chosen = was_chosen es is_run }
 
     pub logs_chosen : (logs : ℕ → List HostStep) → AreOfCluster start logs → AreChosen logs
     logs_chosen logs are =
         of_runs (machine start) (is_stamped start) (λ logs. IsWithin (hosts start) logs → AreChosen logs)
-        (run_chosen are.shape) (hosts start) logs are.within are.right are.within
+        (run_chosen are.shape are.nobody) (hosts start) logs are.within are.right are.within
 
 module _ (runs : RunsHaveOrderlyBallots) where
   pub installed_chosen : (start : Start) (logs : ℕ → List HostStep) → AreOfCluster start logs → (view : View)

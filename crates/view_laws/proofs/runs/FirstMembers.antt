@@ -16,7 +16,8 @@ use Rattle.sig_core.specs.declared.place.Part.TheVariants.{Main}
 use Rattle.sig_core.specs.declared.view.View.{View}
 use Rattle.sig_core.specs.Members.{nobody}
 use Rattle.sig_core.specs.Place.{membership}
-use Rattle.world_core.proofs.HostNumbers.{members_at, members_length}
+use Rattle.world_core.proofs.MadeFirst.{begins_made, hosts_first, made_begins, made_first, nobody_starts}
+use Rattle.world_core.proofs.HostNumbers.{made_at}
 use Rattle.world_core.specs.Hosts.{host_by, hosts, member_at, member_of}
 use Rattle.world_core.specs.Start.{Start, made}
 use Rattle.world_views.specs.Hosts.{known, last_of, latest, reached}
@@ -63,23 +64,25 @@ module _ (start : Start) where
   -- two of one node are one
   pub made_same : (one other : Member) → IsIn one (made start) → IsIn other (made start) → one.node ≡ other.node
       → one ≡ other
-  made_same = apart_same (made start) (made_apart start.shape.nodes)
+  made_same =
+      apart_same (made start)
+      (subst AreApart (sym (made_first start (nobody_starts start))) (made_apart start.shape.nodes))
 
   -- the number of the main host of one
   pub main_is : (me : Member) → IsIn me (made start) → main_of start me ≡ suc ((me.node - 1) * 3 + 0)
   main_is me there =
-      let first = first_of start.shape.nodes me there in
+      let first = first_of start.shape.nodes me (made_begins start (nobody_starts start) me there) in
       subst (λ (m : Member). main_of start m ≡ suc ((m.node - 1) * 3 + 0)) (sym first.is)
       (main_number start first.node first.some first.low)
 
   pub node_some : (me : Member) → IsIn me (made start) → 1 ≤ me.node
   node_some me there =
-      let first = first_of start.shape.nodes me there in
+      let first = first_of start.shape.nodes me (made_begins start (nobody_starts start) me there) in
       subst (λ (m : Member). 1 ≤ m.node) (sym first.is) first.some
 
   pub node_low : (me : Member) → IsIn me (made start) → me.node ≤ start.shape.nodes
   node_low me there =
-      let first = first_of start.shape.nodes me there in
+      let first = first_of start.shape.nodes me (made_begins start (nobody_starts start) me there) in
       subst (λ (m : Member). m.node ≤ start.shape.nodes) (sym first.is) first.low
 
   -- two of one main host are one
@@ -92,12 +95,12 @@ module _ (start : Start) where
   -- and it is that one's host
   pub member_main : (me : Member) → IsIn me (made start) → member_at (made start) (main_of start me) ≡ me
   member_main me there =
-      let first = first_of start.shape.nodes me there in
+      let first = first_of start.shape.nodes me (made_begins start (nobody_starts start) me there) in
       let own : first.node - 1 + 1 ≡ first.node = omega (arith, first.some) in
       ap (λ m. member_at (made start) (main_of start m)) first.is
       ∙ ap (member_at (made start)) (main_number start first.node first.some first.low)
       ∙ ap (λ i. slice_index_or (made start) i nobody) (div-mul-add (first.node - 1) 3 0 (omega arith))
-      ∙ members_at start.shape.nodes (first.node - 1) nobody (omega (arith, first.some, first.low))
+      ∙ made_at start (first.node - 1) nobody (omega (arith, first.some, first.low))
       ∙ ap first_start own
       ∙ sym first.is
 
@@ -156,7 +159,7 @@ module _ (start : Start) where
           absurd (omega (
             arith,
             is,
-            members_length start.shape.nodes,
+            hosts_first start (nobody_starts start),
             main_is z there,
             node_low z there,
             node_some z there,
@@ -184,7 +187,7 @@ module _ (start : Start) where
       by : (left : ℕ) → k % 3 ≡ left → HostIs (suc k)
       by zero e =
           let some : 1 ≤ k / 3 + 1 = omega arith in
-          let few : k / 3 + 1 ≤ start.shape.nodes = omega (arith, low) in
-          of_main (first_start (k / 3 + 1)) (first_in start.shape.nodes (k / 3 + 1) some few)
+          let few : k / 3 + 1 ≤ start.shape.nodes = omega (arith, low, hosts_first start (nobody_starts start)) in
+          of_main (first_start (k / 3 + 1)) (begins_made start _ (first_in start.shape.nodes (k / 3 + 1) some few))
           (omega (arith, e, main_number start (k / 3 + 1) some few))
       by (suc left) e = of_other k left refl e

@@ -20,6 +20,7 @@ use Rattle.arbiter_block.specs.Arbiter.{ArbiterState, arbit_if, arbit_row, arbit
 use Rattle.arbiter_block.specs.Laws.{granted_at}
 use Rattle.arbiter_block.specs.Sets.{is_same_set, lie_in}
 use Rattle.qmgr_block.specs.Laws.{Event, installs, takes}
+use Rattle.world_core.proofs.MadeFirst.{made_begins, nobody_starts}
 use Rattle.world_core.specs.Start.{Start, made}
 use Rattle.world_core.specs.Steps.{HostStep}
 use Rattle.view_laws.specs.Ballots.{Ballots, Granted, HasPromised, IsChosen, Promised, Proposed}
@@ -283,7 +284,11 @@ module _ (start : Start) (logs : ℕ → List HostStep) (is_shape : IsShape star
         → ArePromises ballots me all
     promises_from me there [] are rising old behind = tt
     promises_from me there (promise ∷ []) are rising old behind =
-        inl (subst (IsIn me) (sym (append-nil (members start.shape.nodes))) there, old)
+        inl (
+          subst (IsIn me) (sym (append-nil (members start.shape.nodes)))
+              (made_begins start (nobody_starts start) me there),
+          old,
+        )
     promises_from me there (promise ∷ last ∷ older) are rising old behind = (
       rising.0,
       next_promise me there last.set promise.set promise.adopted (are promise (inl refl))

@@ -19,6 +19,7 @@ use Rattle.sig_core.specs.declared.signal.joining.JoiningSignal.TheVariants.{Sta
 use Rattle.sig_core.specs.declared.signal.membership.MembershipSignal.TheVariants.{ArbitConf, ArbitReq, PrepFailConf}
 use Rattle.sig_core.specs.declared.signal.membership.MembershipSignal.TheVariants.{PrepFailReq}
 use Rattle.sig_core.specs.declared.signal.Signal.{Signal}
+use Rattle.world_core.proofs.MadeFirst.{begins_made}
 use Rattle.world_core.specs.Hosts.{hosts, member_at, part_by}
 use Rattle.world_core.specs.Start.{Start, made}
 use Rattle.world_core.specs.Steps.{HostStep}
@@ -109,7 +110,7 @@ module _ (start : Start) where
       of = record {
         set = first_set start.shape.nodes is_shape.nodes_few;
         none = refl;
-        made = each_from _ (members start.shape.nodes) (λ member there. there);
+        made = each_from _ (members start.shape.nodes) (begins_made start);
       };
     }
 

@@ -23,7 +23,8 @@ use Rattle.node_views.specs.declared.host_body.HostBody as hosts
 use Rattle.node_views.specs.Row.{is_excluded, killed_after, standing_at}
 use Rattle.node_views.specs.WellFormed.{is_well_formed}
 use Rattle.qmgr_block.specs.Laws.{Event}
-use Rattle.world_core.proofs.HostNumbers.{members_at}
+use Rattle.world_core.proofs.MadeFirst.{begins_made, hosts_first, made_begins, nobody_starts}
+use Rattle.world_core.proofs.HostNumbers.{made_at}
 use Rattle.world_core.specs.Hosts.{member_at, part_by}
 use Rattle.world_core.specs.Hosts as world
 use Rattle.world_core.specs.Start.{Start, made}
@@ -175,13 +176,16 @@ module _ (start : Start) where
   pub host_made : (h : ℕ) → 1 ≤ h → h < world.hosts start → IsIn (member_at (made start) h) (made start)
   host_made zero some low = absurd (omega (arith, some))
   host_made (suc k) some low =
-      let few : k / 3 < start.shape.nodes = omega (arith, low) in
-      subst (λ (m : Member). IsIn m (made start)) (sym (members_at start.shape.nodes (k / 3) nobody few))
-      (first_in start.shape.nodes (k / 3 + 1) (omega arith) (omega (arith, few)))
+      let few : k / 3 < start.shape.nodes = omega (arith, low, hosts_first start (nobody_starts start)) in
+      subst (λ (m : Member). IsIn m (made start)) (sym (made_at start (k / 3) nobody few))
+      (begins_made start _ (first_in start.shape.nodes (k / 3 + 1) (omega arith) (omega (arith, few))))
+
+  begins : (me : Member) → IsIn me (made start) → IsIn me (members start.shape.nodes)
+  begins me there = made_begins start (nobody_starts start) me there
 
   first_member : (me : Member) → IsIn me (made start) → is_member (first_view start.shape.nodes) me ≡ true
   unfolding is_member
-  first_member me there = ap (λ (b : Bool). b || false) (any_in (members start.shape.nodes) me there)
+  first_member me there = ap (λ (b : Bool). b || false) (any_in (members start.shape.nodes) me (begins me there))
 
   part_home : (part : Part) (me : Member) → IsIn me (made start) → IsHome me start.shape (part_started start part me)
   part_home Main me there = record { is = refl; joined = first_member me there; shape_is = refl }
@@ -205,9 +209,9 @@ module _ (start : Start) where
   -- and they begin in a view with their members
   part_of : (part : Part) (me : Member) → IsIn me (made start)
       → IsIn me (all_of (part_started start part me).standing.view)
-  part_of Main me there = in_front me (members start.shape.nodes) [] there
-  part_of Tc me there = in_front me (members start.shape.nodes) [] there
-  part_of Ldm me there = in_front me (members start.shape.nodes) [] there
+  part_of Main me there = in_front me (members start.shape.nodes) [] (begins me there)
+  part_of Tc me there = in_front me (members start.shape.nodes) [] (begins me there)
+  part_of Ldm me there = in_front me (members start.shape.nodes) [] (begins me there)
 
   pub started_of : (h : ℕ) → 1 ≤ h → h < world.hosts start
       → IsIn (member_at (made start) h) (all_of (started start h).standing.view)

@@ -24,6 +24,7 @@ returns-in-Ok-clause-read g c =
     λ calls told.
     control_listed c.args.system.now c.args.node (files_of calls) (Ok c.in-Ok.slot) so
     (ap (on_node c.args.node) (c.in-Ok.ensures.read calls told))
+    ∙ ap Ok (sym c.that_saved.ensures.value)
 
 pub returns-in-Err-clause-read : goal.returns-in-Err-clause-read
 returns-in-Err-clause-read g c =

@@ -13,19 +13,18 @@ rows_of_source-requires g c =
     let source : IsSource (length c.args.disks.now) c.in-Ok-Some.source =
     subst (λ (found : Option Source). IfSome found (IsSource (length c.args.disks.now))) c.in-Ok-Some.field-0-is
     c.in-Ok-Some.ensures.source in
+    let many = same_size g.D.Disk.told c.source_of.new.disks c.args.disks.now c.in-Ok-Some.ensures.unrecorded in
     record {
+      shape = c.requires.shape;
+      nodes = many ∙ c.requires.nodes;
       first = source.first;
-      last = omega (
-        arith,
-        source.last,
-        same_size g.D.Disk.told c.source_of.new.disks c.args.disks.now c.in-Ok-Some.ensures.unrecorded,
-      );
+      last = omega (arith, source.last, many);
       redo = source.redo;
     }
 
 pub returns-in-Ok-Some-clause-read : goal.returns-in-Ok-Some-clause-read
 returns-in-Ok-Some-clause-read g c = λ records told.
-    group_found (disks_of records) c.args.system.now c.args.first c.args.count c.in-Ok-Some.source
+    group_found c.args.shape.now (disks_of records) c.args.system.now c.args.first c.in-Ok-Some.source
     c.rows_of_source.result
     (c.in-Ok-Some.ensures.read records told ∙ ap Ok c.in-Ok-Some.field-0-is)
     (c.rows_of_source.ensures.read records (c.in-Ok-Some.ensures.unrecorded ∙ told))
@@ -53,13 +52,14 @@ lacking_at-requires g c = record {
     arith,
     c.first_listed-node.ensures.most,
     c.requires.last,
+    c.requires.nodes,
     same_size g.D.Disk.told c.source_of.new.disks c.args.disks.now c.in-Ok-None.ensures.unrecorded,
   );
 }
 
 pub returns-in-Ok-None-clause-read : goal.returns-in-Ok-None-clause-read
 returns-in-Ok-None-clause-read g c = λ records told.
-    group_lacks (disks_of records) c.args.system.now c.args.first c.args.count c.first_listed-node.result
+    group_lacks c.args.shape.now (disks_of records) c.args.system.now c.args.first c.first_listed-node.result
     c.lacking_at.result
     (c.in-Ok-None.ensures.read records told ∙ ap Ok c.in-Ok-None.field-0-is)
     c.first_listed-node.ensures.value
@@ -83,5 +83,5 @@ returns-in-Ok-None-clause-steady g c =
 -- a source can't be read
 pub returns-in-Err-clause-read : goal.returns-in-Err-clause-read
 returns-in-Err-clause-read g c = λ records told.
-    group_fails (disks_of records) c.args.system.now c.args.first c.args.count c.in-Err.fault
+    group_fails c.args.shape.now (disks_of records) c.args.system.now c.args.first c.in-Err.fault
     (c.in-Err.ensures.read records told)

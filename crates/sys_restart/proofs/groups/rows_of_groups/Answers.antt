@@ -14,10 +14,10 @@ pub rows_of_group-requires : goal.rows_of_group-requires
 rows_of_group-requires g c =
     let many = same_size g.D.Disk.told c.loop-group.disks c.args.disks.now c.loop-group.invariant.told in
     record {
+      shape = c.requires.shape;
+      nodes = many ∙ c.requires.nodes;
       first = omega (arith, c.first_of-first.ensures.value);
-      last = omega (arith, c.first_of-first.ensures.last, many, c.requires.nodes);
-      some = c.requires.shape.replicas_some;
-      few = omega (arith, many, c.requires.nodes, c.requires.shape.nodes_few);
+      last = c.first_of-first.ensures.last;
     }
 
 -- the rows of a group can't be read
@@ -27,10 +27,10 @@ returns-in-Err-clause-read g c =
     let group = c.loop-group.group in
     let size = one_less all group c.loop-group-test.true in
     λ records told.
-    rows_stop (disks_of records) c.args.system.now c.args.shape.replicas group (all - group) (all - (group + 1))
+    rows_stop c.args.shape (disks_of records) c.args.system.now group (all - group) (all - (group + 1))
     c.loop-group.rows c.in-Err.fault (rows_of_groups c.args.shape (disks_of records) c.args.system.now) size
     (subst
-    (λ (n : ℕ). ReadsAll (rows_of_group (disks_of records) c.args.system.now n c.args.shape.replicas)
+    (λ (n : ℕ). ReadsAll (rows_of_group c.args.shape (disks_of records) c.args.system.now n)
     (Err c.in-Err.fault))
     c.first_of-first.ensures.value
     (c.in-Err.ensures.read records (c.loop-group.invariant.told ∙ told)))
@@ -74,10 +74,10 @@ loop-group-preserved g c =
       steady = steady_then (map g.D.Disk.faults c.args.disks.now) (map g.D.Disk.faults c.loop-group.disks)
           (map g.D.Disk.faults c.rows_of_group.new.disks) c.loop-group.invariant.steady c.in-Ok.ensures.steady;
       read = λ records told.
-          rows_more (disks_of records) c.args.system.now c.args.shape.replicas group (all - group)
+          rows_more c.args.shape (disks_of records) c.args.system.now group (all - group)
           (all - (group + 1)) c.loop-group.rows c.push.new.self c.in-Ok.part size
           (subst
-          (λ (n : ℕ). rows_of_group (disks_of records) c.args.system.now n c.args.shape.replicas ≡ Ok c.in-Ok.part)
+          (λ (n : ℕ). rows_of_group c.args.shape (disks_of records) c.args.system.now n ≡ Ok c.in-Ok.part)
           c.first_of-first.ensures.value
           (c.in-Ok.ensures.read records (c.loop-group.invariant.told ∙ told)))
           c.in-Ok-push.ensures.ok
@@ -88,5 +88,5 @@ loop-group-preserved g c =
 pub returns-clause-read : goal.returns-clause-read
 returns-clause-read g c = λ records told.
     sym (c.loop-group.invariant.read records told)
-    ∙ rows_end (disks_of records) c.args.system.now c.args.shape.replicas c.loop-group.group
+    ∙ rows_end c.args.shape (disks_of records) c.args.system.now c.loop-group.group
     (groups c.args.shape - c.loop-group.group) (Ok c.loop-group.rows) (none_left (groups c.args.shape) c.loop-group.group c.loop-group-test.false)

@@ -13,6 +13,6 @@ invariant-loop-group g l = record {
   told : map g.D.Disk.told l.disks ≡ map g.D.Disk.told l.fn.disks;
   steady : AreSteady (map g.D.Disk.faults l.fn.disks) (map g.D.Disk.faults l.disks);
   read : (records : List (List Call)) → map g.D.Disk.told l.fn.disks ≡ map Some records
-      → rows_from (disks_of records) l.system l.shape.replicas l.group (groups l.shape - l.group) (Ok l.rows)
+      → rows_from l.shape (disks_of records) l.system l.group (groups l.shape - l.group) (Ok l.rows)
       ≡ rows_of_groups l.shape (disks_of records) l.system;
 }

@@ -4,4 +4,4 @@ use Rattle.worked_runs.proofs.cluster.ask_for.Given as goal
 
 -- the world is one
 abbrev pub invariant-loop-at : goal.invariant-loop-at
-invariant-loop-at l = IsWorld (whole_of l.world)
+invariant-loop-at l = IsWorld (whole_of l.world.world)

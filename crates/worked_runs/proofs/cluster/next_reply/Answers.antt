@@ -5,5 +5,5 @@ use Rattle.worked_runs.proofs.cluster.next_reply.Goals as goal
 
 pub returns : goal.returns
 returns c =
-    told_world (whole_of c.args.world.now) (whole_of c.next_reply.new.self) (option_to_list c.next_reply.result)
-    c.next_reply.ensures.some c.requires
+    told_world (whole_of c.args.world.now.world) (whole_of c.next_reply.new.self.world)
+    (option_to_list c.next_reply.result) c.next_reply.ensures.some c.requires

@@ -4,4 +4,4 @@ use Rattle.worked_runs.proofs.cluster.serve.Given as goal
 
 -- the world is one
 abbrev pub invariant-loop-at : goal.invariant-loop-at
-invariant-loop-at g l = IsWorld (whole_of l.world)
+invariant-loop-at g l = IsWorld (whole_of l.world.world)

@@ -4,4 +4,4 @@ use Rattle.worked_runs.proofs.cluster.tell_replies.Given as goal
 
 -- the world is one
 abbrev pub invariant-loop : goal.invariant-loop
-invariant-loop l = IsWorld (whole_of l.world)
+invariant-loop l = IsWorld (whole_of l.world.world)

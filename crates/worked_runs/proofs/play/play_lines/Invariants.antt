@@ -4,4 +4,4 @@ use Rattle.worked_runs.proofs.play.play_lines.Given as goal
 
 -- the world is one
 abbrev pub invariant-loop-line : goal.invariant-loop-line
-invariant-loop-line g l = IsWorld (whole_of l.world)
+invariant-loop-line g l = IsWorld (whole_of l.world.world)

@@ -1,4 +1,4 @@
-use Rattle.std.proofs.Common.{map, rules}
+use Rattle.std.proofs.Common.{map, refl, rules}
 use Rattle.life_start.specs.Shapes.{HaveShape}
 use Rattle.sys_restart.specs.ReadyDisks.{AreReady}
 use Rattle.world_views.specs.WorldOf.{whole_of}
@@ -9,7 +9,7 @@ use Rattle.disk_world.proofs.disk_world.DiskWorld.open.Goals as goal
 pub returns-in-Ok-clause-is : goal.returns-in-Ok-clause-is
 returns-in-Ok-clause-is g c =
     opened_world c.started.result (λ w. whole_of w.world) (λ w. start_from c.args.shape w.start w.rows.items)
-    c.started.ensures.world
+    (λ w. refl) c.started.ensures.world
 
 -- the disks are as they were made ready
 pub returns-in-Ok-clause-ready : goal.returns-in-Ok-clause-ready

@@ -1,13 +1,20 @@
+use Rattle.std.proofs.Common.{[], refl, ap, sym, ◌∙◌}
+use Rattle.world_core.proofs.MadeFirst.{hosts_first, made_first}
 use Rattle.world_core.specs.Start.{Start}
+use Rattle.world_core.specs.World.{for_each}
+use Rattle.world_views.specs.Hosts.{started}
 use Rattle.world_views.proofs.FreshWorld.{begins}
 use Rattle.world_views.proofs.world.World.new.Goals as goal
 
 pub returns : goal.returns
 returns c =
     let start : Start =
-    record { shape = c.args.shape; epoch = c.args.epoch; start_epoch = c.args.start; rows = c.args.rows.now } in
+    record { shape = c.args.shape; epoch = c.args.epoch; start_epoch = c.args.start; rows = c.args.rows.now; late = [] }
+    in
     begins start c.in_ok-made.made c.hosts-hosts.result c.in_ok-bodies.bodies.items c.in_ok-stopped.stopped.items
-    c.in_ok-network.network c.in_ok-stamps.stamps.items c.in_ok-logs.logs c.new-4.result.items c.in_ok-made.ensures
-    c.hosts-hosts.ensures c.in_ok-bodies.ensures (c.in_ok-stopped.ensures.items_if_clones_equal (λ y e. e))
+    c.in_ok-network.network c.in_ok-stamps.stamps.items c.in_ok-logs.logs c.new-4.result.items
+    (c.in_ok-made.ensures ∙ sym (made_first start refl)) c.hosts-hosts.ensures
+    (c.in_ok-bodies.ensures ∙ ap (λ n. for_each n (started start)) (sym (hosts_first start refl)))
+    (c.in_ok-stopped.ensures.items_if_clones_equal (λ y e. e))
     c.in_ok-network.ensures
     (c.in_ok-stamps.ensures.items_if_clones_equal (λ y e. e)) c.in_ok-logs.ensures c.new-4.ensures.items

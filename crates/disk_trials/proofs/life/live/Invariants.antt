@@ -1,7 +1,0 @@
-use Rattle.world_views.specs.Driven.{IsWorld}
-use Rattle.world_views.specs.WorldOf.{whole_of}
-use Rattle.disk_trials.proofs.life.live.Given as goal
-
--- the world is one
-abbrev pub invariant-loop-count : goal.invariant-loop-count
-invariant-loop-count g l = IsWorld (whole_of l.world.world)

@@ -1,7 +1,0 @@
-use Rattle.world_views.specs.WorldOf.{whole_of}
-use Rattle.failing_runs.proofs.Stays.{driven_stays}
-use Rattle.failing_runs.proofs.cluster.drive.Goals as goal
-
-pub returns : goal.returns
-returns g c = driven_stays c.drive.result (whole_of c.args.world.now) (whole_of c.drive.new.self) c.requires
-    c.drive.ensures.driven

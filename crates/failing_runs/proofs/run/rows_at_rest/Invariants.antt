@@ -1,7 +1,0 @@
-use Rattle.world_views.specs.Driven.{IsWorld}
-use Rattle.world_views.specs.WorldOf.{whole_of}
-use Rattle.failing_runs.proofs.run.rows_at_rest.Given as goal
-
--- the world is one
-abbrev pub invariant-loop-node : goal.invariant-loop-node
-invariant-loop-node g l = IsWorld (whole_of l.world)

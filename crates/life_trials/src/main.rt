@@ -1,0 +1,92 @@
+//! Random lives of clusters, and the laws that they and the restarts between them are judged by. Four words say what is
+//! run, and more such fours behind them: a kind, the first seed, how many runs, and at how many of a hundred requests
+//! failures begin. A run is made of its seed alone, so one that breaks a law can be had again.
+//!
+//! | kind | what a run is |
+//! |---|---|
+//! | `alone` | one life, on disks that never fail; at its end the nodes tell their rows |
+//! | `disks` | five lives on the same disks, some of whose calls fail, with restarts between and cuts of power |
+//! | `fuses` | two brief lives and a restart behind each, again and again, each time with another call that fails |
+//!
+//! Printed are what a run on disks came to, the law that a run breaks, and behind all runs of four words what they did.
+//! The status is 1 where a law is broken, and 2 where the words aren't such.
+#![tactic(auto)]
+
+mod alone;
+mod begin;
+mod chance;
+mod cluster;
+mod disks;
+mod fault;
+mod fuses;
+mod life;
+mod lives;
+mod rows;
+mod shapes;
+mod tally;
+mod told;
+mod trial;
+mod words;
+
+use fault::RunFault;
+use std::env;
+use std::process::ExitCode;
+use std::sync::Wait;
+use std::test::Fail;
+use tally::Tally;
+use told::Told;
+use words::{Kind, Runs, all_runs};
+
+const USAGE: &str = "usage: life_trials [alone|disks|fuses] SEED COUNT FAILS ..";
+
+fn words_of(rt: &HostRuntime) -> Result<Vec<String>, Fail> {
+    let mut words = Vec::new(rt.alloc());
+    for word in env::args(rt)?.skip(1) {
+        words.push(word)?;
+    }
+    Ok(words)
+}
+
+fn run_one<W: Wait>(
+    rt: &HostRuntime,
+    wait: &W,
+    runs: &Runs,
+    seed: u64,
+    tally: &mut Tally,
+) -> Result<Told, RunFault> {
+    match runs.kind {
+        Kind::Alone => alone::run_one(wait, rt.alloc(), seed, runs.fails, tally),
+        Kind::Disks => lives::run_one(wait, rt.alloc(), seed, runs.fails, tally),
+        Kind::Fuses => fuses::run_one(wait, rt.alloc(), seed, runs.fails, tally),
+    }
+}
+
+// Does these runs, and says whether no law was broken.
+fn run_all<W: Wait>(rt: &HostRuntime, wait: &W, runs: &Runs) -> Result<bool, Fail> {
+    let mut tally = Tally::new();
+    for more in 0..runs.count {
+        let seed = runs.first.wrapping_add(more);
+        match run_one(rt, wait, runs, seed, &mut tally) {
+            Ok(told) => told.tell(rt, seed)?,
+            Err(fault) => {
+                tally.add_fault();
+                println!(rt; "run {seed}: {}", fault.name())?;
+            }
+        }
+    }
+    tally.tell(rt, runs)?;
+    Ok(tally.is_faultless())
+}
+
+fn main(rt: HostRuntime) -> Result<ExitCode, Fail> {
+    let words = words_of(&rt)?;
+    let Some(all) = all_runs(rt.alloc(), words.as_slice())? else {
+        println!(rt; "{USAGE}")?;
+        return Ok(ExitCode::from(2));
+    };
+    let mut faultless = true;
+    for runs in all.as_slice() {
+        faultless &= run_all(&rt, &rt, runs)?;
+    }
+    Ok(ExitCode::from(if faultless { 0 } else { 1 }))
+}

@@ -1,0 +1,71 @@
+//! The words of the program.
+
+use std::alloc::{AllocError, Global};
+
+/// What a run is.
+#[derive(Clone, Copy)]
+pub enum Kind {
+    Alone,
+    Disks,
+    Fuses,
+}
+
+impl Kind {
+    /// Its word.
+    pub fn name(&self) -> &'static str {
+        match self {
+            Kind::Alone => "alone",
+            Kind::Disks => "disks",
+            Kind::Fuses => "fuses",
+        }
+    }
+}
+
+/// Runs of a kind, one for each seed.
+#[derive(Clone, Copy)]
+pub struct Runs {
+    pub kind: Kind,
+    pub first: u64,
+    pub count: u64,
+    /// At so many of a hundred requests failures begin.
+    pub fails: u64,
+}
+
+/// The runs that these words ask for, some; none where a word isn't such.
+///
+/// # Errors
+/// Want of memory.
+pub fn all_runs(alloc: Global, words: &[String]) -> Result<Option<Vec<Runs>>, AllocError> {
+    if words.is_empty() {
+        return Ok(None);
+    }
+    let mut all = Vec::new(alloc);
+    for four in words.chunks(4) {
+        let Some(runs) = runs_of(four) else {
+            return Ok(None);
+        };
+        all.push(runs)?;
+    }
+    Ok(Some(all))
+}
+
+fn runs_of(words: &[String]) -> Option<Runs> {
+    let [kind, first, count, fails] = words else {
+        return None;
+    };
+    Some(Runs {
+        kind: kind_of(kind.as_str())?,
+        first: first.as_str().parse::<u64>().ok()?,
+        count: count.as_str().parse::<u64>().ok()?,
+        fails: fails.as_str().parse::<u64>().ok()?,
+    })
+}
+
+fn kind_of(word: &str) -> Option<Kind> {
+    match word {
+        "alone" => Some(Kind::Alone),
+        "disks" => Some(Kind::Disks),
+        "fuses" => Some(Kind::Fuses),
+        _ => None,
+    }
+}

@@ -1,9 +1,0 @@
-use Rattle.std.proofs.Common.{option_to_list}
-use Rattle.world_views.specs.WorldOf.{whole_of}
-use Rattle.world_views.proofs.WorldLemmas.{told_world}
-use Rattle.machine_tests.proofs.world_views_session.print_next.Goals as goal
-
-pub returns : goal.returns
-returns c =
-    told_world (whole_of c.args.world.now) (whole_of c.next_reply.new.self) (option_to_list c.next_reply.result)
-    c.next_reply.ensures.some c.requires

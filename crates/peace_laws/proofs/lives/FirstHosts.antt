@@ -1,0 +1,19 @@
+-- Only the hosts that begin the life do anything in it, since nobody starts later.
+use Rattle.std.proofs.Common.{ℕ, List, subst, sym}
+use Rattle.run_theory.specs.Runs.{IsWithin}
+use Rattle.sig_core.specs.declared.request.ApiReq.{ApiReq}
+use Rattle.world_core.proofs.MadeFirst.{hosts_first, nobody_starts}
+use Rattle.world_core.specs.Hosts.{first_hosts, hosts}
+use Rattle.world_core.specs.Start.{Start}
+use Rattle.world_core.specs.Steps.{HostStep}
+use Rattle.peace_laws.specs.Laws.{GoOnBy}
+
+pub go_within : (start : Start) (request : ApiReq) (logs more : ℕ → List HostStep) → GoOnBy start request logs more
+    → IsWithin (first_hosts start) more
+go_within start request logs more by =
+    subst (λ n. IsWithin n more) (hosts_first start (nobody_starts start)) by.within
+
+-- and they are all that there are
+pub all_within : (start : Start) (logs : ℕ → List HostStep) → IsWithin (first_hosts start) logs
+    → IsWithin (hosts start) logs
+all_within start logs within = subst (λ n. IsWithin n logs) (sym (hosts_first start (nobody_starts start))) within

@@ -1,0 +1,77 @@
+-- Rows that are of the group of the node on whose disk they are.
+use Rattle.std.proofs.Common.{◌≡◌, ◌∙◌, ℕ, ◌-◌, ◌/◌, ◌%◌, ◌≤◌, ◌<◌, Bool, true, false, List, [], ◌∷◌, refl, ap, sym, subst, arith, if◌then◌else◌}
+use Rattle.std.specs.Prelude.{Result, Ok, Err}
+use Rattle.std.specs.FinMap as finmap
+use Rattle.std.specs.List.{list_all}
+use Rattle.std.proofs.Math.Nat.{div_self}
+use Rattle.std.proofs.lemmas.Bool.{and_from, eq-eqb}
+use Rattle.std.proofs.lemmas.Nat.{div_below}
+use Rattle.frag_map.specs.Fragment.{frag_of, group_of_key}
+use Rattle.frag_map.specs.Shape.{IsShape, group_of, groups}
+use Rattle.sig_core.specs.Table.{Rows}
+use Rattle.sig_core.specs.declared.fault.RestartFault.{RestartFault}
+use Rattle.sig_core.specs.declared.view.Shape.{Shape}
+use Rattle.sys_restart.specs.Files.{Files}
+use Rattle.sys_restart.specs.Groups.{if_held, lacking}
+use Rattle.sys_restart.specs.Held.{are_held, is_held}
+use Rattle.sys_restart.proofs.TableLemmas.{nothing_listed}
+
+no_rows : (fault : RestartFault) (part : Rows) → ◌≡◌ {A = Result Rows RestartFault} (Err fault) (Ok part) → ⊥
+no_rows fault part is = cc
+
+same_rows : (rows part : Rows) → ◌≡◌ {A = Result Rows RestartFault} (Ok rows) (Ok part) → rows ≡ part
+same_rows rows part is = cc
+
+-- rows that their node holds are kept
+pub held_kept : (shape : Shape) (node : ℕ) (files : Files) (rows : Rows) → are_held shape node rows ≡ true
+    → if_held shape node files (Ok rows) ≡ Ok rows
+held_kept shape node files rows is = ap (λ (b : Bool). if b then Ok rows else Err (lacking node files)) is
+
+-- those that were kept are those that were read
+pub held_is : (shape : Shape) (node : ℕ) (files : Files) (found : Result Rows RestartFault) (part : Rows)
+    → if_held shape node files found ≡ Ok part → (found ≡ Ok part) × (are_held shape node part ≡ true)
+held_is shape node files (Err fault) part is = absurd (no_rows fault part is)
+held_is shape node files (Ok rows) part is = by (are_held shape node rows) refl is
+  where
+    by : (b : Bool) → are_held shape node rows ≡ b → (if b then Ok rows else Err (lacking node files)) ≡ Ok part
+        → (◌≡◌ {A = Result Rows RestartFault} (Ok rows) (Ok part)) × (are_held shape node part ≡ true)
+    by true e is = (is, subst (λ (kept : Rows). are_held shape node kept ≡ true) (same_rows rows part is) e)
+    by false e is = absurd (no_rows (lacking node files) part is)
+
+-- the same rows of other files are kept where those were
+pub held_alike : (shape : Shape) (node : ℕ) (one two : Files) (found other : Result Rows RestartFault) (part : Rows)
+    → other ≡ found → if_held shape node one found ≡ Ok part → if_held shape node two other ≡ Ok part
+held_alike shape node one two found other part same is =
+    let kept = held_is shape node one found part is in
+    ap (if_held shape node two) (same ∙ kept.0) ∙ held_kept shape node two part kept.1
+
+-- a node holds no rows, and all of them where it holds each
+pub none_held : (shape : Shape) (node : ℕ) → are_held shape node finmap.empty ≡ true
+none_held shape node = ap (list_all (is_held shape node)) (nothing_listed finmap.empty refl)
+
+pub each_held : (test : List ℕ × List ℕ → Bool) (rows : List (List ℕ × List ℕ))
+    → ((row : List ℕ × List ℕ) → test row ≡ true) → list_all test rows ≡ true
+each_held test [] each = refl
+each_held test (row ∷ rows) each = and_from (test row) (list_all test rows) (each row) (each_held test rows each)
+
+-- where there is one group of nodes, each holds all keys
+module _ (shape : Shape) (is : IsShape shape) (one : shape.nodes ≡ shape.replicas) where
+  one_group : groups shape ≡ 1
+  one_group = ap (λ (n : ℕ). n / shape.replicas) one ∙ div_self is.replicas_some
+
+  first_group : (node : ℕ) → 1 ≤ node → node ≤ shape.nodes → group_of shape node ≡ 0
+  first_group node some few =
+      let below : (node - 1) / shape.replicas < 1 =
+      div_below (node - 1) shape.replicas 1 is.replicas_some (omega (arith, some, few, one)) in
+      omega (arith, below)
+
+  no_other : (key : List ℕ) → group_of_key shape key ≡ 0
+  no_other key =
+      let rest : frag_of shape key % 1 ≡ 0 = omega arith in
+      ap (λ (n : ℕ). frag_of shape key % n) one_group ∙ rest
+
+  pub all_held : (node : ℕ) → 1 ≤ node → node ≤ shape.nodes → (rows : Rows) → are_held shape node rows ≡ true
+  all_held node some few rows =
+      each_held (is_held shape node) (finmap.entries rows)
+      (λ row. eq-eqb (group_of shape node) (group_of_key shape row.0)
+      (first_group node some few ∙ sym (no_other row.0)))

@@ -1,0 +1,24 @@
+-- A later start of a life.
+use Rattle.std.specs.Prelude.{ℕ, Option, None, Some}
+use Rattle.sig_core.specs.declared.member.Member.{Member}
+use Rattle.sig_core.specs.declared.slots.Own.{Own}
+use Rattle.sig_core.specs.declared.slots.Slots.{Slots}
+use Rattle.sig_core.specs.declared.view.View.{View}
+
+-- The member that is made, the stamp of the shell's step that makes it, the view in which the shell stands behind the
+-- step before, with which the member's hosts begin, and the slots on its disk, with its own rows, as they were read.
+-- There is none by now, since no step makes one: where `never` goes, each law that rests on it has to be shown anew.
+pub record Late : Type 0 where
+  pub member : Member
+  pub stamp : ℕ
+  pub view : View
+  pub slots : Slots
+  pub never : ⊥
+
+abbrev epoch_in : Option Own → ℕ
+epoch_in None = 0
+epoch_in (Some own) = own.epoch
+
+-- the epoch of its own rows; 0 where it has none
+abbrev pub own_epoch : Late → ℕ
+own_epoch late = epoch_in late.slots.own
