@@ -44,11 +44,7 @@ fn lines(alloc: Global, replies: &[ApiReply]) -> Result<Vec<u8>, NoMemory>
 
 /// The lines of the replies to a command that is about this, in the order in which they are printed.
 #[tactic(auto, using(crate::proofs::ArrangedLemmas::all_own))]
-fn arranged_lines(
-    alloc: Global,
-    asked: Subject,
-    replies: &[ApiReply],
-) -> Result<Vec<u8>, NoMemory>
+fn arranged_lines(alloc: Global, asked: Subject, replies: &[ApiReply]) -> Result<Vec<u8>, NoMemory>
     ensures { IfOk result (λ text. text.items ≡ reply_lines (arranged asked replies.now)) }
 {
     // Most often all are the command's own, and there is nothing to arrange.
