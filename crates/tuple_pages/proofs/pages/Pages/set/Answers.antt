@@ -31,8 +31,8 @@ invariant_of-self c =
     ap (λ (p : PagesState). p.slots) c.self.view_is in
     let there : is_some (get_or (places_in c.self.inside.pages.items c.self.inside.len) c.args.at None) ≡ true =
     ap (λ ps. is_some (get_or ps c.args.at None)) slots ∙ c.requires in
-    row_are c.self.inside.pages.items c.self.inside.len c.self.inside.free c.self.invariant c.rewrite.new.pages.items
-    c.args.at
+    row_are c.self.inside.pages.items c.self.inside.len c.self.inside.free c.self.invariant
+    c.rewrite.new.pages.items c.args.at
     (rewritten (place_at c.self.inside.pages.items c.args.at) c.args.row.now c.args.epoch) c.args.row.now c.args.epoch
     c.rewrite.ensures refl there
 
@@ -42,8 +42,8 @@ returns-clause-slots c =
     ap (λ (p : PagesState). p.slots) c.self.view_is in
     let there : is_some (get_or (places_in c.self.inside.pages.items c.self.inside.len) c.args.at None) ≡ true =
     ap (λ ps. is_some (get_or ps c.args.at None)) slots ∙ c.requires in
-    row_places c.self.inside.pages.items c.self.inside.len c.self.inside.free c.self.invariant c.rewrite.new.pages.items
-    c.args.at
+    row_places c.self.inside.pages.items c.self.inside.len c.self.inside.free c.self.invariant
+    c.rewrite.new.pages.items c.args.at
     (rewritten (place_at c.self.inside.pages.items c.args.at) c.args.row.now c.args.epoch) c.args.row.now c.args.epoch
     c.rewrite.ensures refl there
     ∙ ap (λ ps. set ps c.args.at (rewritten (get_or ps c.args.at None) c.args.row.now c.args.epoch)) slots
@@ -55,8 +55,8 @@ returns-clause-room c =
     let there : is_some (get_or (places_in c.self.inside.pages.items c.self.inside.len) c.args.at None) ≡ true =
     ap (λ ps. is_some (get_or ps c.args.at None)) slots ∙ c.requires in
     ap (λ n. nat_lt c.self.inside.len (PAGE_SLOTS * n) && nat_lt c.self.inside.len (heap_capacity c.self.inside.free))
-    (row_length c.self.inside.pages.items c.self.inside.len c.self.inside.free c.self.invariant c.rewrite.new.pages.items
-    c.args.at
+    (row_length c.self.inside.pages.items c.self.inside.len c.self.inside.free c.self.invariant
+    c.rewrite.new.pages.items c.args.at
     (rewritten (place_at c.self.inside.pages.items c.args.at) c.args.row.now c.args.epoch) c.args.row.now c.args.epoch
     c.rewrite.ensures refl there)
     ∙ ap (λ (p : PagesState). p.roomy) c.self.view_is
