@@ -111,8 +111,7 @@ impl<R: Rows, J: Journal> Storage<R, J> {
         }
     }
 
-    // Prepares an image, and sends it on along its chain. Not inlined, so that the image is copied as a whole.
-    #[inline(never)]
+    // Prepares an image, and sends it on along its chain.
     #[tactic(auto, using(crate::proofs::DueLemmas::dues), unfolding(crate::specs::Storage::store_row))]
     fn store(
         &mut self,

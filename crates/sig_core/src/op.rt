@@ -48,8 +48,7 @@ impl Op {
     }
 
     /// What the operation, as a write that takes effect, makes of the row. None for a deletion, and
-    /// for what doesn't write. Not inlined, so that the value is copied as a whole, and not taken apart.
-    #[inline(never)]
+    /// for what doesn't write.
     pub fn image(&self) -> Option<Value>
         ensures { result ≡ image_of self.now }
     {
