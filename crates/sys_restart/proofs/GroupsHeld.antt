@@ -23,6 +23,7 @@ use Rattle.sys_restart.specs.SlotRows.{rows_of_slot}
 use Rattle.sys_restart.proofs.AlikeLemmas.{no_answer, same_answer}
 use Rattle.sys_restart.proofs.GroupsLemmas.{rows_fail}
 use Rattle.sys_restart.proofs.HeldLemmas.{held_is, none_held}
+use Rattle.sys_restart.proofs.LostLemmas.{nothing_only}
 use Rattle.sys_restart.proofs.SeatLemmas.{first_of_group, node_of_group}
 
 -- the rows of each group, from one on, are held by its first node
