@@ -25,12 +25,12 @@ next_lost disks node (suc more) less answer size is =
     ap (λ (n : ℕ). and_behind (none_lost_on node (disks node)) (none_lost disks (node + 1) n)) same
     ∙ ap (λ one. and_behind one (none_lost disks (node + 1) less)) is
 
--- one more node has none to lose
+-- one more node has lost none
 pub lost_more : (disks : Disks) (node more less : ℕ) → more ≡ suc less → none_lost_on node (disks node) ≡ Ok tt
     → none_lost disks (node + 1) less ≡ none_lost disks node more
 lost_more disks node more less size is = sym (next_lost disks node more less (Ok tt) size is)
 
--- one has, or can't be read
+-- one has lost some, or can't be read
 pub lost_stops : (disks : Disks) (node more less : ℕ) (fault : RestartFault)
     (all : Result (Unit {0}) RestartFault)
     → more ≡ suc less → (is_outside fault ≡ false → none_lost_on node (disks node) ≡ Err fault)
@@ -47,14 +47,6 @@ lost_ends disks node (suc more) none = absurd (omega (arith, none))
 lost_as : (node : ℕ) (files : Files) (saved : Bool) → has_saved (files CONTROL_FILE) ≡ saved
     → none_lost_on node files ≡ (if saved then Err (slotless node files) else Ok tt)
 lost_as node files saved is = ap (λ (b : Bool). if b then Err (slotless node files) else Ok tt) is
-
-pub lost_here : (node : ℕ) (files : Files) (saved : Bool) → saved ≡ has_saved (files CONTROL_FILE) → saved ≡ true
-    → none_lost_on node files ≡ Err (slotless node files)
-lost_here node files saved is so = lost_as node files true (sym is ∙ so)
-
-pub none_here : (node : ℕ) (files : Files) (saved : Bool) → saved ≡ has_saved (files CONTROL_FILE) → saved ≡ false
-    → none_lost_on node files ≡ Ok tt
-none_here node files saved is so = lost_as node files false (sym is ∙ so)
 
 -- where no rows were saved none are lost
 pub none_saved : (disks : Disks) → ((node : ℕ) → has_saved (disks node CONTROL_FILE) ≡ false) → (node more : ℕ)

@@ -21,17 +21,17 @@ has_saved bytes = was_saved (usable (control_at 0 bytes)) || was_saved (usable (
 abbrev pub slotless : ℕ → Files → RestartFault
 slotless node files = Damaged node SYSTEM_FILE 0 (get_or (files SYSTEM_FILE) 0 0)
 
--- a node's disk without a system slot has none to lose
+-- a node's disk that has no system slot has lost none, or what is wrong with it
 abbrev pub none_lost_on : ℕ → Files → Result (Unit {0}) RestartFault
 none_lost_on node files = if has_saved (files CONTROL_FILE) then Err (slotless node files) else Ok tt
 
--- what is wrong with one, or else with those behind it
+-- what is wrong with one node, or else with those behind it
 abbrev pub and_behind : Result (Unit {0}) RestartFault → Result (Unit {0}) RestartFault
     → Result (Unit {0}) RestartFault
 and_behind (Err fault) behind = Err fault
 and_behind (Ok done) behind = behind
 
--- the disks of so many nodes, none of which has a system slot, have none to lose
+-- the disks of so many nodes, none of which has a system slot, have lost none, or what is wrong with the first
 unfoldable pub none_lost : Disks → ℕ → ℕ → Result (Unit {0}) RestartFault
 none_lost disks node zero = Ok tt
 none_lost disks node (suc more) = and_behind (none_lost_on node (disks node)) (none_lost disks (node + 1) more)

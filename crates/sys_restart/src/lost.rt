@@ -15,7 +15,7 @@ use host_io::{Disk, Failed};
 use sig_core::{ControlSlot, RestartFault};
 use sysfile_core::{SYSTEM_FILE, control_at};
 
-/// Whether disks without a system slot never had one: nowhere were rows saved.
+/// Disks, none of which has a system slot, have lost none: rows were saved on none of them.
 ///
 /// # Errors
 /// `Damaged` at the first node whose control file has a slot of saved rows, at the first byte of its system

@@ -5,7 +5,7 @@ use Rattle.sys_restart.proofs.DisksLemmas.{one_steady, same_told, steady_then, t
 use Rattle.sys_restart.proofs.LostLemmas.{lost_ends, lost_more, lost_stops}
 use Rattle.sys_restart.proofs.lost.none_lost.Goals as goal
 
--- a node has some to lose, or can't be read
+-- a node has lost some, or can't be read
 pub returns-in-Err-clause-read : goal.returns-in-Err-clause-read
 returns-in-Err-clause-read g c =
     let below : c.loop-index.index < length c.loop-index.disks = search rules in
@@ -27,7 +27,7 @@ returns-in-Err-clause-steady g c =
     (one_steady g.D.Disk.faults c.loop-index.disks c.loop-index.index c.index-disks-index.result
     c.none_lost_on.new.disk below c.in-Err.ensures.steady)
 
--- one more node has none
+-- one more node has lost none
 pub loop-index-preserved : goal.loop-index-preserved
 loop-index-preserved g c =
     let below : c.loop-index.index < length c.loop-index.disks = search rules in
@@ -50,7 +50,7 @@ loop-index-preserved g c =
           ∙ c.loop-index.invariant.read records told;
     }
 
--- no node has
+-- none has
 pub returns-clause-read : goal.returns-clause-read
 returns-clause-read g c =
     let all = length c.args.disks.now in
