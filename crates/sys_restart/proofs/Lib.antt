@@ -11,6 +11,7 @@ pub mod KeepsLemmas
 pub mod LatestLemmas
 pub mod LifeLemmas
 pub mod ListedLemmas
+pub mod LostLemmas
 pub mod MomentLemmas
 pub mod NameLemmas
 pub mod NamedLemmas

@@ -6,6 +6,7 @@ pub mod Groups
 pub mod Held
 pub mod Latest
 pub mod LifeCalls
+pub mod Lost
 pub mod Own
 pub mod Places
 pub mod Prepared

@@ -6,6 +6,7 @@ mod groups;
 mod held;
 mod latest;
 mod life;
+mod lost;
 mod name;
 mod on_node;
 mod own;
