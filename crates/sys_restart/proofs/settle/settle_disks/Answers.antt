@@ -27,11 +27,11 @@ loop-index-preserved g c =
           let turns = c.loop-index.invariant.turns records told in
           let within : c.loop-index.index < length records =
           omega (arith, below, long, same_length g.D.Disk.told c.args.disks.now records told) in
-          turns_more g.D.Disk.told c.loop-index.disks (λ node. sync_calls)
-          (record_of records) (length records) c.loop-index.index c.settle_disk.new.disk turns below
+          turns_more g.D.Disk.told c.loop-index.disks (λ node. sync_calls) (record_of records)
+          (length records) c.loop-index.index c.settle_disk.new.disk turns below
           (c.in-Ok.ensures.runs (record_of records (c.loop-index.index + 1))
-          (own_record g.D.Disk.told c.loop-index.disks records (λ node. sync_calls)
-          c.loop-index.index c.index-disks-index.result turns below within));
+          (own_record g.D.Disk.told c.loop-index.disks records (λ node. sync_calls) c.loop-index.index
+          c.index-disks-index.result turns below within));
     }
 
 -- a call failed
@@ -44,11 +44,11 @@ returns-in-Err-clause-runs g c =
     let within : c.loop-index.index < length records =
     omega (arith, below, long, same_length g.D.Disk.told c.args.disks.now records told) in (
       c.loop-index.index,
-      turns_stop g.D.Disk.told c.loop-index.disks (λ node. sync_calls)
-          (record_of records) (length records) c.loop-index.index c.settle_disk.new.disk c.in-Err.fault turns below within
+      turns_stop g.D.Disk.told c.loop-index.disks (λ node. sync_calls) (record_of records)
+          (length records) c.loop-index.index c.settle_disk.new.disk c.in-Err.fault turns below within
           (c.in-Err.ensures.runs (record_of records (c.loop-index.index + 1))
-          (own_record g.D.Disk.told c.loop-index.disks records (λ node. sync_calls)
-          c.loop-index.index c.index-disks-index.result turns below within)),
+          (own_record g.D.Disk.told c.loop-index.disks records (λ node. sync_calls) c.loop-index.index
+          c.index-disks-index.result turns below within)),
     )
 
 pub returns-in-Err-clause-steady : goal.returns-in-Err-clause-steady
