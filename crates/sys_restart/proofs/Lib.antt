@@ -28,6 +28,7 @@ pub mod RedoneLemmas
 pub mod RestoredLemmas
 pub mod SameRows
 pub mod SeatLemmas
+pub mod SettleLemmas
 pub mod SlotWrite
 pub mod StandsLemmas
 pub mod StoredLemmas

@@ -13,4 +13,5 @@ pub mod Prepared
 pub mod ReadyDisks
 pub mod Redone
 pub mod Restored
+pub mod Settle
 pub mod SlotRows

@@ -15,6 +15,7 @@ mod prepare;
 mod restored;
 mod restoring;
 mod rows;
+mod settle;
 mod slot_rows;
 mod table;
 
@@ -27,3 +28,4 @@ pub use prepare::prepare_node;
 pub use restored::Restored;
 pub use restoring::restore;
 pub use rows::read_rows;
+pub use settle::settle_disks;
