@@ -1,5 +1,5 @@
 -- Disks without a system slot: whether rows were saved on them, node after node.
-use Rattle.std.proofs.Common.{◌≡◌, ◌∙◌, ◌⊎◌, ℕ, zero, suc, ◌+◌, ◌<◌, Bool, true, false, nat_lt, List, refl, ap, sym, arith, inl, inr, if◌then◌else◌}
+use Rattle.std.proofs.Common.{◌≡◌, ◌∙◌, ◌⊎◌, ℕ, zero, suc, ◌+◌, Bool, true, false, nat_lt, List, refl, ap, sym, arith, inl, inr, if◌then◌else◌}
 use Rattle.std.specs.Prelude.{◌||◌, Option, None, Some, Result, Ok, Err, IfOk}
 use Rattle.std.proofs.lemmas.Bool.{true≢false}
 use Rattle.sig_core.specs.declared.fault.ReadFault.{ReadFault}
@@ -9,7 +9,7 @@ use Rattle.sig_core.specs.declared.view.Shape.{Shape}
 use Rattle.sysfile_core.specs.declared.place.TheConstants.{CONTROL_FILE}
 use Rattle.sysfile_core.specs.Reading.{control_at}
 use Rattle.sys_restart.specs.declared.restored.Restored.{Restored}
-use Rattle.sys_restart.specs.Answers.{ReadsAll, is_outside}
+use Rattle.sys_restart.specs.Answers.{is_outside}
 use Rattle.sys_restart.specs.Files.{Disks, Files}
 use Rattle.sys_restart.specs.Lost.{and_behind, has_saved, none_lost, none_lost_on, slotless, was_saved}
 use Rattle.sys_restart.specs.Places.{usable}

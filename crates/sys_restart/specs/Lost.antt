@@ -1,5 +1,5 @@
 -- Disks whose system slots are all lost, though rows were saved on them.
-use Rattle.std.specs.Prelude.{ℕ, zero, suc, ◌+◌, ◌||◌, Bool, true, false, nat_lt, List, get_or, Option, None, Some, Result, Ok, Err, if◌then◌else◌}
+use Rattle.std.specs.Prelude.{ℕ, zero, suc, ◌+◌, ◌||◌, Bool, false, nat_lt, List, get_or, Option, None, Some, Result, Ok, Err, if◌then◌else◌}
 use Rattle.sig_core.specs.declared.fault.RestartFault.{RestartFault}
 use Rattle.sig_core.specs.declared.fault.RestartFault.TheVariants.{Damaged}
 use Rattle.sig_core.specs.declared.slots.ControlSlot.{ControlSlot}
