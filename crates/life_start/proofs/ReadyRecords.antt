@@ -8,7 +8,7 @@ use Rattle.sig_core.specs.declared.fault.RestartFault.TheVariants.{Damaged, Disk
 use Rattle.sig_core.specs.declared.view.Shape.{Shape}
 use Rattle.sys_restart.specs.Calls.{RunsOrWants, is_used_up, node_calls}
 use Rattle.sys_restart.specs.declared.restored.Restored.{Restored}
-use Rattle.sys_restart.specs.LifeCalls.{EndsAt, RunInTurn, RunsAll, prepared_record, record_of, told_by}
+use Rattle.sys_restart.specs.LifeCalls.{EndsAt, HasRun, RunInTurn, RunsAll, prepared_record, record_of, told_by}
 use Rattle.life_start.specs.Records.{AllTellMore, HaveMore, TellsMore}
 use Rattle.life_start.proofs.RecordLemmas.{more_itself, runs_more, same_longer, tells_then}
 
@@ -97,3 +97,22 @@ readied_more shape r before told result many used runs records all = by (is_used
     by false is =
         subst (λ first. HaveMore first told) (sym all)
         (all_more shape r records told result (many ∙ ap length all) (runs records all is))
+
+-- disks of which each had its calls, up to the first that failed
+pub asked_more : (asks : ℕ → List Call) (before told : List (Option (List Call)))
+    (result : Result (Unit {0}) RestartFault) → length told ≡ length before
+    → ((records : List (List Call)) → before ≡ map Some records → HasRun asks records told result)
+    → AllTellMore before told
+asked_more asks before told result many runs records all =
+    let run = runs records all in
+    subst (λ first. HaveMore first told) (sym all)
+    (record {
+      many = many ∙ ap length all;
+      each = λ k.
+          at_more records k (get_or told k None)
+          (λ below.
+          let at : k + 1 - 1 ≡ k = omega arith in
+          subst (λ (p : ℕ). TellsMore (Some (get_or records p [])) (get_or told p None)) at
+          (turn_more asks (record_of records) told (length records) run.0 result (k + 1) run.1 (omega arith)
+          (omega (arith, below))));
+    })

@@ -1,4 +1,4 @@
-//! How a life begins on disks: what they say is restored, and they are made ready.
+//! How a life begins on disks: they are settled, what they say is restored, and they are made ready.
 ghost use Rattle.std.specs.Prelude.{◌≡◌, ◌≤◌, ◌<◌, ◌+◌, List, Some, IfErr, IfOk, OnOk, false, length, map};
 ghost use Rattle.frag_map.specs.Shape.{IsShape};
 ghost use Rattle.host_io.specs.Call.{Call};
@@ -18,14 +18,17 @@ use crate::slots::slots_of;
 use host_io::Disk;
 use sig_core::{Key, NoMemory, RestartFault, Shape, Value};
 use std::alloc::Global;
-use sys_restart::{Restored, prepare_life, restore};
+use sys_restart::{Restored, prepare_life, restore, settle_disks};
 
-/// Restores what the disks of a cluster say, the first of which is that of node 1, and makes them ready for
-/// the next life.
+/// Settles the disks of a cluster, the first of which is that of node 1, restores what they say, and makes
+/// them ready for the next life.
+///
+/// They are settled first since what is read needn't outlast a loss of power: a start before this one may
+/// have written it, and failed before it was synced.
 ///
 /// # Errors
-/// As of `restore` and `prepare_life`; `Damaged` too where a disk that was made ready doesn't have the slots
-/// that it was given, at the first byte of its control file where it has none.
+/// As of `settle_disks`, `restore` and `prepare_life`; `Damaged` too where a disk that was made ready doesn't
+/// have the slots that it was given, at the first byte of its control file where it has none.
 pub fn begin_life<D: Disk>(
     alloc: Global,
     disks: &mut [D],
@@ -46,6 +49,32 @@ pub fn begin_life<D: Disk>(
     // Their system slots are all of this shape then.
     ensures shapes { (records : List (List Call)) (restored : Restored) → map D.told disks.old ≡ map Some records → AreToPrepare shape restored records → OnOk result (HaveShape shape (map D.told disks.new)) }
     // Where they may be prepared for it, only numbers that are used up refuse it.
+    ensures unless { (records : List (List Call)) (restored : Restored) → map D.told disks.old ≡ map Some records → AreToPrepare shape restored records → IfErr result (λ fault. is_outside fault ≡ false → IsUsedUpBy restored fault) }
+    ensures cause { HasCauseAmong (map D.faults disks.old) (map D.faults disks.new) result }
+    ensures steady { AreSteady (map D.faults disks.old) (map D.faults disks.new) }
+{
+    match settle_disks(disks) {
+        Ok(()) => begin_settled(alloc, disks, shape),
+        Err(fault) => Err(fault),
+    }
+}
+
+// The same, where the disks are settled.
+fn begin_settled<D: Disk>(
+    alloc: Global,
+    disks: &mut [D],
+    shape: Shape,
+) -> Result<Begun, RestartFault>
+    requires shape { IsShape shape }
+    requires nodes { length disks.old ≡ shape.nodes }
+    ensures begun { (records : List (List Call)) → map D.told disks.old ≡ map Some records → IfOk result (λ b. HasBegun shape (disks_of records) b.generation b.epoch b.rows.items) }
+    ensures ready { (records : List (List Call)) (restored : Restored) → map D.told disks.old ≡ map Some records → AreToPrepare shape restored records → OnOk result (AreReady shape restored (map D.told disks.new)) }
+    ensures slots { (records : List (List Call)) → map D.told disks.new ≡ map Some records → IfOk result (λ b. AreSlotsOf b.generation (disks_of records) b.slots.items) }
+    ensures count { IfOk result (λ b. length b.slots.items ≡ shape.nodes) }
+    ensures more { IfOk result (λ b. b.epoch < end_of_epochs) }
+    ensures recorded { AllTellMore (map D.told disks.old) (map D.told disks.new) }
+    ensures refused { (records : List (List Call)) → map D.told disks.old ≡ map Some records → IfErr result (λ fault. is_outside fault ≡ false → IsRefusedFor shape (disks_of records) (map D.told disks.new) fault) }
+    ensures shapes { (records : List (List Call)) (restored : Restored) → map D.told disks.old ≡ map Some records → AreToPrepare shape restored records → OnOk result (HaveShape shape (map D.told disks.new)) }
     ensures unless { (records : List (List Call)) (restored : Restored) → map D.told disks.old ≡ map Some records → AreToPrepare shape restored records → IfErr result (λ fault. is_outside fault ≡ false → IsUsedUpBy restored fault) }
     ensures cause { HasCauseAmong (map D.faults disks.old) (map D.faults disks.new) result }
     ensures steady { AreSteady (map D.faults disks.old) (map D.faults disks.new) }

@@ -8,7 +8,7 @@ use std::alloc::{AllocError, Global};
 /// What decides what cuts of power leave of a disk, for many places.
 const PICKS: u32 = 2_000;
 /// A disk is called about so often in a run, at most.
-const CALLS: u64 = 600;
+const CALLS: u64 = 700;
 /// Of a hundred disks so many have calls that fail, where they do at random.
 const FAILING: u64 = 40;
 

@@ -17,12 +17,13 @@ use Rattle.sig_core.specs.declared.view.Shape.{Shape}
 use Rattle.sys_restart.proofs.AlikeLemmas.{no_answer, same_answer}
 use Rattle.sys_restart.proofs.GroupsLemmas.{rows_fail}
 use Rattle.sys_restart.proofs.HeldLemmas.{held_is}
+use Rattle.sys_restart.proofs.LostLemmas.{nothing_only}
 use Rattle.sys_restart.specs.Answers.{on_node}
 use Rattle.sys_restart.specs.Checkpoint.{rows_of_file}
 use Rattle.sys_restart.specs.Files.{Disks, Files}
 use Rattle.sys_restart.specs.Groups.{and_rows, first_listed, rows_by, rows_from, rows_of_group, rows_of_groups, source_of}
 use Rattle.sys_restart.specs.Latest.{latest_of}
-use Rattle.sys_restart.specs.Restored.{nothing, restored_by, restored_of, with_rows}
+use Rattle.sys_restart.specs.Restored.{restored_by, restored_of, with_rows}
 use Rattle.sys_restart.specs.SlotRows.{rows_of_slot, with_redo}
 use Rattle.sys_restart.specs.declared.restored.Restored.{Restored}
 use Rattle.node_restart.specs.Laws.{RestoredRowsAreStorable}
@@ -109,7 +110,7 @@ module _ (disks : Disks) (are : (node file : ℕ) → AreBytes (disks node file)
           → All HaveWords r.groups
       by (Err fault) is = absurd (no_answer fault r _ refl is)
       by (Ok None) is =
-          subst (λ (found : Restored). All HaveWords found.groups) (same_answer (nothing shape) r _ refl is)
+          subst (λ (found : Restored). All HaveWords found.groups) (nothing_only shape r _ is).1
           (All-replicate HaveWords (groups shape) finmap.empty none_have)
       by (Ok (Some system)) is = under system (rows_of_groups shape disks system) refl is
 

@@ -1,6 +1,7 @@
 //! Forms of disks: empty ones, other shapes, old versions, nodes that aren't listed, slots that were lost, disks that
-//! changed places, sizes at the limits.
+//! changed places, sizes at the limits; and first lives that were stopped.
 use crate::groups::three_groups;
+use crate::lost::{first_life_stopped, lost_system_slots};
 use crate::numbers::the_greatest_numbers;
 use crate::own::own_rows;
 use crate::ring::redo_round_the_ring;
@@ -12,7 +13,7 @@ use crate::trouble::Trouble;
 use crate::versions::{a_first_version, sizes_at_the_limits, the_longest_words};
 use std::alloc::Global;
 
-const FORMS: u64 = 15;
+const FORMS: u64 = 17;
 
 /// Tries all forms, and answers how many.
 ///
@@ -41,6 +42,8 @@ fn try_one(alloc: Global, form: u64) -> Result<(), Trouble> {
         11 => disks_that_disagree(alloc),
         12 => redo_round_the_ring(alloc),
         13 => a_lost_slot(alloc),
+        14 => lost_system_slots(alloc),
+        15 => first_life_stopped(alloc),
         _ => the_longest_words(alloc),
     }
 }

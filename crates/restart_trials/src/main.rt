@@ -14,6 +14,7 @@ mod forms;
 mod groups;
 mod layout;
 mod long_rows;
+mod lost;
 mod numbers;
 mod own;
 mod pair;

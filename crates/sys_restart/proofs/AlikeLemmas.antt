@@ -16,10 +16,11 @@ use Rattle.sys_restart.specs.Answers.{on_node}
 use Rattle.sys_restart.specs.Files.{Disks, Files}
 use Rattle.sys_restart.specs.Groups.{and_rows, control_on, first_listed, if_saved, is_listed, rows_by, rows_from, rows_of_group, rows_of_groups, source_of, source_or}
 use Rattle.sys_restart.specs.Latest.{later, latest_from, latest_of, latest_on}
-use Rattle.sys_restart.specs.Restored.{restored_by, restored_of, with_rows}
+use Rattle.sys_restart.specs.Restored.{nothing_by, restored_by, restored_of, with_rows}
 use Rattle.sys_restart.specs.SlotRows.{rows_of_slot}
 use Rattle.sys_restart.proofs.GroupsLemmas.{rows_fail}
 use Rattle.sys_restart.proofs.HeldLemmas.{held_alike}
+use Rattle.sys_restart.proofs.LostLemmas.{StayUnsaved, lost_alike, nothing_only}
 
 pub same_answer : {A E : Type 0} (a b : A) (r : Result A E) → r ≡ Ok a → r ≡ Ok b → a ≡ b
 same_answer a b r one other = cc
@@ -192,11 +193,11 @@ module _ (shape : Shape) (system : SystemSlot) (one two : Disks)
           (group_alike (group * shape.replicas + 1) part e)
           ∙ again part rest
 
--- a restart from one is that from the other
+-- A restart from one is that from the other, where rows that weren't saved stay so as long as none may be.
 pub restored_alike : (shape : Shape) (one two : Disks) (r : Restored) → AllAlike shape r.generation one two
-    → restored_of shape one ≡ Ok r → restored_of shape two ≡ Ok r
+    → (r.epoch ≡ 0 → StayUnsaved one two) → restored_of shape one ≡ Ok r → restored_of shape two ≡ Ok r
 unfolding restored_of
-restored_alike shape one two r alike is = by (latest_of shape one) refl
+restored_alike shape one two r alike stay is = by (latest_of shape one) refl
   where
     latest : latest_of shape two ≡ latest_of shape one
     latest = latest_alike shape r.generation one two alike 1 shape.nodes (Ok None)
@@ -219,5 +220,10 @@ restored_alike shape one two r alike is = by (latest_of shape one) refl
     by : (found : Result (Option SystemSlot) RestartFault) → latest_of shape one ≡ found
         → restored_by shape two (latest_of shape two) ≡ Ok r
     by (Err fault) e = absurd (no_answer fault r _ (ap (restored_by shape one) e) is)
-    by (Ok None) e = ap (restored_by shape two) (latest ∙ e) ∙ sym (ap (restored_by shape one) e) ∙ is
+    by (Ok None) e =
+        let none = nothing_only shape r _ (sym (ap (restored_by shape one) e) ∙ is) in
+        let epoch : r.epoch ≡ 0 = ap (λ (s : Restored). s.epoch) (sym none.1) in
+        ap (restored_by shape two) (latest ∙ e)
+        ∙ ap (nothing_by shape) (lost_alike one two (stay epoch) 1 shape.nodes none.0)
+        ∙ ap Ok none.1
     by (Ok (Some system)) e = rows_by_slot system (rows_of_groups shape one system) e refl

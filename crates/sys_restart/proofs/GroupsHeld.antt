@@ -18,11 +18,12 @@ use Rattle.sys_restart.specs.Files.{Disks}
 use Rattle.sys_restart.specs.Groups.{and_rows, control_on, first_listed, rows_by, rows_from, rows_of_group, rows_of_groups, source_of, source_or}
 use Rattle.sys_restart.specs.Held.{are_held}
 use Rattle.sys_restart.specs.Latest.{latest_of}
-use Rattle.sys_restart.specs.Restored.{nothing, restored_by, restored_of, with_rows}
+use Rattle.sys_restart.specs.Restored.{restored_by, restored_of, with_rows}
 use Rattle.sys_restart.specs.SlotRows.{rows_of_slot}
 use Rattle.sys_restart.proofs.AlikeLemmas.{no_answer, same_answer}
 use Rattle.sys_restart.proofs.GroupsLemmas.{rows_fail}
 use Rattle.sys_restart.proofs.HeldLemmas.{held_is, none_held}
+use Rattle.sys_restart.proofs.LostLemmas.{nothing_only}
 use Rattle.sys_restart.proofs.SeatLemmas.{first_of_group, node_of_group}
 
 -- the rows of each group, from one on, are held by its first node
@@ -167,6 +168,6 @@ module _ (shape : Shape) (is_shape : IsShape shape) (disks : Disks) where
           → AreHeldFrom shape 0 r.groups
       by (Err fault) is = absurd (no_answer fault r _ refl is)
       by (Ok None) is =
-          subst (λ (found : Restored). AreHeldFrom shape 0 found.groups) (same_answer (nothing shape) r _ refl is)
+          subst (λ (found : Restored). AreHeldFrom shape 0 found.groups) (nothing_only shape r _ is).1
           (nothing_held shape (groups shape) 0)
       by (Ok (Some system)) is = under system (rows_of_groups shape disks system) refl is

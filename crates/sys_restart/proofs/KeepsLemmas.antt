@@ -1,12 +1,13 @@
 -- Preparing a node keeps what a restart gives.
-use Rattle.std.proofs.Common.{◌≡◌, ◌∙◌, ℕ, ◌+◌, ◌*◌, ◌^◌, ◌≤◌, ◌<◌, ◌==◌, Bool, true, false, List, [], ◌∷◌, ◌++◌, length, drop, refl, ap, sym, subst, arith, inl, inr, if◌then◌else◌}
-use Rattle.std.specs.Prelude.{Option, None, Some, Ok}
+use Rattle.std.proofs.Common.{◌≡◌, ◌∙◌, ℕ, ◌+◌, ◌*◌, ◌^◌, ◌≤◌, ◌<◌, ◌==◌, Bool, true, false, nat_lt, List, [], ◌∷◌, ◌++◌, length, drop, refl, ap, sym, subst, arith, inl, inr, if◌then◌else◌}
+use Rattle.std.specs.Prelude.{Option, None, Some, Result, Ok}
 use Rattle.std.proofs.lemmas.Bool.{ne_eqb}
 use Rattle.host_io.specs.Call.{Call, Synced}
 use Rattle.host_io.specs.DiskState.{state_of}
 use Rattle.host_io.specs.Image.{IsLeft, IsRecord}
 use Rattle.host_io.specs.declared.limits.TheConstants.{FILES}
 use Rattle.redo_log.specs.Stored.{files_of}
+use Rattle.sig_core.specs.declared.fault.ReadFault.{ReadFault}
 use Rattle.sig_core.specs.declared.piece.TheConstants.{PIECE_BYTES}
 use Rattle.sig_core.specs.declared.slots.ControlSlot.{ControlSlot}
 use Rattle.sig_core.specs.declared.view.Shape.{Shape}
@@ -23,14 +24,16 @@ use Rattle.sys_restart.specs.declared.places.Places.{Places}
 use Rattle.sys_restart.specs.declared.restored.Restored.{Restored}
 use Rattle.sys_restart.specs.Calls.{checkpoint_for, is_used_up, next_file, next_slot, node_calls, piece_calls}
 use Rattle.sys_restart.specs.Files.{Files}
+use Rattle.sys_restart.specs.Lost.{has_saved}
 use Rattle.sys_restart.specs.Places.{control_places, usable}
 use Rattle.sys_restart.specs.Prepared.{IsSettled, KeepsRestart, with_files}
 use Rattle.sys_restart.proofs.AlikeLemmas.{not_none, restored_alike, same_answer}
 use Rattle.sys_restart.proofs.ControlLemmas.{IsOtherOr, first_written, free_either, second_free, second_written}
+use Rattle.sys_restart.proofs.LostLemmas.{AreWritten, IsWritten, stays_unsaved}
 use Rattle.sys_restart.proofs.MomentLemmas.{AreOn, kept_in_the_end, kept_through, moments_then, runs_record, through_map}
 use Rattle.sys_restart.proofs.NextLemmas.{control_long, control_size, control_split, next_file_is, next_is_slot, other_file, pieces_fit, pieces_on, read_back, slot_on, some_checkpoint}
 use Rattle.sys_restart.proofs.SlotWrite.{HasPlace, IsMoment, IsSlotWrite, behind_has, other_has, place_has}
-use Rattle.sys_restart.proofs.StandsLemmas.{IsNear, LeavesOthers, disks_alike, left_as, near_alike, near_file, others_kept, settled_alike}
+use Rattle.sys_restart.proofs.StandsLemmas.{IsNear, LeavesOthers, disks_alike, disks_unsaved, left_as, near_alike, near_file, others_kept, settled_alike}
 
 -- the numbers of what was restored are such as a slot has, and aren't used up
 pub record HasNumbers (r : Restored) : Type 0 where
@@ -39,12 +42,11 @@ pub record HasNumbers (r : Restored) : Type 0 where
   pub unused : is_used_up r ≡ false
 
 -- at the place of the control slot that is written there is that slot, or what was there, or none
-at_the_place : (mid after older : List Call) (ok : Bool) (control : List ℕ) (which generation : ℕ) (slot : ControlSlot)
+at_the_place : (mid after older : List Call) (ok : Bool) (control : List ℕ) (which : ℕ) (slot : ControlSlot)
     (image : Files) → IsMoment mid after older image
     → IsSlotWrite mid after ok CONTROL_FILE control (place_of which) (control_bytes slot) → IsControlSlot slot
-    → (slot.generation == generation) ≡ false
-    → IsOtherOr generation (control_at which control) (control_at which (image CONTROL_FILE))
-at_the_place mid after older ok control which generation slot image moment write readable other =
+    → IsWritten slot (control_at which control) (control_at which (image CONTROL_FILE))
+at_the_place mid after older ok control which slot image moment write readable =
     by (place_has mid after older ok CONTROL_FILE control (place_of which) (control_bytes slot) image write moment)
   where
     place : ℕ
@@ -57,19 +59,20 @@ at_the_place mid after older ok control which generation slot image moment write
         ∙ ap (control_by place) is
 
     by : HasPlace control place (control_bytes slot) (image CONTROL_FILE)
-        → IsOtherOr generation (control_at which control) (control_at which (image CONTROL_FILE))
-    by (inl none) = inr (None, (read_as None none, refl))
-    by (inr (inl new)) =
-        inr (
-          Some slot,
-          (
-            read_as (Some (control_bytes slot)) new ∙ read_back place slot readable,
-            ap (λ (b : Bool). if b then Some slot else None) other,
-          ),
-        )
+        → IsWritten slot (control_at which control) (control_at which (image CONTROL_FILE))
+    by (inl none) = inr (inl (read_as None none))
+    by (inr (inl new)) = inr (inr (read_as (Some (control_bytes slot)) new ∙ read_back place slot readable))
     by (inr (inr old)) =
         inl (read_as (slot_at place (length (control_bytes slot)) control) old
         ∙ ap (λ (n : ℕ). control_by place (slot_at place n control)) (control_long slot))
+
+-- so it is what was there, or none of another generation than that slot's
+other_or : (generation : ℕ) (slot : ControlSlot) (before after : Result (Option ControlSlot) ReadFault)
+    → (slot.generation == generation) ≡ false → IsWritten slot before after → IsOtherOr generation before after
+other_or generation slot before after other (inl same) = inl same
+other_or generation slot before after other (inr (inl none)) = inr (None, (none, refl))
+other_or generation slot before after other (inr (inr new)) =
+    inr (Some slot, (new, ap (λ (b : Bool). if b then Some slot else None) other))
 
 -- another place is as it was, where its slot is
 pub same_slot : (other size : ℕ) (control image : List ℕ) → size ≡ CONTROL_BYTES
@@ -90,39 +93,58 @@ reaches which control slot is =
           absurd (not_none slot _ refl (same_answer None (Some slot) _ (ap (control_by (place_of which)) none) is))
     ]
 
--- the control slot in use is still in use while the next one is written
-slots_stand : (mid after older : List Call) (ok : Bool) (control : List ℕ) (generation : ℕ) (slot : ControlSlot)
+-- the next control slot is written at the free place, and the other place stays
+places_written : (mid after older : List Call) (ok : Bool) (control : List ℕ) (generation : ℕ) (slot : ControlSlot)
     (image : Files) → IsMoment mid after older image
     → IsSlotWrite mid after ok CONTROL_FILE control (place_of (control_places generation control).free)
     (control_bytes slot)
-    → IsControlSlot slot → (slot.generation == generation) ≡ false → (found : Option ControlSlot)
-    → control_of_file generation control ≡ Ok found → control_of_file generation (image CONTROL_FILE) ≡ Ok found
-slots_stand mid after older ok control generation slot image moment write readable other found is =
+    → IsControlSlot slot → AreWritten slot (control_places generation control).free control (image CONTROL_FILE)
+places_written mid after older ok control generation slot image moment write readable =
     elim
     (free_either (of_generation generation (usable (control_at 0 control)))
     (of_generation generation (usable (control_at 1 control)))) [
       | inl free ↦
           let first = at_free 0 free in
-          first_written generation control (image CONTROL_FILE) found free
-          (same_slot 1 (length (control_bytes slot)) control (image CONTROL_FILE) (control_long slot)
-          (behind_has mid after older ok CONTROL_FILE control (place_of 0) (control_bytes slot) image first moment
-          (place_of 1) (omega (arith, control_long slot))))
-          (at_the_place mid after older ok control 0 generation slot image moment first readable other) is
+          inl (
+            free,
+            (
+              same_slot 1 (length (control_bytes slot)) control (image CONTROL_FILE) (control_long slot)
+                  (behind_has mid after older ok CONTROL_FILE control (place_of 0) (control_bytes slot) image first
+                  moment (place_of 1) (omega (arith, control_long slot))),
+              at_the_place mid after older ok control 0 slot image moment first readable,
+            ),
+          )
       | inr free ↦
           let second = at_free 1 free in
           let there = second_free generation control free in
-          second_written generation control (image CONTROL_FILE) found free
-          (same_slot 0 (length (control_bytes slot)) control (image CONTROL_FILE) (control_long slot)
-          (other_has mid after older ok CONTROL_FILE control (place_of 1) (control_bytes slot) image second moment
-          (place_of 0) (inl (omega (arith, control_long slot)))
-          (omega (arith, control_long slot, reaches 0 control there.0 there.1))))
-          (at_the_place mid after older ok control 1 generation slot image moment second readable other) is
+          inr (
+            free,
+            (
+              same_slot 0 (length (control_bytes slot)) control (image CONTROL_FILE) (control_long slot)
+                  (other_has mid after older ok CONTROL_FILE control (place_of 1) (control_bytes slot) image second
+                  moment (place_of 0) (inl (omega (arith, control_long slot)))
+                  (omega (arith, control_long slot, reaches 0 control there.0 there.1))),
+              at_the_place mid after older ok control 1 slot image moment second readable,
+            ),
+          )
     ]
   where
     at_free : (which : ℕ) → (control_places generation control).free ≡ which
         → IsSlotWrite mid after ok CONTROL_FILE control (place_of which) (control_bytes slot)
     at_free which free =
         subst (λ (w : ℕ). IsSlotWrite mid after ok CONTROL_FILE control (place_of w) (control_bytes slot)) free write
+
+-- so the control slot in use is still in use
+slots_stand : (control image : List ℕ) (generation : ℕ) (slot : ControlSlot)
+    → AreWritten slot (control_places generation control).free control image
+    → (slot.generation == generation) ≡ false → (found : Option ControlSlot)
+    → control_of_file generation control ≡ Ok found → control_of_file generation image ≡ Ok found
+slots_stand control image generation slot (inl (free, (kept, written))) other found is =
+    first_written generation control image found free kept
+    (other_or generation slot (control_at 0 control) (control_at 0 image) other written) is
+slots_stand control image generation slot (inr (free, (kept, written))) other found is =
+    second_written generation control image found free kept
+    (other_or generation slot (control_at 1 control) (control_at 1 image) other written) is
 
 module _ (before : List Call) (shape : Shape) (node : ℕ) (r : Restored) where
   abbrev pub control : List ℕ
@@ -190,17 +212,23 @@ module _ (before : List Call) (shape : Shape) (node : ℕ) (r : Restored) where
   near_slot : (after newer older : List Call) (ok : Bool) (image : Files) → IsSettled before
       → IsSlotWrite mid after ok CONTROL_FILE control (place_of places_now.free) (control_bytes slot)
       → IsControlSlot slot → after ≡ newer ++ older → length mid ≤ length older
-      → IsLeft older image → IsNear before file r.generation image
+      → IsLeft older image → IsNear before file r.generation r.epoch image
   near_slot after newer older ok image settles write fits split long left = record {
     others = λ other there not_file not_control.
         left_as older image other (files_of before other) left there
         (stays other not_control ∙ mid_leaves other not_file ∙ settles other there);
     slots = λ found is.
-        slots_stand mid after older ok control r.generation slot image
-        (record { newer = newer; split = split; long = long; left = left }) write fits
+        slots_stand control (image CONTROL_FILE) r.generation slot written
         (ne_eqb (r.generation + 1) r.generation (λ same. absurd (omega (arith, same)))) found is;
+    unsaved = λ zero is.
+        stays_unsaved slot places_now.free control (image CONTROL_FILE) (ap (λ (n : ℕ). nat_lt 0 n) zero) written is;
   }
     where
+      written : AreWritten slot places_now.free control (image CONTROL_FILE)
+      written =
+          places_written mid after older ok control r.generation slot image
+          (record { newer = newer; split = split; long = long; left = left }) write fits
+
       place_end : ℕ
       place_end = place_of places_now.free + CONTROL_BYTES
 
@@ -217,13 +245,13 @@ module _ (before : List Call) (shape : Shape) (node : ℕ) (r : Restored) where
   -- at each moment of all
   near_always : (after newer older : List Call) (ok : Bool) → HasNumbers r → IsRecord before → IsSettled before
       → Runs (node_calls before shape node r) before (Some after) ok → after ≡ newer ++ older
-      → length before ≤ length older → (image : Files) → IsLeft older image → IsNear before file r.generation image
+      → length before ≤ length older → (image : Files) → IsLeft older image → IsNear before file r.generation r.epoch image
   near_always after newer older ok numbers kept settles runs split long =
-      moments_then (λ moment. (image : Files) → IsLeft moment image → IsNear before file r.generation image)
+      moments_then (λ moment. (image : Files) → IsLeft moment image → IsNear before file r.generation r.epoch image)
       CONTROL_FILE (place_of places_now.free + CONTROL_BYTES) first second before after newer older ok
       (through_map (LeavesOthers file (state_of before))
-      (λ moment. (image : Files) → IsLeft moment image → IsNear before file r.generation image) first before
-      (λ moment leaves image left. near_file before moment file r.generation image settles leaves apart left)
+      (λ moment. (image : Files) → IsLeft moment image → IsNear before file r.generation r.epoch image) first before
+      (λ moment leaves image left. near_file before moment file r.generation r.epoch image settles leaves apart left)
       (kept_through file (0 + PIECE_BYTES * length bytes) (LeavesOthers file (state_of before)) first before
       (others_kept file (0 + PIECE_BYTES * length bytes) (state_of before)) first_on nothing_else))
       (slot_on (stands_closed (place_of places_now.free) control) CONTROL_FILE (place_of places_now.free)
@@ -238,12 +266,12 @@ module _ (before : List Call) (shape : Shape) (node : ℕ) (r : Restored) where
       → Runs (node_calls before shape node r) before (Some after) ok → KeepsRestart shape node r before after
   keeps_restart after ok numbers runs kept settles disks is newer older split long image left =
       let range = next_file_is places_now.in_use in
+      let near = near_always after newer older ok numbers kept settles runs split long image left in
       restored_alike shape (with_files disks node (files_of before)) (with_files disks node image) r
       (disks_alike shape r.generation node disks (files_of before) image
-      (near_alike before shape node file r.generation image
-      (near_always after newer older ok numbers kept settles runs split long image left) range.0 range.1
+      (near_alike before shape node file r.generation r.epoch image near range.0 range.1
       (λ found here. other_file r.generation control found here)))
-      is
+      (λ zero. disks_unsaved node disks (files_of before) image (near.unsaved zero)) is
 
 -- where no call was made a restart is the same
 pub keeps_without_calls : (before : List Call) (shape : Shape) (node : ℕ) (r : Restored)
@@ -252,6 +280,9 @@ keeps_without_calls before shape node r kept settles disks is newer older split 
     restored_alike shape (with_files disks node (files_of before)) (with_files disks node image) r
     (disks_alike shape r.generation node disks (files_of before) image
     (settled_alike before shape node r.generation image same))
+    (λ zero.
+    disks_unsaved node disks (files_of before) image
+    (λ none. ap has_saved (same CONTROL_FILE (omega arith)) ∙ none))
     is
   where
     at : older ≡ before

@@ -11,6 +11,7 @@ pub mod KeepsLemmas
 pub mod LatestLemmas
 pub mod LifeLemmas
 pub mod ListedLemmas
+pub mod LostLemmas
 pub mod MomentLemmas
 pub mod NameLemmas
 pub mod NamedLemmas
@@ -27,6 +28,7 @@ pub mod RedoneLemmas
 pub mod RestoredLemmas
 pub mod SameRows
 pub mod SeatLemmas
+pub mod SettleLemmas
 pub mod SlotWrite
 pub mod StandsLemmas
 pub mod StoredLemmas

@@ -30,6 +30,7 @@ use Rattle.sys_restart.specs.Calls.{name_calls, next_system}
 use Rattle.sys_restart.specs.Files.{Disks, Files}
 use Rattle.sys_restart.specs.Latest.{later, latest_on, of_shape, same_shape}
 use Rattle.sys_restart.specs.Places.{free_of, free_system, usable}
+use Rattle.sys_restart.specs.Lost.{has_saved}
 use Rattle.sys_restart.specs.Prepared.{AreToBeNamed, HasSlot, IsBelow, IsNamedOrBelow, IsSettled, KeepsOrNames, RestartsAs, with_files}
 use Rattle.sys_restart.specs.SlotRows.{rows_of_slot}
 use Rattle.sys_restart.proofs.AlikeLemmas.{AreAlike, no_answer, not_none, restored_alike, same_answer}
@@ -42,7 +43,7 @@ use Rattle.sys_restart.proofs.NamedLemmas.{latest_named, restored_named}
 use Rattle.sys_restart.proofs.NextLemmas.{slot_on}
 use Rattle.sys_restart.proofs.SameRows.{redo_file, rows_same}
 use Rattle.sys_restart.proofs.SlotWrite.{HasPlace, IsMoment, IsSlotWrite, behind_has, other_has, place_has}
-use Rattle.sys_restart.proofs.StandsLemmas.{LeavesOthers, disks_alike, left_as, others_kept}
+use Rattle.sys_restart.proofs.StandsLemmas.{LeavesOthers, disks_alike, disks_unsaved, left_as, others_kept}
 
 -- what is read of both slots of a disk
 pub record AreRead (shape : Shape) (node : ℕ) (system : List ℕ) (slot : Option SystemSlot) : Type 0 where
@@ -371,6 +372,9 @@ not_named shape node r disks before image are latest same = by are.same
         restored_alike shape (with_files disks node (files_of before)) (with_files disks node image) found
             (disks_alike shape found.generation node disks (files_of before) image
             (system_alike before shape node found.generation image latest same))
+            (λ zero.
+            disks_unsaved node disks (files_of before) image
+            (λ none. ap has_saved (same CONTROL_FILE (omega arith) refl) ∙ none))
             is,
         as_before,
       ),

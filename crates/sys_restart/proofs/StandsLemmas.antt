@@ -15,9 +15,11 @@ use Rattle.sysfile_core.specs.declared.place.TheConstants.{CONTROL_FILE, SYSTEM_
 use Rattle.sysfile_core.specs.Reading.{control_of_file, system_at}
 use Rattle.sys_restart.specs.Files.{Disks, Files}
 use Rattle.sys_restart.specs.Latest.{later, of_shape}
+use Rattle.sys_restart.specs.Lost.{has_saved}
 use Rattle.sys_restart.specs.Prepared.{IsSettled, with_files}
 use Rattle.sys_restart.proofs.AlikeLemmas.{AllAlike, AreAlike, alike_itself}
 use Rattle.sys_restart.proofs.ControlLemmas.{in_use_names}
+use Rattle.sys_restart.proofs.LostLemmas.{StayUnsaved}
 use Rattle.sys_restart.proofs.MomentLemmas.{IsKeptBy, LeavesElse, else_kept}
 use Rattle.sys_restart.proofs.SameRows.{redo_file, rows_same}
 
@@ -41,22 +43,25 @@ others_kept file end states = record {
 }
 
 -- An image is near to what a disk reads as: it is the same but for one file and the control slots, of which the one in
--- use still is.
-pub record IsNear (before : List Call) (file generation : ℕ) (image : Files) : Type 0 where
+-- use still is, and without saved rows where it was so and none are saved at the epoch.
+pub record IsNear (before : List Call) (file generation epoch : ℕ) (image : Files) : Type 0 where
   pub others :
       (other : ℕ) → other < FILES → (file == other) ≡ false → (CONTROL_FILE == other) ≡ false
       → image other ≡ files_of before other
   pub slots :
       (slot : Option ControlSlot) → control_of_file generation (files_of before CONTROL_FILE) ≡ Ok slot
       → control_of_file generation (image CONTROL_FILE) ≡ Ok slot
+  pub unsaved :
+      epoch ≡ 0 → has_saved (files_of before CONTROL_FILE) ≡ false → has_saved (image CONTROL_FILE) ≡ false
 
 -- while the file is written
-pub near_file : (before moment : List Call) (file generation : ℕ) (image : Files) → IsSettled before
+pub near_file : (before moment : List Call) (file generation epoch : ℕ) (image : Files) → IsSettled before
     → LeavesOthers file (state_of before) moment → (file == CONTROL_FILE) ≡ false → IsLeft moment image
-    → IsNear before file generation image
-near_file before moment file generation image settles leaves apart left = record {
+    → IsNear before file generation epoch image
+near_file before moment file generation epoch image settles leaves apart left = record {
   others = λ other there not_file not_control. same other there not_file;
   slots = λ slot is. ap (control_of_file generation) (same CONTROL_FILE (omega arith) apart) ∙ is;
+  unsaved = λ zero is. ap has_saved (same CONTROL_FILE (omega arith) apart) ∙ is;
 }
   where
     same : (other : ℕ) → other < FILES → (file == other) ≡ false → image other ≡ files_of before other
@@ -64,12 +69,12 @@ near_file before moment file generation image settles leaves apart left = record
         left_as moment image other (files_of before other) left there (leaves other not_file ∙ settles other there)
 
 -- a near image is as good as the disk
-pub near_alike : (before : List Call) (shape : Shape) (node file generation : ℕ) (image : Files)
-    → IsNear before file generation image → 2 ≤ file → file ≤ 3
+pub near_alike : (before : List Call) (shape : Shape) (node file generation epoch : ℕ) (image : Files)
+    → IsNear before file generation epoch image → 2 ≤ file → file ≤ 3
     → ((slot : ControlSlot) → control_of_file generation (files_of before CONTROL_FILE) ≡ Ok (Some slot)
     → (file == slot.ckpt_file) ≡ false)
     → AreAlike shape node generation (files_of before) image
-near_alike before shape node file generation image near least most apart = record {
+near_alike before shape node file generation epoch image near least most apart = record {
   system = ap
       (λ bytes. later (of_shape shape node (system_at 0 bytes)) (of_shape shape node (system_at 1 bytes)))
       (near.others SYSTEM_FILE (omega arith) (ne_eqb file SYSTEM_FILE (λ same. absurd (omega (arith, same, least))))
@@ -112,3 +117,14 @@ disks_alike shape generation node disks one two alike other = by (other == node)
         → AreAlike shape other generation (if b then one else disks other) (if b then two else disks other)
     by true e = subst (λ (n : ℕ). AreAlike shape n generation one two) (sym (eqb-true other node e)) alike
     by false e = alike_itself shape other generation (disks other)
+
+-- the same of whether rows were saved
+pub disks_unsaved : (node : ℕ) (disks : Disks) (one two : Files)
+    → (has_saved (one CONTROL_FILE) ≡ false → has_saved (two CONTROL_FILE) ≡ false)
+    → StayUnsaved (with_files disks node one) (with_files disks node two)
+disks_unsaved node disks one two stays other = by (other == node)
+  where
+    by : (b : Bool) → has_saved ((if b then one else disks other) CONTROL_FILE) ≡ false
+        → has_saved ((if b then two else disks other) CONTROL_FILE) ≡ false
+    by true is = stays is
+    by false is = is

@@ -6,10 +6,12 @@ pub mod Groups
 pub mod Held
 pub mod Latest
 pub mod LifeCalls
+pub mod Lost
 pub mod Own
 pub mod Places
 pub mod Prepared
 pub mod ReadyDisks
 pub mod Redone
 pub mod Restored
+pub mod Settle
 pub mod SlotRows

@@ -153,8 +153,11 @@ pub fn places_of(one: Option<ControlSlot>, other: Option<ControlSlot>) -> Places
     }
 }
 
-// A slot that was read; a damaged one counts as none.
-fn usable<S>(read: Result<Option<S>, ReadFault>) -> Result<Option<S>, u64>
+/// A slot that was read; a damaged one counts as none.
+///
+/// # Errors
+/// The disk failed; its count.
+pub(crate) fn usable<S>(read: Result<Option<S>, ReadFault>) -> Result<Option<S>, u64>
     ensures { result ≡ usable_or_count read }
 {
     match read {

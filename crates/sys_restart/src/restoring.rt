@@ -1,5 +1,5 @@
 //! What a cluster restarts with.
-ghost use Rattle.std.specs.Prelude.{◌≡◌, ℕ, List, IfOk, Ok, Some, length, map, replicate};
+ghost use Rattle.std.specs.Prelude.{◌≡◌, ℕ, List, IfOk, None, Ok, Some, length, map, replicate};
 ghost use Rattle.std.specs.FinMap as rows;
 ghost use Rattle.frag_map.specs.Shape.{IsShape};
 ghost use Rattle.host_io.specs.Call.{Call};
@@ -9,6 +9,7 @@ ghost use Rattle.sys_restart.specs.Restored.{nothing, restored_by, restored_of};
 
 use crate::groups::rows_of_groups;
 use crate::latest::latest;
+use crate::lost::none_lost;
 use crate::restored::Restored;
 use host_io::Disk;
 use row_map::RowMap;
@@ -20,9 +21,10 @@ use std::alloc::Global;
 ///
 /// # Errors
 /// `OtherShape` exactly where an open system slot is of another shape; `Damaged` exactly where what is read
-/// isn't in its grammar, no node of a group that is listed has saved the epoch, or the rows of one are of
-/// another group, the first of them by node and place, system slots first; `DiskFault` only where the count of
-/// that node's disk rose; `NoMemory`.
+/// isn't in its grammar, no node of a group that is listed has saved the epoch, the rows of one are of
+/// another group, or no disk has a system slot though one has a control slot of saved rows, the first of them
+/// by node and place, system slots first; `DiskFault` only where the count of that node's disk rose;
+/// `NoMemory`.
 pub fn restore<D: Disk>(
     alloc: Global,
     disks: &mut [D],
@@ -37,7 +39,7 @@ pub fn restore<D: Disk>(
 {
     match latest(disks, shape) {
         Ok(Some(system)) => restore_under(alloc, disks, shape, &system),
-        Ok(None) => nothing(alloc, &shape),
+        Ok(None) => restore_none(alloc, disks, &shape),
         Err(fault) => Err(fault),
     }
 }
@@ -62,6 +64,25 @@ fn restore_under<D: Disk>(
             epoch: system.epoch,
             groups,
         }),
+        Err(fault) => Err(fault),
+    }
+}
+
+// What disks have that have no system slot.
+fn restore_none<D: Disk>(
+    alloc: Global,
+    disks: &mut [D],
+    shape: &Shape,
+) -> Result<Restored, RestartFault>
+    requires shape { IsShape shape.now }
+    requires nodes { length disks.old ≡ shape.now.nodes }
+    ensures read { (records : List (List Call)) → map D.told disks.old ≡ map Some records → ReadsAll (restored_by shape.now (disks_of records) (Ok None)) result }
+    ensures unrecorded { map D.told disks.new ≡ map D.told disks.old }
+    ensures cause { HasCauseAmong (map D.faults disks.old) (map D.faults disks.new) result }
+    ensures steady { AreSteady (map D.faults disks.old) (map D.faults disks.new) }
+{
+    match none_lost(disks) {
+        Ok(()) => nothing(alloc, shape),
         Err(fault) => Err(fault),
     }
 }

@@ -6,7 +6,7 @@ use Rattle.std.specs.Cmp.Lexicographic.{slice_cmp}
 use Rattle.std.specs.FinMap as map
 use Rattle.std.specs.List.{AllByRecursion}
 use Rattle.std.specs.Ordering.{nat_cmp}
-use Rattle.std.specs.Prelude.{None, Ok}
+use Rattle.std.specs.Prelude.{◌||◌, None, Ok}
 use Rattle.frag_map.specs.Shape.{IsShape, group_of, groups}
 use Rattle.host_io.specs.Call.{Call}
 use Rattle.lcp_store.specs.Laws.{IsWordOf}
@@ -17,18 +17,19 @@ use Rattle.sig_core.specs.declared.view.Shape.{Shape}
 use Rattle.sig_core.specs.Table.{Rows}
 use Rattle.sysfile_core.proofs.SlotLemmas.{short_slot}
 use Rattle.sysfile_core.specs.declared.control.TheConstants.{CONTROL_BYTES}
-use Rattle.sysfile_core.specs.declared.place.TheConstants.{SYSTEM_FILE}
+use Rattle.sysfile_core.specs.declared.place.TheConstants.{CONTROL_FILE, SYSTEM_FILE}
 use Rattle.sysfile_core.specs.declared.system.TheConstants.{SYSTEM_BYTES}
 use Rattle.sysfile_core.specs.Places.{place_of}
 use Rattle.sysfile_core.specs.Reading.{control_at, control_by, system_at, system_by}
 use Rattle.sys_restart.proofs.LatestLemmas.{latest_ends, latest_more}
-use Rattle.sys_restart.proofs.RestoredLemmas.{restored_as}
+use Rattle.sys_restart.proofs.RestoredLemmas.{restored_new}
 use Rattle.sys_restart.proofs.TableLemmas.{none_listed}
 use Rattle.sys_restart.specs.Calls.{rows_of_node}
 use Rattle.sys_restart.specs.Files.{Disks, Files, disks_of}
 use Rattle.sys_restart.specs.Latest.{later, latest_from, latest_on, of_shape}
 use Rattle.sys_restart.specs.LifeCalls.{record_of}
-use Rattle.sys_restart.specs.Places.{control_places}
+use Rattle.sys_restart.specs.Lost.{has_saved, was_saved}
+use Rattle.sys_restart.specs.Places.{control_places, usable}
 use Rattle.sys_restart.specs.Prepared.{AreStorable, HasKept, MayPrepare}
 use Rattle.sys_restart.specs.ReadyDisks.{AreToPrepare}
 use Rattle.sys_restart.specs.Restored.{nothing}
@@ -48,6 +49,11 @@ none_kept = (None, (by ((control_places 0 []).free == 0), refl))
     by : (first : Bool) → (if first then control_at 1 [] else control_at 0 []) ≡ Ok None
     by true = no_control 1
     by false = no_control 0
+
+none_saved_yet : has_saved [] ≡ false
+none_saved_yet =
+    ap (λ found. was_saved (usable found) || was_saved (usable (control_at 1 []))) (no_control 0)
+    ∙ ap (λ found. was_saved (usable found)) (no_control 1)
 
 none_latest : (shape : Shape) (node : ℕ) (files : Files) → files SYSTEM_FILE ≡ []
     → latest_on shape node files ≡ Ok None
@@ -96,10 +102,11 @@ are_to_prepare : (shape : Shape) (records : List (List Call)) → ((at : ℕ) �
     → AreToPrepare shape (nothing shape) records
 are_to_prepare shape records new = record {
   restored =
-      restored_as shape (disks_of records) (Ok None)
+      restored_new shape (disks_of records)
       (none_from shape (disks_of records)
       (λ node. ap (λ (calls : List Call). files_of calls SYSTEM_FILE) (new (node - 1)))
-      1 shape.nodes);
+      1 shape.nodes)
+      (λ node. ap (λ (calls : List Call). has_saved (files_of calls CONTROL_FILE)) (new (node - 1)) ∙ none_saved_yet);
   each = λ node some low. may_prepare shape node (record_of records node) (new (node - 1));
 }
 
