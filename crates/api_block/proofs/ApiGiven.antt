@@ -52,14 +52,14 @@ stays_told : (given : List ApiReply) (s : ApiState) (replies : List ApiReply) (e
 stays_told given s replies effects = ap (taking effects) (told given s replies)
 
 -- what is found is the same
-if_there_under : {A : Type 0} (G : A → A) (none after : A) (some then_some : OpenTransaction → A)
+pub if_there_under : {A : Type 0} (G : A → A) (none after : A) (some then_some : OpenTransaction → A)
     (t : Option OpenTransaction)
     → none ≡ G after → ((t : OpenTransaction) → some t ≡ G (then_some t))
     → if_there none some t ≡ G (if_there after then_some t)
 if_there_under G none after some then_some None absent present = absent
 if_there_under G none after some then_some (Some t) absent present = present t
 
-where_under : {A : Type 0} (G : A → A) (opened : List OpenTransaction) (none after : A)
+pub where_under : {A : Type 0} (G : A → A) (opened : List OpenTransaction) (none after : A)
     (some then_some : ℕ → OpenTransaction → A) (place : Option ℕ)
     → none ≡ G after → ((at : ℕ) (t : OpenTransaction) → some at t ≡ G (then_some at t))
     → where_at opened none some place ≡ G (where_at opened after then_some place)

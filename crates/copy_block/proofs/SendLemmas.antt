@@ -1,16 +1,13 @@
 -- A walk over the members of a view, or over the fragments, goes on to the next one.
-use Rattle.std.proofs.Common.{◌≡◌, ◌<◌, ◌∙◌, ℕ, suc, ◌+◌, ◌-◌, ◌++◌, Bool, List, ap, arith, drop, get_or, length}
-use Rattle.std.proofs.Common.{refl, sym}
+use Rattle.std.proofs.Common.{◌≡◌, ◌<◌, ◌∙◌, ℕ, suc, ◌+◌, ◌-◌, ◌++◌, List, ap, arith, drop, get_or, length}
+use Rattle.std.proofs.Common.{refl}
 use Rattle.std.specs.List.{flat_map}
 use Rattle.std.proofs.lemmas.List.{drop_more, length-append}
 use Rattle.sig_core.specs.declared.outs.Outgoing.{Outgoing}
-use Rattle.sig_core.specs.declared.portion.Portion.{Portion}
-use Rattle.sig_core.specs.Portion.{Offered, all_offered, offered_from, so_far}
-use Rattle.sig_core.specs.Step.{Effects}
-use Rattle.sig_core.proofs.PortionLemmas.{all_offered-append, portion_sent}
+use Rattle.sig_core.proofs.PortionLemmas.{all_offered-append}
 use Rattle.frag_map.specs.Layout.{Layout}
 use Rattle.copy_block.specs.declared.stage.Joiner.{Joiner}
-use Rattle.copy_block.specs.Sends.{left_after, left_if, request_of, requests_from}
+use Rattle.copy_block.specs.Sends.{request_of, requests_from}
 
 -- of the numbers up to n one more is left before the next
 pub left-suc : (n at : ℕ) → at < n → n - at ≡ suc (n - (at + 1))
@@ -34,12 +31,5 @@ requests-count layout joiner n at low =
 pub flat-next : {A : Type 0} (f : A → List Outgoing) (items : List A) (i : ℕ) (d : A) → i < length items
     → flat_map f (drop i items) ≡ f (get_or items i d) ++ flat_map f (drop (i + 1) items)
 flat-next f items i d inside = rw (drop_more items i d inside) refl
-
--- the place from which a list goes on is behind the portion, if an event that went through the list left something of
--- it
-pub left_is : (at : ℕ) (e out : Effects) (p : Portion) (xs : List Outgoing) {left : Bool}
-    → so_far p out ≡ all_offered (offered_from at e) xs → p.more ≡ left → left_if at left ≡ left_after xs at
-left_is at e out p xs is more =
-    ap (left_if at) (sym more ∙ ap (λ (o : Offered). o.portion.more) is ∙ (portion_sent at e xs).more)
 
 pub ruleset walks = (requests-next, flat-next, all_offered-append)

@@ -1,16 +1,15 @@
 -- What the copying sends to many.
-use Rattle.std.specs.Prelude.{ℕ, zero, suc, ◌+◌, ◌&&◌, Bool, true, false, nat_lt, List, [], ◌∷◌, ◌++◌, length}
+use Rattle.std.specs.Prelude.{ℕ, zero, suc, ◌+◌, ◌&&◌, Bool, true, false, List, [], ◌∷◌, ◌++◌}
 use Rattle.std.specs.List.{flat_map, list_any}
 use Rattle.sig_core.specs.declared.member.Member.{Member}
 use Rattle.sig_core.specs.declared.outs.Outgoing.{Outgoing}
-use Rattle.sig_core.specs.declared.portion.TheConstants.{PORTION}
 use Rattle.sig_core.specs.declared.signal.Body.TheVariants.{Copying, Joining}
 use Rattle.sig_core.specs.declared.signal.copying.CopyingSignal.TheVariants.{CopyFragReq}
 use Rattle.sig_core.specs.declared.signal.host.Work.TheVariants as work
 use Rattle.sig_core.specs.declared.signal.joining.JoiningSignal.TheVariants.{DrainReq}
 use Rattle.sig_core.specs.Chain.{node_at}
 use Rattle.sig_core.specs.Place.{copying, rows_of}
-use Rattle.sig_core.specs.Portion.{portion_effects}
+use Rattle.sig_core.specs.Portion.{left_after, portion_effects}
 use Rattle.sig_core.specs.Step.{Effects, to_place}
 use Rattle.frag_map.specs.Layout.{Layout}
 use Rattle.frag_map.specs.Replicas.{is_member, is_of_group, replicas_of}
@@ -59,14 +58,6 @@ requests_from layout joiner fragment (suc n) =
 -- so it is for all fragments, in order
 unfoldable pub request_sends : Layout → Joiner → List Outgoing
 request_sends layout joiner = requests_from layout joiner 0 layout.shape.fragments
-
--- the place from which a list goes on after an event that sent from a place on; 0 where nothing is left
-abbrev pub left_if : ℕ → Bool → ℕ
-left_if at true = at + PORTION
-left_if at false = 0
-
-abbrev pub left_after : List Outgoing → ℕ → ℕ
-left_after sends at = left_if at (nat_lt (at + PORTION) (length sends))
 
 -- what an event sends of the requests, from a place on, and the place that is left
 unfoldable pub request_effects : ℕ → Layout → Joiner → ℕ → Effects

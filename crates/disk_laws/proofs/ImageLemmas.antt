@@ -51,17 +51,17 @@ others_left calls image kept rest =
     joined_left calls (files_of calls) image (reads_as_an_image calls kept SYSTEM_FILE (omega arith)) rest
 
 -- what is restored doesn't depend on system slots
-pub others_restore : (system image : Files) (slot : ControlSlot) (before : Rows) (redo : List Redo)
-    → RestoresRows (joined system image) slot before redo → RestoresRows image slot before redo
-others_restore system image slot before redo restores = (
+pub others_restore : (least : ℕ) (system image : Files) (slot : ControlSlot) (before : Rows) (redo : List Redo)
+    → RestoresRows least (joined system image) slot before redo → RestoresRows least image slot before redo
+others_restore least system image slot before redo restores = (
   restores.0,
-  λ epoch.
+  λ epoch up.
       sym (rows_same epoch image (joined system image) slot
       (apart slot.ckpt_file (λ is. omega (arith, is, names.least)))
       (λ position.
       apart (file_of slot.parity position)
       (λ is. omega (arith, is, (redo_file slot.parity position names.parity).0))))
-      ∙ restores.1 epoch,
+      ∙ restores.1 epoch up,
 )
   where
     names : NamesFiles slot

@@ -105,13 +105,13 @@ usable_is v saved finished end is =
     }
 
 -- The rows that a file begins with are read.
-checkpoint_read : (file size saved : ℕ) (bytes all : List ℕ) (rows : Rows) → size ≡ length bytes
-    → take (length bytes) all ≡ bytes → rows_in file saved bytes ≡ Ok rows
-    → rows_of_file file size saved all ≡ Ok rows
-checkpoint_read file size saved bytes all rows is front read =
-    ap (λ (n : ℕ). rows_of_file file n saved all) is
-    ∙ ap (λ own. unless_cut file own (nat_lt (length own) (length bytes)) (rows_in file saved own)) front
-    ∙ ap (λ (cut : Bool). unless_cut file bytes cut (rows_in file saved bytes))
+checkpoint_read : (file size latest : ℕ) (bytes all : List ℕ) (rows : Rows) → size ≡ length bytes
+    → take (length bytes) all ≡ bytes → rows_in file latest bytes ≡ Ok rows
+    → rows_of_file file size latest all ≡ Ok rows
+checkpoint_read file size latest bytes all rows is front read =
+    ap (λ (n : ℕ). rows_of_file file n latest all) is
+    ∙ ap (λ own. unless_cut file own (nat_lt (length own) (length bytes)) (rows_in file latest own)) front
+    ∙ ap (λ (cut : Bool). unless_cut file bytes cut (rows_in file latest bytes))
     (le-ltb (length bytes) (length bytes) (omega arith))
     ∙ ap (unless_cut file bytes false) read
 
@@ -298,13 +298,13 @@ module _ (start : Start) (member : Member) (there : IsIn member (made start)) (b
   -- an image has the rows of before, or those of the checkpoint
   abbrev pub Named : Files → Type 0
   Named image =
-      RestoresRows image s.control has.base has.redo
-      ⊎ RestoresRows image (named_control s finished) checkpoint.rows kept
+      RestoresRows has.least image s.control has.base has.redo
+      ⊎ RestoresRows finished.epoch image (named_control s finished) checkpoint.rows kept
 
   pub others_named : (system image : Files) → Named (joined system image) → Named image
-  others_named system image (inl one) = inl (others_restore system image s.control has.base has.redo one)
+  others_named system image (inl one) = inl (others_restore has.least system image s.control has.base has.redo one)
   others_named system image (inr other) =
-      inr (others_restore system image (named_control s finished) checkpoint.rows kept other)
+      inr (others_restore finished.epoch system image (named_control s finished) checkpoint.rows kept other)
 
   its_epoch : (longer : List HostStep) → IsPast log longer → IsToldDone start member longer finished.epoch
   its_epoch longer behind =
@@ -327,20 +327,19 @@ module _ (start : Start) (member : Member) (there : IsIn member (made start)) (b
     events_of = has.events_of;
     least = finished.epoch;
     told = its_epoch longer behind;
-    restores = (restores.0, λ at from. restores.1 at ∙ ap Ok (old_stand.1.same at from));
+    restores = (restores.0, λ at from. restores.1 at from ∙ ap Ok (old_stand.1.same at from));
     latest = least;
   }
 
   module _ (walked : HasWalked start member before first (Walked finished switch.end) log s calls) where
-    named : NamesRows (named_control s finished) checkpoint.rows kept calls
+    named : NamesRows (named_control s finished) finished.epoch checkpoint.rows kept calls
     named = record {
       clean = walked.1;
       checkpoint =
-          checkpoint_read (free_file s) finished.size s.control.saved
+          checkpoint_read (free_file s) finished.size finished.epoch
           (pieces_bytes (pieces_if finished.size (written start member log))) (files_of calls (free_file s))
           checkpoint.rows checkpoint.size walked.0
-          (checkpoint.read (free_file s) s.control.saved (omega (arith, usable.saved_is, has.latest))
-          (omega (arith, can.saved, has.latest)));
+          (checkpoint.read (free_file s) finished.epoch (omega arith) (omega (arith, can.saved, usable.saved_is)));
       records = old_stand.1.are;
       ends = named_ends;
       kept = its_byte;
@@ -349,9 +348,9 @@ module _ (start : Start) (member : Member) (there : IsIn member (made start)) (b
     module _ (after : List Call) (ok : Bool)
         (runs : Runs (name_calls (files_of calls CONTROL_FILE) s finished) calls (Some after) ok) where
       law : LeavesOnly after (length calls) Named
-          × (ok ≡ true → HasRows (walk_named s finished) checkpoint.rows kept after)
+          × (ok ≡ true → HasRows (walk_named s finished) finished.epoch checkpoint.rows kept after)
       law =
-          names_keep s finished has.base checkpoint.rows has.redo kept calls after ok has.rows may named runs
+          names_keep s finished has.least has.base checkpoint.rows has.redo kept calls after ok has.rows may named runs
 
       -- whatever a crash leaves of its end
       pub names_leave : length calls ≤ length after → (image : Files) → IsLeft after image → Named image

@@ -79,7 +79,7 @@ module _ (start : Start) (member : Member) (before : Rows) (first : SystemSlot) 
   -- the rows don't depend on the system slot
   rows_beside : (log : List HostStep) (s : SlotsInUse) (system : SystemSlot) (at : ℕ) (calls after : List Call)
       (has : HasAllRows start member before first log s calls)
-      → HasRows (record s { system = system; system_at = at }) has.last.base has.last.redo after
+      → HasRows (record s { system = system; system_at = at }) has.last.least has.last.base has.last.redo after
       → state_of after (free_file s) ≡ state_of calls (free_file s)
       → HasAllRows start member before first log (record s { system = system; system_at = at }) after
   rows_beside log s system at calls after has rows same =
@@ -215,11 +215,12 @@ module _ (start : Start) (member : Member) (before : Rows) (first : SystemSlot) 
             → KeepsRows start member before first rows_log (system_saved s epoch mask) tells.calls
         rows_then (inl rows) =
             inl (by (nat_le epoch s.system.epoch)
-            (system_keeps s epoch mask rows.last.base rows.last.redo calls tells.calls ok rows.last.rows made_so).1)
+            (system_keeps s epoch mask rows.last.least rows.last.base rows.last.redo calls tells.calls ok rows.last.rows
+            made_so).1)
           where
             by : (none : Bool)
-                → HasRows (if none then s else record s { system = next; system_at = 1 - s.system_at }) rows.last.base
-                rows.last.redo tells.calls
+                → HasRows (if none then s else record s { system = next; system_at = 1 - s.system_at }) rows.last.least
+                rows.last.base rows.last.redo tells.calls
                 → HasAllRows start member before first rows_log
                 (if none then s else record s { system = next; system_at = 1 - s.system_at }) tells.calls
             by true has_rows =
@@ -232,7 +233,8 @@ module _ (start : Start) (member : Member) (before : Rows) (first : SystemSlot) 
             → KeepsRows start member before first rows_log s tells.calls
         rows_still (inl rows) =
             inl (rows_beside rows_log s s.system s.system_at calls tells.calls rows
-            ((system_keeps s epoch mask rows.last.base rows.last.redo calls tells.calls ok rows.last.rows made_so).0 []
+            ((system_keeps s epoch mask rows.last.least rows.last.base rows.last.redo calls tells.calls ok
+            rows.last.rows made_so).0 []
             tells.calls refl tells.grows) same_free)
         rows_still (inr leaves) = inr (still_left leaves)
 

@@ -23,6 +23,7 @@ use Rattle.sys_restart.proofs.ControlLemmas.{both_read}
 use Rattle.node_disk.specs.Found.{slots_in}
 use Rattle.node_disk.specs.Slots.{SlotsInUse}
 use Rattle.node_disk.proofs.StartLaw.{are_in_use, ready_has}
+use Rattle.node_restart.specs.Rows.{HasRows}
 use Rattle.node_restart.proofs.StartLaw.{ready_rows}
 use Rattle.node_views.specs.declared.host_body.HostBody as hosts
 use Rattle.lqh_saver.specs.Saver.{fresh_saver}
@@ -141,7 +142,9 @@ ready_keep_up start member r calls s kept from there ready is = record {
       stands = stands;
       until_now = record { now = []; events_of = refl; are = tt; newer = []; is = refl; stand = stands };
       told = omega arith;
-      rows = ready_rows start.shape member.node r calls s kept ready is;
+      rows =
+          subst (λ (at : ℕ). HasRows s at before [] calls) (sym from)
+          (ready_rows start.shape member.node r calls s kept ready is);
     }
 
     walked : HasWalked start member before (next_system start.shape r) (saver_after start member []).stage [] s calls

@@ -203,7 +203,7 @@ module _ (start : Start) (member : Member) (there : IsIn member (made start)) (b
 
   -- Calls that leave the rows which were saved last, and the slots: they go on with what was written of a checkpoint.
   module _ (last : HasLastRows start member before first now s calls) (kept : Kept) (same : slots_after s kept ≡ s)
-      (tells : TellsRecord calls told) (rows : HasRows s last.base last.redo tells.calls)
+      (tells : TellsRecord calls told) (rows : HasRows s last.least last.base last.redo tells.calls)
       (same_system : state_of tells.calls SYSTEM_FILE ≡ state_of calls SYSTEM_FILE)
       (walked : ok ≡ true → HasWalked start member before first stage now s tells.calls) where
     last_then : HasLastRows start member before first now s tells.calls
@@ -224,8 +224,9 @@ module _ (start : Start) (member : Member) (there : IsIn member (made start)) (b
     left_leaves stop failed image left =
         last_found start member before first now s tells.calls last_then (stop ∷ now)
         (past_more stop (past_self now)) (left_least stop failed) image
-        (others_restore (files_of tells.calls) image s.control last_then.base last_then.redo
-        (restored s last_then.base last_then.redo tells.calls (joined (files_of tells.calls) image) last_then.rows
+        (others_restore last_then.least (files_of tells.calls) image s.control last_then.base last_then.redo
+        (restored s last_then.least last_then.base last_then.redo tells.calls (joined (files_of tells.calls) image)
+        last_then.rows
         (others_left tells.calls image tells.kept left)))
 
     pub left_kept : KeptSo kept
@@ -268,7 +269,7 @@ module _ (start : Start) (member : Member) (there : IsIn member (made start)) (b
     pub piece_kept : KeptSo (OfCheckpoint (todo.Write piece))
     piece_kept =
         left_kept last (OfCheckpoint (todo.Write piece)) refl piece_tells
-        (walks_keep.written s piece last.base last.redo calls piece_tells.calls ok last.rows piece_made []
+        (walks_keep.written s piece last.least last.base last.redo calls piece_tells.calls ok last.rows piece_made []
         piece_tells.calls refl
         piece_tells.grows)
         (checkpoints_leave.written s piece calls piece_tells.calls ok SYSTEM_FILE piece_made
@@ -298,7 +299,7 @@ module _ (start : Start) (member : Member) (there : IsIn member (made start)) (b
     pub sync_kept : KeptSo (OfCheckpoint todo.Sync)
     sync_kept =
         left_kept last (OfCheckpoint todo.Sync) refl sync_tells
-        (walks_keep.settled s last.base last.redo calls sync_tells.calls ok last.rows sync_made [] sync_tells.calls refl
+        (walks_keep.settled s last.least last.base last.redo calls sync_tells.calls ok last.rows sync_made [] sync_tells.calls refl
         sync_tells.grows)
         (checkpoints_leave.settled s calls sync_tells.calls ok SYSTEM_FILE sync_made
         (λ is. absurd (omega (arith, is, (next_file_is (Some s.control)).0))))

@@ -63,7 +63,7 @@ told_longer start member older log epoch past told =
 pub last_with : (start : Start) (member : Member) (before : Rows) (first : SystemSlot) (log : List HostStep)
     (s : SlotsInUse) (calls after : List Call) (system : SystemSlot) (at : ℕ)
     (has : HasLastRows start member before first log s calls)
-    → HasRows (record s { system = system; system_at = at }) has.base has.redo after
+    → HasRows (record s { system = system; system_at = at }) has.least has.base has.redo after
     → HasLastRows start member before first log (record s { system = system; system_at = at }) after
 last_with start member before first log s calls after system at has rows = record {
   generation_is = has.generation_is;
@@ -93,7 +93,7 @@ pub last_found : (start : Start) (member : Member) (before : Rows) (first : Syst
     (s : SlotsInUse) (calls : List Call) (has : HasLastRows start member before first log s calls)
     (longer : List HostStep) → IsPast log longer
     → (rows_after start member (kept_part longer)).saved ≤ s.control.saved → (image : Files)
-    → RestoresRows image s.control has.base has.redo
+    → RestoresRows has.least image s.control has.base has.redo
     → HasSavedRows start member before first.generation longer image
 last_found start member before first log s calls has longer behind least image restores = record {
   slot = s.control;
@@ -105,7 +105,7 @@ last_found start member before first log s calls has longer behind least image r
   events_of = has.events_of;
   least = has.least;
   told = told_longer start member log longer has.least behind has.told;
-  restores = (restores.0, λ at from. restores.1 at ∙ ap Ok (has.stands.same at from));
+  restores = (restores.0, λ at from. restores.1 at from ∙ ap Ok (has.stands.same at from));
   latest = least;
 }
 
@@ -273,13 +273,14 @@ module _ (start : Start) (member : Member) (there : IsIn member (made start)) (b
     -- an image has the rows of before, or the newer ones
     abbrev pub Restored : Files → Type 0
     Restored image =
-        RestoresRows image s.control has.base has.redo
-        ⊎ ((s.control.saved ≤ epoch) × RestoresRows image next has.base both)
+        RestoresRows has.least image s.control has.base has.redo
+        ⊎ ((s.control.saved ≤ epoch) × RestoresRows has.least image next has.base both)
 
     -- whatever the system slots are
     pub others_restored : (system image : Files) → Restored (joined system image) → Restored image
-    others_restored system image (inl one) = inl (others_restore system image s.control has.base has.redo one)
-    others_restored system image (inr (up, other)) = inr (up, others_restore system image next has.base both other)
+    others_restored system image (inl one) = inl (others_restore has.least system image s.control has.base has.redo one)
+    others_restored system image (inr (up, other)) =
+        inr (up, others_restore has.least system image next has.base both other)
 
     -- What the calls that save them come to. None is made, and so none fails, unless the epoch is a later one.
     pub record AreSaved (after : List Call) (ok : Bool) : Type 0 where
@@ -295,22 +296,26 @@ module _ (start : Start) (member : Member) (there : IsIn member (made start)) (b
       not_yet = lt-leb epoch s.control.saved up
 
       law : LeavesOnly after (length calls)
-          (λ image. RestoresRows image s.control has.base has.redo ⊎ RestoresRows image next has.base both)
+          (λ image. RestoresRows has.least image s.control has.base has.redo
+          ⊎ RestoresRows has.least image next has.base both)
           × (ok ≡ true
-          → HasRows (rows_saved s epoch (log_bytes newer)) has.base (records_saved s epoch newer has.redo) after)
+          → HasRows (rows_saved s epoch (log_bytes newer)) has.least has.base (records_saved s epoch newer has.redo)
+          after)
       law =
-          rows_kept s epoch has.base newer has.redo calls after ok has.rows
+          rows_kept s epoch has.least has.base newer has.redo calls after ok has.rows
           (newer_records newer has.redo on.until_now.stand.are) (may up) runs
 
       either : (image : Files)
-          → RestoresRows image s.control has.base has.redo ⊎ RestoresRows image next has.base both → Restored image
+          → RestoresRows has.least image s.control has.base has.redo ⊎ RestoresRows has.least image next has.base both
+          → Restored image
       either image (inl one) = inl one
       either image (inr other) = inr (omega (arith, up), other)
 
-      now_has : ok ≡ true → HasRows used has.base both after
+      now_has : ok ≡ true → HasRows used has.least has.base both after
       now_has so =
           subst
-          (λ (saved : Bool). HasRows (if saved then s else used) has.base (if saved then has.redo else both) after)
+          (λ (saved : Bool). HasRows (if saved then s else used) has.least has.base (if saved then has.redo else both)
+          after)
           not_yet (law.1 so)
 
       -- all that the journal has was saved
@@ -319,7 +324,7 @@ module _ (start : Start) (member : Member) (there : IsIn member (made start)) (b
       ends (inl (same, end)) = absurd (omega (arith, same, up, has.latest))
       ends (inr (more, end)) = omega (arith, end, left_size, has.rows.named.ends, on.begins)
 
-      now_last : HasRows used has.base both after → HasLastRows start member before first new used after
+      now_last : HasRows used has.least has.base both after → HasLastRows start member before first new used after
       now_last rows = record {
         generation_is = has.generation_is;
         begins = on.begins;
@@ -421,7 +426,7 @@ module _ (start : Start) (member : Member) (there : IsIn member (made start)) (b
       least = has.least;
       told =
           told_longer start member log longer has.least (past_trans on.past behind) has.told;
-      restores = (restores.0, λ at from. restores.1 at ∙ ap Ok (on.until_now.stand.same at from));
+      restores = (restores.0, λ at from. restores.1 at from ∙ ap Ok (on.until_now.stand.same at from));
       latest = omega (arith, least, up);
     }
 
@@ -433,4 +438,4 @@ pub all_found : (start : Start) (member : Member) (before : Rows) (first : Syste
 all_found start member before first log s calls image there has left =
     let least = saved_along start member there (kept_part log) log (kept_is_past log) in
     last_found start member before first log s calls has log (past_self log) (omega (arith, least, has.latest)) image
-    (restored s has.base has.redo calls image has.rows left)
+    (restored s has.least has.base has.redo calls image has.rows left)

@@ -4,29 +4,20 @@ use Rattle.run_theory.specs.Lists.{IsPast}
 use Rattle.sig_core.specs.declared.member.Member.{Member}
 use Rattle.sig_core.specs.declared.slots.ControlSlot.{ControlSlot}
 use Rattle.sig_core.specs.declared.slots.SystemSlot.{SystemSlot}
-use Rattle.sig_core.specs.declared.redo.Redo.{Redo}
 use Rattle.sig_core.specs.Table.{Rows}
-use Rattle.redo_log.specs.Replaying.{replayed}
 use Rattle.local_ckpt.specs.Events.{Event}
 use Rattle.request_laws.specs.Blocks.{rows_after}
 use Rattle.sys_restart.specs.Files.{Files}
-use Rattle.sysfile_core.specs.declared.place.TheConstants.{CONTROL_FILE, SYSTEM_FILE}
-use Rattle.sysfile_core.specs.Reading.{control_of_file, system_of_file}
+use Rattle.sysfile_core.specs.declared.place.TheConstants.{SYSTEM_FILE}
+use Rattle.sysfile_core.specs.Reading.{system_of_file}
 use Rattle.world_core.specs.Start.{Start}
 use Rattle.world_core.specs.Steps.{HostStep}
 use Rattle.moment_laws.specs.Places.{tc_of}
-use Rattle.sys_restart.specs.SlotRows.{rows_of_slot}
+use Rattle.node_restart.specs.Rows.{RestoresRows}
 use Rattle.journal_laws.specs.Events.{records_behind}
 use Rattle.journal_laws.specs.Journal.{AreEventsOf, first_rows}
 use Rattle.journal_laws.specs.Saver.{IsToldDone}
 use Rattle.disk_laws.specs.Noted.{IsFirstOrNoted, WasNoted, kept_part}
-
--- In these files a control slot is in use for its generation, and up to any epoch from this one on its rows are those
--- that these records make of the rows with which the life began.
-abbrev pub RestoresFrom : ℕ → Files → ControlSlot → Rows → List Redo → Type 0
-RestoresFrom least files slot start redo =
-    (control_of_file slot.generation (files CONTROL_FILE) ≡ Ok (Some slot))
-    × ((epoch : ℕ) → least ≤ epoch → rows_of_slot epoch files slot ≡ Ok (replayed epoch start redo))
 
 module _ (start : Start) (member : Member) (before : Rows) where
   -- In these files a control slot is in use that says what the member's rows had noted as saved after a part of their
@@ -42,7 +33,7 @@ module _ (start : Start) (member : Member) (before : Rows) where
     -- up to any epoch that isn't below one which was told to be durable
     pub least : ℕ
     pub told : IsToldDone start member log least
-    pub restores : RestoresFrom least image slot before (records_behind (first_rows start member) events)
+    pub restores : RestoresRows least image slot before (records_behind (first_rows start member) events)
     -- whatever was kept of what the rows had noted
     pub latest : (rows_after start member (kept_part log)).saved ≤ slot.saved
 

@@ -93,7 +93,7 @@ module _ (start : Start) (member : Member) (before : Rows) (first : SystemSlot) 
     pub stands : StandFor start member before base least s.control.redo_start events redo
     pub until_now : StandUntilNow log base least s.control.redo_start events redo
     pub told : IsToldDone start member log least
-    pub rows : HasRows s base redo calls
+    pub rows : HasRows s least base redo calls
 
   -- and what was written of the next one, as long as their host runs
   pub record HasAllRows (log : List HostStep) (s : SlotsInUse) (calls : List Call) : Type 0 where

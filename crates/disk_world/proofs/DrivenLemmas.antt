@@ -10,7 +10,7 @@ use Rattle.world_views.specs.Driven.{HaveGrown, IsDriven, IsSound, IsStepped, Is
 use Rattle.world_views.specs.Unscheduled.{AreUnscheduled}
 use Rattle.world_views.specs.World.{Whole}
 use Rattle.world_views.proofs.StepDriven.{grown_itself}
-use Rattle.world_views.proofs.WorldLemmas.{IsUnderWay, driven_further, driven_world, grown_further, sound_labels, stays_sound, under_way}
+use Rattle.world_views.proofs.WorldLemmas.{IsUnderWay, driven_further, grown_further, sound_labels, stays_sound, under_way}
 
 -- the logs have grown from those of this world
 abbrev pub GrowsTo : Whole → List HostLog → Type 0
@@ -22,9 +22,6 @@ GoesTo w t = (start : Start) → IsSound start w → IsDriven start w t
 
 pub goes_nowhere : (w : Whole) → IsWorld w → GoesTo w w
 goes_nowhere w is = (under_way w is).driven
-
-pub stays_world : (w t : Whole) → GoesTo w t → IsWorld w → IsWorld t
-stays_world w t goes is = driven_world w t goes is
 
 -- a step, and what is kept of it
 pub stepped_then : (a b c : Whole) → ((start : Start) → IsSound start a → IsStepped start a b true) → GoesTo b c

@@ -1,15 +1,14 @@
 -- What is left of disks of which one kept something.
 use Rattle.std.proofs.Common.{◌≡◌, ◌∙◌, ℕ, zero, suc, ◌<◌, Bool, List, [], ◌∷◌, length, map, get_or, refl, ap, sym, subst, arith}
-use Rattle.std.specs.Prelude.{Option, None, Some, OnErr, OnOk, Result, Ok, Err, is_ok}
+use Rattle.std.specs.Prelude.{Option, None, Some}
 use Rattle.std.proofs.Math.ListN.{set}
 use Rattle.host_io.specs.Call.{Call}
 use Rattle.node_disk.specs.Slots.{SlotsInUse}
 use Rattle.redo_log.specs.Stored.{files_of}
 use Rattle.sysfile_core.specs.Runs.{Runs}
-use Rattle.sys_restart.specs.Answers.{AreSteady}
 use Rattle.sys_restart.proofs.DisksLemmas.{mapped}
 use Rattle.disk_world.specs.Disks.{Disks, HasKept, slots_if}
-use Rattle.disk_world.specs.Keeping.{Kept, calls_of, slots_after}
+use Rattle.disk_world.specs.Keeping.{Kept, calls_of}
 use Rattle.life_start.specs.Records.{HaveMore, TellsMore}
 use Rattle.life_start.proofs.RecordLemmas.{runs_more, tells_itself}
 
@@ -61,12 +60,6 @@ told_else : {A B : Type 0} (T : A → B) (xs : List A) (at k : ℕ) (new : A) (n
     → get_or (map T (set xs at new)) k none ≡ get_or (map T xs) k none
 told_else T xs at k new none apart =
     ap (λ ys. get_or ys k none) (map_set T xs at new) ∙ set_else (map T xs) at k (T new) none apart
-
--- the slots in use, by the answer
-pub used_by : {E : Type 0} (result : Result (Unit {0}) E) (old new : SlotsInUse) (kept : Kept)
-    → OnOk result (new ≡ slots_after old kept) → OnErr result (new ≡ old) → new ≡ slots_if (is_ok result) old kept
-used_by (Ok done) old new kept after same = after
-used_by (Err fault) old new kept after same = same
 
 -- one disk among several kept something
 pub one_kept : {A : Type 0} (T : A → Option (List Call)) (disks : List A) (slots : List SlotsInUse) (at : ℕ)
@@ -124,10 +117,6 @@ kept_as kept other at place old was new now ok has same here before after =
     (subst (λ (p : ℕ). HasKept kept p was now ok) here
     (subst (λ (d : Disks). HasKept kept at d now ok) before
     (subst (λ (d : Disks). HasKept kept at old d ok) after has)))
-
-pub steady_as : (old was new now : List ℕ) → AreSteady old new → old ≡ was → new ≡ now → AreSteady was now
-steady_as old was new now steady before after =
-    subst (λ (d : List ℕ). AreSteady d now) before (subst (λ (d : List ℕ). AreSteady old d) after steady)
 
 -- the same, of a disk and slots that were read at the place
 pub read_kept : {A : Type 0} (T : A → Option (List Call)) (disks : List A) (slots : List SlotsInUse) (at : ℕ)

@@ -2,7 +2,7 @@
 use Rattle.std.proofs.Common.{◌≡◌, ◌≤◌, ◌<◌, ◌⊎◌, ◌++◌, ℕ, Bool, true, false, cond, filter, reverse, List}
 use Rattle.std.proofs.Common.{[], ◌∷◌, refl, sym, ap, subst, ◌∙◌, inl, inr, arith}
 use Rattle.std.proofs.lemmas.List.{reverse-append}
-use Rattle.run_theory.proofs.Pasts.{each_append, each_in, each_map, each_past}
+use Rattle.run_theory.proofs.Pasts.{each_append, each_filter, each_in, each_map, each_past}
 use Rattle.run_theory.proofs.Runs.{log_of-own, log_of-past}
 use Rattle.run_theory.specs.Lists.{Each, IsIn}
 use Rattle.sig_core.specs.declared.entry.Entry.{Entry}
@@ -19,12 +19,10 @@ use Rattle.world_core.specs.Hosts.{hosts, member_at}
 use Rattle.world_core.specs.SerialLaw.{AreEpochsOrdered}
 use Rattle.world_core.specs.Start.{Start, made}
 use Rattle.world_core.specs.Steps.{HostStep}
-use Rattle.world_views.specs.Hosts.{started}
 use Rattle.world_views.specs.Machine.{after, machine, step_after}
 use Rattle.view_laws.specs.Order.{EntriesStandInOrder, by_views, decisions}
 use Rattle.run_theory.specs.Ranks.{in_order}
 use Rattle.view_laws.specs.Runs.{view_after}
-use Rattle.view_laws.proofs.eras.SoundLogs.{each_filter}
 use Rattle.epoch_laws.specs.Alike.{AreTogether, AreUpTo, GivesUpTo, IsAcross, Waits}
 use Rattle.epoch_laws.specs.Falls.{EpochsNeverFall, EpochsOfHistoriesNeverFall}
 use Rattle.epoch_laws.specs.Members.{dih_in, epochs_of}
@@ -39,14 +37,13 @@ use Rattle.view_laws.proofs.eras.Deciders.{told_view}
 use Rattle.view_laws.proofs.eras.Entries.{undecided_same}
 use Rattle.epoch_laws.proofs.MarkSteps.{others_decide_none, tc_steps_give}
 use Rattle.moment_laws.proofs.MomentHosts.{TcHost, never_tc, of_none, of_tc, part_some, tc_host_is, tc_member}
-use Rattle.moment_laws.proofs.MomentHosts.{tc_started}
 use Rattle.moment_laws.proofs.MomentMembers.{current_host}
 use Rattle.moment_laws.proofs.MomentTurns.{host_low, own_behind, taker_stands}
 use Rattle.moment_laws.proofs.MomentViews.{moment_less}
 use Rattle.epoch_laws.proofs.OrderKeeps.{AreGivenTo}
 use Rattle.epoch_laws.proofs.StandAll.{epochs_stand}
 use Rattle.epoch_laws.proofs.StandMarks.{full_before, marks_are}
-use Rattle.epoch_laws.proofs.StepKinds.{RunsTc, runs_tc}
+use Rattle.epoch_laws.proofs.StepKinds.{RunsTc, tc_at}
 
 -- no entry has a later epoch than those in front of it
 abbrev AreDown : List Entry → Type 0
@@ -198,10 +195,7 @@ module _ (start : Start) (all : ℕ → List HostStep) where
       -- a host of epochs
       module _ (me : Member) (there : IsIn me (made start)) (at : e.host ≡ tc_of start me) where
         runs : RunsTc start e.host (old e.host)
-        runs =
-            runs_tc start e.host _
-            (ap (λ h. (started start h).parts) at ∙ ap (λ (s : node.HostBody). s.parts) (tc_started start me there))
-            (old e.host)
+        runs = tc_at start e.host me there at (old e.host)
 
         epochs_are : epochs_of start old me ≡ runs.part.dih
         epochs_are =

@@ -1,6 +1,7 @@
 -- Which part each host runs, along its whole log.
-use Rattle.std.proofs.Common.{◌≡◌, ◌<◌, ◌+◌, ◌/◌, ◌%◌, ℕ, zero, suc, List, [], ◌∷◌, refl, ap, ◌∙◌, arith}
+use Rattle.std.proofs.Common.{List, [], ap, arith, refl, subst, suc, sym, zero, ℕ, ◌%◌, ◌+◌, ◌/◌, ◌<◌, ◌∙◌, ◌∷◌, ◌≡◌}
 use Rattle.std.specs.Prelude.{Option, None, Some}
+use Rattle.frag_map.specs.Layout.{first_layout}
 use Rattle.frag_map.specs.Replicas.{first_start}
 use Rattle.run_theory.specs.Lists.{IsIn}
 use Rattle.sig_core.specs.declared.member.Member.{Member}
@@ -9,6 +10,7 @@ use Rattle.sig_core.specs.declared.place.Part.TheVariants.{Ldm, Main, Tc}
 use Rattle.sig_core.specs.declared.signal.Signal.{Signal}
 use Rattle.sig_core.specs.declared.view.Shape.{Shape}
 use Rattle.sig_core.specs.declared.view.View.{View}
+use Rattle.gcp_master.specs.Master.{fresh_master}
 use Rattle.node_views.specs.Blocks.{parts_entered, parts_row}
 use Rattle.node_views.specs.declared.host_body.HostBody as node
 use Rattle.node_views.specs.declared.ldm_part.LdmPart.{LdmPart}
@@ -29,6 +31,7 @@ use Rattle.view_laws.proofs.runs.FirstMembers.{first_in}
 use Rattle.moment_laws.specs.Places.{ldm_of, tc_of}
 use Rattle.moment_laws.proofs.MomentHosts.{ldm_number, ldm_started, main_number, tc_number}
 use Rattle.moment_laws.proofs.MomentWalk.{Moves, Passes, entering, leaves, plainly, settles, step_moves, takes}
+use Rattle.epoch_laws.specs.Members.{master_in, master_of}
 
 -- the part that a host runs; none is the shell
 abbrev pub part_in : Parts → Option Part
@@ -133,6 +136,18 @@ module _ (start : Start) where
   runs_main me there log =
       main_part_of (after start (main_of start me) log).parts
       (part_after (main_of start me) log ∙ ap (λ (s : node.HostBody). part_in s.parts) (main_started start me there))
+
+  pub main_at : (me : Member) → IsIn me (made start) → (h : ℕ) → h ≡ main_of start me → (log : List HostStep)
+      → RunsMain (after start h log).parts
+  main_at me there h at log = subst (λ k. RunsMain (after start k log).parts) (sym at) (runs_main me there log)
+
+  -- its master is that of the member
+  pub master_at : (logs : ℕ → List HostStep) (me : Member) (h : ℕ) → h ≡ main_of start me → (parts : Parts)
+      → (after start h (logs h)).parts ≡ parts
+      → master_of start logs me ≡ master_in (fresh_master me (first_layout start.shape).view 0) parts
+  master_at logs me h at parts is =
+      let in_parts = master_in (fresh_master me (first_layout start.shape).view 0) in
+      ap (λ k. in_parts (after start k (logs k)).parts) (sym at) ∙ ap in_parts is
 
   -- whose host a host is
   pub data Whose (h : ℕ) : Type 0 where

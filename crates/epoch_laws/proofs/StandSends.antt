@@ -4,7 +4,7 @@ use Rattle.std.proofs.Common.{sym, ap, subst, ◌∙◌, inl, inr, arith, eq-eqb
 use Rattle.std.proofs.lemmas.Bool.{cases_Bool, eqb-true, ltb-false, true≢false}
 use Rattle.std.specs.Prelude.{if◌then◌else◌, slice_get, Option, None, Some}
 use Rattle.frag_map.specs.Layout.{first_layout}
-use Rattle.run_theory.proofs.Pasts.{each_in, each_map}
+use Rattle.run_theory.proofs.Pasts.{each_filter, each_in, each_map}
 use Rattle.run_theory.specs.Lists.{Each, IsIn}
 use Rattle.sig_core.specs.declared.member.Member.{Member}
 use Rattle.sig_core.specs.declared.outcome.StopCause.{StopCause}
@@ -38,14 +38,13 @@ use Rattle.qmgr_block.specs.State.{QmgrState}
 use Rattle.world_core.specs.Hosts.{host_by, member_at, member_of}
 use Rattle.world_core.specs.Start.{Start, made}
 use Rattle.world_core.specs.Steps.{Addressed, HostStep}
-use Rattle.world_views.specs.Hosts.{reached, started}
+use Rattle.world_views.specs.Hosts.{reached}
 use Rattle.world_views.specs.Machine.{after, own_stop, signals_of, step_after, step_by, step_if, stops_by}
 use Rattle.view_laws.specs.HostEvents.{events_of, is_membership}
 use Rattle.view_laws.specs.Order.{is_sound}
 use Rattle.view_laws.specs.Runs.{view_after}
 use Rattle.view_laws.specs.Votes.{main_of, membership_in, membership_of}
 use Rattle.view_laws.proofs.eras.Shapes.{shape_stays}
-use Rattle.view_laws.proofs.eras.SoundLogs.{each_filter}
 use Rattle.view_laws.proofs.fences.AboveViews.{fences_are_not_below}
 use Rattle.view_laws.proofs.follow.Hosts.{hosts_follow}
 use Rattle.view_laws.proofs.follow.Senders.{IsSentBy, each_sent}
@@ -65,7 +64,7 @@ use Rattle.epoch_laws.proofs.MasterHears.{same_member-is, same_member-self}
 use Rattle.epoch_laws.proofs.MasterSends.{MaySay, master_says}
 use Rattle.epoch_laws.proofs.MasterSpeaks.{says_true}
 use Rattle.epoch_laws.proofs.MomentEvents.{fenced_is, order_told}
-use Rattle.moment_laws.proofs.MomentHosts.{ldm_member, main_number, tc_member, tc_started}
+use Rattle.moment_laws.proofs.MomentHosts.{ldm_member, main_number, tc_member}
 use Rattle.moment_laws.proofs.MomentTurns.{host_low, own_behind, own_log, stands_behind, taker_stands}
 use Rattle.moment_laws.proofs.PartSteps.{not_barred}
 use Rattle.moment_laws.proofs.PartTaken.{IsTakenNow}
@@ -73,12 +72,12 @@ use Rattle.epoch_laws.proofs.SentMembership.{IsOrdering, Orders, OrdersBy}
 use Rattle.epoch_laws.proofs.SentNone.{IsNoOrder, is_order}
 use Rattle.epoch_laws.proofs.SentParts.{rows_send, shell_sends_none}
 use Rattle.epoch_laws.proofs.SentRows.{IsOfRows, IsOfRowsBy}
-use Rattle.epoch_laws.proofs.StandKinds.{RunsMain, RunsRows, RunsShell, Whose, of_main, of_rows, of_shell, of_tc}
-use Rattle.epoch_laws.proofs.StandKinds.{runs_main, runs_rows, runs_shell, whose}
+use Rattle.epoch_laws.proofs.StandKinds.{RunsMain, RunsRows, RunsShell, Whose, main_at, of_main, of_rows, of_shell}
+use Rattle.epoch_laws.proofs.StandKinds.{of_tc, runs_rows, runs_shell, whose}
 use Rattle.epoch_laws.proofs.StandMasters.{others_next, president_next}
 use Rattle.epoch_laws.proofs.StandOn.{ordered_own}
 use Rattle.epoch_laws.proofs.StandTakes.{taken_rises, taker_full}
-use Rattle.epoch_laws.proofs.StepKinds.{RunsTc, runs_tc}
+use Rattle.epoch_laws.proofs.StepKinds.{RunsTc, tc_at}
 use Rattle.epoch_laws.proofs.StepMain.{IsStepOfMain, main_steps}
 use Rattle.epoch_laws.proofs.StepMain as main
 use Rattle.epoch_laws.proofs.StepTc.{IsPassed, IsStepOfTc, tc_steps}
@@ -223,10 +222,7 @@ module _ (start : Start) (all : ℕ → List HostStep) (e : HostStep) (es : List
     -- the epochs of a member on this host
     module _ (me : Member) (there : IsIn me (made start)) (at : e.host ≡ tc_of start me) where
       runs : RunsTc start e.host (old e.host)
-      runs =
-          runs_tc start e.host _
-          (ap (λ h. (started start h).parts) at ∙ ap (λ (s : node.HostBody). s.parts) (tc_started start me there))
-          (old e.host)
+      runs = tc_at start e.host me there at (old e.host)
 
       step : IsStepOfTc s x runs.part stood (after start e.host (e ∷ old e.host)).parts sends
       step = tc_steps s x runs.part e.host runs.is
@@ -343,9 +339,7 @@ module _ (start : Start) (all : ℕ → List HostStep) (e : HostStep) (es : List
         (stands : stood ≡ current start new)
       where
         main_runs : RunsMain start s.parts
-        main_runs =
-            subst (λ h. RunsMain start (after start h (old h)).parts) (sym at)
-            (runs_main start me there (old (main_of start me)))
+        main_runs = main_at start me there e.host at (old e.host)
 
         main_step : IsStepOfMain s x main_runs.main stood (after start e.host (e ∷ old e.host)).parts sends
         main_step = main_steps s x main_runs.main e.host main_runs.is

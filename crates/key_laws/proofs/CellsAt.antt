@@ -5,6 +5,7 @@ use Rattle.std.specs.List.{list_any}
 use Rattle.std.specs.Prelude.{if◌then◌else◌, Option, None, Some, remove}
 use Rattle.run_theory.specs.Lists.{Each}
 use Rattle.run_theory.proofs.Pasts.{each_map}
+use Rattle.sig_core.proofs.RecordLemmas.{record_of-first}
 use Rattle.sig_core.specs.declared.member.TxId.{TxId}
 use Rattle.sig_core.specs.declared.rows.PendingRecord.{PendingRecord}
 use Rattle.sig_core.specs.declared.rows.Slot.{Slot}
@@ -29,7 +30,7 @@ use Rattle.row_records.proofs.PlaceLemmas.{has-set_row, has-with_place, row-free
 use Rattle.row_records.proofs.PlaceLemmas.{row_of-at}
 use Rattle.key_laws.proofs.RecordsAt.{KeepsKey, each-edited_in, each-first, each-recorded, edited_in, edited_in-drop}
 use Rattle.key_laws.proofs.RecordsAt.{edited_in-keep, edited_in-none, edited_in-set, first-found, on, on-edited}
-use Rattle.key_laws.proofs.RecordsAt.{on-edited_other, on-storing, on-storing_other, record_of-first}
+use Rattle.key_laws.proofs.RecordsAt.{on-edited_other, on-storing, on-storing_other}
 
 -- a cell, from the row and the records
 cell_is : (c d : Cell) → c.row ≡ d.row → c.pending ≡ d.pending → c ≡ d

@@ -1,13 +1,14 @@
 -- Records without their epochs: they are found, stored and edited as the records themselves are.
 use Rattle.std.proofs.Common.{◌≡◌, Bool, true, false, map, List, [], ◌∷◌, refl, sym, ap, ◌∙◌}
 use Rattle.std.specs.Prelude.{if◌then◌else◌, ℕ, Option, None, Some}
+use Rattle.sig_core.proofs.RecordLemmas.{record_of-first}
 use Rattle.sig_core.specs.declared.member.TxId.{TxId}
 use Rattle.sig_core.specs.declared.rows.PendingRecord.{PendingRecord}
 use Rattle.sig_core.specs.Rows.{RowsState, record_of, record_state, state_by}
 use Rattle.sig_core.specs.Same.{same_tx}
 use Rattle.key_laws.specs.Records.{committed_row, edited, found, put_back, stored, without_epoch}
 use Rattle.key_laws.specs.Replica.{cell_at}
-use Rattle.key_laws.proofs.RecordsAt.{first-found, on, record_of-first}
+use Rattle.key_laws.proofs.RecordsAt.{first-found, on}
 
 abbrev pub epochless : List PendingRecord → List PendingRecord
 epochless xs = map without_epoch xs

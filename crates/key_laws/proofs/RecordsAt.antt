@@ -6,25 +6,17 @@ use Rattle.std.specs.Prelude.{if◌then◌else◌, Option, None, Some, position}
 use Rattle.run_theory.specs.Lists.{Each}
 use Rattle.sig_core.specs.declared.member.TxId.{TxId}
 use Rattle.sig_core.specs.declared.rows.PendingRecord.{PendingRecord}
-use Rattle.sig_core.specs.Rows.{RowsState, get_at, is_of, is_on, record_at, record_of, recorded_by}
+use Rattle.sig_core.specs.Rows.{is_of, is_on, record_at, recorded_by}
 use Rattle.sig_core.specs.Same.{same_key, same_tx}
 use Rattle.row_records.proofs.KeyLemmas.{same}
 use Rattle.sig_core.specs.Firsts.{drop_first, first}
 use Rattle.key_laws.specs.Records.{edited, found, put_back, stored}
 use Rattle.sig_core.proofs.Keys.{same_key-self}
-use Rattle.sig_core.proofs.Firsts.{first-get, get_by, place_by, position-cons, set_first}
+use Rattle.sig_core.proofs.Firsts.{place_by, position-cons, set_first}
 
 -- those on the key
 abbrev pub on : List ℕ → List PendingRecord → List PendingRecord
 on key pending = filter (is_on key) pending
-
-get_at-by : (pending : List PendingRecord) (at : Option ℕ) → get_at pending at ≡ get_by pending at
-get_at-by pending None = refl
-get_at-by pending (Some at) = refl
-
-pub record_of-first : (s : RowsState) (tx : TxId) (key : List ℕ) → record_of s tx key ≡ first (is_of tx key) s.pending
-unfolding record_of
-record_of-first s tx key = get_at-by s.pending (record_at s.pending tx key) ∙ first-get (is_of tx key) s.pending
 
 -- a transaction's record on the key is the one among those on the key
 pub first-found : (tx : TxId) (key : List ℕ) (xs : List PendingRecord) → first (is_of tx key) xs ≡ found tx (on key xs)

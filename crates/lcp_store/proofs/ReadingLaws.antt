@@ -37,17 +37,17 @@ word_read least most word rest is =
 
 -- what is said of an epoch in eight bytes, or in fewer
 abbrev epoch_judged : ℕ → List ℕ → Bool → ℕ → Result (Option ℕ × ℕ) ℕ
-epoch_judged saved bytes short epoch =
-    if short then Err 0 else if nat_lt saved epoch then Err (length bytes) else Ok (Some epoch, 8)
+epoch_judged latest bytes short epoch =
+    if short then Err 0 else if nat_lt latest epoch then Err (length bytes) else Ok (Some epoch, 8)
 
-epoch_read : (version : Version) (saved : ℕ) (epoch : Option ℕ) (rest : List ℕ) → saved < 2 ^ 64
-    → IsEpochOf version saved epoch
-    → epoch_in version saved (epoch_bytes epoch ++ rest) ≡ Ok (epoch, length (epoch_bytes epoch))
+epoch_read : (version : Version) (latest : ℕ) (epoch : Option ℕ) (rest : List ℕ) → latest < 2 ^ 64
+    → IsEpochOf version latest epoch
+    → epoch_in version latest (epoch_bytes epoch ++ rest) ≡ Ok (epoch, length (epoch_bytes epoch))
 unfolding epoch_in
-epoch_read First saved None rest small is = refl
-epoch_read First saved (Some epoch) rest small is = absurd is
-epoch_read Second saved None rest small is = absurd is
-epoch_read Second saved (Some epoch) rest small is =
+epoch_read First latest None rest small is = refl
+epoch_read First latest (Some epoch) rest small is = absurd is
+epoch_read Second latest None rest small is = absurd is
+epoch_read Second latest (Some epoch) rest small is =
     let bytes = to_be_bytes w64 epoch ++ rest in
     let eight : length (to_be_bytes w64 epoch) ≡ 8 = refl in
     let whole : nat_lt (length bytes) 8 ≡ false =
@@ -55,10 +55,10 @@ epoch_read Second saved (Some epoch) rest small is =
     let told : from_be_bytes w64 (take 8 bytes) ≡ epoch =
     ap (from_be_bytes w64) (take_at (to_be_bytes w64 epoch) rest 8 eight)
     ∙ from_be_bytes-to_be_bytes_8 epoch (omega (arith, small, is)) in
-    let below : nat_lt saved epoch ≡ false = grind (arith, nat_tests, is) in
-    let passes : epoch_judged saved bytes false epoch ≡ Ok (Some epoch, 8) = rw below refl in
-    ap (λ short. epoch_judged saved bytes short (from_be_bytes w64 (take 8 bytes))) whole
-    ∙ ap (epoch_judged saved bytes false) told
+    let below : nat_lt latest epoch ≡ false = grind (arith, nat_tests, is) in
+    let passes : epoch_judged latest bytes false epoch ≡ Ok (Some epoch, 8) = rw below refl in
+    ap (λ short. epoch_judged latest bytes short (from_be_bytes w64 (take 8 bytes))) whole
+    ∙ ap (epoch_judged latest bytes false) told
     ∙ passes
 
 length_word : (word : List ℕ) → length (word_bytes word) ≡ length word + 1
@@ -66,7 +66,7 @@ length_word word = omega arith
 
 pub rows_are_read : RowsAreRead
 unfolding row_in
-rows_are_read version saved row rest small is =
+rows_are_read version latest row rest small is =
     let behind_epoch = word_bytes row.value ++ rest in
     let behind_key = epoch_bytes row.epoch ++ behind_epoch in
     let bytes = row_bytes row ++ rest in
@@ -80,9 +80,9 @@ rows_are_read version saved row rest small is =
     ap (drop n) split ∙ drop_at (word_bytes row.key) behind_key n (length_word row.key) in
     let sizes : n + m + (length row.value + 1) ≡ length (row_bytes row) =
     simp (length-append) (omega arith) in
-    ap (with_key version saved bytes) key
-    ∙ ap (λ r. with_epoch row.key n r (epoch_in version saved r)) past_key
-    ∙ ap (with_epoch row.key n behind_key) (epoch_read version saved row.epoch behind_epoch small is.epoch)
+    ap (with_key version latest bytes) key
+    ∙ ap (λ r. with_epoch row.key n r (epoch_in version latest r)) past_key
+    ∙ ap (with_epoch row.key n behind_key) (epoch_read version latest row.epoch behind_epoch small is.epoch)
     ∙ ap (λ r. with_value row.key row.epoch (n + m) (word_in 0 200 r))
     (drop_at (epoch_bytes row.epoch) behind_epoch m refl)
     ∙ ap (with_value row.key row.epoch (n + m)) (word_read 0 200 row.value rest is.value)
@@ -94,38 +94,38 @@ same_ok r a c b d one other =
     (ap (λ p. p.0) both, ap (λ p. p.1) both)
 
 pub none_begins : NoneBeginsAnother
-none_begins version saved one other rest small is_one is_other same =
-    let to_one = rows_are_read version saved one rest small is_one in
-    let to_other = ap (row_in version saved) (same ∙ sym (append-nil (row_bytes other)))
-    ∙ rows_are_read version saved other [] small is_other in
-    let both = same_ok (row_in version saved (row_bytes one ++ rest)) one other (length (row_bytes one))
+none_begins version latest one other rest small is_one is_other same =
+    let to_one = rows_are_read version latest one rest small is_one in
+    let to_other = ap (row_in version latest) (same ∙ sym (append-nil (row_bytes other)))
+    ∙ rows_are_read version latest other [] small is_other in
+    let both = same_ok (row_in version latest (row_bytes one ++ rest)) one other (length (row_bytes one))
     (length (row_bytes other)) to_one to_other in
     let size : length (row_bytes one) + length rest ≡ length (row_bytes other) =
     sym (length-append (row_bytes one) rest) ∙ ap length same in
     let none : length rest ≡ 0 = omega (arith, both.1, size) in
     (both.0, nil_from_length rest none)
 
-rows_read : (turns : ℕ) (version : Version) (saved : ℕ) (rows : Rows) (list : List StoredRow) → saved < 2 ^ 64
-    → AreRowsOf version saved list → length (flat_map row_bytes list) ≤ turns
-    → rows_from turns version saved rows (flat_map row_bytes list) ≡ Ok (all_in rows list)
-rows_read zero version saved rows [] small are few = refl
-rows_read (suc more) version saved rows [] small are few = refl
-rows_read zero version saved rows (row ∷ list) small are few =
+rows_read : (turns : ℕ) (version : Version) (latest : ℕ) (rows : Rows) (list : List StoredRow) → latest < 2 ^ 64
+    → AreRowsOf version latest list → length (flat_map row_bytes list) ≤ turns
+    → rows_from turns version latest rows (flat_map row_bytes list) ≡ Ok (all_in rows list)
+rows_read zero version latest rows [] small are few = refl
+rows_read (suc more) version latest rows [] small are few = refl
+rows_read zero version latest rows (row ∷ list) small are few =
     let later = flat_map row_bytes list in
     let some : length (row_bytes row ++ later)
     ≡ suc (length ((row.key ++ (epoch_bytes row.epoch ++ word_bytes row.value)) ++ later)) = refl in
     absurd (omega (arith, few, some))
-rows_read (suc more) version saved rows (row ∷ list) small are few =
+rows_read (suc more) version latest rows (row ∷ list) small are few =
     let later = flat_map row_bytes list in
     let some : length (row_bytes row) ≡ suc (length (row.key ++ (epoch_bytes row.epoch ++ word_bytes row.value))) =
     refl in
     let all : length (row_bytes row ++ later) ≡ length (row_bytes row) + length later =
     length-append (row_bytes row) later in
     let fewer : length later ≤ more = omega (arith, few, some, all) in
-    ap (read_on (rows_from more version saved) rows (row_bytes row ++ later))
-    (rows_are_read version saved row later small are.0)
-    ∙ ap (rows_from more version saved (put_in rows row)) (drop_at (row_bytes row) later (length (row_bytes row)) refl)
-    ∙ rows_read more version saved (put_in rows row) list small are.1 fewer
+    ap (read_on (rows_from more version latest) rows (row_bytes row ++ later))
+    (rows_are_read version latest row later small are.0)
+    ∙ ap (rows_from more version latest (put_in rows row)) (drop_at (row_bytes row) later (length (row_bytes row)) refl)
+    ∙ rows_read more version latest (put_in rows row) list small are.1 fewer
 
 first_byte : (first : ℕ) (rest : List ℕ) → 1 ≤ first → version_in (first ∷ rest) ≡ Ok (First, 0)
 unfolding version_in
@@ -133,23 +133,23 @@ first_byte first rest some =
     let no : (first == 0) ≡ false = grind (arith, nat_tests, some) in
     rw no refl
 
-first_version : (saved : ℕ) (list : List StoredRow) → AreRowsOf First saved list
+first_version : (latest : ℕ) (list : List StoredRow) → AreRowsOf First latest list
     → version_in (flat_map row_bytes list) ≡ Ok (First, 0)
 unfolding version_in
-first_version saved [] are = refl
-first_version saved (row ∷ list) are =
+first_version latest [] are = refl
+first_version latest (row ∷ list) are =
     first_byte (length row.key) ((row.key ++ (epoch_bytes row.epoch ++ word_bytes row.value)) ++ flat_map row_bytes
     list)
     are.0.key.long_enough
 
 pub checkpoints_read : CheckpointsAreRead
 unfolding rows_in version_in
-checkpoints_read file saved rows small =
+checkpoints_read file latest rows small =
     let bytes = flat_map row_bytes rows in
     let all = head_bytes ++ bytes in
     let same : length bytes ≤ length bytes = omega arith in
     let behind : length bytes ≤ suc (suc (length bytes)) = omega arith in (
-      (λ are. ap (λ v. or_damage file bytes (rows_behind saved bytes v)) (first_version saved rows are)
-          ∙ ap (or_damage file bytes) (rows_read (length bytes) First saved map.empty rows small are same)),
-      (λ are. ap (or_damage file all) (rows_read (length all) Second saved map.empty rows small are behind)),
+      (λ are. ap (λ v. or_damage file bytes (rows_behind latest bytes v)) (first_version latest rows are)
+          ∙ ap (or_damage file bytes) (rows_read (length bytes) First latest map.empty rows small are same)),
+      (λ are. ap (or_damage file all) (rows_read (length all) Second latest map.empty rows small are behind)),
     )

@@ -18,35 +18,35 @@ pub record IsWordOf (least most : ℕ) (word : List ℕ) : Type 0 where
   pub short_enough : length word ≤ most
   pub printable : position is_unprintable word ≡ None
 
--- an epoch that rows of the version have, not above the saved one
+-- an epoch that rows of the version have, not above the latest one
 abbrev pub IsEpochOf : Version → ℕ → Option ℕ → Type 0
-IsEpochOf First saved None = Unit {0}
-IsEpochOf First saved (Some epoch) = ⊥
-IsEpochOf Second saved None = ⊥
-IsEpochOf Second saved (Some epoch) = epoch ≤ saved
+IsEpochOf First latest None = Unit {0}
+IsEpochOf First latest (Some epoch) = ⊥
+IsEpochOf Second latest None = ⊥
+IsEpochOf Second latest (Some epoch) = epoch ≤ latest
 
 -- a row of a checkpoint of the version
-pub record IsRowOf (version : Version) (saved : ℕ) (row : StoredRow) : Type 0 where
+pub record IsRowOf (version : Version) (latest : ℕ) (row : StoredRow) : Type 0 where
   pub key : IsWordOf 1 KEY_BYTES row.key
-  pub epoch : IsEpochOf version saved row.epoch
+  pub epoch : IsEpochOf version latest row.epoch
   pub value : IsWordOf 0 VALUE_BYTES row.value
 
 -- rows of a checkpoint of the version
 abbrev pub AreRowsOf : Version → ℕ → List StoredRow → Type 0
-AreRowsOf version saved [] = Unit {0}
-AreRowsOf version saved (row ∷ rows) = IsRowOf version saved row × AreRowsOf version saved rows
+AreRowsOf version latest [] = Unit {0}
+AreRowsOf version latest (row ∷ rows) = IsRowOf version latest row × AreRowsOf version latest rows
 
 -- the bytes of a row, whatever stands behind them, are read as that row
 abbrev pub RowsAreRead : Type 0
 RowsAreRead =
-    (version : Version) (saved : ℕ) (row : StoredRow) (rest : List ℕ) → saved < 2 ^ 64 → IsRowOf version saved row
-    → row_in version saved (row_bytes row ++ rest) ≡ Ok (row, length (row_bytes row))
+    (version : Version) (latest : ℕ) (row : StoredRow) (rest : List ℕ) → latest < 2 ^ 64 → IsRowOf version latest row
+    → row_in version latest (row_bytes row ++ rest) ≡ Ok (row, length (row_bytes row))
 
 -- no row's bytes begin another's, and a row has one spelling
 abbrev pub NoneBeginsAnother : Type 0
 NoneBeginsAnother =
-    (version : Version) (saved : ℕ) (one other : StoredRow) (rest : List ℕ) → saved < 2 ^ 64
-    → IsRowOf version saved one → IsRowOf version saved other → row_bytes one ++ rest ≡ row_bytes other
+    (version : Version) (latest : ℕ) (one other : StoredRow) (rest : List ℕ) → latest < 2 ^ 64
+    → IsRowOf version latest one → IsRowOf version latest other → row_bytes one ++ rest ≡ row_bytes other
     → (one ≡ other) × (rest ≡ [])
 
 -- these rows and then those, of which the last of each key counts
@@ -57,7 +57,7 @@ all_in rows (row ∷ later) = all_in (put_in rows row) later
 -- the bytes of rows, with the head in version 2, are read as these rows
 abbrev pub CheckpointsAreRead : Type 0
 CheckpointsAreRead =
-    (file saved : ℕ) (rows : List StoredRow) → saved < 2 ^ 64
-    → (AreRowsOf First saved rows → rows_in file saved (flat_map row_bytes rows) ≡ Ok (all_in map.empty rows))
-    × (AreRowsOf Second saved rows → rows_in file saved (head_bytes ++ flat_map row_bytes rows) ≡ Ok
+    (file latest : ℕ) (rows : List StoredRow) → latest < 2 ^ 64
+    → (AreRowsOf First latest rows → rows_in file latest (flat_map row_bytes rows) ≡ Ok (all_in map.empty rows))
+    × (AreRowsOf Second latest rows → rows_in file latest (head_bytes ++ flat_map row_bytes rows) ≡ Ok
     (all_in map.empty rows))

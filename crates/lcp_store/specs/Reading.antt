@@ -37,13 +37,13 @@ word_of_len bytes (Ok len) = Ok (take len (drop 1 bytes), len + 1)
 abbrev pub word_in : ℕ → ℕ → List ℕ → Result (List ℕ × ℕ) ℕ
 word_in least most bytes = word_of_len bytes (word_len least most bytes)
 
--- the row epoch in front, not above the saved one, and how many bytes it takes: none in version 1
+-- the row epoch in front, not above the latest one, and how many bytes it takes: none in version 1
 unfoldable pub epoch_in : Version → ℕ → List ℕ → Result (Option ℕ × ℕ) ℕ
-epoch_in First saved bytes = Ok (None, 0)
-epoch_in Second saved bytes =
+epoch_in First latest bytes = Ok (None, 0)
+epoch_in Second latest bytes =
     if nat_lt (length bytes) 8
     then Err 0
-    else if nat_lt saved (from_be_bytes w64 (take 8 bytes)) then Err (length bytes) else Ok
+    else if nat_lt latest (from_be_bytes w64 (take 8 bytes)) then Err (length bytes) else Ok
     (Some (from_be_bytes w64 (take 8 bytes)), 8)
 
 -- the row of this key and epoch, which take so many bytes, with the value behind them
@@ -59,13 +59,13 @@ with_epoch key taken rest (Ok epoch) =
 
 -- the row of the key in front
 abbrev pub with_key : Version → ℕ → List ℕ → Result (List ℕ × ℕ) ℕ → Result (StoredRow × ℕ) ℕ
-with_key version saved bytes (Err left) = Err left
-with_key version saved bytes (Ok key) =
-    with_epoch key.0 key.1 (drop key.1 bytes) (epoch_in version saved (drop key.1 bytes))
+with_key version latest bytes (Err left) = Err left
+with_key version latest bytes (Ok key) =
+    with_epoch key.0 key.1 (drop key.1 bytes) (epoch_in version latest (drop key.1 bytes))
 
 -- the row in front, and how many bytes it takes
 unfoldable pub row_in : Version → ℕ → List ℕ → Result (StoredRow × ℕ) ℕ
-row_in version saved bytes = with_key version saved bytes (word_in 1 KEY_BYTES bytes)
+row_in version latest bytes = with_key version latest bytes (word_in 1 KEY_BYTES bytes)
 
 -- the version behind a first byte 0
 abbrev pub version_behind : List ℕ → Result (Version × ℕ) ℕ
@@ -87,14 +87,14 @@ read_on further rows bytes (Ok found) = further (put_in rows found.0) (drop foun
 
 -- these rows, and with them the at most `more` rows that the bytes are
 abbrev pub rows_from : ℕ → Version → ℕ → Rows → List ℕ → Result Rows ℕ
-rows_from zero version saved rows bytes = Ok rows
-rows_from (suc more) version saved rows [] = Ok rows
-rows_from (suc more) version saved rows (byte ∷ bytes) =
-    read_on (rows_from more version saved) rows (byte ∷ bytes) (row_in version saved (byte ∷ bytes))
+rows_from zero version latest rows bytes = Ok rows
+rows_from (suc more) version latest rows [] = Ok rows
+rows_from (suc more) version latest rows (byte ∷ bytes) =
+    read_on (rows_from more version latest) rows (byte ∷ bytes) (row_in version latest (byte ∷ bytes))
 
 abbrev pub rows_behind : ℕ → List ℕ → Result (Version × ℕ) ℕ → Result Rows ℕ
-rows_behind saved bytes (Err left) = Err left
-rows_behind saved bytes (Ok version) = rows_from (length bytes) version.0 saved map.empty (drop version.1 bytes)
+rows_behind latest bytes (Err left) = Err left
+rows_behind latest bytes (Ok version) = rows_from (length bytes) version.0 latest map.empty (drop version.1 bytes)
 
 -- the byte of a file that doesn't fit, where so many are left from it on; 0 where they are cut short
 abbrev pub damage : ℕ → List ℕ → ℕ → ReadFault
@@ -104,13 +104,13 @@ abbrev pub or_damage : ℕ → List ℕ → Result Rows ℕ → Result Rows Read
 or_damage file bytes (Err left) = Err (damage file bytes left)
 or_damage file bytes (Ok rows) = Ok rows
 
--- the rows of a checkpoint in a file, none with a row epoch above the saved one
+-- the rows of a checkpoint in a file, none with a row epoch above the latest one
 unfoldable pub rows_in : ℕ → ℕ → List ℕ → Result Rows ReadFault
-rows_in file saved bytes = or_damage file bytes (rows_behind saved bytes (version_in bytes))
+rows_in file latest bytes = or_damage file bytes (rows_behind latest bytes (version_in bytes))
 
 -- the answer is that of the bytes, but for want of memory
 abbrev pub Reads : ℕ → ℕ → List ℕ → Result Rows ReadFault → Type 0
-Reads file saved bytes (Err NoMemory) = Unit {0}
-Reads file saved bytes (Err (DiskFault count)) = ⊥
-Reads file saved bytes (Err (Damaged of at byte)) = rows_in file saved bytes ≡ Err (Damaged of at byte)
-Reads file saved bytes (Ok rows) = rows_in file saved bytes ≡ Ok rows
+Reads file latest bytes (Err NoMemory) = Unit {0}
+Reads file latest bytes (Err (DiskFault count)) = ⊥
+Reads file latest bytes (Err (Damaged of at byte)) = rows_in file latest bytes ≡ Err (Damaged of at byte)
+Reads file latest bytes (Ok rows) = rows_in file latest bytes ≡ Ok rows

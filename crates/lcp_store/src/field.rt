@@ -6,7 +6,7 @@ ghost use Rattle.sig_core.specs.declared.value.TheConstants.{VALUE_BYTES};
 ghost use Rattle.lcp_store.specs.Reading.{epoch_in, len_unless_spoilt, word_in, word_len};
 
 use crate::row::Version;
-use sig_core::{KEY_BYTES, Key, VALUE_BYTES, Value};
+use sig_core::{KEY_BYTES, Key, VALUE_BYTES, Value, first_unprintable};
 
 /// The key in front, behind its length, and how many bytes the two take.
 ///
@@ -81,21 +81,13 @@ fn first_spoilt(len: usize, rest: &[u8]) -> Option<usize>
     first_unprintable(&rest[..len.min(rest.len())])
 }
 
-// The place of the first byte that no word has.
-fn first_unprintable(word: &[u8]) -> Option<usize>
-    ensures told { result ≡ position is_unprintable word.now }
-    ensures within { IfSome result (λ at. at < length word.now) }
-{
-    word.iter().position(|b| *b < 0x21 || 0x7e < *b)
-}
-
 /// The row epoch in front, in eight bytes, the highest first; version 1 has none, in no bytes.
 ///
 /// # Errors
-/// 0 where the bytes are cut short; their number where the row epoch is above the saved one.
+/// 0 where the bytes are cut short; their number where the row epoch is above the latest one.
 #[tactic(auto, unfolding(crate::specs::Reading::epoch_in))]
-pub fn epoch_in(version: Version, saved: u64, bytes: &[u8]) -> Result<(Option<u64>, usize), usize>
-    ensures told { result ≡ epoch_in version saved bytes.now }
+pub fn epoch_in(version: Version, latest: u64, bytes: &[u8]) -> Result<(Option<u64>, usize), usize>
+    ensures told { result ≡ epoch_in version latest bytes.now }
     ensures most { IfOk result (λ found. found.1 ≤ 8) }
     ensures within { MatchResult result (λ found. found.1 ≤ length bytes.now) (λ left. left ≤ length bytes.now) }
 {
@@ -106,7 +98,7 @@ pub fn epoch_in(version: Version, saved: u64, bytes: &[u8]) -> Result<(Option<u6
         return Err(0);
     };
     let epoch = u64::from_be_bytes(*epoch);
-    if saved < epoch {
+    if latest < epoch {
         return Err(bytes.len());
     }
     Ok((Some(epoch), 8))

@@ -18,20 +18,20 @@ pub enum Version {
     Second,
 }
 
-/// The row in front of the bytes, and how many it takes, at most `ROW_BYTES`. `saved` is the
-/// saved epoch of the slot that names the checkpoint.
+/// The row in front of the bytes, and how many it takes, at most `ROW_BYTES`. `latest` is the
+/// latest epoch that it may be of.
 ///
 /// # Errors
 /// How many of the bytes are left from the first on that fits no row: 0 where a row is cut short.
-/// Of a row epoch above the saved one the first byte is meant.
+/// Of a row epoch above the latest one the first byte is meant.
 #[tactic(auto, unfolding(crate::specs::Reading::row_in))]
-pub fn row_in(version: Version, saved: u64, bytes: &[u8]) -> Result<(StoredRow, usize), usize>
-    ensures told { result ≡ row_in version saved bytes.now }
+pub fn row_in(version: Version, latest: u64, bytes: &[u8]) -> Result<(StoredRow, usize), usize>
+    ensures told { result ≡ row_in version latest bytes.now }
     ensures most { IfOk result (λ found. found.1 ≤ ROW_BYTES) }
     ensures within { MatchResult result (λ found. (1 ≤ found.1) × (found.1 ≤ length bytes.now)) (λ left. left ≤ length bytes.now) }
 {
     let (key, key_end) = key_in(bytes)?;
-    let (epoch, epoch_len) = epoch_in(version, saved, &bytes[key_end..])?;
+    let (epoch, epoch_len) = epoch_in(version, latest, &bytes[key_end..])?;
     let epoch_end = key_end + epoch_len;
     let (value, value_len) = value_in(&bytes[epoch_end..])?;
     Ok((StoredRow { key, epoch, value }, epoch_end + value_len))

@@ -8,14 +8,14 @@ use sig_core::ReadFault;
 use std::alloc::Global;
 
 /// The rows of a checkpoint of either version, which are all bytes of this file. Of the rows of one key
-/// the last counts. `saved` is the saved epoch of the slot that names the checkpoint.
+/// the last counts. `latest` is the latest epoch that a row may be of.
 ///
 /// # Errors
-/// `Damaged` exactly where the bytes are no checkpoint, or have a row epoch above the saved one. Where
+/// `Damaged` exactly where the bytes are no checkpoint, or have a row epoch above the latest one. Where
 /// they end within a row or within the head, the place is behind them. `NoMemory`.
 #[tactic(auto, using(crate::proofs::RowsLemmas::reading))]
-pub fn rows_in(alloc: Global, file: u8, saved: u64, bytes: &[u8]) -> Result<RowMap, ReadFault>
-    ensures { Reads file saved bytes.now result }
+pub fn rows_in(alloc: Global, file: u8, latest: u64, bytes: &[u8]) -> Result<RowMap, ReadFault>
+    ensures { Reads file latest bytes.now result }
 {
     let (version, head) = match version_in(bytes) {
         Ok(found) => found,
@@ -24,7 +24,7 @@ pub fn rows_in(alloc: Global, file: u8, saved: u64, bytes: &[u8]) -> Result<RowM
     let mut rest = &bytes[head..];
     let mut rows = RowMap::new(alloc);
     'rows: while !rest.is_empty() {
-        match row_in(version, saved, rest) {
+        match row_in(version, latest, rest) {
             Ok((row, taken)) => match rows.insert(row.key, row.value) {
                 Ok(()) => rest = &rest[taken..],
                 Err(_) => return Err(ReadFault::NoMemory),

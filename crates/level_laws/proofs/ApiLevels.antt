@@ -1,6 +1,6 @@
 -- The client's side doesn't look at epochs, row by row: those that it is told of stand in its replies alone.
 use Rattle.std.proofs.Common.{◌≡◌, ◌∙◌, ℕ, Bool, true, false, List, [], ◌∷◌, ◌++◌, refl, sym, ap}
-use Rattle.std.specs.Prelude.{Option, None, Some, ◌==◌, length, map, nat_lt, slice_get, position, is_some, remove}
+use Rattle.std.specs.Prelude.{Option, None, Some, ◌==◌, length, map, nat_lt, position, is_some, remove}
 use Rattle.std.proofs.lemmas.List.{map-append}
 use Rattle.sig_core.specs.declared.mark.Mark.TheVariants.{Reported}
 use Rattle.sig_core.specs.declared.member.Member.{Member}
@@ -29,6 +29,7 @@ use Rattle.sig_core.specs.declared.signal.epoch.EpochSignal.TheVariants.{DiVerif
 use Rattle.sig_core.specs.declared.signal.host.HostSignal.TheVariants.{Continue}
 use Rattle.sig_core.specs.declared.signal.host.Work.TheVariants.{Request}
 use Rattle.sig_core.specs.Step.{Effects, Step, nothing, stay}
+use Rattle.api_block.proofs.ApiGiven.{where_under}
 use Rattle.api_block.specs.declared.operate.TheConstants.{OPERATIONS}
 use Rattle.api_block.specs.declared.dump.Dump.{Dump}
 use Rattle.api_block.specs.declared.members.News.{News}
@@ -42,8 +43,8 @@ use Rattle.api_block.specs.Commands.{dump_row, node_for, tick_row, ticked_if}
 use Rattle.api_block.specs.Dump.{dump_replies, dumped_by, dumped_next, dumped_row, row_reply}
 use Rattle.api_block.specs.Gathered.{gathered}
 use Rattle.api_block.specs.Members.{everyone, is_full, least_node, telling, telling_all}
-use Rattle.api_block.specs.Opened.{answered, begins, begins_at, begun, behind, if_there, is_unanswered, own_place}
-use Rattle.api_block.specs.Opened.{place_named, place_of, where_at}
+use Rattle.api_block.specs.Opened.{answered, begins, begins_at, begun, behind, is_unanswered, own_place}
+use Rattle.api_block.specs.Opened.{place_named, place_of}
 use Rattle.api_block.specs.Operate.{answer_by, answer_row, begun_by, begun_row, lone_by, lone_row, operate_by}
 use Rattle.api_block.specs.Operate.{operate_if, operate_row}
 use Rattle.api_block.specs.Outcome.{abort_report_row, acknowledging, commit_report_row, ending, over, refuse_row}
@@ -53,22 +54,6 @@ use Rattle.api_block.specs.State.{with_replies}
 use Rattle.api_block.specs.Wait.{behind_row, name_of, pending_by, pending_if, pending_row, waits_if, waits_row}
 use Rattle.level_laws.specs.Laws.{ClientsAreLevel}
 use Rattle.level_laws.specs.Levels.{api_at, body_at, outcome_at, reply_at, send_at, step_at}
-
--- what is found is the same
-if_there_under : {A : Type 0} (G : A → A) (none after : A) (some then_some : OpenTransaction → A)
-    (t : Option OpenTransaction)
-    → none ≡ G after → ((t : OpenTransaction) → some t ≡ G (then_some t))
-    → if_there none some t ≡ G (if_there after then_some t)
-if_there_under G none after some then_some None absent present = absent
-if_there_under G none after some then_some (Some t) absent present = present t
-
-where_under : {A : Type 0} (G : A → A) (opened : List OpenTransaction) (none after : A)
-    (some then_some : ℕ → OpenTransaction → A) (place : Option ℕ)
-    → none ≡ G after → ((at : ℕ) (t : OpenTransaction) → some at t ≡ G (then_some at t))
-    → where_at opened none some place ≡ G (where_at opened after then_some place)
-where_under G opened none after some then_some None absent present = absent
-where_under G opened none after some then_some (Some at) absent present =
-    if_there_under G none after (some at) (then_some at) (slice_get opened at) absent (present at)
 
 -- a step to this state
 abbrev taking : Effects → ApiState → Step ApiState

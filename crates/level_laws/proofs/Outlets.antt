@@ -1,24 +1,13 @@
 -- How much a journal has to give out grows by a record's bytes, whatever they say.
-use Rattle.std.proofs.Common.{◌≡◌, ℕ, Bool, true, false, List, length, refl, ap, arith}
-use Rattle.std.specs.Prelude.{Option, None, Some}
+use Rattle.std.proofs.Common.{◌≡◌, ℕ, Bool, true, false, List, ap, arith}
 use Rattle.std.proofs.lemmas.List.{length-append}
+use Rattle.sig_core.proofs.RedoLemmas.{bytes_size}
 use Rattle.sig_core.specs.declared.member.TxId.{TxId}
 use Rattle.sig_core.specs.declared.redo.Redo.{Redo}
 use Rattle.sig_core.specs.declared.redo.Redo.TheVariants as redo
 use Rattle.sig_core.specs.Journal.{OutletState, behind, behind_by}
-use Rattle.sig_core.specs.Redo.{bytes_of, image_bytes, image_size, size_of}
+use Rattle.sig_core.specs.Redo.{bytes_of, size_of}
 use Rattle.level_laws.specs.Levels.{outlet_at}
-
-image_bytes_size : (image : Option (List ℕ)) → length (image_bytes image) ≡ image_size image
-image_bytes_size None = refl
-image_bytes_size (Some value) = omega arith
-
-bytes_size : (r : Redo) → length (bytes_of r) ≡ size_of r
-unfolding bytes_of size_of
-bytes_size (redo.Prepare tx fragment key image) =
-    omega (arith, length-append key (image_bytes image), image_bytes_size image)
-bytes_size (redo.Commit tx epoch key) = omega arith
-bytes_size (redo.Abort tx key) = omega arith
 
 pub behind_level : (o : OutletState) (r : Redo) → behind (outlet_at o) r ≡ outlet_at (behind o r)
 behind_level o r = by o.keeps

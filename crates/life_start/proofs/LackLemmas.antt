@@ -1,5 +1,6 @@
 -- Disks that lack slots.
-use Rattle.std.proofs.Common.{◌≡◌, ◌∙◌, ℕ, zero, suc, ◌+◌, ◌<◌, List, [], ◌∷◌, length, map, get_or, refl, ap, sym, subst, arith}
+use Rattle.std.proofs.Common.{◌≡◌, ◌∙◌, ℕ, zero, suc, ◌+◌, ◌<◌, List, [], ◌∷◌, length, map, get_or, refl, ap, sym}
+use Rattle.std.proofs.Common.{subst, arith}
 use Rattle.std.specs.Prelude.{false, Option, None, Some, Result, Ok, Err, IfErr}
 use Rattle.host_io.specs.Call.{Call}
 use Rattle.redo_log.specs.Stored.{files_of}

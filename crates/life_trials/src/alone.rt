@@ -15,10 +15,9 @@ use crate::tally::Tally;
 use crate::told::Told;
 use disk_world::Ended;
 use life_judge::{NodeRows, judge};
-use sig_core::{ApiReq, NoMemory, Shape};
+use sig_core::{ApiReq, Key, NoMemory, Shape};
 use std::alloc::Global;
 use std::sync::Wait;
-use trial_requests::all_keys;
 
 /// How many requests the life has.
 const REQUESTS: u64 = 90;
@@ -35,6 +34,7 @@ pub fn run_one<W: Wait>(
     alloc: Global,
     seed: u64,
     fails: u64,
+    keys: &[Key],
     tally: &mut Tally,
 ) -> Result<Told, RunFault> {
     let (mut dice, shape) = drawn(seed);
@@ -50,14 +50,13 @@ pub fn run_one<W: Wait>(
     let rows = end(rt, alloc, &mut cluster, &shape, rests)?;
     let Ended { life, .. } = cluster.end(alloc);
     tally.add_life(&life);
-    let keys = all_keys(alloc)?;
     judge(
         alloc,
         &mut dice,
         &life,
         &shape,
         rows.as_slice(),
-        keys.as_slice(),
+        keys,
         rests,
     )?;
     Ok(Told::Alone)

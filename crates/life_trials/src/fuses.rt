@@ -15,7 +15,6 @@ use disk_world::Ended;
 use sig_core::Key;
 use std::alloc::Global;
 use std::sync::Wait;
-use trial_requests::all_keys;
 
 /// How many fuses burnt, and the greatest number of a call with which none did.
 #[derive(Clone, Copy)]
@@ -32,17 +31,6 @@ struct Burnt {
 /// # Errors
 /// The first law that is broken, why a life doesn't begin, or `NoMemory`.
 pub fn run_one<W: Wait>(
-    rt: &W,
-    alloc: Global,
-    seed: u64,
-    fails: u64,
-    tally: &mut Tally,
-) -> Result<Told, RunFault> {
-    let keys = all_keys(alloc)?;
-    run_on(rt, alloc, seed, fails, keys.as_slice(), tally)
-}
-
-fn run_on<W: Wait>(
     rt: &W,
     alloc: Global,
     seed: u64,

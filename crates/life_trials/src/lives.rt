@@ -20,7 +20,6 @@ use life_judge::{Dice, judge};
 use sig_core::{Key, Life};
 use std::alloc::Global;
 use std::sync::Wait;
-use trial_requests::all_keys;
 
 /// A life has ten requests, and less than so many more.
 const MORE: u64 = 60;
@@ -43,17 +42,6 @@ pub struct Lived {
 /// # Errors
 /// The first law that is broken, why a life doesn't begin, or `NoMemory`.
 pub fn run_one<W: Wait>(
-    rt: &W,
-    alloc: Global,
-    seed: u64,
-    fails: u64,
-    tally: &mut Tally,
-) -> Result<Told, RunFault> {
-    let keys = all_keys(alloc)?;
-    run_on(rt, alloc, seed, fails, keys.as_slice(), tally)
-}
-
-fn run_on<W: Wait>(
     rt: &W,
     alloc: Global,
     seed: u64,

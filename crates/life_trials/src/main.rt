@@ -29,12 +29,14 @@ mod trial;
 mod words;
 
 use fault::RunFault;
+use sig_core::Key;
 use std::env;
 use std::process::ExitCode;
 use std::sync::Wait;
 use std::test::Fail;
 use tally::Tally;
 use told::Told;
+use trial_requests::all_keys;
 use words::{Kind, Runs, all_runs};
 
 const USAGE: &str = "usage: life_trials [alone|disks|fuses] SEED COUNT FAILS ..";
@@ -54,10 +56,22 @@ fn run_one<W: Wait>(
     seed: u64,
     tally: &mut Tally,
 ) -> Result<Told, RunFault> {
+    let keys = all_keys(rt.alloc())?;
+    run_kind(rt, wait, runs, seed, keys.as_slice(), tally)
+}
+
+fn run_kind<W: Wait>(
+    rt: &HostRuntime,
+    wait: &W,
+    runs: &Runs,
+    seed: u64,
+    keys: &[Key],
+    tally: &mut Tally,
+) -> Result<Told, RunFault> {
     match runs.kind {
-        Kind::Alone => alone::run_one(wait, rt.alloc(), seed, runs.fails, tally),
-        Kind::Disks => lives::run_one(wait, rt.alloc(), seed, runs.fails, tally),
-        Kind::Fuses => fuses::run_one(wait, rt.alloc(), seed, runs.fails, tally),
+        Kind::Alone => alone::run_one(wait, rt.alloc(), seed, runs.fails, keys, tally),
+        Kind::Disks => lives::run_one(wait, rt.alloc(), seed, runs.fails, keys, tally),
+        Kind::Fuses => fuses::run_one(wait, rt.alloc(), seed, runs.fails, keys, tally),
     }
 }
 

@@ -3,12 +3,13 @@ use Rattle.std.proofs.Common.{◌≡◌, ℕ, Bool, true, false, not, ◌&&◌, 
 use Rattle.std.proofs.lemmas.Bool.{and_parts, not-true}
 use Rattle.std.specs.List.{list_any}
 use Rattle.std.specs.Prelude.{if◌then◌else◌, Option, None, Some, position}
+use Rattle.sig_core.proofs.RecordLemmas.{record_of-first}
 use Rattle.sig_core.specs.declared.member.TxId.{TxId}
 use Rattle.sig_core.specs.declared.rows.PendingRecord.{PendingRecord}
 use Rattle.sig_core.specs.declared.rows.Slot.{Slot}
 use Rattle.sig_core.specs.Firsts.{drop_first, first}
 use Rattle.sig_core.specs.Rows as rows
-use Rattle.sig_core.specs.Rows.{RowsState, commit_by, commit_if, commit_record, drop_if, freed, get_at, is_as, is_idle}
+use Rattle.sig_core.specs.Rows.{RowsState, commit_by, commit_if, commit_record, drop_if, freed, is_as, is_idle}
 use Rattle.sig_core.specs.Rows.{is_of, is_on, record_at, record_of, recorded_by, set_row}
 use Rattle.sig_core.specs.Same.{same_key, same_tx}
 use Rattle.sig_core.proofs.Firsts.{drop_by, first-drop, first-get, first-set, first_passes, get_by, place_by}
@@ -50,14 +51,6 @@ pub key_of_first : (tx : TxId) (key : List ℕ) (pending : List PendingRecord) (
     → first (is_of tx key) pending ≡ Some r → r.key ≡ key
 key_of_first tx key pending r is =
     same r.key key (and_parts (same_tx r.tx tx) (same_key r.key key) (first_passes (is_of tx key) pending r is)).1
-
-get_at-by : (pending : List PendingRecord) (at : Option ℕ) → get_at pending at ≡ get_by pending at
-get_at-by pending None = refl
-get_at-by pending (Some at) = refl
-
-pub record_of-first : (s : RowsState) (tx : TxId) (key : List ℕ) → record_of s tx key ≡ first (is_of tx key) s.pending
-unfolding record_of
-record_of-first s tx key = get_at-by s.pending (record_at s.pending tx key) ∙ first-get (is_of tx key) s.pending
 
 -- one is recorded
 pub recorded-put : (p : PendingRecord → Bool) (r : PendingRecord) (xs : List PendingRecord)

@@ -72,9 +72,6 @@ module _ (rows : RowsState) (log : LogState) where
       (record { more = length log.left; enough = omega arith; here = refl; leads = refl }))
 
 module _ (rows : RowsState) (o : OutletState) (at : ℕ) (rest : List ℕ) (seeking : IsSeeking rows o at rest) where
-  pub seeking_within : at ≤ end_of o
-  seeking_within = omega (arith, seeking.here)
-
   pub seeking_stops : (fault : FormatFault) → decoded rest ≡ Err fault → at ≡ oldest rows o
   seeking_stops fault is =
       sym (ap (oldest_from rows at) (none_begins seeking.more rest fault is)) ∙ seeking.leads
@@ -100,9 +97,6 @@ module _ (rows : RowsState) (o : OutletState) (at : ℕ) (rest : List ℕ) (seek
       seeking_finds unfinished =
           sym (ap (λ (b : Bool). if b then at
           else oldest_from rows (at + found.1) (records_of split.fewer (drop found.1 rest))) unfinished) ∙ leads_on
-
-      pub seeking_fits : at + found.1 ≤ end_of o
-      seeking_fits = omega (arith, seeking.here, front_fits rest found found_is)
 
       pub seeking_goes_on : is_unfinished rows found.0 ≡ false → IsSeeking rows o (at + found.1) (drop found.1 rest)
       seeking_goes_on finished =

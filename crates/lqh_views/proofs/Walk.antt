@@ -38,7 +38,7 @@ use Rattle.lqh_views.specs.declared.report.Report.{Report}
 use Rattle.lqh_views.specs.Address.{addressed}
 use Rattle.lqh_views.specs.Epochs.{close_row, epoch_table, fence_row, save_row, state_row}
 use Rattle.lqh_views.specs.Laws.{is_of_rows, is_of_rows_by}
-use Rattle.lqh_views.specs.Replica.{installed, is_stale, passed, replica_by, replica_row, serve_if}
+use Rattle.lqh_views.specs.Replica.{is_stale, passed, replica_by, replica_row, serve_if}
 use Rattle.lqh_views.specs.Report.{ending, go_on_by, is_orphaned_marker, is_orphaned_record, last_before, marker_by}
 use Rattle.lqh_views.specs.Report.{record_by, reporting, telling, told, told_marker, told_record, told_record_if}
 use Rattle.lqh_views.specs.State.{ReplicaState}
@@ -175,12 +175,6 @@ pub record OwnSends (s : ReplicaState) (x : Signal) (P : Outgoing → Type 0) : 
   pub reports_on : (r : Report) → IsReporting s x r → P (go_on_at (rows_of s.lqh.node) work.Report 0)
   pub ends : (r : Report) → IsReporting s x r → P (the_end r.to)
 
--- each form of what they send and mark: where they take a signal, what they send is addressed in the view
-pub record ReplicaForms (s : ReplicaState) (x : Signal) (P : Outgoing → Type 0) (M : Mark → Type 0) : Type 0 where
-  pub rows : is_of_rows s x ≡ true → RowsSend (λ send. P (addressed s.lqh.layout.view send)) s.lqh x.body
-  pub marks : is_of_rows s x ≡ true → RowsMark M s.lqh x.body
-  pub own : OwnSends s x P
-
 -- what is so of each signal as it is addressed is so of those that are addressed
 addressed_each : (P : Outgoing → Type 0) (view : View) (sends : List Outgoing)
     → Each (λ send. P (addressed view send)) sends → Each P (map (addressed view) sends)
@@ -217,16 +211,6 @@ module _ (s : ReplicaState) (x : Signal) (P : Outgoing → Type 0) (M : Mark →
       tells r under_way at one there true is = own.tells_committed r under_way at one there is
       tells r under_way at one there false is = own.tells_prepared r under_way at one there is
 
-  -- whatever the rows take
-  pub replica_each : ReplicaForms s x P M → Does P M (replica_row s x)
-  replica_each forms = own_each rows forms.own
-    where
-      rows : is_of_rows s x ≡ true → Does P M (passed s x)
-      rows is =
-          let own = lqh_each (λ send. P (addressed s.lqh.layout.view send)) M s.lqh x.body (forms.rows is)
-          (forms.marks is) in
-          (addressed_each P s.lqh.layout.view (lqh_row s.lqh x).effects.sends own.sends, own.marks)
-
 -- anything that may be sent, or marked
 abbrev pub AnySend : Outgoing → Type 0
 AnySend send = Unit {0}
@@ -260,11 +244,6 @@ replica_says_each s x Q sends own = (own_each s x (λ (send : Outgoing). Q send.
           (lqh_sends_each (λ (send : Outgoing). Q send.body) s.lqh x.body (sends is)),
       each_from AnyMark (passed s x).effects.marks (λ mark there. tt),
     )
-
--- where a view is installed they send nothing, and mark nothing
-pub replica_installed_each : (P : Outgoing → Type 0) (M : Mark → Type 0) (s : ReplicaState) (view : View)
-    → Does P M (stay (installed s view))
-replica_installed_each P M s view = (tt, tt)
 
 -- what is said where a request is performed
 request_words : (r : Request) → RequestSends (IsWord is_row_word) r

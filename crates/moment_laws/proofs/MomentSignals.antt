@@ -5,7 +5,7 @@ use Rattle.std.proofs.Common.{subst, ◌∙◌, inl, inr, arith}
 use Rattle.std.proofs.lemmas.Bool.{cases_lt}
 use Rattle.std.specs.Prelude.{not}
 use Rattle.run_theory.proofs.Links.{put_each, sent_by_each}
-use Rattle.run_theory.proofs.Pasts.{each_map, each_past}
+use Rattle.run_theory.proofs.Pasts.{each_filter, each_map, each_past}
 use Rattle.run_theory.specs.Links.{IsGiven, sent, sent_by}
 use Rattle.run_theory.specs.Lists.{Each}
 use Rattle.run_theory.specs.Machine.{Machine}
@@ -27,7 +27,6 @@ use Rattle.world_views.specs.Sending.{is_asked}
 use Rattle.view_laws.specs.Order.{is_sound, sound_machine}
 use Rattle.view_laws.specs.Runs.{view_after}
 use Rattle.view_laws.proofs.eras.Rises.{view_rises}
-use Rattle.view_laws.proofs.eras.SoundLogs.{each_filter}
 use Rattle.view_laws.proofs.follow.Senders.{each_sent}
 use Rattle.moment_laws.specs.Moments.{IsMoment, logs_of}
 use Rattle.moment_laws.proofs.MomentViews.{current_above, current_number, moment_within}

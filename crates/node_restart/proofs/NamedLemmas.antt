@@ -21,14 +21,16 @@ use Rattle.sys_restart.proofs.RedoneLemmas.{redone_reads}
 use Rattle.sys_restart.proofs.StandsLemmas.{left_as}
 use Rattle.node_disk.specs.RedoLaws.{IsKept}
 use Rattle.node_restart.specs.Rows.{NamesRows}
+use Rattle.node_restart.proofs.CheckpointLemmas.{file_later}
 
--- whatever a crash leaves has the rows, up to any epoch
-pub named_rows : (slot : ControlSlot) (start : Rows) (redo : List Redo) (calls : List Call) (image : Files)
-    → NamesFiles slot → NamesRows slot start redo calls → IsLeft calls image → (epoch : ℕ)
+-- whatever a crash leaves has the rows, up to any epoch from the least on
+pub named_rows : (slot : ControlSlot) (least : ℕ) (start : Rows) (redo : List Redo) (calls : List Call) (image : Files)
+    → NamesFiles slot → NamesRows slot least start redo calls → IsLeft calls image → (epoch : ℕ) → least ≤ epoch
     → rows_of_slot epoch image slot ≡ Ok (replayed epoch start redo)
-named_rows slot start redo calls image names named left epoch =
-    ap (λ bytes. with_redo epoch image slot (rows_of_file slot.ckpt_file slot.ckpt_size slot.saved bytes)) checkpoint
-    ∙ ap (with_redo epoch image slot) named.checkpoint
+named_rows slot least start redo calls image names named left epoch up =
+    ap (λ bytes. with_redo epoch image slot (rows_of_file slot.ckpt_file slot.ckpt_size epoch bytes)) checkpoint
+    ∙ ap (with_redo epoch image slot)
+    (file_later least epoch up slot.ckpt_file slot.ckpt_size (files_of calls slot.ckpt_file) start named.checkpoint)
     ∙ ap (redone epoch start image slot.parity slot.redo_start) count
     ∙ redone_reads epoch start image slot.parity slot.redo_start (length bytes) (replayed epoch start redo) (Ok tt)
     (bytes, (stored, refl, (redo, record { are = named.records; split = sym (append-nil bytes); made = refl })))
@@ -64,14 +66,14 @@ kept_same calls moment parity position byte same is = record {
 }
 
 -- a slot names the rows as long as its checkpoint is as it was and its redo is kept
-pub named_still : (slot : ControlSlot) (start : Rows) (redo : List Redo) (calls moment : List Call)
-    → NamesRows slot start redo calls → state_of moment slot.ckpt_file ≡ state_of calls slot.ckpt_file
+pub named_still : (slot : ControlSlot) (least : ℕ) (start : Rows) (redo : List Redo) (calls moment : List Call)
+    → NamesRows slot least start redo calls → state_of moment slot.ckpt_file ≡ state_of calls slot.ckpt_file
     → ((position byte : ℕ) → slot.redo_start ≤ position → position < slot.redo_end
     → IsKept calls slot.parity position byte → IsKept moment slot.parity position byte)
-    → NamesRows slot start redo moment
-named_still slot start redo calls moment named same keeps = record {
+    → NamesRows slot least start redo moment
+named_still slot least start redo calls moment named same keeps = record {
   clean = subst (λ (s : FileState). s ≡ settled s.bytes) (sym same) named.clean;
-  checkpoint = ap (λ (s : FileState). rows_of_file slot.ckpt_file slot.ckpt_size slot.saved s.bytes) same
+  checkpoint = ap (λ (s : FileState). rows_of_file slot.ckpt_file slot.ckpt_size least s.bytes) same
       ∙ named.checkpoint;
   records = named.records;
   ends = named.ends;

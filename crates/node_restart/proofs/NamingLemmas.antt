@@ -43,53 +43,53 @@ free_apart s calls has same =
     ∙ other_file generation bytes s.control has.in_use)
     (sym same)
 
-module _ (s : SlotsInUse) (start : Rows) (redo : List Redo) (before : List Call) (has : HasRows s start redo before)
-  where
-    names : NamesFiles s.control
-    names = in_use_names s.control.generation (files_of before CONTROL_FILE) s.control has.control.in_use
+module _ (s : SlotsInUse) (least : ℕ) (start : Rows) (redo : List Redo) (before : List Call)
+    (has : HasRows s least start redo before) where
+  names : NamesFiles s.control
+  names = in_use_names s.control.generation (files_of before CONTROL_FILE) s.control has.control.in_use
 
-    -- calls on no file but that one
-    apart_keeps : (asks after : List Call) (ok : Bool) → ((file : ℕ) → file ≢ free_file s → AreElsewhere file asks)
-        → Runs asks before (Some after) ok → HasRowsThroughout s start redo before after
-    apart_keeps asks after ok apart runs newer older split late = record {
-      control = control_still s before older kept
-          (same CONTROL_FILE (λ is. absurd (omega (arith, is, (next_file_is (Some s.control)).0)))) has.control;
-      named = named_still s.control start redo before older has.named
-          (same s.control.ckpt_file (free_apart s before has.control))
-          (λ position byte least below.
-          kept_same before older s.control.parity position byte
-          (same (file_of s.control.parity position)
-          (λ is.
-          absurd
-          (omega (
-            arith,
-            is,
-            (redo_file s.control.parity position names.parity).0,
-            (next_file_is (Some s.control)).1,
-          )))));
-    }
-      where
-        kept : IsRecord older
-        kept =
-            older_kept newer older (subst IsRecord split (goes_on asks before after ok has.control.kept runs).0)
+  -- calls on no file but that one
+  apart_keeps : (asks after : List Call) (ok : Bool) → ((file : ℕ) → file ≢ free_file s → AreElsewhere file asks)
+      → Runs asks before (Some after) ok → HasRowsThroughout s least start redo before after
+  apart_keeps asks after ok apart runs newer older split late = record {
+    control = control_still s before older kept
+        (same CONTROL_FILE (λ is. absurd (omega (arith, is, (next_file_is (Some s.control)).0)))) has.control;
+    named = named_still s.control least start redo before older has.named
+        (same s.control.ckpt_file (free_apart s before has.control))
+        (λ position byte low below.
+        kept_same before older s.control.parity position byte
+        (same (file_of s.control.parity position)
+        (λ is.
+        absurd
+        (omega (
+          arith,
+          is,
+          (redo_file s.control.parity position names.parity).0,
+          (next_file_is (Some s.control)).1,
+        )))));
+  }
+    where
+      kept : IsRecord older
+      kept =
+          older_kept newer older (subst IsRecord split (goes_on asks before after ok has.control.kept runs).0)
 
-        same : (file : ℕ) → file ≢ free_file s → state_of older file ≡ state_of before file
-        same file other =
-            moments (λ moment. state_of moment file ≡ state_of before file) asks before after newer older ok
-            (elsewhere_through file asks before (state_of before file) (apart file other) refl) runs split late
+      same : (file : ℕ) → file ≢ free_file s → state_of older file ≡ state_of before file
+      same file other =
+          moments (λ moment. state_of moment file ≡ state_of before file) asks before after newer older ok
+          (elsewhere_through file asks before (state_of before file) (apart file other) refl) runs split late
 
 pub walks_keep : WalksKeepRows
 walks_keep = record {
-  written = λ s piece start redo before after ok has runs.
-      apart_keeps s start redo before has (walk_calls s piece) after ok
+  written = λ s piece least start redo before after ok has runs.
+      apart_keeps s least start redo before has (walk_calls s piece) after ok
       (λ file other. (ne_eqb (free_file s) file (λ same. other (sym same)), tt)) runs;
-  settled = λ s start redo before after ok has runs.
-      apart_keeps s start redo before has (settle_calls s) after ok
+  settled = λ s least start redo before after ok has runs.
+      apart_keeps s least start redo before has (settle_calls s) after ok
       (λ file other. (ne_eqb (free_file s) file (λ same. other (sym same)), tt)) runs;
 }
 
 pub names_keep : NamesKeepRows
-names_keep s finished start own redo kept before after ok has may named runs = (leaves, behind)
+names_keep s finished least start own redo kept before after ok has may named runs = (leaves, behind)
   where
     next : ControlSlot
     next = named_control s finished
@@ -109,13 +109,13 @@ names_keep s finished start own redo kept before after ok has may named runs = (
     names_next = record { least = may.readable.least_file; most = may.readable.most_file; parity = may.readable.parity }
 
     -- while the slot is written all other files are as they were, and so is what either slot names
-    still : (slot : ControlSlot) (rows : Rows) (records : List Redo) → NamesFiles slot
-        → NamesRows slot rows records before → (newer older : List Call) → after ≡ newer ++ older
-        → length before ≤ length older → NamesRows slot rows records older
-    still slot rows records files is newer older split late =
-        named_still slot rows records before older is
+    still : (slot : ControlSlot) (from : ℕ) (rows : Rows) (records : List Redo) → NamesFiles slot
+        → NamesRows slot from rows records before → (newer older : List Call) → after ≡ newer ++ older
+        → length before ≤ length older → NamesRows slot from rows records older
+    still slot from rows records files is newer older split late =
+        named_still slot from rows records before older is
         (same slot.ckpt_file (λ at. absurd (omega (arith, at, files.least))))
-        (λ position byte least below.
+        (λ position byte low below.
         kept_same before older slot.parity position byte
         (same (file_of slot.parity position)
         (λ at. absurd (omega (arith, at, (redo_file slot.parity position files.parity).0)))))
@@ -129,23 +129,27 @@ names_keep s finished start own redo kept before after ok has may named runs = (
             runs split late
 
     leaves : LeavesOnly after (length before)
-        (λ image. RestoresRows image s.control start redo ⊎ RestoresRows image next own kept)
+        (λ image. RestoresRows least image s.control start redo
+        ⊎ RestoresRows finished.epoch image next own kept)
     leaves newer older split late image left =
-        let names_old = names s start redo before has in
+        let names_old = names s least start redo before has in
         elim (stays.0 newer older split late image left) [
           | inl one ↦ inl (
             one,
-            named_rows s.control start redo older image names_old
-                (still s.control start redo names_old has.named newer older split late) left,
+            named_rows s.control least start redo older image names_old
+                (still s.control least start redo names_old has.named newer older split late) left,
           )
           | inr other ↦ inr (
             other,
-            named_rows next own kept older image names_next
-                (still next own kept names_next named newer older split late)
+            named_rows next finished.epoch own kept older image names_next
+                (still next finished.epoch own kept names_next named newer older split late)
                 left,
           )
         ]
 
-    behind : ok ≡ true → HasRows (walk_named s finished) own kept after
+    behind : ok ≡ true → HasRows (walk_named s finished) finished.epoch own kept after
     behind so =
-        record { control = stays.1 so; named = still next own kept names_next named [] after refl going.1 }
+        record {
+          control = stays.1 so;
+          named = still next finished.epoch own kept names_next named [] after refl going.1;
+        }

@@ -9,11 +9,11 @@ use Rattle.node_restart.specs.Laws.{RowsAreRestored}
 use Rattle.node_restart.proofs.NamedLemmas.{named_rows}
 
 pub restored : RowsAreRestored
-restored s start redo calls image has left =
+restored s least start redo calls image has left =
     let control = files_of calls CONTROL_FILE in
     let names = in_use_names s.control.generation control s.control has.control.in_use in (
       ap (control_of_file s.control.generation)
           (left_as calls image CONTROL_FILE control left (omega arith) has.control.clean)
           ∙ has.control.in_use,
-      named_rows s.control start redo calls image names has.named left,
+      named_rows s.control least start redo calls image names has.named left,
     )

@@ -3,7 +3,7 @@ use Rattle.std.proofs.Common.{◌≡◌, ◌∙◌, ◌⊎◌, ◌≤◌, ◌<�
 use Rattle.std.proofs.Common.{[], ◌∷◌, ◌++◌, length, drop, refl, ap, sym, subst, inl, inr, append_assoc}
 use Rattle.std.proofs.Common.{append-nil, if◌then◌else◌, arith}
 use Rattle.std.specs.Prelude.{Some, slice_index}
-use Rattle.std.proofs.lemmas.Bool.{cases_lt, leb-false, leb-true, ne_eqb, true≢false}
+use Rattle.std.proofs.lemmas.Bool.{cases_lt, leb-true, ne_eqb, true≢false}
 use Rattle.std.proofs.lemmas.List.{get_or-append_right, get_or_append_left, length-append}
 use Rattle.host_io.specs.Call.{Call}
 use Rattle.host_io.specs.DiskState.{settled, state_of}
@@ -41,7 +41,6 @@ use Rattle.node_disk.proofs.RedoLemmas.{not_control, redo_elsewhere}
 use Rattle.node_disk.proofs.SyncedLemmas.{synced_first}
 use Rattle.node_restart.specs.Laws.{SavesKeepRows}
 use Rattle.node_restart.specs.Rows.{HasRows, NamesRows, RestoresRows}
-use Rattle.node_restart.proofs.CheckpointLemmas.{file_later}
 use Rattle.node_restart.proofs.MomentLemmas.{through_redo}
 use Rattle.node_restart.proofs.NamedLemmas.{kept_same, named_rows, named_still}
 use Rattle.node_restart.proofs.RestoredLaw.{restored}
@@ -62,8 +61,9 @@ both_records [] redo one other = other
 both_records (newest ∷ newer) redo one other = (one.0, both_records newer redo one.1 other)
 
 -- A save that writes redo, and a control slot behind it.
-module _ (s : SlotsInUse) (epoch : ℕ) (start : Rows) (newer redo : List Redo) (before : List Call)
-    (has : HasRows s start redo before) (are : AreRecords newer) (may : MaySaveRows s epoch (log_bytes newer)) where
+module _ (s : SlotsInUse) (epoch least : ℕ) (start : Rows) (newer redo : List Redo) (before : List Call)
+    (has : HasRows s least start redo before) (are : AreRecords newer)
+    (may : MaySaveRows s epoch (log_bytes newer)) where
   abbrev bytes : List ℕ
   bytes = log_bytes newer
 
@@ -116,23 +116,23 @@ module _ (s : SlotsInUse) (epoch : ℕ) (start : Rows) (newer redo : List Redo) 
 
   -- while redo is written the slot names the rows of before, and is in use
   early_names : (older : List Call) → ((Holds : List Call → Type 0) → HoldsThrough Holds redo_asks before → Holds older)
-      → NamesRows s.control start redo older
+      → NamesRows s.control least start redo older
   early_names older holds =
-      named_still s.control start redo before older has.named
+      named_still s.control least start redo before older has.named
       (holds (λ moment. state_of moment ckpt ≡ state_of before ckpt)
       (elsewhere_through ckpt redo_asks before (state_of before ckpt) ckpt_apart refl))
-      (λ position byte least below is.
+      (λ position byte low below is.
       holds (λ moment. IsKept moment s.control.parity position byte)
-      (through_redo s.control.parity position byte s.control.redo_end bytes before below (omega (arith, room, least))
+      (through_redo s.control.parity position byte s.control.redo_end bytes before below (omega (arith, room, low))
       is))
 
   early : (older : List Call) (image : Files)
       → ((Holds : List Call → Type 0) → HoldsThrough Holds redo_asks before → Holds older) → IsLeft older image
-      → RestoresRows image s.control start redo
+      → RestoresRows least image s.control start redo
   early older image holds left = (
     ap (control_of_file s.control.generation) (left_as older image CONTROL_FILE control left (omega arith) clean)
         ∙ has.control.in_use,
-    named_rows s.control start redo older image names (early_names older holds) left,
+    named_rows s.control least start redo older image names (early_names older holds) left,
   )
     where
       clean : state_of older CONTROL_FILE ≡ settled control
@@ -164,15 +164,15 @@ module _ (s : SlotsInUse) (epoch : ℕ) (start : Rows) (newer redo : List Redo) 
     few : length bytes ≤ JOURNAL_BYTES
     few = omega (arith, room, has.named.ends)
 
-    late_names : NamesRows s.control start redo older
+    late_names : NamesRows s.control least start redo older
     late_names =
-        named_still s.control start redo before older has.named
+        named_still s.control least start redo before older has.named
         (late_same ckpt (ne_eqb CONTROL_FILE ckpt (λ same. absurd (omega (arith, same, names.least))))
         ∙ elsewhere_done ckpt redo_asks before ckpt_apart)
-        (λ position byte least below is.
+        (λ position byte low below is.
         late_kept position byte
         ((synced_first s.control.parity s.control.redo_end bytes before mid few first).1 position byte below
-        (omega (arith, room, least)) is))
+        (omega (arith, room, low)) is))
 
     size : length (log_bytes (newer ++ redo)) ≡ length (log_bytes redo) + length bytes
     size = ap length (bytes_both newer redo) ∙ length-append (log_bytes redo) bytes
@@ -200,12 +200,10 @@ module _ (s : SlotsInUse) (epoch : ℕ) (start : Rows) (newer redo : List Redo) 
               (behind - length (log_bytes redo)) (omega (arith, size, below, behind_it)))))
         ])
 
-    next_names : s.control.saved ≤ epoch → NamesRows next start (newer ++ redo) older
-    next_names up = record {
+    next_names : NamesRows next least start (newer ++ redo) older
+    next_names = record {
       clean = late_names.clean;
-      checkpoint =
-          file_later s.control.saved epoch up ckpt s.control.ckpt_size (files_of older ckpt) start
-          late_names.checkpoint;
+      checkpoint = late_names.checkpoint;
       records = both_records newer redo are has.named.records;
       ends = omega (arith, has.named.ends, size);
       kept = both_kept;
@@ -213,10 +211,10 @@ module _ (s : SlotsInUse) (epoch : ℕ) (start : Rows) (newer redo : List Redo) 
 
   abbrev Restores : Files → Type 0
   Restores image =
-      RestoresRows image s.control start redo
-      ⊎ RestoresRows image next start (newer ++ redo)
+      RestoresRows least image s.control start redo
+      ⊎ RestoresRows least image next start (newer ++ redo)
 
-  module _ (after : List Call) (ok : Bool) (up : s.control.saved ≤ epoch)
+  module _ (after : List Call) (ok : Bool)
       (runs : Runs (redo_asks ++ slot_asks) before (Some after) ok) where
     saves : LeavesOnly after (length before)
         (λ image. IsEither (control_of_file s.control.generation (image CONTROL_FILE)) s.control next)
@@ -245,17 +243,17 @@ module _ (s : SlotsInUse) (epoch : ℕ) (start : Rows) (newer redo : List Redo) 
             elim (finds newer_calls older split long image left) [
               | inl one ↦ inl (
                 one,
-                named_rows s.control start redo older image names
+                named_rows s.control least start redo older image names
                     (late_names after newer_calls older ok first second split late) left,
               )
               | inr other ↦ inr (
                 other,
-                named_rows next start (newer ++ redo) older image names_next
-                    (next_names after newer_calls older ok first second split late up) left,
+                named_rows next least start (newer ++ redo) older image names_next
+                    (next_names after newer_calls older ok first second split late) left,
               )
             ]
 
-    saved : ok ≡ true → NamesRows next start (newer ++ redo) after
+    saved : ok ≡ true → NamesRows next least start (newer ++ redo) after
     saved so =
         elim (runs_split redo_asks slot_asks before (Some after) ok runs) [
           | inl stopped ↦ absurd (true≢false (sym so ∙ stopped.1))
@@ -263,12 +261,12 @@ module _ (s : SlotsInUse) (epoch : ℕ) (start : Rows) (newer redo : List Redo) 
               next_names after [] after ok both.0 both.1 refl
               (subst (λ (calls : List Call). length mid ≤ length calls)
               (sym (all_done slot_asks mid after (subst (λ (b : Bool). Runs slot_asks mid (Some after) b) so both.1)))
-              (longer slot_asks mid)) up
+              (longer slot_asks mid))
         ]
 
 pub rows_kept : SavesKeepRows
-rows_kept s epoch start newer redo before after ok has are may runs =
-    by (nat_le epoch s.control.saved) refl runs stays.1
+rows_kept s epoch least start newer redo before after ok has are may runs =
+    by (nat_le epoch s.control.saved) runs stays.1
   where
     next : ControlSlot
     next = next_control s epoch (log_bytes newer)
@@ -281,26 +279,25 @@ rows_kept s epoch start newer redo before after ok has are may runs =
     then_used : SlotsInUse
     then_used = record s { control = next_control s epoch (log_bytes newer); control_at = 1 - s.control_at }
 
-    by : (none : Bool) → nat_le epoch s.control.saved ≡ none
+    by : (none : Bool)
         → Runs (if none then [] else slot_behind (files_of before CONTROL_FILE) s.control.redo_end (log_bytes newer)
         (1 - s.control_at) next) before (Some after) ok
         → (ok ≡ true → HasControl (if none then s else then_used) after)
         → LeavesOnly after (length before)
-        (λ image. RestoresRows image s.control start redo ⊎ RestoresRows image next start (newer ++ redo))
-        × (ok ≡ true → HasRows (if none then s else then_used) start (if none then redo else newer ++ redo) after)
-    by true e made used = (
+        (λ image. RestoresRows least image s.control start redo ⊎ RestoresRows least image next start (newer ++ redo))
+        × (ok ≡ true → HasRows (if none then s else then_used) least start (if none then redo else newer ++ redo) after)
+    by true made used = (
       λ newer_calls older split long image left.
           inl (moments (λ moment. (left_image : Files) → IsLeft moment left_image
-          → RestoresRows left_image s.control start redo) [] before after newer_calls older ok
-          (λ left_image left_so. restored s start redo before left_image has left_so) made split long image left),
-      λ so. subst (HasRows s start redo) (sym (same_record after before made.0)) has,
+          → RestoresRows least left_image s.control start redo) [] before after newer_calls older ok
+          (λ left_image left_so. restored s least start redo before left_image has left_so) made split long image left),
+      λ so. subst (HasRows s least start redo) (sym (same_record after before made.0)) has,
     )
-    by false e made used =
-        let up : s.control.saved ≤ epoch = omega (arith, leb-false epoch s.control.saved e) in (
-          saves s epoch start newer redo before has are may after ok up made stays.0,
-          λ so.
-              record {
-                control = used so;
-                named = saved s epoch start newer redo before has are may after ok up made so;
-              },
-        )
+    by false made used = (
+      saves s epoch least start newer redo before has are may after ok made stays.0,
+      λ so.
+          record {
+            control = used so;
+            named = saved s epoch least start newer redo before has are may after ok made so;
+          },
+    )

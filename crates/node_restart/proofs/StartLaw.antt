@@ -38,7 +38,7 @@ ready_rows shape node r calls s kept ready is = record {
   named = record {
     clean = ready.0.0 s.control.ckpt_file (omega (arith, names.most));
     checkpoint = checkpoint_has r.epoch (files_of calls) s.control (rows_of_node shape node r)
-        (rows_of_file s.control.ckpt_file s.control.ckpt_size s.control.saved (files_of calls s.control.ckpt_file))
+        (rows_of_file s.control.ckpt_file s.control.ckpt_size r.epoch (files_of calls s.control.ckpt_file))
         (omega (arith, has.end)) has.has_rows;
     records = tt;
     ends = omega (arith, has.start, has.end);

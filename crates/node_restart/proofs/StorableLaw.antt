@@ -35,15 +35,15 @@ use Rattle.node_restart.proofs.StorableRedo.{redone_has}
 slot_has : (epoch : ℕ) (files : Files) (slot : ControlSlot) (all : Rows) → ((file : ℕ) → AreBytes (files file))
     → rows_of_slot epoch files slot ≡ Ok all → HaveWords all
 slot_has epoch files slot all are is =
-    by (rows_of_file slot.ckpt_file slot.ckpt_size slot.saved (files slot.ckpt_file)) refl is
+    by (rows_of_file slot.ckpt_file slot.ckpt_size epoch (files slot.ckpt_file)) refl is
   where
     by : (rows : Result Rows ReadFault)
-        → rows_of_file slot.ckpt_file slot.ckpt_size slot.saved (files slot.ckpt_file) ≡ rows
+        → rows_of_file slot.ckpt_file slot.ckpt_size epoch (files slot.ckpt_file) ≡ rows
         → with_redo epoch files slot rows ≡ Ok all → HaveWords all
     by (Err fault) rows-is is = absurd (no_answer fault all _ refl is)
     by (Ok rows) rows-is is =
         redone_has epoch rows files slot.parity slot.redo_start (slot.redo_end - slot.redo_start) all are
-        (checkpoint_has slot.ckpt_file slot.ckpt_size slot.saved (files slot.ckpt_file) rows rows-is) is
+        (checkpoint_has slot.ckpt_file slot.ckpt_size epoch (files slot.ckpt_file) rows rows-is) is
 
 module _ (disks : Disks) (are : (node file : ℕ) → AreBytes (disks node file)) where
   -- the rows of a group have words

@@ -64,12 +64,13 @@ control_still s calls moment kept same has = record {
 }
 
 -- the rows are named whatever the system slot is
-with_system : (s : SlotsInUse) (epoch mask : ℕ) (saved : Bool) (start : Rows) (redo : List Redo) (calls : List Call)
-    → HasRows s start redo calls
+with_system : (s : SlotsInUse) (epoch mask : ℕ) (saved : Bool) (least : ℕ) (start : Rows) (redo : List Redo)
+    (calls : List Call)
+    → HasRows s least start redo calls
     → HasRows (if saved then s else record s { system = noted_system s.system epoch mask; system_at = 1 - s.system_at })
-    start redo calls
-with_system s epoch mask true start redo calls has = has
-with_system s epoch mask false start redo calls has = record {
+    least start redo calls
+with_system s epoch mask true least start redo calls has = has
+with_system s epoch mask false least start redo calls has = record {
   control = record {
     kept = has.control.kept;
     clean = has.control.clean;
@@ -83,9 +84,9 @@ with_system s epoch mask false start redo calls has = record {
 }
 
 pub system_keeps : SystemSavesKeepRows
-system_keeps s epoch mask start redo before after ok has runs = (
+system_keeps s epoch mask least start redo before after ok has runs = (
   at_each,
-  with_system s epoch mask (nat_le epoch s.system.epoch) start redo after (at_each [] after refl going.1),
+  with_system s epoch mask (nat_le epoch s.system.epoch) least start redo after (at_each [] after refl going.1),
 )
   where
     asks : List Call
@@ -98,12 +99,12 @@ system_keeps s epoch mask start redo before after ok has runs = (
     names = in_use_names s.control.generation (files_of before CONTROL_FILE) s.control has.control.in_use
 
     at_each : (newer older : List Call) → after ≡ newer ++ older → length before ≤ length older
-        → HasRows s start redo older
+        → HasRows s least start redo older
     at_each newer older split late = record {
       control = control_still s before older kept (same CONTROL_FILE (λ is. absurd (omega (arith, is)))) has.control;
-      named = named_still s.control start redo before older has.named
+      named = named_still s.control least start redo before older has.named
           (same s.control.ckpt_file (λ is. absurd (omega (arith, is, names.least))))
-          (λ position byte least below.
+          (λ position byte low below.
           kept_same before older s.control.parity position byte
           (same (file_of s.control.parity position)
           (λ is. absurd (omega (arith, is, (redo_file s.control.parity position names.parity).0)))));

@@ -23,37 +23,38 @@ use Rattle.node_restart.specs.Rows.{AreLater, HasRows, RestoresRows, records_sav
 -- whatever a crash leaves of a disk that has rows, they are restored
 abbrev pub RowsAreRestored : Type 0
 RowsAreRestored =
-    (s : SlotsInUse) (start : Rows) (redo : List Redo) (calls : List Call) (image : Files) → HasRows s start redo calls
-    → IsLeft calls image → RestoresRows image s.control start redo
+    (s : SlotsInUse) (least : ℕ) (start : Rows) (redo : List Redo) (calls : List Call) (image : Files)
+    → HasRows s least start redo calls → IsLeft calls image → RestoresRows least image s.control start redo
 
 -- Whatever a crash leaves at any moment of a save of rows, those of before are restored, or those with the newer
 -- records. Behind it the disk has the latter.
 abbrev pub SavesKeepRows : Type 0
 SavesKeepRows =
-    (s : SlotsInUse) (epoch : ℕ) (start : Rows) (newer redo : List Redo) (before after : List Call) (ok : Bool)
+    (s : SlotsInUse) (epoch least : ℕ) (start : Rows) (newer redo : List Redo) (before after : List Call) (ok : Bool)
     → let bytes = log_bytes newer in
-    HasRows s start redo before → AreRecords newer → MaySaveRows s epoch bytes
+    HasRows s least start redo before → AreRecords newer → MaySaveRows s epoch bytes
     → Runs (rows_calls (files_of before CONTROL_FILE) s epoch bytes) before (Some after) ok
     → LeavesOnly after (length before)
-    (λ image. RestoresRows image s.control start redo
-    ⊎ RestoresRows image (next_control s epoch bytes) start (newer ++ redo))
-    × (ok ≡ true → HasRows (rows_saved s epoch bytes) start (records_saved s epoch newer redo) after)
+    (λ image. RestoresRows least image s.control start redo
+    ⊎ RestoresRows least image (next_control s epoch bytes) start (newer ++ redo))
+    × (ok ≡ true → HasRows (rows_saved s epoch bytes) least start (records_saved s epoch newer redo) after)
 
 -- at each moment of a save of the system slot, and behind it, the disk has the rows of before
 abbrev pub SystemSavesKeepRows : Type 0
 SystemSavesKeepRows =
-    (s : SlotsInUse) (epoch mask : ℕ) (start : Rows) (redo : List Redo) (before after : List Call) (ok : Bool)
-    → HasRows s start redo before
+    (s : SlotsInUse) (epoch mask least : ℕ) (start : Rows) (redo : List Redo) (before after : List Call) (ok : Bool)
+    → HasRows s least start redo before
     → Runs (system_calls (files_of before SYSTEM_FILE) s epoch mask) before (Some after) ok
-    → ((newer older : List Call) → after ≡ newer ++ older → length before ≤ length older → HasRows s start redo older)
-    × HasRows (system_saved s epoch mask) start redo after
+    → ((newer older : List Call) → after ≡ newer ++ older → length before ≤ length older
+    → HasRows s least start redo older)
+    × HasRows (system_saved s epoch mask) least start redo after
 
 -- a disk that is made ready for a life has the node's rows of what was restored
 abbrev pub ReadyDisksHaveRows : Type 0
 ReadyDisksHaveRows =
     (shape : Shape) (node : ℕ) (r : Restored) (calls : List Call) (s : SlotsInUse) → IsRecord calls
     → IsReady shape node r calls → slots_in (r.generation + 1) (files_of calls) ≡ Ok (Some s)
-    → HasRows s (rows_of_node shape node r) [] calls
+    → HasRows s r.epoch (rows_of_node shape node r) [] calls
 
 -- records that commit nothing up to an epoch change nothing up to it
 abbrev pub ReplaysStopAtEpochs : Type 0

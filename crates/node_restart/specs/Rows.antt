@@ -1,5 +1,5 @@
 -- The rows of a node that its disk has.
-use Rattle.std.specs.Prelude.{◌≡◌, ◌<◌, ℕ, ◌+◌, List, [], ◌∷◌, ◌++◌, length, nat_le, slice_index, Some, Ok}
+use Rattle.std.specs.Prelude.{◌≡◌, ◌≤◌, ◌<◌, ℕ, ◌+◌, List, [], ◌∷◌, ◌++◌, length, nat_le, slice_index, Some, Ok}
 use Rattle.std.specs.Prelude.{if◌then◌else◌}
 use Rattle.host_io.specs.Call.{Call}
 use Rattle.redo_log.specs.Replaying.{AreRecords, log_bytes, replayed}
@@ -18,11 +18,12 @@ use Rattle.node_disk.specs.RedoLaws.{IsKept}
 use Rattle.node_disk.specs.Slots.{SlotsInUse}
 
 -- A control slot names the rows that these records make, the newest first, of those with which a life began: its
--- checkpoint has those, and the redo between its positions is the bytes of the records. No crash changes either.
-pub record NamesRows (slot : ControlSlot) (start : Rows) (redo : List Redo) (calls : List Call) : Type 0 where
+-- checkpoint has those, none of a later epoch than the least, and the redo between its positions is the bytes of the
+-- records. No crash changes either.
+pub record NamesRows (slot : ControlSlot) (least : ℕ) (start : Rows) (redo : List Redo) (calls : List Call)
+    : Type 0 where
   pub clean : IsSettledAt calls slot.ckpt_file
-  pub checkpoint :
-      rows_of_file slot.ckpt_file slot.ckpt_size slot.saved (files_of calls slot.ckpt_file) ≡ Ok start
+  pub checkpoint : rows_of_file slot.ckpt_file slot.ckpt_size least (files_of calls slot.ckpt_file) ≡ Ok start
   pub records : AreRecords redo
   pub ends : slot.redo_end ≡ slot.redo_start + length (log_bytes redo)
   pub kept :
@@ -30,16 +31,16 @@ pub record NamesRows (slot : ControlSlot) (start : Rows) (redo : List Redo) (cal
       → IsKept calls slot.parity (slot.redo_start + behind) (slice_index (log_bytes redo) behind)
 
 -- the control slot in use stands at its place, and names them
-pub record HasRows (s : SlotsInUse) (start : Rows) (redo : List Redo) (calls : List Call) : Type 0 where
+pub record HasRows (s : SlotsInUse) (least : ℕ) (start : Rows) (redo : List Redo) (calls : List Call) : Type 0 where
   pub control : HasControl s calls
-  pub named : NamesRows s.control start redo calls
+  pub named : NamesRows s.control least start redo calls
 
--- In these files a control slot is in use for its generation, and up to any epoch its rows are those that these records
--- make of the rows with which the life began.
-abbrev pub RestoresRows : Files → ControlSlot → Rows → List Redo → Type 0
-RestoresRows files slot start redo =
+-- In these files a control slot is in use for its generation, and up to any epoch from this one on its rows are those
+-- that these records make of the rows with which the life began.
+abbrev pub RestoresRows : ℕ → Files → ControlSlot → Rows → List Redo → Type 0
+RestoresRows least files slot start redo =
     (control_of_file slot.generation (files CONTROL_FILE) ≡ Ok (Some slot))
-    × ((epoch : ℕ) → rows_of_slot epoch files slot ≡ Ok (replayed epoch start redo))
+    × ((epoch : ℕ) → least ≤ epoch → rows_of_slot epoch files slot ≡ Ok (replayed epoch start redo))
 
 -- the records that are saved by a save up to an epoch: none more where the epoch is saved
 abbrev pub records_saved : SlotsInUse → ℕ → List Redo → List Redo → List Redo

@@ -4,7 +4,7 @@ ghost use Rattle.node_restart.specs.Laws.{RowsAreRestored, SavesKeepRows, System
 ghost use Rattle.node_restart.specs.Naming.{NamesKeepRows, WalksKeepRows};
 
 /// Whatever a crash leaves of a disk that has a node's rows, the control slot in use restores them, up to
-/// any epoch.
+/// any epoch from the least on, of which no row of its checkpoint is later.
 pub fn rows_are_restored()
     ensures { RowsAreRestored }
 {}

@@ -1,6 +1,6 @@
 -- Along every run: of who is given up and hasn't let go of a key at a place of its chain an abort is on its way there,
 -- or still to be sent, or its own request waits there or has come further.
-use Rattle.std.proofs.Common.{◌≡◌, ◌⊎◌, ◌≤◌, ◌<◌, ℕ, zero, suc, Bool, true, false, List, [], ◌∷◌, drop, length, refl}
+use Rattle.std.proofs.Common.{◌≡◌, ◌⊎◌, ◌≤◌, ◌<◌, ℕ, zero, suc, Bool, true, false, List, ◌∷◌, drop, length, refl}
 use Rattle.std.proofs.Common.{sym}
 use Rattle.std.proofs.Common.{ap, ◌∙◌, subst, arith, inl, inr}
 use Rattle.std.proofs.lemmas.Bool.{and_parts, eqb-true, false≢true, true≢false}
@@ -76,7 +76,8 @@ use Rattle.order_laws.proofs.AbortingTurns.{Aborts, is_abort_to, place_there, tu
 use Rattle.order_laws.proofs.Awaited as awaited
 use Rattle.order_laws.proofs.Awaited.{all_is_awaited}
 use Rattle.order_laws.proofs.Further.{further_part, is_from, is_further}
-use Rattle.order_laws.proofs.GivenUp.{aborting_given, beside_unbacked, given_aborting, given_same, others_unbacked}
+use Rattle.order_laws.proofs.GivenUp.{aborting_given, beside_unbacked, given_aborting, given_quiet, given_same}
+use Rattle.order_laws.proofs.GivenUp.{others_unbacked}
 use Rattle.order_laws.proofs.Leads.{any_sent}
 use Rattle.order_laws.proofs.Standing.{standers_known, who_is_away_is_out}
 use Rattle.order_laws.proofs.Still.{IsZero, coordinator_low, home_for, home_low, none_weigh, replica_low}
@@ -226,11 +227,6 @@ module _ (start : Start) (tx : TxId) (key : List ℕ) (at : ℕ) (inside : at < 
         live_of : {a b : TcState} → a ≡ b → of_live tx a.live ≡ of_live tx b.live
         live_of alike = ap (λ (c : TcState). of_live tx c.live) alike
 
-        -- the step says nothing of it
-        quiet_same : tc_sends g e.step.taken ≡ []
-            → is_given_up start (logs_of start (e ∷ es)) tx ≡ is_given_up start (logs_of start es) tx
-        quiet_same nil = given_same start es e come tx (subst (AreUnbacked tx) (sym nil) tt)
-
         takes_turn : IsTcStep g e.step.taken next → Holds (e ∷ es) later
         takes_turn step =
             which
@@ -294,14 +290,16 @@ module _ (start : Start) (tx : TxId) (key : List ℕ) (at : ℕ) (inside : at < 
             (λ is. absurd (false≢true (sym (ap is_lqh step.at) ∙ is)))
             (λ is its. absurd (false≢true (sym (ap is_tc step.at) ∙ is))) (live_of step.tc) step.rows
             (event_off key g e.step.taken (ap is_rows step.at))
-            (quiet_same (tc_silent g e.step.taken (λ at. let both : block.Api ≡ block.Tc = sym step.at ∙ at in cc)))
+            (given_quiet start es e come tx
+            (tc_silent g e.step.taken (λ at. let both : block.Api ≡ block.Tc = sym step.at ∙ at in cc)))
         by (tc_takes step) = takes_turn step
         by (dih_takes step) =
             aside_goes start tx key at inside es e come before between transit takes was
             (λ is. absurd (false≢true (sym (ap is_lqh step.at) ∙ is)))
             (λ is its. absurd (false≢true (sym (ap is_tc step.at) ∙ is))) (live_of step.tc) step.rows
             (event_off key g e.step.taken (ap is_rows step.at))
-            (quiet_same (tc_silent g e.step.taken (λ at. let both : block.Dih ≡ block.Tc = sym step.at ∙ at in cc)))
+            (given_quiet start es e come tx
+            (tc_silent g e.step.taken (λ at. let both : block.Dih ≡ block.Tc = sym step.at ∙ at in cc)))
         by (rows_take step) = rows_goes start tx key at inside es e come before between transit takes was step
         by (none_takes step) =
             aside_goes start tx key at inside es e come before between transit takes was
@@ -309,7 +307,7 @@ module _ (start : Start) (tx : TxId) (key : List ℕ) (at : ℕ) (inside : at < 
             (λ is its. none_of tx g e.step.taken.to.block is step.runs)
             (live_of (ap (λ (v : Step host.Host). tc_of v.state) step.is))
             (ap (λ (v : Step host.Host). lqh_of v.state) step.is) (event_missed key g e.step.taken step.runs)
-            (quiet_same (idle_silent g e.step.taken step.runs))
+            (given_quiet start es e come tx (idle_silent g e.step.taken step.runs))
 
   pub ending_along : (es : List HostStep) (xs : List Addressed) → IsRun start es → AreInTransit start es xs
       → Holds es xs

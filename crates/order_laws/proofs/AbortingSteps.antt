@@ -235,10 +235,6 @@ module _ (start : Start) (tx : TxId) (key : List ℕ) (at : ℕ) (inside : at < 
     abbrev Now : Option Transaction → Type 0
     Now o = IsEnding (logs_of start (e ∷ es)) later o
 
-    same_live : of_host tx next.state ≡ of_host tx g
-        → live_at start (logs_of start (e ∷ es)) tx ≡ live_at start (logs_of start es) tx
-    same_live = live_leaves start es e come tx
-
     pub waits_as : lqh_of next.state ≡ lqh_of g → waiting_from next.state ≡ waiting_from g
     waits_as rows = ap (λ (l : LqhState). tally (is_from tx key at) l.waiting) rows
 
@@ -439,7 +435,7 @@ module _ (start : Start) (tx : TxId) (key : List ℕ) (at : ℕ) (inside : at < 
           → is_given_up start (logs_of start (e ∷ es)) tx ≡ is_given_up start (logs_of start es) tx
           → Holds (e ∷ es) later
       aside_goes alike rows none same given stands =
-          subst Now (sym (same_live alike))
+          subst Now (sym (live_leaves start es e come tx alike))
           (passes (live_at start (logs_of start es) tx) rows (none_leads (live_at start (logs_of start es) tx) refl)
           none_further (was (sym same ∙ given) (stood none stands)))
 
@@ -568,7 +564,7 @@ module _ (start : Start) (tx : TxId) (key : List ℕ) (at : ℕ) (inside : at < 
 
       pub rows_goes : Holds (e ∷ es) later
       rows_goes given stands =
-          subst Now (sym (same_live (ap (λ (c : TcState). of_live tx c.live) step.tc)))
+          subst Now (sym (live_leaves start es e come tx (ap (λ (c : TcState). of_live tx c.live) step.tc)))
           (event_cases (machine start) e es hp (λ log. is_away start key tx hp log ≡ false → Now o)
           (λ here now. which here (came_back tx key start hp (logs_of start es hp) e now))
           (λ off now. stood_before now) stands)

@@ -268,10 +268,6 @@ module _ (tx : TxId) where
     none_sent : AreOff tx sends → (count : ℕ) → weighs tx count sends ≤ due tx count e.step.taken.body
     none_sent off count = omega (arith, off_weighs tx count sends off)
 
-    same_live : of_host tx (row g e.step.taken).state ≡ of_host tx g
-        → live_at start (logs_of start (e ∷ es)) tx ≡ live_at start (logs_of start es) tx
-    same_live = live_leaves start es e come tx
-
     awaited_next : Before (live_at start (logs_of start es) tx) → Later (live_at start (logs_of start (e ∷ es)) tx)
     awaited_next was = by (fares tx g e.step.taken facts)
       where
@@ -282,7 +278,7 @@ module _ (tx : TxId) where
             → ((count : ℕ) → weighs tx count sends ≤ due tx count e.step.taken.body)
             → Later (live_at start (logs_of start (e ∷ es)) tx)
         stays_so same less =
-            subst Later (sym (same_live same))
+            subst Later (sym (live_leaves start es e come tx same))
             (light (first_layout start.shape) less (live_at start (logs_of start es) tx) was)
 
         by : Fares tx g e.step.taken (row g e.step.taken) → Later (live_at start (logs_of start (e ∷ es)) tx)

@@ -258,10 +258,6 @@ module _ (start : Start) (tx : TxId) (key : List ℕ) (inside : 0 + 1 < length (
     facts : IsHome tx (tc_of g)
     facts = all_home start tx e.host (logs_of start es e.host)
 
-    same_live : of_host tx (row g e.step.taken).state ≡ of_host tx g
-        → live_at start (logs_of start (e ∷ es)) tx ≡ live_at start (logs_of start es) tx
-    same_live = live_leaves start es e come tx
-
     -- what goes on with the claim where the transaction stays as it is
     stays_so : live_at start (logs_of start (e ∷ es)) tx ≡ live_at start (logs_of start es) tx
         → is_carried_out start (logs_of start (e ∷ es)) tx ≡ is_carried_out start (logs_of start es) tx
@@ -478,10 +474,11 @@ module _ (start : Start) (tx : TxId) (key : List ℕ) (inside : 0 + 1 < length (
         by : TxStep tx g e.step.taken (row g e.step.taken)
             → Claim (logs_of start (e ∷ es)) later (live_at start (logs_of start (e ∷ es)) tx)
         by (aside same silent missed) =
-            stays_so (same_live same) (carried_too silent)
+            stays_so (live_leaves start es e come tx same) (carried_too silent)
             (λ o is. inl (omega (arith, aside_none missed o is))) (was had)
         by (rows step) =
-            stays_so (same_live (ap (λ (c : TcState). of_live tx c.live) step.tc)) (rows_carry step)
+            stays_so (live_leaves start es e come tx (ap (λ (c : TcState). of_live tx c.live) step.tc))
+            (rows_carry step)
             (λ o is. which o (rows_pass tx key (lqh_of g) (list_at o) e.step.taken.to e.step.taken.body step.at))
             (was had)
           where
@@ -511,7 +508,7 @@ module _ (start : Start) (tx : TxId) (key : List ℕ) (inside : 0 + 1 < length (
             same : of_host tx (row g e.step.taken).state ≡ of_host tx g
                 → Claim (logs_of start (e ∷ es)) later (live_at start (logs_of start (e ∷ es)) tx)
             same same_host =
-                stays_so (same_live same_host) (carried_too silent)
+                stays_so (live_leaves start es e come tx same_host) (carried_too silent)
                 (λ o live. inl (omega (arith, aside_none missed o live))) (was had)
 
             own : e.host ≡ home start tx

@@ -53,7 +53,7 @@ use Rattle.host_laws.proofs.coordinator.Operations.{is_right}
 use Rattle.host_laws.proofs.coordinator.Steps.{left_of_turn}
 use Rattle.host_laws.proofs.api.Wishes.{is_tc}
 use Rattle.host_laws.specs.Live.{of_live}
-use Rattle.host_laws.specs.Ways.{back_by, sent_ways, tc_sends}
+use Rattle.host_laws.specs.Ways.{back_by, sent_ways}
 use Rattle.run_laws.specs.GivenUp.{is_given_up}
 use Rattle.run_laws.specs.Live.{live_at, of_host}
 use Rattle.run_laws.specs.Routes.{replica_host, replicas}
@@ -84,7 +84,7 @@ use Rattle.order_laws.proofs.FirstSends as at_first
 use Rattle.order_laws.proofs.FirstSends.{AreMute, IsMute, beside_mute, last_in, mute_in, off_each, onward_few}
 use Rattle.order_laws.proofs.FirstSends.{others_mute, sent_known, sent_step, still_asks}
 use Rattle.order_laws.proofs.FirstTaken.{asks_last, taken_asks}
-use Rattle.order_laws.proofs.GivenUp.{aborting_given, given_aborting, given_same}
+use Rattle.order_laws.proofs.GivenUp.{aborting_given, given_aborting, given_quiet, given_same}
 use Rattle.order_laws.proofs.Leads.{any_sent, tc_block_is}
 use Rattle.order_laws.proofs.Standing.{who_is_away_is_out}
 use Rattle.order_laws.proofs.Still.{IsZero, home_for, home_low, none_weigh, still_at_quiet}
@@ -359,10 +359,6 @@ module _ (start : Start) (tx : TxId) (key : List ℕ) (some : 1 ≤ tx.tc) (low 
           subst (λ k. has_tc (after start k (logs_of start es k)) ≡ true) (sym here)
           (tc_runs start tx.tc (logs_of start es (home start tx)) some low)
 
-      quiet_same : tc_sends g e.step.taken ≡ []
-          → is_given_up start (logs_of start (e ∷ es)) tx ≡ is_given_up start (logs_of start es) tx
-      quiet_same nil = given_same start es e come tx (subst (AreUnbacked tx) (sym nil) tt)
-
       live_of : {a b : TcState} → a ≡ b → of_live tx a.live ≡ of_live tx b.live
       live_of alike = ap (λ (c : TcState). of_live tx c.live) alike
 
@@ -449,7 +445,8 @@ module _ (start : Start) (tx : TxId) (key : List ℕ) (some : 1 ≤ tx.tc) (low 
               (api_each (IsMute tx key) (λ o is. (api_mute o.body is, part.api_apart tx key o.body is))
               (λ name node. (refl, refl))
               (api_of g) e.step.taken.body))
-              (quiet_same (tc_silent g e.step.taken (λ at. let both : block.Api ≡ block.Tc = sym step.at ∙ at in cc)))
+              (given_quiet start es e come tx
+              (tc_silent g e.step.taken (λ at. let both : block.Api ≡ block.Tc = sym step.at ∙ at in cc)))
               (live_of step.tc) (λ is its. absurd (false≢true (sym (ap is_tc step.at) ∙ is)))
           by (tc_takes step) = takes_turn step
           by (dih_takes step) =
@@ -457,12 +454,13 @@ module _ (start : Start) (tx : TxId) (key : List ℕ) (some : 1 ≤ tx.tc) (low 
               (mute_by _ step.effects
               (each_of is_dih_kind (IsMute tx key) (λ o is. (dih_mute o.body is, part.dih_apart tx key o.body is)) _
               (dih_kinds (dih_of g) e.step.taken.body)))
-              (quiet_same (tc_silent g e.step.taken (λ at. let both : block.Dih ≡ block.Tc = sym step.at ∙ at in cc)))
+              (given_quiet start es e come tx
+              (tc_silent g e.step.taken (λ at. let both : block.Dih ≡ block.Tc = sym step.at ∙ at in cc)))
               (live_of step.tc) (λ is its. absurd (false≢true (sym (ap is_tc step.at) ∙ is)))
           by (rows_take step) = absurd (both_no g here_runs step.runs)
           by (none_takes step) =
               aside (mute_by _ (ap (λ (v : Step host.Host). v.effects) step.is) tt)
-              (quiet_same (idle_silent g e.step.taken step.runs))
+              (given_quiet start es e come tx (idle_silent g e.step.taken step.runs))
               (live_of (ap (λ (v : Step host.Host). tc_of v.state) step.is))
               (λ is its. none_of tx g e.step.taken.to.block is step.runs)
 

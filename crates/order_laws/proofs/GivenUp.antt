@@ -1,7 +1,6 @@
 -- Whether a transaction is given up: a step that doesn't take it back leaves that as it was, and one that its
 -- coordinator has is given up just where it is being aborted.
-use Rattle.std.proofs.Common.{◌≡◌, ℕ, Bool, true, false, List, [], ◌∷◌, refl}
-use Rattle.std.proofs.Common.{ap, ◌∙◌}
+use Rattle.std.proofs.Common.{Bool, List, [], ap, false, refl, subst, sym, true, ℕ, ◌∙◌, ◌∷◌, ◌≡◌}
 use Rattle.std.specs.List.{list_any}
 use Rattle.std.specs.Prelude.{◌||◌, Some}
 use Rattle.sig_core.proofs.Keys.{same_tx-self}
@@ -114,6 +113,10 @@ module _ (start : Start) (es : List HostStep) (e : HostStep) (come : Comes start
   given_same none =
       event_leaves (machine start) e es (λ k log. list_any (same_tx tx) (sent_ways start back_by k log))
       (back_silent tx said (sent_ways start back_by h (logs_of start es h)) none) at_home
+
+  -- as does one by which the coordinator says nothing
+  pub given_quiet : said ≡ [] → is_given_up start (logs_of start (e ∷ es)) tx ≡ is_given_up start (logs_of start es) tx
+  given_quiet nil = given_same (subst (AreUnbacked tx) (sym nil) tt)
 
 module _ (start : Start) (es : List HostStep) (tx : TxId) (u : Transaction)
     (live_was : live_at start (logs_of start es) tx ≡ Some u) where

@@ -283,12 +283,11 @@ module _ (tx : TxId) (key : List ℕ) where
             event_keeps (machine start) e es (λ k log. tx.seq < next_number (after start k log))
             (λ low. omega (arith, number_rises g e.step.taken, low)) at_home k.old
 
-        same_live : of_host tx (row g e.step.taken).state ≡ of_host tx g
-            → live_at start (logs_of start (e ∷ es)) tx ≡ live_at start (logs_of start es) tx
-        same_live = live_leaves start es e come tx
-
         stays : of_host tx (row g e.step.taken).state ≡ of_host tx g → IsKnown start (logs_of start (e ∷ es))
-        stays alike = record { old = old_now; touched = λ t live. k.touched t (sym (same_live alike) ∙ live) }
+        stays alike = record {
+          old = old_now;
+          touched = λ t live. k.touched t (sym (live_leaves start es e come tx alike) ∙ live);
+        }
 
         by : Fares tx g e.step.taken (row g e.step.taken) → IsKnown start (logs_of start (e ∷ es))
         by (fare.aside alike off) = stays alike

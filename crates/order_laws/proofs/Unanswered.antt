@@ -188,16 +188,12 @@ module _ (start : Start) (tx : TxId) (key : List ℕ) where
     abbrev Goal : Option Transaction → Type 0
     Goal o = Now ≤ one_if (asks_on key o)
 
-    same_live : of_host tx next.state ≡ of_host tx g
-        → live_at start (logs_of start (e ∷ es)) tx ≡ live_at start (logs_of start es) tx
-    same_live = live_leaves start es e come tx
-
     -- where the transaction stays as it is, and no more is sent and waits than came and waited
     stays : of_host tx next.state ≡ of_host tx g
         → parts_out tx key sends + waiting_on tx key next.state ≤ waiting_on tx key g + came
         → Goal (live_at start (logs_of start (e ∷ es)) tx)
     stays alike less =
-        omega (arith, was, balance, less, ap (λ o. one_if (asks_on key o)) (same_live alike))
+        omega (arith, was, balance, less, ap (λ o. one_if (asks_on key o)) (live_leaves start es e come tx alike))
 
     waits_as : lqh_of next.state ≡ lqh_of g → waiting_on tx key next.state ≡ waiting_on tx key g
     waits_as rows = ap (λ (l : LqhState). tally (is_for tx key) l.waiting) rows

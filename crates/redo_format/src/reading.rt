@@ -6,7 +6,7 @@ ghost use Rattle.sig_core.specs.Word.{is_unprintable};
 ghost use Rattle.redo_format.specs.Reading.{Gives, abort_at, byte_at, commit_at, head_at, least_flag, most_flag};
 ghost use Rattle.redo_format.specs.Reading.{number_at, prepare_at, record_at, run_at, transaction_at, word_at};
 
-use sig_core::{Key, Redo, TxId, Value};
+use sig_core::{Key, Redo, TxId, Value, first_unprintable};
 
 /// A record of any kind.
 #[tactic(auto, unfolding(crate::specs::Reading::record_at))]
@@ -167,13 +167,6 @@ fn run_at(bytes: &[u8], len: usize) -> Result<(&[u8], &[u8]), usize>
         Some(at) => Err(bytes.len() - at),
         None => Ok((word, rest)),
     }
-}
-
-// The place of the first byte that no word has.
-fn first_unprintable(bytes: &[u8]) -> Option<usize>
-    ensures { result ≡ position is_unprintable bytes.now }
-{
-    bytes.iter().position(|byte| *byte < 0x21 || 0x7e < *byte)
 }
 
 /// A byte from `least` to `most`.

@@ -135,11 +135,8 @@ fn lay_changes(alloc: Global, disk: &mut MemDisk, size: Size) -> Result<(u64, u6
     Ok((end, changes))
 }
 
-// A disk of epoch 2 with these rows and redo.
-fn lay_out(alloc: Global, size: Size) -> Result<Laid, Fail> {
-    let mut disk = MemDisk::new(alloc, Vec::new(alloc), Vec::new(alloc))?;
-    let ckpt_size = lay_rows(alloc, &mut disk, CHECKPOINT, size.rows)?;
-    let (redo_end, changes) = lay_changes(alloc, &mut disk, size)?;
+// Writes the slots of epoch 2, with a checkpoint and redo of so many bytes.
+fn lay_slots(disk: &mut MemDisk, ckpt_size: u64, redo_end: u64) -> Result<(), Fail> {
     let control = ControlSlot {
         ckpt_file: CHECKPOINT,
         parity: PARITY,
@@ -150,17 +147,31 @@ fn lay_out(alloc: Global, size: Size) -> Result<Laid, Fail> {
         redo_end,
         ckpt_size,
     };
-    done(write_slot(&mut disk, CONTROL_FILE, 0, &control_bytes(&control)))?;
+    done(write_slot(disk, CONTROL_FILE, 0, &control_bytes(&control)))?;
     let system = SystemSlot {
         shape: ALONE,
         mask: 1,
         generation: 1,
         epoch: 2,
     };
-    done(write_slot(&mut disk, SYSTEM_FILE, 0, &system_bytes(&system)))?;
+    done(write_slot(disk, SYSTEM_FILE, 0, &system_bytes(&system)))
+}
+
+// How many bytes of redo and transactions a disk then has.
+fn lay_all(alloc: Global, disk: &mut MemDisk, size: Size) -> Result<(u64, u64), Fail> {
+    let ckpt_size = lay_rows(alloc, disk, CHECKPOINT, size.rows)?;
+    let (redo, changes) = lay_changes(alloc, disk, size)?;
+    lay_slots(disk, ckpt_size, redo)?;
+    Ok((redo, changes))
+}
+
+// A disk of epoch 2 with these rows and redo.
+fn lay_out(alloc: Global, size: Size) -> Result<Laid, Fail> {
+    let mut disk = MemDisk::new(alloc, Vec::new(alloc), Vec::new(alloc))?;
+    let (redo, changes) = lay_all(alloc, &mut disk, size)?;
     Ok(Laid {
         disk,
-        redo: redo_end,
+        redo,
         changes,
     })
 }
@@ -173,19 +184,34 @@ pub fn lay_alone(rt: &HostRuntime, size: Size) -> Result<bool, Fail> {
     Ok(true)
 }
 
-// What the disk has is restored, and it is made ready for the next life. The nanoseconds of both.
-fn open_disk(rt: &HostRuntime, disk: MemDisk) -> Result<(Restored, u64, u64), Fail> {
-    let mut disks = [disk];
+// What the disk has is restored, and the nanoseconds of that.
+fn restore_disk(rt: &HostRuntime, disks: &mut [MemDisk; 1]) -> Result<(Restored, u64), Fail> {
     let watch = Watch::start(rt)?;
-    let Ok(restored) = restore(rt.alloc(), &mut disks, ALONE) else {
-        return Err(Fail::from("a disk is restored"));
-    };
-    let restoring = watch.nanoseconds(rt)?;
+    match restore(rt.alloc(), disks, ALONE) {
+        Ok(restored) => Ok((restored, watch.nanoseconds(rt)?)),
+        Err(_) => Err(Fail::from("a disk is restored")),
+    }
+}
+
+// The disk is made ready for the next life. The nanoseconds of that.
+fn prepare_disk(
+    rt: &HostRuntime,
+    disks: &mut [MemDisk; 1],
+    restored: &Restored,
+) -> Result<u64, Fail> {
     let watch = Watch::start(rt)?;
-    match prepare_life(rt.alloc(), &mut disks, ALONE, &restored) {
-        Ok(()) => Ok((restored, restoring, watch.nanoseconds(rt)?)),
+    match prepare_life(rt.alloc(), disks, ALONE, restored) {
+        Ok(()) => watch.nanoseconds(rt),
         Err(_) => Err(Fail::from("a disk is made ready")),
     }
+}
+
+// Both, and the nanoseconds of each.
+fn open_disk(rt: &HostRuntime, disk: MemDisk) -> Result<(Restored, u64, u64), Fail> {
+    let mut disks = [disk];
+    let (restored, restoring) = restore_disk(rt, &mut disks)?;
+    let preparing = prepare_disk(rt, &mut disks, &restored)?;
+    Ok((restored, restoring, preparing))
 }
 
 // Whether there are so many rows, and as many of them were changed as the redo has transactions, or all.

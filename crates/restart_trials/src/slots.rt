@@ -25,13 +25,18 @@ struct Life {
 
 impl Life {
     fn lay(&self, alloc: Global, layout: &mut Layout) -> Result<(), Trouble> {
+        self.lay_rows(alloc, layout)?;
+        layout.system(self.at, &system_of(self.generation, self.epoch, self.mask))
+    }
+
+    // All of it but its system slot.
+    fn lay_rows(&self, alloc: Global, layout: &mut Layout) -> Result<(), Trouble> {
         let (key, value) = self.row;
         let bytes = checkpoint(alloc, &[(key, value, self.epoch)])?;
         let size = bytes.len() as u64;
         layout.put(self.file, 0, &bytes)?;
         let slot = slot_without_redo(self.file, self.generation, self.serial, self.epoch, size);
-        layout.control(self.at, &slot)?;
-        layout.system(self.at, &system_of(self.generation, self.epoch, self.mask))
+        layout.control(self.at, &slot)
     }
 }
 
@@ -102,6 +107,30 @@ pub fn a_lost_slot(alloc: Global) -> Result<(), Trouble> {
         file: CONTROL_FILE,
         at: 0,
         byte: OPEN,
+    };
+    expect_fault(alloc, &mut disks_of(&lost, &lost)?, fault)
+}
+
+/// A node whose system file lost the later of its slots has a checkpoint with a row of a later epoch than the other slot
+/// says: that row is named, unless the next node has the later slot.
+pub fn a_lost_system_slot(alloc: Global) -> Result<(), Trouble> {
+    let second = Life {
+        generation: 3,
+        epoch: 10,
+        mask: 3,
+        serial: 2,
+        ..SECOND
+    };
+    let whole = layout_with(alloc, &[FIRST, second])?;
+    let mut lost = layout_with(alloc, &[FIRST])?;
+    second.lay_rows(alloc, &mut lost)?;
+    let wanted = wanted(alloc, 3, 10, &[SECOND.row])?;
+    expect(alloc, &mut disks_of(&lost, &whole)?, &wanted)?;
+    let fault = RestartFault::Damaged {
+        node: 1,
+        file: 3,
+        at: 4,
+        byte: 0,
     };
     expect_fault(alloc, &mut disks_of(&lost, &lost)?, fault)
 }

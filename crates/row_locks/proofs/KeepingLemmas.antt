@@ -13,6 +13,7 @@ use Rattle.std.specs.Map.{keys_of, lookup}
 use Rattle.std.specs.Map.Calls.{RetainsPairs}
 use Rattle.std.specs.BTreeMap.{is_at}
 use Rattle.std.specs.FinMap as finite
+use Rattle.sig_core.proofs.TableLemmas.{find-lookup}
 use Rattle.sig_core.specs.declared.member.TxId.{TxId}
 use Rattle.sig_core.specs.Same.{same_tx}
 use Rattle.row_locks.specs.declared.claim.Holder.{Holder}
@@ -26,7 +27,7 @@ use Rattle.row_locks.specs.OrderlyTables.{AreOrderly}
 use Rattle.row_locks.specs.Rounds.{is_used}
 use Rattle.row_locks.specs.Rows.{RowLock, row_lock}
 use Rattle.row_locks.specs.Tables.{Locks, is_idle, lock_at, or_unlocked}
-use Rattle.row_locks.proofs.LocksLemmas.{key_cmp, get-locks, find-lookup}
+use Rattle.row_locks.proofs.LocksLemmas.{key_cmp, get-locks}
 use Rattle.row_locks.proofs.TableLawLemmas.{some_none, unlocked_orderly}
 use Rattle.row_locks.proofs.UnqueuedLemmas.{holds_true, rising}
 

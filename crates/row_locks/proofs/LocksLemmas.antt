@@ -1,5 +1,5 @@
 -- The locks of all keys as a finite map: what an ordered map does to its entries is what the finite map does.
-use Rattle.std.proofs.Common.{◌≡◌, ℕ, List, [], ◌∷◌, refl, ap, sym, ◌∙◌, subst, cond, Ordering, Bool, true, false}
+use Rattle.std.proofs.Common.{◌≡◌, ℕ, List, refl, ap, sym, ◌∙◌, subst, cond, Ordering, Bool, true, false}
 use Rattle.std.specs.Prelude.{Some, None, IsSome}
 use Rattle.std.specs.Ordering.{nat_cmp, eq_by_cmp, is_eq}
 use Rattle.std.specs.declared.cmp.Ordering.TheVariants.{Less, Equal, Greater}
@@ -9,18 +9,13 @@ use Rattle.std.specs.Map.{lookup}
 use Rattle.std.specs.BTreeMap as tree
 use Rattle.std.specs.BTreeMap.{BTreeMap, is_at, UpdatesBy, WritesThrough}
 use Rattle.std.specs.FinMap as map
+use Rattle.sig_core.proofs.TableLemmas.{find-lookup}
 use Rattle.row_locks.specs.Rows.{RowLock}
 use Rattle.row_locks.specs.Tables.{locks_of, is_idle, kept, kept_if}
 
 -- the order of keys
 abbrev pub key_cmp : List ℕ → List ℕ → Ordering
 key_cmp = slice_cmp nat_cmp
-
--- a look-up by a key is that of the finite map of the entries
-pub find-lookup : {K X : Type 0} (R : K → K → Ordering) (q : K) (es : List (K × X))
-    → map.find R q es ≡ lookup (is_at (R q)) es
-find-lookup R q [] = refl
-find-lookup R q (e ∷ es) = ap (cond (eq_by_cmp R q e.0) (Some e.1)) (find-lookup R q es)
 
 pub get-locks : (es : List (List ℕ × RowLock)) (q : List ℕ)
     → map.get (map.from_entries {R = key_cmp} es) q ≡ lookup (is_at (key_cmp q)) es

@@ -12,9 +12,10 @@ use Rattle.std.specs.FinMap.{from_entries, from_sorted, entries, is_sorted, same
 use Rattle.std.specs.FinMap.{get-from_entries, entries-from_sorted, slice_cmp-IsAntisymmetric, nat_cmp-IsAntisymmetric}
 use Rattle.std.specs.FinMap.Entries.{below_all}
 use Rattle.std.proofs.lemmas.Map.Made.{lookup-map_values}
+use Rattle.sig_core.proofs.TableLemmas.{find-lookup}
 use Rattle.row_locks.specs.Rows.{RowLock}
 use Rattle.row_locks.specs.Rounds.{map_locks, expired, expired_in}
-use Rattle.row_locks.proofs.LocksLemmas.{key_cmp, get-locks, find-lookup}
+use Rattle.row_locks.proofs.LocksLemmas.{key_cmp, get-locks}
 
 -- each lock changed in the entries is each lock changed
 pub mapped-locks : (g : RowLock → RowLock) (es : List (List ℕ × RowLock))

@@ -8,6 +8,7 @@ use Rattle.std.specs.BTreeMap.{is_at}
 use Rattle.std.specs.FinMap as finite
 use Rattle.std.proofs.lemmas.Bool.{true≢false, not-true}
 use Rattle.std.proofs.lemmas.Map.Made.{lookup-map_values}
+use Rattle.sig_core.proofs.TableLemmas.{find-lookup}
 use Rattle.sig_core.specs.declared.member.TxId.{TxId}
 use Rattle.row_locks.specs.declared.mode.Mode.{Mode}
 use Rattle.row_locks.specs.declared.claim.Holder.{Holder}
@@ -20,7 +21,7 @@ use Rattle.row_locks.specs.OrderlyTables.{AreOrderly}
 use Rattle.row_locks.specs.Rounds.{map_locks, round_later}
 use Rattle.row_locks.specs.Tables.{Locks, lock_at, or_unlocked, is_free, is_idle, kept, kept_if, asked_at, released_at}
 use Rattle.row_locks.specs.Tables.{unwaited_at}
-use Rattle.row_locks.proofs.LocksLemmas.{key_cmp, get-locks, find-lookup}
+use Rattle.row_locks.proofs.LocksLemmas.{key_cmp, get-locks}
 use Rattle.row_locks.proofs.OrderlyLemmas.{asked_orderly, released_orderly, unwaited_orderly, grown_old_orderly}
 
 pub unlocked_orderly : IsOrderly unlocked

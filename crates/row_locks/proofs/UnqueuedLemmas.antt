@@ -17,12 +17,13 @@ use Rattle.std.specs.Map.Calls.{RetainsPairs}
 use Rattle.std.specs.BTreeMap.{is_at}
 use Rattle.std.specs.FinMap as finite
 use Rattle.std.specs.FinMap.Entries.{below_all}
+use Rattle.sig_core.proofs.TableLemmas.{find-lookup}
 use Rattle.row_locks.specs.Rows.{RowLock, unqueued}
 use Rattle.row_locks.specs.Rounds.{all_unqueued, is_used}
 use Rattle.row_locks.specs.Orderly.{IsOrderly}
 use Rattle.row_locks.specs.OrderlyTables.{AreOrderly}
 use Rattle.row_locks.specs.Tables.{Locks, is_idle, or_unlocked}
-use Rattle.row_locks.proofs.LocksLemmas.{key_cmp, get-locks, find-lookup}
+use Rattle.row_locks.proofs.LocksLemmas.{key_cmp, get-locks}
 use Rattle.row_locks.proofs.OrderlyLemmas.{unqueued_orderly}
 use Rattle.row_locks.proofs.TableLawLemmas.{some_none, unlocked_orderly}
 

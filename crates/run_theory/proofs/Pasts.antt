@@ -1,6 +1,6 @@
 -- Older parts of a list, and what holds of each entry.
-use Rattle.std.proofs.Common.{◌≡◌, ◌⊎◌, List, [], ◌∷◌, ◌++◌, refl, sym, ap, ◌∙◌, subst, inl, inr, append_assoc, ◌≤◌}
-use Rattle.std.proofs.Common.{length, Option, None, filter_map, arith, length-append}
+use Rattle.std.proofs.Common.{◌≡◌, ◌⊎◌, Bool, true, false, cond, List, [], ◌∷◌, ◌++◌, refl, sym, ap, ◌∙◌, subst, inl}
+use Rattle.std.proofs.Common.{inr, append_assoc, ◌≤◌, length, Option, None, filter, filter_map, arith, length-append}
 use Rattle.std.proofs.lemmas.List.Elements.{filter_map-append}
 use Rattle.run_theory.specs.Lists.{Each, IsIn, HasEntry, IsPast}
 
@@ -18,6 +18,10 @@ past_more y p = record { newer = y ∷ p.newer; is = ap (λ zs. y ∷ zs) p.is }
 -- one entry less of the part
 pub past_less : {A : Type 0} {xs ys : List A} (x : A) → IsPast (x ∷ xs) ys → IsPast xs ys
 past_less {A} {xs} x p = record { newer = p.newer ++ x ∷ []; is = p.is ∙ sym (append_assoc p.newer (x ∷ []) xs) }
+
+-- no older part is longer
+pub past_short : {A : Type 0} {xs ys : List A} → IsPast xs ys → length xs ≤ length ys
+past_short {A} {xs} p = omega (arith, ap length p.is, length-append p.newer xs)
 
 pub past_trans : {A : Type 0} {xs ys zs : List A} → IsPast xs ys → IsPast ys zs → IsPast xs zs
 past_trans {A} {xs} p q = record {
@@ -51,6 +55,14 @@ each_after P (x ∷ xs) ys h = each_after P xs ys h.1
 
 pub each_past : {A : Type 0} (P : A → Type 0) {xs ys : List A} → IsPast xs ys → Each P ys → Each P xs
 each_past P {xs} {ys} p h = each_after P p.newer xs (subst (Each P) p.is h)
+
+pub each_filter : {A : Type 0} (P : A → Type 0) (p : A → Bool) (xs : List A) → Each P xs → Each P (filter p xs)
+each_filter P p [] all = tt
+each_filter {A} P p (x ∷ xs) all = go (p x) (each_filter P p xs all.1)
+  where
+    go : (b : Bool) → Each P (filter p xs) → Each P (cond b (x ∷ filter p xs) (filter p xs))
+    go true rest = (all.0, rest)
+    go false rest = rest
 
 pub each_in : {A : Type 0} (P : A → Type 0) (x : A) (xs : List A) → Each P xs → IsIn x xs → P x
 each_in P x [] h i = absurd i

@@ -121,7 +121,7 @@ completed node locks = with_row node (Some value) 1 [] (record { used = 48; rese
 abbrev marker : List Marker
 marker = record { tx = first_tx; key = key; epoch = 1 } ∷ []
 
-abbrev comes : LqhState → List Outgoing → List Mark → Step Host
+abbrev pub comes : LqhState → List Outgoing → List Mark → Step Host
 comes s sends marks = record { state = Ldm s; effects = record { sends = sends; marks = marks } }
 
 -- a row is committed at the primary, or completed: the lock is let go of

@@ -40,13 +40,13 @@ use Rattle.lqh_block.specs.State.{LqhState, serve_granted, with_lock}
 use Rattle.lqh_block.specs.Storage.{committed_in, perform, store_row}
 use Rattle.lqh_block.specs.Wait.{acknowledged}
 use Rattle.node_core.specs.declared.host.Host.{Host}
-use Rattle.node_core.specs.declared.host.Host.TheVariants.{Ldm}
 use Rattle.node_core.specs.Fresh.{fresh_part}
 use Rattle.node_core.specs.Row.{in_ldm, ldm_row, row}
 use Rattle.world_core.specs.Hosts.{started}
 use Rattle.answer_laws.specs.Sample.{first_tx, lone}
 use Rattle.sample_runs.proofs.Locking.{asks}
 use Rattle.sample_runs.proofs.Outlets.{outlet_behind}
+use Rattle.sample_runs.proofs.PutRows.{comes}
 use Rattle.sample_runs.proofs.Traces.{Do}
 use Rattle.sample_runs.specs.Put.{key}
 use Rattle.sample_runs.specs.Wait.{alone, first_value, first_write, second_tx, second_value, serving, waiter}
@@ -176,9 +176,6 @@ second_committed locks =
 
 abbrev second_completed : Locks → List Marker → LqhState
 second_completed locks markers = with_row (Some second_value) 1 [] (bytes 96 0) second_done locks [] markers
-
-abbrev comes : LqhState → List Outgoing → List Mark → Step Host
-comes s sends marks = record { state = Ldm s; effects = record { sends = sends; marks = marks } }
 
 -- a transaction lets go of the lock that is found
 abbrev lets_go : LqhState → TxId → Outgoing → Mark → Option RowLock → Step Host

@@ -27,10 +27,10 @@ use Rattle.journal_laws.specs.Saver.{written}
 use Rattle.request_laws.specs.Blocks.{saver_after}
 use Rattle.journal_laws.specs.Walks.{pieces_if}
 
--- bytes are read as these rows, in whichever file they stand and whichever epoch is saved, from the noted one on
+-- bytes are read as these rows, in whichever file they stand and however late rows may be, from the noted epoch on
 abbrev pub AreReadFrom : ℕ → List ℕ → Rows → Type 0
 AreReadFrom noted bytes rows =
-    (file saved : ℕ) → noted ≤ saved → saved < 2 ^ 64 → rows_in file saved bytes ≡ Ok rows
+    (file latest : ℕ) → noted ≤ latest → latest < 2 ^ 64 → rows_in file latest bytes ≡ Ok rows
 
 module _ (start : Start) (member : Member) (before : Rows) where
   -- These rows, with records whose bytes are those that the journal had from a position on, come to what all records of

@@ -1,6 +1,5 @@
 -- The entries of a history up to an epoch.
-use Rattle.std.specs.Prelude.{ℕ, Bool, List}
-use Rattle.std.proofs.Math.Dec.{leb}
+use Rattle.std.specs.Prelude.{ℕ, Bool, List, leb}
 use Rattle.std.specs.List.{filter}
 use Rattle.sig_core.specs.declared.entry.Entry.{Entry}
 

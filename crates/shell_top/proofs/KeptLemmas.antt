@@ -78,11 +78,6 @@ pub goes_where : {D : Type 0} → (shape : Shape) (world : Option (DiskWorld D))
 goes_where shape None = refl
 goes_where shape (Some w) = refl
 
--- no world
-pub no_world : {D : Type 0} → (world : Option (DiskWorld D)) → is_some world ≡ false → world ≡ None
-no_world None none = refl
-no_world (Some w) none = cc
-
 -- a world in the same setting is that of a life that began as it did
 pub goes_same : {D : Type 0} → (shape : Shape) (w t : DiskWorld D) → setting_of t ≡ setting_of w
     → going_in shape t ≡ record { start = (going_in shape w).start; whole = whole_of t.world; slots = t.slots.items }
@@ -156,11 +151,6 @@ module _ {D : Type 0} (shape : Shape) (told : List (Option (List Call))) (faults
 
   pub goes_on : IsGoing (Some (going_in shape w))
   goes_on = fresh_going (start_from shape w.start w.rows.items) (whole_of w.world) fresh
-
--- a life that was to begin, and memory was wanting
-pub unborn_memory : (shape : Shape) (opened now : Seen) → IsUnborn shape ending.NoMemory opened now
-unborn_memory shape opened now =
-    record { fault = fault.NoMemory; is = refl; cause = tt; refused = λ records all inside. cc }
 
 module _ {D : Type 0} (told : D → Option (List Call)) (faults : D → ℕ) where
   -- disks that were taken from where no life goes on

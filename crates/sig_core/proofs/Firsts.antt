@@ -1,9 +1,9 @@
 -- The first item of a list that passes a test: looked up, replaced and taken out by its place, and by going through the
 -- list.
 use Prim.Native.Nat.compare
-use Rattle.std.proofs.Common.{◌≡◌, ℕ, suc, ◌+◌, Bool, true, false, cond, not, nat_lt, List, [], ◌∷◌, filter, length}
-use Rattle.std.proofs.Common.{arith, refl, sym, ap, ◌∙◌}
-use Rattle.std.specs.List.{position_or_len}
+use Rattle.std.proofs.Common.{◌≡◌, ℕ, suc, ◌+◌, Bool, true, false, true≢false, cond, not, ◌&&◌, nat_lt, List, [], ◌∷◌, filter}
+use Rattle.std.proofs.Common.{length, arith, refl, sym, ap, ◌∙◌}
+use Rattle.std.specs.List.{list_all, position_or_len}
 use Rattle.std.specs.Prelude.{if◌then◌else◌, Option, None, Some, position, remove, slice_get, slice_set}
 use Rattle.std.proofs.lemmas.Bool.Decides.{nat_tests}
 use Rattle.sig_core.specs.Firsts.{drop_first, first}
@@ -37,6 +37,20 @@ position-cons p x xs = by (p x)
         ap (λ n. cond (nat_lt n (suc (length xs))) (Some n) None) one_more
         ∙ ap (λ c. cond c (Some (suc (position_or_len p xs))) None) (lt-suc-suc (position_or_len p xs) (length xs))
         ∙ later (nat_lt (position_or_len p xs) (length xs))
+
+-- where a place behind the first one comes from
+pub record Behind (rest : Option ℕ) (at : ℕ) : Type 0 where
+  pub place : ℕ
+  pub next : suc place ≡ at
+  pub found : rest ≡ Some place
+
+pub behind : (rest : Option ℕ) (at : ℕ) → place_by false rest ≡ Some at → Behind rest at
+behind None at is = absurd cc
+behind (Some m) at is = record { place = m; next = cc; found = refl }
+
+pub nothing_behind : (rest : Option ℕ) → place_by false rest ≡ None → rest ≡ None
+nothing_behind None is = refl
+nothing_behind (Some m) is = absurd cc
 
 module _ {X : Type 0} where
   abbrev pub get_by : List X → Option ℕ → Option X
@@ -121,3 +135,15 @@ module _ {X : Type 0} where
           ap (λ c. cond c (x ∷ filter q (drop_first p xs)) (filter q (drop_first p xs))) f ∙ ap (λ w. x ∷ w) more
           ∙ sym (ap (λ b. if b then filter q xs else x ∷ drop_first r (filter q xs)) (sym (same x f) ∙ e))
       by false false e f more = ap (λ c. cond c (x ∷ filter q (drop_first p xs)) (filter q (drop_first p xs))) f ∙ more
+
+-- where all items fail a test, none passes it
+pub none_passes : {X : Type 0} (p : X → Bool) (xs : List X) → list_all (λ x. not (p x)) xs ≡ true → position p xs ≡ None
+none_passes p [] all = refl
+none_passes p (x ∷ xs) all =
+    position-cons p x xs
+    ∙ by (p x) (position p xs) (list_all (λ y. not (p y)) xs) (none_passes p xs) all
+  where
+    by : (b : Bool) (place : Option ℕ) (rest : Bool) → (rest ≡ true → place ≡ None) → (not b && rest) ≡ true
+        → place_by b place ≡ None
+    by true place rest none all = absurd (true≢false (sym all))
+    by false place rest none all = ap (place_by false) (none all)

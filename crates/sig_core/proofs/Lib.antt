@@ -3,6 +3,8 @@ pub mod Firsts
 pub mod KeyLemmas
 pub mod Keys
 pub mod PortionLemmas
+pub mod RecordLemmas
+pub mod RedoLemmas
 pub mod TableLemmas
 pub mod TxLemmas
 pub mod WordLemmas

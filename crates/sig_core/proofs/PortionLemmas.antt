@@ -8,8 +8,8 @@ use Rattle.sig_core.specs.declared.outs.Outgoing.{Outgoing}
 use Rattle.sig_core.specs.declared.place.Place.{Place}
 use Rattle.sig_core.specs.declared.portion.Portion.{Portion}
 use Rattle.sig_core.specs.declared.signal.host.Work.{Work}
-use Rattle.sig_core.specs.Portion.{Offered, all_offered, go_on_at, offered, offered_by, offered_from, portion}
-use Rattle.sig_core.specs.Portion.{portion_effects, rest_if, so_far}
+use Rattle.sig_core.specs.Portion.{Offered, all_offered, go_on_at, left_after, left_if, offered, offered_by}
+use Rattle.sig_core.specs.Portion.{offered_from, portion, portion_effects, rest_if, so_far}
 use Rattle.sig_core.specs.Step.{Effects, joined, and_send, sends_only}
 
 -- two lists, one after the other
@@ -133,6 +133,12 @@ all_sent zero zero more e (x ∷ xs) =
 pub portion_sent : (at : ℕ) (e : Effects) (xs : List Outgoing)
     → IsSent (all_offered (offered_from at e) xs) e (portion xs at) (nat_lt (at + 8) (length xs))
 portion_sent at e xs = all_sent at 8 false e xs
+
+-- the place from which the list goes on is behind the portion, if the event left something of it
+pub left_is : (at : ℕ) (e out : Effects) (p : Portion) (xs : List Outgoing) {left : Bool}
+    → so_far p out ≡ all_offered (offered_from at e) xs → p.more ≡ left → left_if at left ≡ left_after xs at
+left_is at e out p xs is more =
+    ap (left_if at) (sym more ∙ ap (λ (o : Offered). o.portion.more) is ∙ (portion_sent at e xs).more)
 
 -- the last portion of a list, and one that isn't
 pub ends_with_portion : (by : Place) (work : Work) (at : ℕ) (e out : Effects) (p : Portion) (xs : List Outgoing)

@@ -10,7 +10,7 @@ use Rattle.std.specs.BTreeMap.{BTreeMap, is_at, Updates, UpdatesBy}
 use Rattle.std.specs.FinMap as map
 
 -- a look-up by a key is that of the finite map of the entries
-find-lookup : {K X : Type 0} (R : K → K → Ordering) (q : K) (es : List (K × X))
+pub find-lookup : {K X : Type 0} (R : K → K → Ordering) (q : K) (es : List (K × X))
     → map.find R q es ≡ lookup (is_at (R q)) es
 find-lookup R q [] = refl
 find-lookup R q (e ∷ es) = ap (cond (eq_by_cmp R q e.0) (Some e.1)) (find-lookup R q es)

@@ -25,6 +25,14 @@ rest_if by work at false = []
 abbrev pub rest : Place → Work → List Outgoing → ℕ → List Outgoing
 rest by work sends at = rest_if by work at (nat_lt (at + PORTION) (length sends))
 
+-- the place from which a list goes on after an event that sent from a place on; 0 where nothing is left
+abbrev pub left_if : ℕ → Bool → ℕ
+left_if at true = at + PORTION
+left_if at false = 0
+
+abbrev pub left_after : List Outgoing → ℕ → ℕ
+left_after sends at = left_if at (nat_lt (at + PORTION) (length sends))
+
 -- what an event sends for a block that has this list to send for this work, from a place on
 abbrev pub portion_effects : Place → Work → List Outgoing → ℕ → Effects
 portion_effects by work sends at = record { sends = portion sends at ++ rest by work sends at; marks = [] }

@@ -159,3 +159,4 @@ pub use walk::Finished;
 pub use walk::PIECE_ROWS;
 pub use walk::Walk;
 pub use word::WordFault;
+pub use word::first_unprintable;

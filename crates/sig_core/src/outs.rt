@@ -46,6 +46,7 @@ impl Model for Outs {
 }
 
 impl Outs {
+    ghost use Rattle.std.specs.Prelude.{false, nat_lt};
     ghost use Rattle.sig_core.specs.Step.{nothing, and_send, and_mark};
 
     /// No effects, with room for those of a step.
@@ -106,9 +107,22 @@ impl Outs {
         ensures err { OnErr result (self.new.marks ≡ self.old.marks) }
         ensures sends { self.new.sends ≡ self.old.sends }
     {
+        // Most steps have none.
+        if self.marks.is_empty() {
+            return Ok(Seq::new(alloc));
+        }
         let mut marks = Vec::with_capacity(alloc, self.marks.len())?;
         marks.append(&mut self.marks)?;
         Ok(Seq::from_vec(marks))
+    }
+
+    /// Whether a signal is still to be sent.
+    #[inline(always)]
+    pub fn has_sends(&self) -> bool
+        ensures value { result ≡ nat_lt 0 (length self.now.sends) }
+        ensures none { result ≡ false → self.now.sends ≡ [] }
+    {
+        !self.sends.is_empty()
     }
 
     /// Takes the first signal that is to be sent.

@@ -1,5 +1,5 @@
 //! Words: the short texts of which keys and values are made.
-ghost use Rattle.std.specs.Prelude.{◌≡◌, ◌≤◌, ◌++◌, length, drop, position};
+ghost use Rattle.std.specs.Prelude.{◌≡◌, ◌≤◌, ◌<◌, ◌++◌, length, drop, not, position, true, None, IfSome};
 ghost use Rattle.sig_core.specs.Word.{if_word, is_unprintable};
 
 /// Why some bytes are not a word of the asked kind.
@@ -25,10 +25,33 @@ pub fn check(bytes: &[u8], least: usize, most: usize) -> Result<(), WordFault>
 }
 
 /// The place of the first byte that no word has.
-fn first_unprintable(bytes: &[u8]) -> Option<usize>
-    ensures { result ≡ position is_unprintable bytes.now }
+pub fn first_unprintable(bytes: &[u8]) -> Option<usize>
+    ensures told { result ≡ position is_unprintable bytes.now }
+    ensures within { IfSome result (λ at. at < length bytes.now) }
 {
+    // Nearly all words are good, which is found out faster than a place.
+    if are_printable(bytes) {
+        return None;
+    }
     bytes.iter().position(|b| *b < 0x21 || 0x7e < *b)
+}
+
+// Whether words have all these bytes. It looks at each and has no branch for one, so that many are compared at once.
+fn are_printable(bytes: &[u8]) -> bool
+    ensures { result ≡ true → position is_unprintable bytes.now ≡ None }
+{
+    let mut good = true;
+    for byte in bytes {
+        good &= is_printable(*byte);
+    }
+    good
+}
+
+// Whether words have this byte.
+fn is_printable(byte: u8) -> bool
+    ensures { result ≡ not (is_unprintable byte) }
+{
+    0x20 < byte && byte < 0x7f
 }
 
 /// Puts the bytes at the front of an array.

@@ -44,8 +44,8 @@ fn add_all(out: &mut Vec<u8>, rows: &[Row]) -> Result<(), Fail> {
     Ok(())
 }
 
-fn is_read(alloc: Global, saved: u64, bytes: &[u8]) -> bool {
-    rows_in(alloc, 2, saved, bytes).is_ok()
+fn is_read(alloc: Global, latest: u64, bytes: &[u8]) -> bool {
+    rows_in(alloc, 2, latest, bytes).is_ok()
 }
 
 /// Whether the value of a key is this one, or there is none.
@@ -57,8 +57,8 @@ fn has(table: &RowMap, key: &[u8], value: Option<&[u8]>) -> Result<bool, Fail> {
     })
 }
 
-fn expect_damage<R: Abort>(rt: &R, alloc: Global, saved: u64, bytes: &[u8], at: usize, byte: u8) {
-    match rows_in(alloc, 2, saved, bytes) {
+fn expect_damage<R: Abort>(rt: &R, alloc: Global, latest: u64, bytes: &[u8], at: usize, byte: u8) {
+    match rows_in(alloc, 2, latest, bytes) {
         Ok(_) => assert!(rt; false, "damage at {at} isn't seen"),
         Err(fault) => assert_eq!(rt;
             fault,
@@ -100,15 +100,16 @@ fn the_last_row_of_a_key_counts(rt: HostRuntime) -> Result<(), Fail> {
     Ok(())
 }
 
-/// Whether bytes of a checkpoint saved in an epoch begin with this row, which takes so many of them.
+/// Whether bytes of a checkpoint begin with this row, which takes so many of them, and is of no later epoch than the
+/// latest.
 fn begin_with(
     version: Version,
-    saved: u64,
+    latest: u64,
     bytes: &[u8],
     row: &Row,
     len: usize,
 ) -> Result<bool, Fail> {
-    Ok(row_in(version, saved, bytes) == Ok((stored(row)?, len)))
+    Ok(row_in(version, latest, bytes) == Ok((stored(row)?, len)))
 }
 
 #[test]
@@ -130,12 +131,12 @@ fn an_empty_checkpoint_has_no_rows(rt: HostRuntime) -> Result<(), Fail> {
 }
 
 /// Asserts that a checkpoint cut anywhere but at these ends of rows is damaged there.
-fn expect_cuts<R: Abort>(rt: &R, alloc: Global, saved: u64, whole: &[u8], ends: [usize; 3]) {
+fn expect_cuts<R: Abort>(rt: &R, alloc: Global, latest: u64, whole: &[u8], ends: [usize; 3]) {
     for size in 0..whole.len() {
         if ends.contains(&size) {
-            assert!(rt; is_read(alloc, saved, &whole[..size]), "{size}");
+            assert!(rt; is_read(alloc, latest, &whole[..size]), "{size}");
         } else {
-            expect_damage(rt, alloc, saved, &whole[..size], size, 0);
+            expect_damage(rt, alloc, latest, &whole[..size], size, 0);
         }
     }
 }
@@ -147,7 +148,7 @@ fn rows_cut_short_are_damaged_at_their_end(rt: HostRuntime) {
 }
 
 #[test]
-fn a_row_epoch_above_the_saved_one_is_damage(rt: HostRuntime) {
+fn a_row_epoch_above_the_latest_one_is_damage(rt: HostRuntime) {
     assert!(rt; is_read(rt.alloc(), 258, &SECOND));
     expect_damage(&rt, rt.alloc(), 257, &SECOND, 16, 0);
     expect_damage(&rt, rt.alloc(), 0, &SECOND, 4, 0);

@@ -85,8 +85,8 @@ cause_after first before now (Ok a) less is = tt
 cause_after first before now (Err fault) less is = cause_behind first before now fault less is
 
 -- bytes of a checkpoint that are as many as they should be, and such as are fewer
-pub rows_whole : (file size saved : ℕ) (bytes : List ℕ) (rows : Rows) → rows_in file saved bytes ≡ Ok rows
-    → size ≤ length bytes → rows_in_size file size saved bytes ≡ Ok rows
-rows_whole file size saved bytes rows is enough =
+pub rows_whole : (file size latest : ℕ) (bytes : List ℕ) (rows : Rows) → rows_in file latest bytes ≡ Ok rows
+    → size ≤ length bytes → rows_in_size file size latest bytes ≡ Ok rows
+rows_whole file size latest bytes rows is enough =
     ap (unless_cut file bytes (nat_lt (length bytes) size)) is
     ∙ ap (λ (cut : Bool). unless_cut file bytes cut (Ok rows)) (le-ltb (length bytes) size enough)

@@ -12,7 +12,8 @@ use Rattle.sysfile_core.specs.declared.place.TheConstants.{CONTROL_FILE}
 use Rattle.sysfile_core.specs.Reading.{control_of_file}
 use Rattle.sys_restart.specs.Answers.{ReadsAll, is_outside, on_node}
 use Rattle.sys_restart.specs.Files.{Disks, Files}
-use Rattle.sys_restart.specs.Groups.{and_rows, control_on, first_listed, if_held, if_saved, is_listed, lacking, rows_by, rows_from, rows_of_group, source_of, source_or, that_saved}
+use Rattle.sys_restart.specs.Groups.{and_rows, control_on, first_listed, if_held, if_saved, is_listed, rows_by, rows_from, rows_of_group, source_of, source_or, that_saved}
+use Rattle.sys_restart.specs.Lack.{lacking}
 use Rattle.sys_restart.specs.SlotRows.{rows_of_slot}
 
 -- one less is left behind each, and none behind the last
@@ -134,7 +135,7 @@ group_found shape disks system first source result is reads =
 pub group_lacks : (shape : Shape) (disks : Disks) (system : SystemSlot) (first node : ℕ) (fault : RestartFault)
     → source_of disks system first shape.replicas ≡ Ok None
     → node ≡ first_listed system.mask first first shape.replicas
-    → (is_outside fault ≡ false → fault ≡ lacking node (disks node))
+    → (is_outside fault ≡ false → fault ≡ lacking node CONTROL_FILE (disks node))
     → is_outside fault ≡ false → rows_of_group shape disks system first ≡ Err fault
 group_lacks shape disks system first node fault is at lacks inside =
     ap (rows_by shape disks system.epoch (first_listed system.mask first first shape.replicas)) is

@@ -11,9 +11,11 @@ use Rattle.frag_map.specs.Shape.{IsShape, group_of, groups}
 use Rattle.sig_core.specs.Table.{Rows}
 use Rattle.sig_core.specs.declared.fault.RestartFault.{RestartFault}
 use Rattle.sig_core.specs.declared.view.Shape.{Shape}
+use Rattle.sysfile_core.specs.declared.place.TheConstants.{CONTROL_FILE}
 use Rattle.sys_restart.specs.Files.{Files}
-use Rattle.sys_restart.specs.Groups.{if_held, lacking}
+use Rattle.sys_restart.specs.Groups.{if_held}
 use Rattle.sys_restart.specs.Held.{are_held, is_held}
+use Rattle.sys_restart.specs.Lack.{lacking}
 use Rattle.sys_restart.proofs.TableLemmas.{nothing_listed}
 
 no_rows : (fault : RestartFault) (part : Rows) → ◌≡◌ {A = Result Rows RestartFault} (Err fault) (Ok part) → ⊥
@@ -25,7 +27,7 @@ same_rows rows part is = cc
 -- rows that their node holds are kept
 pub held_kept : (shape : Shape) (node : ℕ) (files : Files) (rows : Rows) → are_held shape node rows ≡ true
     → if_held shape node files (Ok rows) ≡ Ok rows
-held_kept shape node files rows is = ap (λ (b : Bool). if b then Ok rows else Err (lacking node files)) is
+held_kept shape node files rows is = ap (λ (b : Bool). if b then Ok rows else Err (lacking node CONTROL_FILE files)) is
 
 -- those that were kept are those that were read
 pub held_is : (shape : Shape) (node : ℕ) (files : Files) (found : Result Rows RestartFault) (part : Rows)
@@ -33,10 +35,11 @@ pub held_is : (shape : Shape) (node : ℕ) (files : Files) (found : Result Rows 
 held_is shape node files (Err fault) part is = absurd (no_rows fault part is)
 held_is shape node files (Ok rows) part is = by (are_held shape node rows) refl is
   where
-    by : (b : Bool) → are_held shape node rows ≡ b → (if b then Ok rows else Err (lacking node files)) ≡ Ok part
+    by : (b : Bool) → are_held shape node rows ≡ b
+        → (if b then Ok rows else Err (lacking node CONTROL_FILE files)) ≡ Ok part
         → (◌≡◌ {A = Result Rows RestartFault} (Ok rows) (Ok part)) × (are_held shape node part ≡ true)
     by true e is = (is, subst (λ (kept : Rows). are_held shape node kept ≡ true) (same_rows rows part is) e)
-    by false e is = absurd (no_rows (lacking node files) part is)
+    by false e is = absurd (no_rows (lacking node CONTROL_FILE files) part is)
 
 -- the same rows of other files are kept where those were
 pub held_alike : (shape : Shape) (node : ℕ) (one two : Files) (found other : Result Rows RestartFault) (part : Rows)

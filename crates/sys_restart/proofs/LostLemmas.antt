@@ -6,12 +6,13 @@ use Rattle.sig_core.specs.declared.fault.ReadFault.{ReadFault}
 use Rattle.sig_core.specs.declared.fault.RestartFault.{RestartFault}
 use Rattle.sig_core.specs.declared.slots.ControlSlot.{ControlSlot}
 use Rattle.sig_core.specs.declared.view.Shape.{Shape}
-use Rattle.sysfile_core.specs.declared.place.TheConstants.{CONTROL_FILE}
+use Rattle.sysfile_core.specs.declared.place.TheConstants.{CONTROL_FILE, SYSTEM_FILE}
 use Rattle.sysfile_core.specs.Reading.{control_at}
 use Rattle.sys_restart.specs.declared.restored.Restored.{Restored}
 use Rattle.sys_restart.specs.Answers.{is_outside}
 use Rattle.sys_restart.specs.Files.{Disks, Files}
-use Rattle.sys_restart.specs.Lost.{and_behind, has_saved, none_lost, none_lost_on, slotless, was_saved}
+use Rattle.sys_restart.specs.Lack.{lacking}
+use Rattle.sys_restart.specs.Lost.{and_behind, has_saved, none_lost, none_lost_on, was_saved}
 use Rattle.sys_restart.specs.Places.{usable}
 use Rattle.sys_restart.specs.Restored.{nothing, nothing_by}
 
@@ -45,8 +46,8 @@ lost_ends disks node (suc more) none = absurd (omega (arith, none))
 
 -- what is known of one node, by what its control file has
 lost_as : (node : ℕ) (files : Files) (saved : Bool) → has_saved (files CONTROL_FILE) ≡ saved
-    → none_lost_on node files ≡ (if saved then Err (slotless node files) else Ok tt)
-lost_as node files saved is = ap (λ (b : Bool). if b then Err (slotless node files) else Ok tt) is
+    → none_lost_on node files ≡ (if saved then Err (lacking node SYSTEM_FILE files) else Ok tt)
+lost_as node files saved is = ap (λ (b : Bool). if b then Err (lacking node SYSTEM_FILE files) else Ok tt) is
 
 -- where no rows were saved none are lost
 pub none_saved : (disks : Disks) → ((node : ℕ) → has_saved (disks node CONTROL_FILE) ≡ false) → (node more : ℕ)
@@ -73,8 +74,9 @@ lost_alike one two stay node (suc more) is =
     by : (saved : Bool) → (none_lost one (node + 1) more ≡ Ok tt → none_lost two (node + 1) more ≡ Ok tt)
         → has_saved (one node CONTROL_FILE) ≡ saved → none_lost two node (suc more) ≡ Ok tt
     by true again e =
-        absurd (not_lost (slotless node (one node)) (none_lost one node (suc more))
-        (next_lost one node (suc more) more (Err (slotless node (one node))) refl (lost_as node (one node) true e))
+        absurd (not_lost (lacking node SYSTEM_FILE (one node)) (none_lost one node (suc more))
+        (next_lost one node (suc more) more (Err (lacking node SYSTEM_FILE (one node))) refl
+        (lost_as node (one node) true e))
         is)
     by false again e =
         next_lost two node (suc more) more (Ok tt) refl (lost_as node (two node) false (stay node e))

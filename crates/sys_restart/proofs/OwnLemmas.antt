@@ -21,13 +21,13 @@ use Rattle.sys_restart.proofs.RedoneLemmas.{IsRedone}
 
 pub slot_fails : (epoch : ℕ) (files : Files) (slot : ControlSlot) (fault : ReadFault)
     → (is_outer fault ≡ false
-    → rows_of_file slot.ckpt_file slot.ckpt_size slot.saved (files slot.ckpt_file) ≡ Err fault)
+    → rows_of_file slot.ckpt_file slot.ckpt_size epoch (files slot.ckpt_file) ≡ Err fault)
     → is_outer fault ≡ false → rows_of_slot epoch files slot ≡ Err fault
 slot_fails epoch files slot fault is inside = ap (with_redo epoch files slot) (is inside)
 
 pub slot_reads : (epoch : ℕ) (files : Files) (slot : ControlSlot) (rows after : Rows)
     (result : Result (Unit {0}) ReadFault)
-    → rows_of_file slot.ckpt_file slot.ckpt_size slot.saved (files slot.ckpt_file) ≡ Ok rows
+    → rows_of_file slot.ckpt_file slot.ckpt_size epoch (files slot.ckpt_file) ≡ Ok rows
     → IsRedone (redone epoch rows files slot.parity slot.redo_start (slot.redo_end - slot.redo_start)) after result
     → IsRedone (rows_of_slot epoch files slot) after result
 slot_reads epoch files slot rows after (Ok done) rows_are is = ap (with_redo epoch files slot) rows_are ∙ is

@@ -38,8 +38,8 @@ pub rows_same : (epoch : ℕ) (one two : Files) (slot : ControlSlot) → two slo
     → ((position : ℕ) → two (file_of slot.parity position) ≡ one (file_of slot.parity position))
     → rows_of_slot epoch two slot ≡ rows_of_slot epoch one slot
 rows_same epoch one two slot file redo =
-    ap (λ bytes. with_redo epoch two slot (rows_of_file slot.ckpt_file slot.ckpt_size slot.saved bytes)) file
-    ∙ by (rows_of_file slot.ckpt_file slot.ckpt_size slot.saved (one slot.ckpt_file))
+    ap (λ bytes. with_redo epoch two slot (rows_of_file slot.ckpt_file slot.ckpt_size epoch bytes)) file
+    ∙ by (rows_of_file slot.ckpt_file slot.ckpt_size epoch (one slot.ckpt_file))
   where
     by : (rows : Result Rows ReadFault) → with_redo epoch two slot rows ≡ with_redo epoch one slot rows
     by (Err fault) = refl

@@ -13,9 +13,9 @@ unless_cut file bytes false (Ok rows) = Ok rows
 
 -- the rows of a checkpoint of this size, of which these are the bytes
 abbrev pub rows_in_size : ℕ → ℕ → ℕ → List ℕ → Result Rows ReadFault
-rows_in_size file size saved bytes = unless_cut file bytes (nat_lt (length bytes) size) (rows_in file saved bytes)
+rows_in_size file size latest bytes = unless_cut file bytes (nat_lt (length bytes) size) (rows_in file latest bytes)
 
 -- The rows of a checkpoint of this size, which a file of these bytes begins with. None is of a later epoch than the
--- saved one.
+-- latest that they may be of.
 abbrev pub rows_of_file : ℕ → ℕ → ℕ → List ℕ → Result Rows ReadFault
-rows_of_file file size saved bytes = rows_in_size file size saved (take size bytes)
+rows_of_file file size latest bytes = rows_in_size file size latest (take size bytes)

@@ -1,9 +1,8 @@
 -- The rows of the groups of a cluster.
-use Rattle.std.specs.Prelude.{◌≤◌, ℕ, zero, suc, ◌+◌, ◌-◌, ◌*◌, ◌/◌, ◌%◌, ◌^◌, ◌==◌, nat_le, Bool, List, [], ◌∷◌, ◌++◌, get_or, Option, None, Some, Result, Ok, Err, if◌then◌else◌}
+use Rattle.std.specs.Prelude.{◌≤◌, ℕ, zero, suc, ◌+◌, ◌-◌, ◌*◌, ◌/◌, ◌%◌, ◌^◌, ◌==◌, nat_le, Bool, List, [], ◌∷◌, ◌++◌, Option, None, Some, Result, Ok, Err, if◌then◌else◌}
 use Rattle.frag_map.specs.Shape.{groups}
 use Rattle.sig_core.specs.Table.{Rows}
 use Rattle.sig_core.specs.declared.fault.RestartFault.{RestartFault}
-use Rattle.sig_core.specs.declared.fault.RestartFault.TheVariants.{Damaged}
 use Rattle.sig_core.specs.declared.slots.ControlSlot.{ControlSlot}
 use Rattle.sig_core.specs.declared.slots.SystemSlot.{SystemSlot}
 use Rattle.sig_core.specs.declared.view.Shape.{Shape}
@@ -14,6 +13,7 @@ use Rattle.sys_restart.specs.declared.groups.Source.{Source}
 use Rattle.sys_restart.specs.Answers.{on_node}
 use Rattle.sys_restart.specs.Files.{Disks, Files}
 use Rattle.sys_restart.specs.Held.{are_held}
+use Rattle.sys_restart.specs.Lack.{lacking}
 use Rattle.sys_restart.specs.SlotRows.{rows_of_slot}
 
 -- it is on the disk of one of so many nodes, and its redo can be read
@@ -60,19 +60,15 @@ first_listed mask other node zero = other
 first_listed mask other node (suc more) =
     if is_listed mask node then node else first_listed mask other (node + 1) more
 
--- what is wrong with a node's disk that has no control slot
-abbrev pub lacking : ℕ → Files → RestartFault
-lacking node files = Damaged node CONTROL_FILE 0 (get_or (files CONTROL_FILE) 0 0)
-
 -- rows of a node's disk, if the node holds them: those of another group aren't its own
 abbrev pub if_held : Shape → ℕ → Files → Result Rows RestartFault → Result Rows RestartFault
 if_held shape node files (Err fault) = Err fault
-if_held shape node files (Ok rows) = if are_held shape node rows then Ok rows else Err (lacking node files)
+if_held shape node files (Ok rows) = if are_held shape node rows then Ok rows else Err (lacking node CONTROL_FILE files)
 
 -- the rows of a source, or what is wrong without one at this node
 abbrev pub rows_by : Shape → Disks → ℕ → ℕ → Result (Option Source) RestartFault → Result Rows RestartFault
 rows_by shape disks epoch node (Err fault) = Err fault
-rows_by shape disks epoch node (Ok None) = Err (lacking node (disks node))
+rows_by shape disks epoch node (Ok None) = Err (lacking node CONTROL_FILE (disks node))
 rows_by shape disks epoch node (Ok (Some source)) =
     if_held shape source.node (disks source.node)
     (on_node source.node (rows_of_slot epoch (disks source.node) source.slot))

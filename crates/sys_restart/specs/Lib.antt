@@ -4,6 +4,7 @@ pub mod Checkpoint
 pub mod Files
 pub mod Groups
 pub mod Held
+pub mod Lack
 pub mod Latest
 pub mod LifeCalls
 pub mod Lost

@@ -12,7 +12,7 @@ with_redo epoch files slot (Err fault) = Err fault
 with_redo epoch files slot (Ok rows) =
     redone epoch rows files slot.parity slot.redo_start (slot.redo_end - slot.redo_start)
 
--- those of its checkpoint, and then its redo up to an epoch
+-- Those of its checkpoint, in which a row of a later epoch than this one is damage, and then its redo up to this epoch.
 abbrev pub rows_of_slot : ℕ → Files → ControlSlot → Result Rows ReadFault
 rows_of_slot epoch files slot =
-    with_redo epoch files slot (rows_of_file slot.ckpt_file slot.ckpt_size slot.saved (files slot.ckpt_file))
+    with_redo epoch files slot (rows_of_file slot.ckpt_file slot.ckpt_size epoch (files slot.ckpt_file))

@@ -3,16 +3,19 @@ ghost use Rattle.std.specs.Prelude.{◌≡◌, ◌≤◌, ◌<◌, ◌+◌, ◌*
 ghost use Rattle.frag_map.specs.Shape.{IsShape, groups};
 ghost use Rattle.host_io.specs.Call.{Call};
 ghost use Rattle.redo_log.specs.Stored.{files_of};
+ghost use Rattle.sysfile_core.specs.declared.place.TheConstants.{CONTROL_FILE};
 ghost use Rattle.sysfile_core.specs.Found.{HasRedo};
-ghost use Rattle.sys_restart.specs.Answers.{AreSteady, HasCauseAmong, HasCauseOf, IsCauseAmong, IsCauseOf, ReadsAll, is_outside, on_node};
+ghost use Rattle.sys_restart.specs.Answers.{AreSteady, HasCauseAmong, HasCauseOf, IsCauseAmong, ReadsAll, is_outside, on_node};
 ghost use Rattle.sys_restart.specs.Files.{disks_of};
-ghost use Rattle.sys_restart.specs.Groups.{IsSource, control_on, first_listed, if_held, is_listed, lacking, rows_of_group, rows_of_groups, source_of, that_saved};
+ghost use Rattle.sys_restart.specs.Groups.{IsSource, control_on, first_listed, if_held, is_listed, rows_of_group, rows_of_groups, source_of, that_saved};
+ghost use Rattle.sys_restart.specs.Lack.{lacking};
 ghost use Rattle.sys_restart.specs.SlotRows.{rows_of_slot};
 
 use crate::held::are_held;
+use crate::lack::lacking;
 use crate::on_node::of_node;
 use crate::slot_rows::rows_of_slot;
-use host_io::{Disk, Failed};
+use host_io::Disk;
 use row_map::RowMap;
 use sig_core::{ControlSlot, NoMemory, RestartFault, Seq, Shape, SystemSlot};
 use std::alloc::Global;
@@ -162,7 +165,7 @@ fn if_held<D: Disk>(
 {
     match are_held(alloc, node, &rows, shape) {
         Ok(true) => Ok(rows),
-        Ok(false) => Err(lacking(disk, node)),
+        Ok(false) => Err(lacking(disk, node, CONTROL_FILE)),
         Err(NoMemory) => Err(RestartFault::NoMemory),
     }
 }
@@ -259,33 +262,11 @@ fn first_listed(mask: u8, first: u8, count: u8) -> u8
 fn lacking_at<D: Disk>(disks: &mut [D], node: u8) -> RestartFault
     requires first { 1 ≤ node }
     requires last { node ≤ length disks.old }
-    ensures read { (records : List (List Call)) → map D.told disks.old ≡ map Some records → is_outside result ≡ false → result ≡ lacking node (disks_of records node) }
+    ensures read { (records : List (List Call)) → map D.told disks.old ≡ map Some records → is_outside result ≡ false → result ≡ lacking node CONTROL_FILE (disks_of records node) }
     ensures unrecorded { map D.told disks.new ≡ map D.told disks.old }
     ensures cause { IsCauseAmong (map D.faults disks.old) (map D.faults disks.new) result }
     ensures steady { AreSteady (map D.faults disks.old) (map D.faults disks.new) }
 {
     let index = node as usize - 1;
-    lacking(&mut disks[index], node)
-}
-
-// The same, of its disk.
-fn lacking<D: Disk>(disk: &mut D, node: u8) -> RestartFault
-    ensures read { (calls : List Call) → D.told disk.old ≡ Some calls → is_outside result ≡ false → result ≡ lacking node (files_of calls) }
-    ensures unrecorded { D.told disk.new ≡ D.told disk.old }
-    ensures cause { IsCauseOf node (D.faults disk.old) (D.faults disk.new) result }
-    ensures steady { D.faults disk.old ≤ D.faults disk.new }
-{
-    let mut gate = [0];
-    match disk.read(CONTROL_FILE, 0, &mut gate) {
-        Ok(_) => RestartFault::Damaged {
-            node,
-            file: CONTROL_FILE,
-            at: 0,
-            byte: gate[0],
-        },
-        Err(Failed) => RestartFault::DiskFault {
-            node,
-            count: disk.faults(),
-        },
-    }
+    lacking(&mut disks[index], node, CONTROL_FILE)
 }

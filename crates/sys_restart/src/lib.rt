@@ -4,6 +4,7 @@
 
 mod groups;
 mod held;
+mod lack;
 mod latest;
 mod life;
 mod lost;

@@ -5,13 +5,14 @@ ghost use Rattle.host_io.specs.Fault.{Rose};
 ghost use Rattle.redo_log.specs.Stored.{files_of};
 ghost use Rattle.sysfile_core.specs.declared.place.TheConstants.{CONTROL_FILE};
 ghost use Rattle.sysfile_core.specs.Reading.{control_at};
-ghost use Rattle.sys_restart.specs.Answers.{AreSteady, HasCauseAmong, HasCauseOf, IsCauseOf, ReadsAll, is_outside};
+ghost use Rattle.sys_restart.specs.Answers.{AreSteady, HasCauseAmong, HasCauseOf, ReadsAll};
 ghost use Rattle.sys_restart.specs.Files.{disks_of};
-ghost use Rattle.sys_restart.specs.Lost.{has_saved, none_lost, none_lost_on, slotless, was_saved};
+ghost use Rattle.sys_restart.specs.Lost.{has_saved, none_lost, none_lost_on, was_saved};
 ghost use Rattle.sys_restart.specs.Places.{usable};
 
+use crate::lack::lacking;
 use crate::places::usable;
-use host_io::{Disk, Failed};
+use host_io::Disk;
 use sig_core::{ControlSlot, RestartFault};
 use sysfile_core::{SYSTEM_FILE, control_at};
 
@@ -44,7 +45,7 @@ fn none_lost_on<D: Disk>(disk: &mut D, node: u8) -> Result<(), RestartFault>
     ensures steady { D.faults disk.old ≤ D.faults disk.new }
 {
     match has_saved(disk) {
-        Ok(true) => Err(slotless(disk, node)),
+        Ok(true) => Err(lacking(disk, node, SYSTEM_FILE)),
         Ok(false) => Ok(()),
         Err(count) => Err(RestartFault::DiskFault { node, count }),
     }
@@ -97,27 +98,5 @@ fn was_saved(slot: Option<ControlSlot>) -> bool
     match slot {
         Some(slot) => 0 < slot.saved,
         None => false,
-    }
-}
-
-// What is wrong with a node's disk that has no system slot.
-fn slotless<D: Disk>(disk: &mut D, node: u8) -> RestartFault
-    ensures read { (calls : List Call) → D.told disk.old ≡ Some calls → is_outside result ≡ false → result ≡ slotless node (files_of calls) }
-    ensures unrecorded { D.told disk.new ≡ D.told disk.old }
-    ensures cause { IsCauseOf node (D.faults disk.old) (D.faults disk.new) result }
-    ensures steady { D.faults disk.old ≤ D.faults disk.new }
-{
-    let mut gate = [0];
-    match disk.read(SYSTEM_FILE, 0, &mut gate) {
-        Ok(_) => RestartFault::Damaged {
-            node,
-            file: SYSTEM_FILE,
-            at: 0,
-            byte: gate[0],
-        },
-        Err(Failed) => RestartFault::DiskFault {
-            node,
-            count: disk.faults(),
-        },
     }
 }

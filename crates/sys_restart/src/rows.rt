@@ -11,8 +11,8 @@ use row_map::RowMap;
 use sig_core::{NoMemory, ReadFault};
 use std::alloc::Global;
 
-/// The rows of a checkpoint of this size, which a file begins with. `saved` is the saved epoch of the
-/// slot that names it: no row may be of a later one. Of the rows of one key the last counts.
+/// The rows of a checkpoint of this size, which a file begins with. No row may be of a later epoch than
+/// `latest`. Of the rows of one key the last counts.
 ///
 /// # Errors
 /// `Damaged` exactly where the bytes are no such checkpoint, or the file ends before them; `DiskFault`;
@@ -22,15 +22,15 @@ pub fn read_rows<D: Disk>(
     disk: &mut D,
     file: u8,
     size: u64,
-    saved: u64,
+    latest: u64,
 ) -> Result<RowMap, ReadFault>
-    ensures read { (calls : List Call) → D.told disk.old ≡ Some calls → Reads (rows_of_file file size saved (files_of calls file)) result }
+    ensures read { (calls : List Call) → D.told disk.old ≡ Some calls → Reads (rows_of_file file size latest (files_of calls file)) result }
     ensures unrecorded { D.told disk.new ≡ D.told disk.old }
     ensures cause { HasCause (D.faults disk.old) (D.faults disk.new) result }
     ensures steady { D.faults disk.old ≤ D.faults disk.new }
 {
     match read_file(alloc, disk, file, size) {
-        Ok(bytes) => rows_in_size(alloc, file, size, saved, &bytes),
+        Ok(bytes) => rows_in_size(alloc, file, size, latest, &bytes),
         Err(fault) => Err(fault),
     }
 }
@@ -40,14 +40,14 @@ fn rows_in_size(
     alloc: Global,
     file: u8,
     size: u64,
-    saved: u64,
+    latest: u64,
     bytes: &[u8],
 ) -> Result<RowMap, ReadFault>
-    ensures read { Reads (rows_in_size file size saved bytes.now) result }
+    ensures read { Reads (rows_in_size file size latest bytes.now) result }
     ensures cause { (before now : ℕ) → HasCause before now result }
 {
     let there = bytes.len() as u64;
-    match rows_in(alloc, file, saved, bytes) {
+    match rows_in(alloc, file, latest, bytes) {
         Ok(_) if there < size => Err(ReadFault::Damaged {
             file,
             at: there,

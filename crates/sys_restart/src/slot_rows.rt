@@ -17,8 +17,8 @@ use std::alloc::Global;
 /// but for what was committed in a later epoch.
 ///
 /// # Errors
-/// `Damaged` exactly where the checkpoint or the redo is, at the first byte that doesn't fit;
-/// `DiskFault`; `NoMemory`.
+/// `Damaged` exactly where the checkpoint or the redo is, at the first byte that doesn't fit, as where the
+/// checkpoint has a row of a later epoch; `DiskFault`; `NoMemory`.
 pub(crate) fn rows_of_slot<D: Disk>(
     alloc: Global,
     disk: &mut D,
@@ -31,7 +31,7 @@ pub(crate) fn rows_of_slot<D: Disk>(
     ensures cause { HasCause (D.faults disk.old) (D.faults disk.new) result }
     ensures steady { D.faults disk.old ≤ D.faults disk.new }
 {
-    let mut rows = match read_rows(alloc, disk, slot.ckpt_file, slot.ckpt_size, slot.saved) {
+    let mut rows = match read_rows(alloc, disk, slot.ckpt_file, slot.ckpt_size, epoch) {
         Ok(rows) => rows,
         Err(fault) => return Err(fault),
     };

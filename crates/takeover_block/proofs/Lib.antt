@@ -9,7 +9,6 @@ pub mod NotedEach
 pub mod NotedLemmas
 pub mod OrderLaw
 pub mod OrderLemmas
-pub mod SendLemmas
 pub mod SentEach
 pub mod SentLemmas
 pub mod SoundLemmas

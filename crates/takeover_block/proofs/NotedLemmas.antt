@@ -7,7 +7,7 @@ use Rattle.run_theory.specs.Lists.{Each}
 use Rattle.run_theory.proofs.Pasts.{each_after, each_append, each_before}
 use Rattle.sig_core.specs.declared.member.TxId.{TxId}
 use Rattle.sig_core.specs.Same.{same_tx}
-use Rattle.sig_core.proofs.Firsts.{place_by, position-cons}
+use Rattle.sig_core.proofs.Firsts.{behind, nothing_behind, place_by, position-cons}
 use Rattle.sig_core.proofs.Keys.{same_tx-self}
 use Rattle.sig_core.proofs.TxLemmas.{same_tx-is}
 use Rattle.takeover_block.specs.declared.gathered.Gathered.{Gathered}
@@ -39,10 +39,6 @@ pub record IsMore (tx : TxId) (key : List ℕ) (epoch : Option ℕ) (gs now : Li
   pub is : gs ≡ front ++ own ∷ back
   pub after : now ≡ front ++ told_more own key epoch ∷ back
 
-nothing_behind : (rest : Option ℕ) → place_by false rest ≡ None → rest ≡ None
-nothing_behind None is = refl
-nothing_behind (Some m) is = absurd cc
-
 pub other : (tx u : TxId) → same_tx u tx ≡ false → u ≡ tx → ⊥
 other tx u differs same =
     let yes : same_tx u tx ≡ true = ap (λ t. same_tx t tx) same ∙ same_tx-self tx in
@@ -68,15 +64,6 @@ record Split (tx : TxId) (gs : List Gathered) (at : ℕ) : Type 0 where
   is : gs ≡ front ++ own ∷ back
   get : slice_get gs at ≡ Some own
   put : (w : Gathered) → slice_set gs at w ≡ front ++ w ∷ back
-
-record Behind (rest : Option ℕ) (at : ℕ) : Type 0 where
-  place : ℕ
-  next : suc place ≡ at
-  found : rest ≡ Some place
-
-behind : (rest : Option ℕ) (at : ℕ) → place_by false rest ≡ Some at → Behind rest at
-behind None at is = absurd cc
-behind (Some m) at is = record { place = m; next = cc; found = refl }
 
 split_at : (tx : TxId) (gs : List Gathered) (at : ℕ) → position (is_of tx) gs ≡ Some at → Split tx gs at
 split_at tx [] at is = absurd cc

@@ -1,10 +1,9 @@
 -- What a takeover sends, stage by stage.
-use Rattle.std.specs.Prelude.{ℕ, ◌+◌, Bool, true, false, nat_lt, List, [], ◌∷◌, ◌++◌, length, map}
+use Rattle.std.specs.Prelude.{ℕ, List, [], ◌∷◌, ◌++◌, map}
 use Rattle.std.specs.List.{flat_map}
 use Rattle.sig_core.specs.declared.member.Member.{Member}
 use Rattle.sig_core.specs.declared.member.TxId.{TxId}
 use Rattle.sig_core.specs.declared.outs.Outgoing.{Outgoing}
-use Rattle.sig_core.specs.declared.portion.TheConstants.{PORTION}
 use Rattle.sig_core.specs.declared.signal.Body.TheVariants.{Client, Chain, Takeover}
 use Rattle.sig_core.specs.declared.signal.chain.ChainSignal.TheVariants.{Commit, Complete, Abort}
 use Rattle.sig_core.specs.declared.signal.client.ClientSignal.TheVariants.{TcKeyFailConf, TcKeyFailRef, NfCompleteRep}
@@ -13,20 +12,12 @@ use Rattle.sig_core.specs.declared.signal.takeover.TakeoverSignal.TheVariants.{L
 use Rattle.sig_core.specs.declared.view.View.{View}
 use Rattle.sig_core.specs.Chain.{last_place, node_at}
 use Rattle.sig_core.specs.Place.{checkpoints, client, rows_of, takeover}
-use Rattle.sig_core.specs.Portion.{portion_effects}
+use Rattle.sig_core.specs.Portion.{left_after, portion_effects}
 use Rattle.sig_core.specs.Step.{Effects, to_place}
 use Rattle.frag_map.specs.Layout.{Layout, chain_of}
 use Rattle.takeover_block.specs.declared.gathered.Gathered.{Gathered}
 use Rattle.takeover_block.specs.declared.stage.Stage.{Stage}
 use Rattle.takeover_block.specs.declared.stage.Stage.TheVariants.{Resting, Gathering, Committing, Completing, Aborting}
-
--- the place from which a list goes on after an event that sent from a place on; 0 where nothing is left
-abbrev pub left_if : ℕ → Bool → ℕ
-left_if at true = at + PORTION
-left_if at false = 0
-
-abbrev pub left_after : List Outgoing → ℕ → ℕ
-left_after sends at = left_if at (nat_lt (at + PORTION) (length sends))
 
 -- a member is asked for its records and markers
 abbrev pub ask_of : Member → Outgoing

@@ -9,7 +9,7 @@ use Rattle.sig_core.specs.declared.member.TxId.{TxId}
 use Rattle.sig_core.specs.Same.{same_tx}
 use Rattle.sig_core.proofs.TxLemmas.{same_tx-is, same_tx-swap}
 use Rattle.tc_block.specs.declared.transaction.Transaction.{Transaction}
-use Rattle.sig_core.proofs.Firsts.{place_by, position-cons}
+use Rattle.sig_core.proofs.Firsts.{behind, nothing_behind, place_by, position-cons}
 
 abbrev pub Live : Type 0
 Live = List (TxId × Transaction)
@@ -21,16 +21,6 @@ pub record Split (tx : TxId) (t : Transaction) (live : Live) (at : ℕ) : Type 0
   pub is : live ≡ front ++ (tx, t) ∷ back
   pub set : (w : Transaction) → set_value_at live at w ≡ front ++ (tx, w) ∷ back
   pub gone : remove live at ≡ front ++ back
-
--- where a place behind the first one comes from
-record Behind (rest : Option ℕ) (at : ℕ) : Type 0 where
-  place : ℕ
-  next : suc place ≡ at
-  found : rest ≡ Some place
-
-behind : (rest : Option ℕ) (at : ℕ) → place_by false rest ≡ Some at → Behind rest at
-behind None at is = absurd cc
-behind (Some m) at is = record { place = m; next = cc; found = refl }
 
 pub split_at : (tx : TxId) (live : Live) (at : ℕ) (t : Transaction) → position (same_tx tx) (keys_of live) ≡ Some at
     → slice_get (values_of live) at ≡ Some t → Split tx t live at
@@ -102,11 +92,7 @@ no_place tx (e ∷ es) is =
     by : (b : Bool) → same_tx tx e.0 ≡ b → place_by b (position (same_tx tx) (keys_of es)) ≡ None
         → (position (same_tx tx) (keys_of es) ≡ None → AreOthers tx es) → AreOthers tx (e ∷ es)
     by true own is more = absurd (let first : ◌≡◌ {A = Option ℕ} (Some 0) None = is in cc)
-    by false own is more = (same_tx-swap e.0 tx ∙ own, more (none (position (same_tx tx) (keys_of es)) is))
-      where
-        none : (o : Option ℕ) → place_by false o ≡ None → o ≡ None
-        none None q = refl
-        none (Some m) q = absurd cc
+    by false own is more = (same_tx-swap e.0 tx ∙ own, more (nothing_behind (position (same_tx tx) (keys_of es)) is))
 
 -- no transaction stands twice
 abbrev pub KeysOnce : Live → Type 0

@@ -1,7 +1,6 @@
 -- A later start of a life.
-use Rattle.std.specs.Prelude.{ℕ, Option, None, Some}
+use Rattle.std.specs.Prelude.{ℕ}
 use Rattle.sig_core.specs.declared.member.Member.{Member}
-use Rattle.sig_core.specs.declared.slots.Own.{Own}
 use Rattle.sig_core.specs.declared.slots.Slots.{Slots}
 use Rattle.sig_core.specs.declared.view.View.{View}
 
@@ -14,11 +13,3 @@ pub record Late : Type 0 where
   pub view : View
   pub slots : Slots
   pub never : ⊥
-
-abbrev epoch_in : Option Own → ℕ
-epoch_in None = 0
-epoch_in (Some own) = own.epoch
-
--- the epoch of its own rows; 0 where it has none
-abbrev pub own_epoch : Late → ℕ
-own_epoch late = epoch_in late.slots.own

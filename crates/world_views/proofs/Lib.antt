@@ -12,6 +12,7 @@ pub mod Entered
 pub mod FailDriven
 pub mod FreshBodies
 pub mod FreshWorld
+pub mod FrontLemmas
 pub mod GivenFacts
 pub mod HandleLemmas
 pub mod LinkFacts

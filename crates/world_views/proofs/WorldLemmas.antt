@@ -234,11 +234,6 @@ pub driven_world : (w t : Whole) → ((start : Start) → IsSound start w → Is
 driven_world w t driven is =
     record { start = is.start; sound = stays_sound is.start w t (driven is.start is.sound) is.sound }
 
-pub driven_ok : (result : Result (Unit {0}) NoMemory) (w t : Whole)
-    → ((start : Start) → IsSound start w → OnOk result (IsDriven start w t)) → IsWorld w → OnOk result (IsWorld t)
-driven_ok (Ok done) w t driven is = driven_world w t driven is
-driven_ok (Err fault) w t driven is = tt
-
 -- The shell was given a reply, or there was none.
 told_right : (start : Start) (given : List ApiReply) (w t : Whole) (reply : List ApiReply)
     → w ≡ record t { replies = reply ++ t.replies } → IsRight start given w → IsRight start (given ++ reply) t

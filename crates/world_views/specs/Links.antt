@@ -40,6 +40,10 @@ pub record AreLinks (n : ℕ) (links : Links) : Type 0 where
   pub inboxes : length links ≡ n
   pub each : (j : ℕ) → j < n → length (inbox_of links j) ≡ n
 
+-- there is a link from one host to another
+abbrev pub has_link : Links → ℕ → ℕ → Bool
+has_link links from to = nat_lt from (length (inbox_of links to))
+
 -- the link from a host of an inbox is this one now
 abbrev pub with_link : Inbox → ℕ → LinkState → Inbox
 with_link inbox from link = if nat_lt from (length inbox) then slice_set inbox from link else inbox

@@ -107,7 +107,7 @@ impl Model for Inbox {
 }
 
 impl Inbox {
-    ghost use Rattle.std.specs.Prelude.{replicate};
+    ghost use Rattle.std.specs.Prelude.{◌<◌, length, nat_lt, replicate};
     ghost use Rattle.world_views.specs.Links.{has_signal};
 
     /// A link from each of so many hosts, with nothing on it.
@@ -131,6 +131,13 @@ impl Inbox {
         self.busy > 0
     }
 
+    /// Whether there is a link from a host.
+    pub fn has_link(&self, from: u32) -> bool
+        ensures { result ≡ nat_lt from (length self.now) }
+    {
+        (from as usize) < self.links.len()
+    }
+
     /// Puts a signal on the link from its sender, behind the others.
     ///
     /// # Errors
@@ -142,15 +149,14 @@ impl Inbox {
         to: u32,
         sent: Outgoing,
     ) -> Result<(), NoMemory>
+        requires { by.host < length self.old }
         ensures { OnOk result (self.new ≡ with_link self.old by.host (behind by (routed to sent) (link_from self.old by.host))) }
     {
         let at = by.host as usize;
-        if at < self.links.len() {
-            let was_busy = self.links[at].is_busy();
-            self.links[at].put(alloc, by, to, sent)?;
-            if !was_busy {
-                self.busy += 1;
-            }
+        let was_busy = self.links[at].is_busy();
+        self.links[at].put(alloc, by, to, sent)?;
+        if !was_busy {
+            self.busy += 1;
         }
         Ok(())
     }

@@ -20,22 +20,25 @@ pub struct Arrived {
 #[derive(Drop)]
 pub struct Network {
     inboxes: Vec<Inbox>,
+    /// None of the first so many inboxes has a signal: so these are passed over.
+    idle: usize,
 }
 
 impl Model for Network {
-    ghost use Rattle.std.specs.Prelude.{◌^◌, ◌<◌, length};
-    ghost use Rattle.world_views.specs.Links.{Links};
+    ghost use Rattle.std.specs.Prelude.{◌≡◌, ◌≤◌, ◌^◌, ◌<◌, false, length, take};
+    ghost use Rattle.std.specs.List.{list_any};
+    ghost use Rattle.world_views.specs.Links.{Links, has_signal};
 
     ghost Value = { Links };
 
     ghost view = { λ n. n.inboxes.items };
 
-    ghost invariant = { λ n. length n.inboxes.items < 2 ^ 32 };
+    ghost invariant = { λ n. (length n.inboxes.items < 2 ^ 32) × (n.idle ≤ length n.inboxes.items) × (list_any has_signal (take n.idle n.inboxes.items) ≡ false) };
 }
 
 impl Network {
-    ghost use Rattle.std.specs.Prelude.{replicate};
-    ghost use Rattle.world_views.specs.Links.{changed, closed_by, lose, put, take_between, take_first};
+    ghost use Rattle.std.specs.Prelude.{replicate, true};
+    ghost use Rattle.world_views.specs.Links.{changed, closed_by, has_link, lose, put, take_between, take_first};
 
     /// A link from each of so many hosts to each, with nothing on it.
     ///
@@ -48,11 +51,20 @@ impl Network {
         for _ in 0..hosts {
             inboxes.push_reserved(Inbox::new(alloc, hosts)?);
         }
-        Ok(Network { inboxes })
+        Ok(Network { inboxes, idle: 0 })
     }
 
-    /// Puts a signal on the link from its sender to a host, behind the others. What is for a host
-    /// that isn't there is dropped.
+    /// Whether there is a link from one host to another: both are there.
+    pub fn has_link(&self, from: u32, to: u32) -> bool
+        ensures { result ≡ has_link self.now from to }
+    {
+        match self.inboxes.get(to as usize) {
+            Some(inbox) => inbox.has_link(from),
+            None => false,
+        }
+    }
+
+    /// Puts a signal on the link from its sender to a host, behind the others.
     ///
     /// # Errors
     /// `NoMemory`, and then the network is of no use.
@@ -63,13 +75,12 @@ impl Network {
         to: u32,
         sent: Outgoing,
     ) -> Result<(), NoMemory>
+        requires { has_link self.old by.host to ≡ true }
         ensures { OnOk result (self.new ≡ put self.old by (routed to sent)) }
     {
         let at = to as usize;
-        if at < self.inboxes.len() {
-            self.inboxes[at].put(alloc, by, to, sent)?;
-        }
-        Ok(())
+        self.idle = self.idle.min(at);
+        self.inboxes[at].put(alloc, by, to, sent)
     }
 
     /// Puts the last signal on the link from a host to another, behind the others.
@@ -81,6 +92,7 @@ impl Network {
     {
         let at = to as usize;
         if at < self.inboxes.len() {
+            self.idle = self.idle.min(at);
             self.inboxes[at].close(from, signal)?;
         }
         Ok(())
@@ -90,6 +102,7 @@ impl Network {
     pub fn lose(&mut self, from: u32, lost: u32)
         ensures { self.new ≡ lose self.old from lost }
     {
+        self.idle = 0;
         for inbox in self.inboxes.iter_mut() {
             inbox.lose(from, lost);
         }
@@ -101,7 +114,7 @@ impl Network {
         ensures kept { IfNone result (self.new ≡ self.old) }
         ensures taken { IfSome result (λ a. take_first self.old ≡ Some (arrival a.host a.signal self.new)) }
     {
-        let to = first_busy(&self.inboxes)?;
+        let to = self.first_busy()?;
         let from = self.inboxes[to].first_busy()?;
         self.take_between(from as u32, to as u32)
     }
@@ -116,12 +129,25 @@ impl Network {
         if at >= self.inboxes.len() {
             return None;
         }
+        self.idle = self.idle.min(at);
         let signal = self.inboxes[at].take(from)?;
         Some(Arrived { host: to, signal })
     }
+
+    // The place of the first inbox that has a signal.
+    #[inline(always)]
+    fn first_busy(&mut self) -> Option<usize>
+        ensures same { self.new ≡ self.old }
+        ensures value { result ≡ position has_signal self.old }
+        ensures inside { IfSome result (λ at. at < length self.old) }
+    {
+        let more = first_busy(&self.inboxes[self.idle..])?;
+        self.idle += more;
+        Some(self.idle)
+    }
 }
 
-/// The place of the first inbox that has a signal.
+// The place of the first of these inboxes that has a signal.
 fn first_busy(inboxes: &[Inbox]) -> Option<usize>
     ensures value { result ≡ position has_signal inboxes.now }
     ensures inside { IfSome result (λ at. at < length inboxes.now) }

@@ -1,7 +1,7 @@
 -- What a host was asked for: the same in both machines, where both say of the same steps that they were; and more
 -- after more steps.
-use Rattle.std.proofs.Common.{◌≡◌, ◌≤◌, Bool, true, false, List, [], ◌∷◌, ◌++◌, length, if◌then◌else◌}
-use Rattle.std.proofs.Common.{refl, sym, ap, ◌∙◌, subst, append-nil, append_assoc, length-append, arith}
+use Rattle.std.proofs.Common.{◌≡◌, Bool, true, false, List, [], ◌∷◌, ◌++◌, if◌then◌else◌}
+use Rattle.std.proofs.Common.{refl, sym, ap, ◌∙◌, subst, append-nil, append_assoc}
 use Rattle.std.specs.Prelude.{Option, None, option_to_list}
 use Rattle.api_block.specs.Requests.{is_request}
 use Rattle.run_theory.specs.Lists.{Each, IsPast}
@@ -35,10 +35,6 @@ same_requests (e ∷ log) all =
     ap (λ (rest : List ApiReq). rest ++ option_to_list (request_in e.step.taken.body)) (same_requests log all.1)
     ∙ ap (λ (o : Option ApiReq). requests log ++ option_to_list o)
     (request_by e.step.taken.body (is_asked e.host e.step.taken) all.0)
-
--- no older part is longer
-pub past_short : {A : Type 0} {xs ys : List A} → IsPast xs ys → length xs ≤ length ys
-past_short {A} {xs} p = omega (arith, ap length p.is, length-append p.newer xs)
 
 -- the requests of an older part come first
 pub record IsAskedBehind (base all : List HostStep) : Type 0 where

@@ -13,7 +13,7 @@ use Rattle.sig_core.specs.declared.signal.Signal.{Signal}
 use Rattle.sig_core.specs.declared.view.View.{View}
 use Rattle.gcp_master.specs.declared.phase.Phase.TheVariants.{Unordered, Committing}
 use Rattle.gcp_master.specs.declared.voices.Voice.{Voice}
-use Rattle.gcp_master.specs.Master.{fresh_master, master_row}
+use Rattle.gcp_master.specs.Master.{master_row}
 use Rattle.gcp_master.specs.State.{MasterState}
 use Rattle.gcp_master.proofs.Outcomes.{voice_of}
 use Rattle.gcp_master.specs.Voices as gcp
@@ -32,23 +32,23 @@ use Rattle.view_laws.proofs.eras.Deciders.{told_view}
 use Rattle.moment_laws.specs.Moments.{IsMoment, current, logs_of}
 use Rattle.moment_laws.specs.Parts.{IsPassed}
 use Rattle.moment_laws.specs.Places.{ldm_of, tc_of}
-use Rattle.moment_laws.proofs.MomentHosts.{main_low, tc_started}
+use Rattle.moment_laws.proofs.MomentHosts.{main_low}
 use Rattle.moment_laws.proofs.MomentTurns.{current_rises, host_low, old_current, own_behind, taker_stands}
 use Rattle.moment_laws.proofs.MomentViews.{current_above, current_number, moment_less, number_in}
 use Rattle.moment_laws.proofs.PartTaken.{IsTakenNow}
 use Rattle.epoch_laws.specs.Alike.{EachFull}
 use Rattle.epoch_laws.specs.Masters.{EachHeard}
-use Rattle.epoch_laws.specs.Members.{IsFirst, IsPresident, IsStanding, epochs_of, master_in, master_of}
+use Rattle.epoch_laws.specs.Members.{IsFirst, IsPresident, IsStanding, epochs_of, master_of}
 use Rattle.epoch_laws.specs.Stand.{AllStand}
 use Rattle.epoch_laws.proofs.MasterHears.{all_by_one, same_member-is, same_member-self}
 use Rattle.epoch_laws.proofs.MasterMoves.{HaveAll, with_one}
 use Rattle.epoch_laws.proofs.MasterSpeaks.{installed}
 use Rattle.epoch_laws.proofs.StandAll.{epochs_stand}
-use Rattle.epoch_laws.proofs.StandKinds.{RunsMain, Whose, of_main, of_rows, of_shell, of_tc, runs_main, runs_rows}
-use Rattle.epoch_laws.proofs.StandKinds.{runs_shell, whose}
+use Rattle.epoch_laws.proofs.StandKinds.{RunsMain, Whose, main_at, master_at, of_main, of_rows, of_shell, of_tc}
+use Rattle.epoch_laws.proofs.StandKinds.{runs_rows, runs_shell, whose}
 use Rattle.epoch_laws.proofs.StandMarks.{marks_are}
 use Rattle.epoch_laws.proofs.StandMasters.{master_view}
-use Rattle.epoch_laws.proofs.StepKinds.{RunsTc, runs_tc}
+use Rattle.epoch_laws.proofs.StepKinds.{tc_at}
 use Rattle.closing_laws.specs.Closed.{ClosersHaveHeardAll, HasEnded, IsClosing, IsOver}
 use Rattle.closing_laws.proofs.closers.NoClosings.{not_among}
 use Rattle.closing_laws.proofs.closers.Others.{HasNoMaster, others_close_none}
@@ -107,18 +107,13 @@ module _ (own : EndsAreOwn) (start : Start) (all : ℕ → List HostStep) (e : H
 
       module _ (me : Member) (there : IsIn me (made start)) (at : e.host ≡ main_of start me) where
         main_runs : RunsMain start s.parts
-        main_runs =
-            subst (λ h. RunsMain start (after start h (old h)).parts) (sym at)
-            (runs_main start me there (old (main_of start me)))
+        main_runs = main_at start me there e.host at (old e.host)
 
         abbrev p : MainPart
         p = main_runs.main
 
         master_is : master_of start old me ≡ p.master
-        master_is =
-            ap (λ h. master_in (fresh_master me (first_layout start.shape).view 0) (after start h (old h)).parts)
-            (sym at)
-            ∙ ap (master_in (fresh_master me (first_layout start.shape).view 0)) main_runs.is
+        master_is = master_at start old me e.host at (part.Main p) main_runs.is
 
         -- the master takes the signal in the view in which its host stood before
         module _ (seen : View) (stands : seen ≡ view_after start e.host (old e.host))
@@ -299,9 +294,7 @@ module _ (own : EndsAreOwn) (start : Start) (all : ℕ → List HostStep) (e : H
               absurd (no_master (part.Shell runs.shell) (ap (λ h. (after start h (old h)).parts) at ∙ runs.is) tt)
           by (of_main me there at) = of_main_host me there at
           by (of_tc me there at) =
-              let runs : RunsTc start (tc_of start me) (old (tc_of start me)) =
-              runs_tc start (tc_of start me) _ (ap (λ (s : node.HostBody). s.parts) (tc_started start me there))
-              (old (tc_of start me)) in
+              let runs = tc_at start (tc_of start me) me there refl (old (tc_of start me)) in
               absurd (no_master (part.Tc runs.part) (ap (λ h. (after start h (old h)).parts) at ∙ runs.is) tt)
           by (of_rows me there at) =
               let runs = runs_rows start me there (old (ldm_of start me)) in

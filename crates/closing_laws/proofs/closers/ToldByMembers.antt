@@ -1,6 +1,6 @@
 -- A member that has ended an epoch has ended it behind each event, and whatever was reported to be ended has ended.
 use Rattle.std.proofs.Common.{◌≡◌, ◌≤◌, ◌⊎◌, ◌++◌, ℕ, false, filter, List, [], ◌∷◌, refl, sym, ap, subst, ◌∙◌, inl, inr}
-use Rattle.run_theory.proofs.Pasts.{each_append, each_in, each_map}
+use Rattle.run_theory.proofs.Pasts.{each_append, each_filter, each_in, each_map}
 use Rattle.run_theory.specs.Lists.{Each, IsIn}
 use Rattle.run_theory.proofs.EventCases.{event_cases}
 use Rattle.sig_core.specs.declared.member.Member.{Member}
@@ -28,17 +28,15 @@ use Rattle.tc_views.specs.Coordinator.{coordinator_row}
 use Rattle.world_core.specs.Hosts.{member_at}
 use Rattle.world_core.specs.Start.{Start, made}
 use Rattle.world_core.specs.Steps.{Addressed, HostStep}
-use Rattle.world_views.specs.Hosts.{started}
 use Rattle.world_views.specs.Machine.{after, machine, signals_of, step_after}
 use Rattle.view_laws.specs.Order.{is_sound}
 use Rattle.view_laws.specs.Runs.{view_after}
 use Rattle.view_laws.specs.Votes.{main_of}
-use Rattle.view_laws.proofs.eras.SoundLogs.{each_filter}
 use Rattle.view_laws.proofs.follow.Senders.{IsSentBy, each_sent}
 use Rattle.moment_laws.specs.Moments.{IsMoment, logs_of}
 use Rattle.moment_laws.specs.PartSteps.{PartEnters, PartTakes, TcDoes, handles, ignores, installs, remains, tc_kind}
 use Rattle.moment_laws.specs.Places.{ldm_of, tc_of}
-use Rattle.moment_laws.proofs.MomentHosts.{part_some, tc_member, tc_started}
+use Rattle.moment_laws.proofs.MomentHosts.{part_some, tc_member}
 use Rattle.moment_laws.proofs.MomentSignals.{EachSent, sent_next}
 use Rattle.moment_laws.proofs.MomentTurns.{host_low, own_log}
 use Rattle.moment_laws.proofs.PartKinds.{tc_after, tc_is}
@@ -55,10 +53,10 @@ use Rattle.epoch_laws.proofs.SentMembership.{Orders, OrdersBy}
 use Rattle.epoch_laws.proofs.SentNone.{AreNoOrders, IsNoOrder, is_order}
 use Rattle.epoch_laws.proofs.SentParts.{entered_none, rows_send, shell_sends_none}
 use Rattle.epoch_laws.proofs.SentRows.{IsOfRows, IsOfRowsBy}
-use Rattle.epoch_laws.proofs.StandKinds.{RunsMain, RunsRows, RunsShell, Whose, of_main, of_rows, of_shell, of_tc}
-use Rattle.epoch_laws.proofs.StandKinds.{runs_main, runs_rows, runs_shell, whose}
+use Rattle.epoch_laws.proofs.StandKinds.{RunsMain, RunsRows, RunsShell, Whose, main_at, of_main, of_rows, of_shell}
+use Rattle.epoch_laws.proofs.StandKinds.{of_tc, runs_rows, runs_shell, whose}
 use Rattle.epoch_laws.proofs.StandTakes.{taken_rises}
-use Rattle.epoch_laws.proofs.StepKinds.{RunsTc, runs_tc}
+use Rattle.epoch_laws.proofs.StepKinds.{RunsTc, tc_at}
 use Rattle.epoch_laws.proofs.StepMain.{IsStepOfMain, main_steps}
 use Rattle.epoch_laws.proofs.StepMain as main
 use Rattle.closing_laws.specs.Closed.{HasEnded}
@@ -169,10 +167,7 @@ module _ (start : Start) (all : ℕ → List HostStep) (e : HostStep) (es : List
     -- what the host of a member's epochs sends
     module _ (me : Member) (there : IsIn me (made start)) (at : e.host ≡ tc_of start me) where
       runs : RunsTc start e.host (old e.host)
-      runs =
-          runs_tc start e.host _
-          (ap (λ h. (started start h).parts) at ∙ ap (λ (s : node.HostBody). s.parts) (tc_started start me there))
-          (old e.host)
+      runs = tc_at start e.host me there at (old e.host)
 
       did : TcDoes start.shape runs.part (view_after start e.host (old e.host)) x
           (after start e.host (e ∷ old e.host)).parts stood sends
@@ -252,9 +247,7 @@ module _ (start : Start) (all : ℕ → List HostStep) (e : HostStep) (es : List
       main_ends me there at = by step.did
         where
           main_runs : RunsMain start (after start e.host (old e.host)).parts
-          main_runs =
-              subst (λ h. RunsMain start (after start h (old h)).parts) (sym at)
-              (runs_main start me there (old (main_of start me)))
+          main_runs = main_at start me there e.host at (old e.host)
 
           step : IsStepOfMain (after start e.host (old e.host)) x main_runs.main stood
               (after start e.host (e ∷ old e.host)).parts sends

@@ -35,7 +35,6 @@ use Rattle.tc_views.specs.Coordinator.{coordinator_row}
 use Rattle.world_core.specs.Hosts.{member_at}
 use Rattle.world_core.specs.Start.{Start, made}
 use Rattle.world_core.specs.Steps.{HostStep}
-use Rattle.world_views.specs.Hosts.{started}
 use Rattle.world_views.specs.Machine.{after, step_after, told}
 use Rattle.view_laws.specs.Runs.{view_after}
 use Rattle.view_laws.specs.Votes.{main_of}
@@ -43,7 +42,7 @@ use Rattle.moment_laws.specs.Moments.{IsMoment, current, logs_of}
 use Rattle.moment_laws.specs.Parts.{IsPassed}
 use Rattle.moment_laws.specs.PartSteps.{PartEnters, PartTakes, TcDoes, handles, ignores, installs, remains, tc_kind}
 use Rattle.moment_laws.specs.Places.{ldm_of, tc_of}
-use Rattle.moment_laws.proofs.MomentHosts.{part_some, tc_member, tc_started}
+use Rattle.moment_laws.proofs.MomentHosts.{part_some, tc_member}
 use Rattle.moment_laws.proofs.MomentMembers.{current_host}
 use Rattle.moment_laws.proofs.MomentSignals.{epoch_told}
 use Rattle.moment_laws.proofs.MomentTurns.{host_low, own_behind, own_log}
@@ -60,10 +59,11 @@ use Rattle.epoch_laws.proofs.SentMembership.{Orders}
 use Rattle.epoch_laws.proofs.SentNone.{AreNoOrders, IsNoOrder}
 use Rattle.epoch_laws.proofs.SentParts.{entered_none, rows_send, shell_sends_none}
 use Rattle.epoch_laws.proofs.SentRows.{IsOfRows}
-use Rattle.epoch_laws.proofs.StandKinds.{RunsMain, RunsRows, RunsShell, runs_main, runs_rows, runs_shell}
+use Rattle.epoch_laws.proofs.StandKinds.{RunsMain, RunsRows, RunsShell, main_at, master_at, runs_rows}
+use Rattle.epoch_laws.proofs.StandKinds.{runs_shell}
 use Rattle.epoch_laws.proofs.StandMarks.{full_before, marks_are}
 use Rattle.epoch_laws.proofs.StandTakes.{taken_rises}
-use Rattle.epoch_laws.proofs.StepKinds.{RunsTc, runs_tc}
+use Rattle.epoch_laws.proofs.StepKinds.{RunsTc, tc_at}
 use Rattle.epoch_laws.proofs.StepMain.{IsStepOfMain, main_steps}
 use Rattle.epoch_laws.proofs.StepMain as main
 use Rattle.closing_laws.specs.Closed.{WasClosed}
@@ -132,10 +132,7 @@ module _ (start : Start) (all : ℕ → List HostStep) (e : HostStep) (es : List
     -- epochs
     module _ (me : Member) (there : IsIn me (made start)) (at : e.host ≡ tc_of start me) where
       tc_runs : RunsTc start e.host (old e.host)
-      tc_runs =
-          runs_tc start e.host _
-          (ap (λ h. (started start h).parts) at ∙ ap (λ (s : node.HostBody). s.parts) (tc_started start me there))
-          (old e.host)
+      tc_runs = tc_at start e.host me there at (old e.host)
 
       tc_did : TcDoes start.shape tc_runs.part (view_after start e.host (old e.host)) x
           (after start e.host (e ∷ old e.host)).parts stood sends
@@ -270,14 +267,12 @@ module _ (start : Start) (all : ℕ → List HostStep) (e : HostStep) (es : List
       step = step_after start e.host (old e.host) e
 
       main_runs : RunsMain start (after start e.host (old e.host)).parts
-      main_runs =
-          subst (λ h. RunsMain start (after start h (old h)).parts) (sym at)
-          (runs_main start me there (old (main_of start me)))
+      main_runs = main_at start me there e.host at (old e.host)
 
       main_old : IsGoodPhase start old main_runs.main.master.phase
       main_old =
           subst (λ (s : MasterState). IsGoodPhase start old s.phase)
-          (ap (λ h. masters_in (after start h (old h)).parts) (sym at) ∙ ap masters_in main_runs.is)
+          (master_at start old me e.host at (part.Main main_runs.main) main_runs.is)
           (noted.masters me there)
 
       parts_new : (after start e.host (e ∷ old e.host)).parts ≡ step.state.parts
@@ -286,8 +281,8 @@ module _ (start : Start) (all : ℕ → List HostStep) (e : HostStep) (es : List
       master_new : (parts : Parts) → (after start e.host (e ∷ old e.host)).parts ≡ parts
           → master_of start new me ≡ masters_in parts
       master_new parts is =
-          ap (λ h. masters_in (after start h (new h)).parts) (sym at)
-          ∙ ap (λ log. masters_in (after start e.host log).parts) (own_log start all e es moment) ∙ ap masters_in is
+          master_at start new me e.host at parts
+          (ap (λ log. (after start e.host log).parts) (own_log start all e es moment) ∙ is)
 
       -- what is marked now
       closed_here : (epoch : ℕ) → IsIn (Closed epoch) step.effects.marks → WasClosed start new epoch

@@ -1,7 +1,6 @@
 -- Epochs are marked closed, and durable, by masters alone.
 use Rattle.std.proofs.Common.{◌≡◌, ◌⊎◌, ◌∙◌, true, ℕ, List, ◌∷◌, sym, ap, subst, inl, inr}
 use Rattle.std.proofs.lemmas.Bool.{false≢true}
-use Rattle.frag_map.specs.Layout.{first_layout}
 use Rattle.run_theory.proofs.Pasts.{each_in}
 use Rattle.run_theory.specs.Lists.{IsIn}
 use Rattle.sig_core.specs.declared.mark.Mark.{Mark}
@@ -13,7 +12,7 @@ use Rattle.sig_core.specs.declared.view.View.{View}
 use Rattle.sig_core.specs.Step.{Step}
 use Rattle.gcp_master.specs.declared.phase.Phase.TheVariants.{Unordered, Committing, Copying}
 use Rattle.gcp_master.specs.declared.voices.Voice.{Voice}
-use Rattle.gcp_master.specs.Master.{fresh_master, master_row}
+use Rattle.gcp_master.specs.Master.{master_row}
 use Rattle.gcp_master.specs.State.{MasterState}
 use Rattle.gcp_master.proofs.Outcomes.{voice_of}
 use Rattle.node_views.specs.declared.host_body.HostBody as node
@@ -29,11 +28,11 @@ use Rattle.view_laws.proofs.ballots.MadeSets.{in_either}
 use Rattle.moment_laws.specs.Moments.{IsMoment, logs_of}
 use Rattle.moment_laws.specs.Places.{ldm_of, tc_of}
 use Rattle.moment_laws.proofs.MomentTurns.{host_low}
-use Rattle.epoch_laws.specs.Members.{master_in, master_of}
+use Rattle.epoch_laws.specs.Members.{master_of}
 use Rattle.epoch_laws.specs.Stand.{AllStand}
 use Rattle.epoch_laws.proofs.MasterSpeaks.{installed}
-use Rattle.epoch_laws.proofs.StandKinds.{RunsMain, Whose, of_main, of_rows, of_shell, of_tc, runs_main, runs_rows}
-use Rattle.epoch_laws.proofs.StandKinds.{runs_shell, whose}
+use Rattle.epoch_laws.proofs.StandKinds.{RunsMain, Whose, main_at, master_at, of_main, of_rows, of_shell, of_tc}
+use Rattle.epoch_laws.proofs.StandKinds.{runs_rows, runs_shell, whose}
 use Rattle.epoch_laws.proofs.StandMarks.{marks_are, runs_epochs}
 use Rattle.closing_laws.proofs.closers.NoClosings.{is_closing, not_among}
 use Rattle.closing_laws.proofs.closers.Others.{HasNoMaster, others_close_none}
@@ -77,18 +76,13 @@ module _ (start : Start) (all : ℕ → List HostStep) (e : HostStep) (es : List
 
       module _ (me : Member) (there : IsIn me (made start)) (at : e.host ≡ main_of start me) where
         main_runs : RunsMain start s.parts
-        main_runs =
-            subst (λ h. RunsMain start (after start h (old h)).parts) (sym at)
-            (runs_main start me there (old (main_of start me)))
+        main_runs = main_at start me there e.host at (old e.host)
 
         abbrev p : MainPart
         p = main_runs.main
 
         master_is : master_of start old me ≡ p.master
-        master_is =
-            ap (λ h. master_in (fresh_master me (first_layout start.shape).view 0) (after start h (old h)).parts)
-            (sym at)
-            ∙ ap (master_in (fresh_master me (first_layout start.shape).view 0)) main_runs.is
+        master_is = master_at start old me e.host at (part.Main p) main_runs.is
 
         abbrev MarksIt : MainPart → Type 0
         MarksIt q = IsMarkOf q.master (voice_of x) x.body mark

@@ -16,9 +16,8 @@ use Rattle.sig_core.specs.declared.place.BlockId.{BlockId}
 use Rattle.sig_core.specs.declared.place.BlockId.TheVariants as block
 use Rattle.sig_core.specs.declared.place.Place.{Place}
 use Rattle.sig_core.specs.declared.signal.Body.{Body}
-use Rattle.sig_core.specs.declared.signal.Body.TheVariants.{Host, Takeover}
+use Rattle.sig_core.specs.declared.signal.Body.TheVariants.{Takeover}
 use Rattle.sig_core.specs.declared.signal.Signal.{Signal}
-use Rattle.sig_core.specs.declared.signal.host.HostSignal.TheVariants.{Closed}
 use Rattle.sig_core.specs.declared.signal.takeover.TakeoverSignal.TheVariants.{LqhTransEnd, TakeoverEnd}
 use Rattle.sig_core.specs.declared.view.View.{View}
 use Rattle.frag_map.specs.Layout.{Layout, first_layout}
@@ -44,9 +43,10 @@ use Rattle.moment_laws.specs.Parts.{IsPassed}
 use Rattle.moment_laws.specs.PartSteps.{PartEnters, PartTakes, handles, ignores, installs, remains, tc_kind}
 use Rattle.moment_laws.specs.Places.{tc_of}
 use Rattle.moment_laws.proofs.MomentHosts.{tc_low, tc_started}
-use Rattle.moment_laws.proofs.MomentSignals.{IsClosed, sent_below}
+use Rattle.moment_laws.proofs.MomentSignals.{sent_below}
 use Rattle.moment_laws.proofs.MomentTurns.{current_rises, old_current}
 use Rattle.moment_laws.proofs.MomentViews.{current_number, moment_less, number_in, stands_in_current}
+use Rattle.outcome_laws.proofs.knowledge.Moments.{is_host, not_closed}
 use Rattle.request_laws.specs.Blocks.{takeover_after, takeover_in}
 use Rattle.request_laws.proofs.phases.Stands.{coordinators_stand}
 use Rattle.request_laws.proofs.routes.Entering.{own_full}
@@ -406,8 +406,8 @@ all_seen_to start all es moment member there over =
     given_so m (sound_closes start) Told (tc_of start member) (main_of start member)
     (logs_of start es (tc_of start member)) (taken m (tc_of start member) (logs_of start es (main_of start member)))
     ((sees_to_all start all es moment).over member there (main_of start member))
-    ((logs_of_run m es moment.run).linked (tc_of start member) (main_of start member)) over.signal over.there not_closed
-    over.body over.number
+    ((logs_of_run m es moment.run).linked (tc_of start member) (main_of start member)) over.signal over.there
+    (not_closed over.signal.signal.body (ap is_host over.body)) over.body over.number
   where
     m : Machine HostStep Addressed
     m = sound_machine start
@@ -415,10 +415,6 @@ all_seen_to start all es moment member there over =
     Told : Addressed → Type 0
     Told = λ y. y.signal.body ≡ Takeover TakeoverEnd
         → y.signal.view.number ≡ current_number start (logs_of start es) → AreSeenTo start (logs_of start es)
-
-    not_closed : IsClosed over.signal.signal.body → ⊥
-    not_closed closed =
-        let differ : Takeover TakeoverEnd ≡ Host (Closed closed.cause) = sym over.body ∙ closed.is in absurd cc
 
 pub over_is_done : OverIsDone
 over_is_done start all es moment member there over tx orphan fated =

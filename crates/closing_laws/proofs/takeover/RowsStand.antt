@@ -7,16 +7,15 @@ use Rattle.run_theory.specs.Links.{sent, sent_by, taken}
 use Rattle.run_theory.specs.Lists.{Each, IsIn}
 use Rattle.run_theory.specs.Machine.{Machine}
 use Rattle.run_theory.proofs.Links.{put_each, sent_by_each}
-use Rattle.run_theory.proofs.Pasts.{each_from, each_in, each_map}
+use Rattle.run_theory.proofs.Pasts.{each_filter, each_from, each_in, each_map}
 use Rattle.run_theory.proofs.Runs.{given_taken, log_of-own, logs_of_run}
 use Rattle.run_theory.proofs.EventCases.{event_cases}
 use Rattle.sig_core.specs.declared.member.Member.{Member}
 use Rattle.sig_core.specs.declared.outs.Outgoing.{Outgoing}
 use Rattle.sig_core.specs.declared.place.BlockId.{BlockId}
 use Rattle.sig_core.specs.declared.place.BlockId.TheVariants as block
-use Rattle.sig_core.specs.declared.signal.Body.TheVariants.{Host, Takeover}
+use Rattle.sig_core.specs.declared.signal.Body.TheVariants.{Takeover}
 use Rattle.sig_core.specs.declared.signal.Signal.{Signal}
-use Rattle.sig_core.specs.declared.signal.host.HostSignal.TheVariants.{Closed}
 use Rattle.sig_core.specs.declared.signal.takeover.TakeoverSignal.TheVariants.{LqhTransEnd, TakeoverEnd}
 use Rattle.sig_core.specs.declared.view.View.{View}
 use Rattle.frag_map.specs.Layout.{Layout, first_layout}
@@ -35,7 +34,6 @@ use Rattle.world_views.specs.Machine.{machine, signals_of, step_after}
 use Rattle.view_laws.specs.Order.{is_sound, sound_machine}
 use Rattle.view_laws.specs.Runs.{view_after}
 use Rattle.view_laws.specs.Votes.{main_of}
-use Rattle.view_laws.proofs.eras.SoundLogs.{each_filter}
 use Rattle.view_laws.proofs.follow.Senders.{each_sent}
 use Rattle.moment_laws.specs.Moments.{IsMoment, current, logs_of}
 use Rattle.moment_laws.specs.Parts.{IsPassed}
@@ -43,9 +41,10 @@ use Rattle.moment_laws.specs.PartSteps.{PartEnters, PartTakes, handles, ignores,
 use Rattle.moment_laws.specs.Places.{ldm_of, tc_of}
 use Rattle.moment_laws.proofs.MomentHosts.{tc_low, tc_started}
 use Rattle.moment_laws.proofs.MomentMembers.{current_made}
-use Rattle.moment_laws.proofs.MomentSignals.{IsClosed, sent_below, sent_low}
+use Rattle.moment_laws.proofs.MomentSignals.{sent_below, sent_low}
 use Rattle.moment_laws.proofs.MomentTurns.{current_rises, number_rises, old_current}
 use Rattle.moment_laws.proofs.MomentViews.{current_above, current_number, moment_less, number_in, stands_in_current}
+use Rattle.outcome_laws.proofs.knowledge.Moments.{is_host, not_closed}
 use Rattle.request_laws.specs.Blocks.{takeover_after, takeover_in}
 use Rattle.request_laws.specs.Routed.{layout_in}
 use Rattle.request_laws.proofs.routes.Headers.{takeover_fenced}
@@ -136,11 +135,6 @@ module _ (start : Start) (all : ℕ → List HostStep) (e : HostStep) (es : List
         l : ℕ
         l = ldm_of start one
 
-        not_closed : IsClosed y.signal.body → ⊥
-        not_closed closed =
-            let differ : Takeover LqhTransEnd ≡ Host (Closed closed.cause) = sym ended.ends.body ∙ closed.is in
-            absurd cc
-
         low : y.signal.view.number ≤ number_in start old l
         low =
             given_so n (sound_closes start) (λ (z : Addressed). z.signal.view.number ≤ number_in start old l) l
@@ -148,7 +142,7 @@ module _ (start : Start) (all : ℕ → List HostStep) (e : HostStep) (es : List
             (sent_low start l (tc_of start member) (old l))
             (given_taken n es e l (tc_of start member) moment.run.1
             ((logs_of_run n es moment.run.0).linked l (tc_of start member)))
-            y ended.there not_closed
+            y ended.there (not_closed y.signal.body (ap is_host ended.ends.body))
 
     module _ (was : OversStand start old) (member : Member) (there : IsIn member (made start)) where
       abbrev h : ℕ
@@ -377,8 +371,8 @@ over_stands start all es moment member there over =
     given_so n (sound_closes start) Told h (main_of start member) (logs_of start es h)
     (taken n h (logs_of start es (main_of start member)))
     ((overs_stand start all es moment).over member there (main_of start member))
-    ((logs_of_run n es moment.run).linked h (main_of start member)) over.signal over.there not_closed over.body
-    over.number
+    ((logs_of_run n es moment.run).linked h (main_of start member)) over.signal over.there
+    (not_closed over.signal.signal.body (ap is_host over.body)) over.body over.number
   where
     n : Machine HostStep Addressed
     n = sound_machine start
@@ -389,7 +383,3 @@ over_stands start all es moment member there over =
     Told : Addressed → Type 0
     Told = λ y. y.signal.body ≡ Takeover TakeoverEnd
         → y.signal.view.number ≡ current_number start (logs_of start es) → AreStanding start (logs_of start es)
-
-    not_closed : IsClosed over.signal.signal.body → ⊥
-    not_closed closed =
-        let differ : Takeover TakeoverEnd ≡ Host (Closed closed.cause) = sym over.body ∙ closed.is in absurd cc

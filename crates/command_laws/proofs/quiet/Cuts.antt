@@ -1,6 +1,6 @@
 -- Of two quiet moments of the same logs, the one that comes first in host 0's log is a cut of the other.
 use Rattle.std.proofs.Common.{◌≡◌, ◌≢◌, ◌⊎◌, ◌<◌, ◌≤◌, ℕ, Bool, true, false, List, [], ◌∷◌, ◌++◌, length, refl, sym, ap}
-use Rattle.std.proofs.Common.{◌∙◌, subst, inl, inr, length-append, arith}
+use Rattle.std.proofs.Common.{◌∙◌, subst, inl, inr, arith}
 use Rattle.std.proofs.lemmas.Bool.{cases_lt, false≢true}
 use Rattle.run_theory.proofs.EventCases.{event_each}
 use Rattle.run_theory.specs.Cuts.{IsCut}
@@ -13,13 +13,9 @@ use Rattle.run_theory.proofs.Along.{along_run, within_cut}
 use Rattle.run_theory.proofs.Cuts.{taken_past}
 use Rattle.run_theory.proofs.Links.{sent_more}
 use Rattle.run_theory.proofs.Merging.{logs_merged, merged_run}
-use Rattle.run_theory.proofs.Pasts.{past_cases, past_nil, past_self, past_trans, past_whole}
+use Rattle.run_theory.proofs.Pasts.{past_cases, past_nil, past_self, past_short, past_trans, past_whole}
 use Rattle.run_theory.proofs.Runs.{log_of-own, log_of-past}
 use Rattle.world_core.specs.Quiet.{IsQuiet}
-
--- an older part is no longer than the whole
-past_short : {A : Type 0} {xs ys : List A} → IsPast xs ys → length xs ≤ length ys
-past_short {A} {xs} p = omega (arith, ap length p.is, length-append p.newer xs)
 
 -- of two older parts of one list, one is an older part of the other
 past_either : {A : Type 0} (zs : List A) {xs ys : List A} → IsPast xs zs → IsPast ys zs → IsPast xs ys ⊎ IsPast ys xs

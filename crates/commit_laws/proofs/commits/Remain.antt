@@ -6,6 +6,7 @@ use Rattle.std.specs.List.{list_any}
 use Rattle.run_theory.specs.Links.{sent}
 use Rattle.run_theory.specs.Lists.{Each, IsIn}
 use Rattle.commit_laws.proofs.forth.Grows.{known_grows}
+use Rattle.sig_core.proofs.RecordLemmas.{record_of-first}
 use Rattle.sig_core.specs.declared.member.Member.{Member}
 use Rattle.sig_core.specs.declared.member.TxId.{TxId}
 use Rattle.sig_core.specs.declared.rows.PendingRecord.{PendingRecord}
@@ -22,7 +23,7 @@ use Rattle.key_laws.specs.Records.{as_committed, found, if_committed, unless_com
 use Rattle.key_laws.specs.Replica.{cell_at}
 use Rattle.key_laws.proofs.EpochLemmas.{record_in_cell, without}
 use Rattle.key_laws.proofs.RecordLemmas.{each_found}
-use Rattle.key_laws.proofs.RecordsAt.{each-first, record_of-first}
+use Rattle.key_laws.proofs.RecordsAt.{each-first}
 use Rattle.world_core.specs.Start.{Start, made}
 use Rattle.world_core.specs.Steps.{Addressed, HostStep}
 use Rattle.world_views.specs.Machine.{IsOwnWork}

@@ -7,7 +7,7 @@ use Rattle.std.specs.List.{count_by}
 use Rattle.run_theory.specs.Links.{sent_by}
 use Rattle.run_theory.specs.Lists.{Each, IsIn}
 use Rattle.run_theory.proofs.Links.{sent_by_each}
-use Rattle.run_theory.proofs.Pasts.{each_append, each_map}
+use Rattle.run_theory.proofs.Pasts.{each_append, each_filter, each_map}
 use Rattle.commit_laws.proofs.hosts.PartEach.{part_each}
 use Rattle.sig_core.specs.declared.member.Member.{Member}
 use Rattle.sig_core.specs.declared.outs.Outgoing.{Outgoing}
@@ -36,7 +36,6 @@ use Rattle.world_views.specs.Machine.{signals_of, step_after}
 use Rattle.world_views.specs.Sending.{is_own_work}
 use Rattle.view_laws.specs.Order.{is_sound, sound_machine}
 use Rattle.view_laws.specs.Runs.{view_after}
-use Rattle.view_laws.proofs.eras.SoundLogs.{each_filter}
 use Rattle.view_laws.proofs.follow.Senders.{each_sent}
 use Rattle.view_laws.proofs.words.Coordinator.{coordinator_installs_kinds, coordinator_kinds}
 use Rattle.view_laws.proofs.words.Sent.{IsOf}

@@ -5,14 +5,12 @@ use Rattle.run_theory.specs.Lists.{IsIn}
 use Rattle.host_laws.proofs.hosts.Sums.{total_one, total_zero}
 use Rattle.sig_core.specs.declared.member.Member.{Member}
 use Rattle.sig_core.specs.declared.member.TxId.{TxId}
-use Rattle.frag_map.specs.Replicas.{first_start}
-use Rattle.world_core.proofs.MadeFirst.{begins_made, made_begins, nobody_starts}
+use Rattle.world_core.proofs.MadeFirst.{begins_made}
 use Rattle.world_core.specs.Hosts.{hosts}
 use Rattle.world_core.specs.Start.{Start, made}
 use Rattle.world_core.specs.Steps.{HostStep}
 use Rattle.world_views.specs.Machine.{step_after}
-use Rattle.view_laws.proofs.follow.Hosts.{first_of}
-use Rattle.view_laws.proofs.runs.FirstMembers.{first_in, node_low, node_some}
+use Rattle.view_laws.proofs.runs.FirstMembers.{first_again, first_in, node_low, node_some}
 use Rattle.moment_laws.specs.Moments.{IsMoment, logs_of}
 use Rattle.moment_laws.specs.Places.{tc_of}
 use Rattle.moment_laws.proofs.MomentTurns.{host_low}
@@ -91,11 +89,6 @@ module _ (start : Start) (all : ℕ → List HostStep) (tx : TxId) (number : ℕ
       along drive wk m =
           sent_along start (numbered number (goes drive (mine tx wk))) (tc_of start m) (logs (tc_of start m))
 
-      own_is : node_of me.node ≡ me
-      own_is =
-          let first = first_of start.shape.nodes me (made_begins start (nobody_starts start) me there) in
-          ap first_start (ap (λ (m : Member). m.node) first.is) ∙ sym first.is
-
       pub owners_own : (drive : Drive) (wk : List ℕ → Bool)
           → owners_sent start (numbered number (goes drive (mine tx wk))) logs ≤ along drive wk me
       owners_own drive wk =
@@ -104,4 +97,9 @@ module _ (start : Start) (all : ℕ → List HostStep) (tx : TxId) (number : ℕ
           (λ k some low off.
           no_keys es moment (node_of k) (begins_made start _ (first_in start.shape.nodes k some low))
           (λ is. off (sym (ap (λ (m : Member). m.node) is))) drive wk) in
-          omega (arith, all_of, total_of_zero (made start) (λ m. 0) (λ m there. refl), ap (along drive wk) own_is)
+          omega (
+            arith,
+            all_of,
+            total_of_zero (made start) (λ m. 0) (λ m there. refl),
+            ap (along drive wk) (first_again start me there),
+          )

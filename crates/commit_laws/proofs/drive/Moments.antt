@@ -1,5 +1,5 @@
 -- At each moment, in each view, no more keys were committed than their owners sent commits of, and no more completed.
-use Rattle.std.proofs.Common.{◌≡◌, ◌≢◌, ◌≤◌, ◌+◌, ◌==◌, ◌&&◌, ◌||◌, ◌∙◌, ℕ, Bool, true, false, List, [], ◌∷◌, refl, sym}
+use Rattle.std.proofs.Common.{◌≡◌, ◌≢◌, ◌≤◌, ◌+◌, ◌==◌, ◌&&◌, ◌||◌, ℕ, Bool, true, false, List, [], ◌∷◌, refl, sym}
 use Rattle.std.proofs.Common.{ap, subst, arith, inl, inr}
 use Rattle.std.proofs.lemmas.Bool.{and_parts, eqb-true, true≢false}
 use Rattle.std.specs.List.{count_by}
@@ -9,16 +9,14 @@ use Rattle.run_theory.proofs.EventCases.{event_cases, event_moves}
 use Rattle.host_laws.proofs.hosts.Sums.{total_add, total_same, total_zero}
 use Rattle.sig_core.specs.declared.member.Member.{Member}
 use Rattle.sig_core.specs.declared.signal.Signal.{Signal}
-use Rattle.frag_map.specs.Replicas.{first_start}
 use Rattle.tc_block.specs.Complete.{one_if}
-use Rattle.world_core.proofs.MadeFirst.{begins_made, made_begins, nobody_starts}
+use Rattle.world_core.proofs.MadeFirst.{begins_made}
 use Rattle.world_core.specs.Hosts.{hosts}
 use Rattle.world_core.specs.Start.{Start, made}
 use Rattle.world_core.specs.Steps.{Addressed, HostStep}
 use Rattle.world_views.specs.Machine.{step_after, machine}
 use Rattle.view_laws.specs.Order.{sound_machine}
-use Rattle.view_laws.proofs.follow.Hosts.{first_of}
-use Rattle.view_laws.proofs.runs.FirstMembers.{first_in, node_low, node_some}
+use Rattle.view_laws.proofs.runs.FirstMembers.{first_again, first_in, node_low, node_some}
 use Rattle.moment_laws.specs.Moments.{IsMoment, logs_of}
 use Rattle.moment_laws.specs.Places.{tc_of}
 use Rattle.moment_laws.proofs.MomentHosts.{tc_number}
@@ -152,11 +150,6 @@ module _ (start : Start) (all : ℕ → List HostStep) (e : HostStep) (es : List
         (λ me there. along_rises (tc_of start me))
 
     module _ (me : Member) (there : IsIn me (made start)) (at : e.host ≡ tc_of start me) where
-      own_is : node_of me.node ≡ me
-      own_is =
-          let first = first_of start.shape.nodes me (made_begins start (nobody_starts start) me there) in
-          ap first_start (ap (λ (m : Member). m.node) first.is) ∙ sym first.is
-
       others : (k : ℕ) → 1 ≤ k → k ≤ start.shape.nodes → k ≢ me.node
           → along (node_of k) behind ≡ along (node_of k) before
       others k some low off =
@@ -171,7 +164,8 @@ module _ (start : Start) (all : ℕ → List HostStep) (e : HostStep) (es : List
       owners_more =
           let swapped : owners_sent start p behind + along me before ≡ owners_sent start p before + along me behind =
           subst
-          (λ one. owners_sent start p behind + along one before ≡ owners_sent start p before + along one behind) own_is
+          (λ one. owners_sent start p behind + along one before ≡ owners_sent start p before + along one behind)
+          (first_again start me there)
           (total_of_made start (λ m. along m before) (λ m. along m behind) me.node
           (node_some start me there) (node_low start me there) others) in
           omega (arith, swapped, along_own (tc_of start me) at)

@@ -33,6 +33,7 @@ use Rattle.world_core.specs.Steps.{HostStep}
 use Rattle.world_views.specs.Machine.{step_after}
 use Rattle.world_views.specs.Sending.{is_own_work}
 use Rattle.view_laws.specs.Runs.{view_after}
+use Rattle.moment_laws.proofs.MomentViews.{current_number}
 use Rattle.moment_laws.specs.Moments.{IsMoment, logs_of}
 use Rattle.moment_laws.specs.Parts.{IsPassed}
 use Rattle.moment_laws.specs.PartSteps.{PartTakes, handles, ignores, tc_kind}
@@ -74,11 +75,33 @@ pub plain : (body : Body) → is_order body ≡ true
 plain (Takeover TakeoverOrd) own = (refl, λ y. refl)
 plain body own = absurd (true≢false (sym own))
 
+-- one that a takeover takes is counted
+pub order_taken : (start : Start) (all : ℕ → List HostStep) (e : HostStep) (es : List HostStep)
+    (moment : IsMoment start all (e ∷ es))
+    → IsTakenNow start all e es moment block.Takeover → e.step.taken.body ≡ Takeover TakeoverOrd
+    → 1 ≤ taken_now start all e es moment (numbered (current_number start (logs_of start (e ∷ es))) is_order)
+order_taken start all e es moment taken is =
+    let own : one_if (is_order e.step.taken.body) ≡ 1 = ap (λ b. one_if (is_order b)) is in
+    omega (arith, test_taken start all e es moment is_order plain block.Takeover taken, own)
+
 -- in each view one is taken at most
 abbrev pub OrdersAreOnce : Type 0
 OrdersAreOnce =
     (start : Start) (all : ℕ → List HostStep) (es : List HostStep) → IsMoment start all es → (number : ℕ)
     → all_taken start (numbered number is_order) (logs_of start es) ≤ 1
+
+-- so no host takes more
+pub order_few : OrdersAreOnce → (start : Start) (all : ℕ → List HostStep) (e : HostStep) (es : List HostStep)
+    → IsMoment start all (e ∷ es) → (number : ℕ)
+    → taken_along start (numbered number is_order) (e ∷ logs_of start es e.host) ≤ 1
+order_few orders start all e es moment number =
+    omega (
+      arith,
+      orders start all (e ∷ es) moment number,
+      total_at (hosts start) (λ h. taken_along start (numbered number is_order) (logs_of start (e ∷ es) h)) e.host
+          (host_low start all e es moment),
+      ap (taken_along start (numbered number is_order)) (own_log start all e es moment),
+    )
 
 module _ (start : Start) (me : Member) (tx : TxId) (key : List ℕ) (number k : ℕ) where
   abbrev pub sent_of : List HostStep → Drive → ℕ
@@ -176,7 +199,7 @@ module _ (orders : OrdersAreOnce) (start : Start) (all : ℕ → List HostStep) 
     -- an order that comes is the first
     first_order : IsPassed start.shape (part.Tc between) view x → x.to.block ≡ block.Takeover
         → x.body ≡ Takeover TakeoverOrd → (ordered + 1 ≤ ordered_behind) × (ordered ≡ 0)
-    first_order passed to is = (more, omega (arith, more, under))
+    first_order passed to is = (more, omega (arith, more, order_few orders start all e es moment number))
       where
         taken : IsTakenNow start all e es moment block.Takeover
         taken =
@@ -187,22 +210,10 @@ module _ (orders : OrdersAreOnce) (start : Start) (all : ℕ → List HostStep) 
         one =
             subst (λ m. 1 ≤ taken_now start all e es moment (numbered m is_order))
             (sym (ap (λ (v : View). v.number) taken.stands))
-            (let came = test_taken start all e es moment is_order plain block.Takeover taken in
-            let own = ap (λ b. one_if (is_order b)) is in omega (arith, came, own))
+            (order_taken start all e es moment taken is)
 
         more : ordered + 1 ≤ ordered_behind
         more = omega (arith, one)
-
-        under : ordered_behind ≤ 1
-        under =
-            omega (
-              arith,
-              orders start all (e ∷ es) moment number,
-              total_at (hosts start) (λ h. taken_along start (numbered number is_order) (logs_of start (e ∷ es) h))
-                  e.host
-                  (host_low start all e es moment),
-              ap (taken_along start (numbered number is_order)) (own_log start all e es moment),
-            )
 
     -- what stands once the view is installed
     module _ (before : StandsRuled start me tx key number e.host log between.takeover)

@@ -17,7 +17,7 @@ use Rattle.sig_core.specs.declared.signal.Signal.{Signal}
 use Rattle.sig_core.specs.declared.signal.takeover.TakeoverSignal.TheVariants.{TakeoverOrd}
 use Rattle.sig_core.specs.declared.view.View.{View}
 use Rattle.sig_core.specs.Place.{takeover}
-use Rattle.sig_core.specs.Portion.{rest_if}
+use Rattle.sig_core.specs.Portion.{left_if, rest_if}
 use Rattle.sig_core.specs.Same.{same_tx}
 use Rattle.sig_core.specs.Step.{Step, sends_only}
 use Rattle.frag_map.specs.Layout.{Layout}
@@ -30,7 +30,7 @@ use Rattle.takeover_block.specs.declared.sends.TheConstants.{SENDS}
 use Rattle.takeover_block.proofs.LawLemmas.{first_found}
 use Rattle.takeover_block.specs.Rule.{sending_on, entering, finishing, is_at_work, is_left, ruling, ruling_by, way_by}
 use Rattle.takeover_block.specs.Rule.{way_of}
-use Rattle.takeover_block.specs.Sends.{ask_effects, ask_of, asks_of, front_sends, key_sends, left_if, stage_effects}
+use Rattle.takeover_block.specs.Sends.{ask_effects, ask_of, asks_of, front_sends, key_sends, stage_effects}
 use Rattle.takeover_block.specs.Sends.{stage_left, stage_sends, told_aborted, told_over}
 use Rattle.takeover_block.specs.State.{TakeoverState, with_gathered}
 use Rattle.takeover_block.specs.Takeover.{takeover_row}

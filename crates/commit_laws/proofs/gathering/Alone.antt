@@ -16,7 +16,6 @@ use Rattle.sig_core.specs.declared.signal.Signal.{Signal}
 use Rattle.sig_core.specs.declared.signal.takeover.TakeoverSignal.TheVariants.{TakeoverOrd}
 use Rattle.sig_core.specs.declared.view.View.{View}
 use Rattle.sig_core.specs.Step.{Step}
-use Rattle.tc_block.specs.Complete.{one_if}
 use Rattle.lqh_block.specs.Views.{is_coordinated}
 use Rattle.takeover_block.specs.declared.gathered.Gathered.{Gathered}
 use Rattle.takeover_block.specs.declared.stage.Stage.{Stage}
@@ -46,14 +45,13 @@ use Rattle.moment_laws.proofs.PartTaken.{IsTakenNow}
 use Rattle.request_laws.specs.Blocks.{takeover_after}
 use Rattle.request_laws.specs.Tokens.{all_taken, taken_along}
 use Rattle.request_laws.proofs.routes.PartSteps.{TcStep, own_tc, takeover_is}
-use Rattle.request_laws.proofs.tokens.RowHosts.{test_taken}
 use Rattle.request_laws.proofs.tokens.FirstInView.{all_taken_more, taken_now}
 use Rattle.request_laws.specs.Orphans.{IsOrphan}
 use Rattle.commit_laws.specs.Ruling.{AllRest, NoneRuled}
 use Rattle.commit_laws.specs.Takeovers.{takeover_at}
 use Rattle.commit_laws.proofs.drive.Kinds.{numbered}
 use Rattle.commit_laws.proofs.drive.Ordered.{ruled}
-use Rattle.commit_laws.proofs.drive.Ruled.{OrdersAreOnce, is_order, plain}
+use Rattle.commit_laws.proofs.drive.Ruled.{OrdersAreOnce, is_order, order_taken}
 
 -- a sum is no less than one or two of what it adds
 one_low : (n : ℕ) (f : ℕ → ℕ) (h : ℕ) → h < n → f h ≤ total n f
@@ -249,15 +247,10 @@ module _ (orders : OrdersAreOnce) (start : Start) (all : ℕ → List HostStep) 
                   orders start all (e ∷ es) moment number,
                 ))
               where
-                own : one_if (is_order x.body) ≡ 1
-                own = ap (λ b. one_if (is_order b)) is
-
-                one : 1 ≤ taken_now start all e es moment
-                    (numbered (current_number start (logs_of start (e ∷ es))) is_order)
-                one = omega (arith, test_taken start all e es moment is_order plain block.Takeover taken, own)
-
                 now : 1 ≤ taken_now start all e es moment p
-                now = subst (λ m. 1 ≤ taken_now start all e es moment (numbered m is_order)) here one
+                now =
+                    subst (λ m. 1 ≤ taken_now start all e es moment (numbered m is_order)) here
+                    (order_taken start all e es moment taken is)
 
             module _ (at : e.host ≡ tc_of start member) where
               abbrev own : TcStep start (tc_of start member) log e

@@ -16,7 +16,7 @@ use Rattle.sig_core.specs.declared.signal.Body.{Body}
 use Rattle.sig_core.specs.declared.signal.host.Work.TheVariants as work
 use Rattle.sig_core.specs.declared.view.View.{View}
 use Rattle.sig_core.specs.Place.{takeover}
-use Rattle.sig_core.specs.Portion.{rest_if}
+use Rattle.sig_core.specs.Portion.{left_if, rest_if}
 use Rattle.sig_core.specs.Step.{Step}
 use Rattle.frag_map.specs.Layout.{Layout, chain_of}
 use Rattle.tc_block.specs.Complete.{one_if}
@@ -26,7 +26,7 @@ use Rattle.takeover_block.specs.declared.stage.Stage.{Stage}
 use Rattle.takeover_block.specs.declared.stage.Stage.TheVariants.{Aborting, Committing, Completing, Gathering, Resting}
 use Rattle.takeover_block.specs.Rule.{entering, finishing, ruling, ruling_by, way_by, way_of}
 use Rattle.takeover_block.specs.Sends.{abort_at, ask_effects, ask_left, ask_of, asks_of, front_sends, key_sends}
-use Rattle.takeover_block.specs.Sends.{key_sends_along, left_if, stage_effects, stage_sends}
+use Rattle.takeover_block.specs.Sends.{key_sends_along, stage_effects, stage_sends}
 use Rattle.takeover_block.specs.State.{TakeoverState, with_gathered}
 use Rattle.takeover_block.proofs.EachTakeover.{is_gathering}
 use Rattle.view_laws.specs.Sets.{AreApart, IsApart}

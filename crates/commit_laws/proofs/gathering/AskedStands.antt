@@ -5,7 +5,6 @@ use Rattle.std.proofs.Common.{sym, ap, arith, subst}
 use Rattle.std.proofs.lemmas.Bool.{cases_eq, true≢false}
 use Rattle.run_theory.specs.Lists.{IsIn}
 use Rattle.commit_laws.proofs.hosts.PartEach.{between_so}
-use Rattle.host_laws.proofs.hosts.Sums.{total_at}
 use Rattle.sig_core.specs.declared.member.Member.{Member}
 use Rattle.sig_core.specs.declared.outs.Outgoing.{Outgoing}
 use Rattle.sig_core.specs.declared.place.BlockId.{BlockId}
@@ -32,7 +31,6 @@ use Rattle.node_views.specs.declared.parts.Parts.TheVariants as part
 use Rattle.node_views.specs.declared.tc_part.TcPart.{TcPart}
 use Rattle.node_views.specs.Fence.{is_body_fenced}
 use Rattle.node_views.specs.Parts.{tc_row}
-use Rattle.world_core.specs.Hosts.{hosts}
 use Rattle.world_core.specs.Start.{Start, made}
 use Rattle.world_core.specs.Steps.{HostStep}
 use Rattle.world_views.specs.Machine.{step_after}
@@ -44,7 +42,6 @@ use Rattle.moment_laws.specs.PartSteps.{PartEnters, PartTakes, handles, ignores,
 use Rattle.moment_laws.specs.Places.{tc_of}
 use Rattle.moment_laws.proofs.MomentHosts.{tc_started}
 use Rattle.moment_laws.proofs.MomentMembers.{full_apart}
-use Rattle.moment_laws.proofs.MomentTurns.{host_low, own_log}
 use Rattle.moment_laws.proofs.PartKinds.{tc_is}
 use Rattle.moment_laws.proofs.PartTaken.{IsTakenNow, handled_now}
 use Rattle.outcome_laws.proofs.coordinators.Lists.{count_both}
@@ -61,7 +58,7 @@ use Rattle.commit_laws.proofs.gathering.AskedLists.{asks_once, counted, none_cou
 use Rattle.commit_laws.proofs.gathering.AskedTakeover.{Stands, off_stands, takes_quiet, takes_stand}
 use Rattle.commit_laws.proofs.drive.Idle.{idle_stays}
 use Rattle.commit_laws.proofs.drive.Kinds.{numbered}
-use Rattle.commit_laws.proofs.drive.Ruled.{OrdersAreOnce, is_order, plain}
+use Rattle.commit_laws.proofs.drive.Ruled.{OrdersAreOnce, is_order, order_few, plain}
 use Rattle.commit_laws.proofs.gathering.Words.{aside_none, asked_in, asks_at, coordinator_none, none_asks}
 use Rattle.commit_laws.proofs.gathering.Words.{tc_enters_none}
 use Rattle.commit_laws.proofs.orders.Sent.{sent_few}
@@ -193,20 +190,10 @@ module _ (orders : OrdersAreOnce) (start : Start) (all : ℕ → List HostStep) 
     -- an order that comes is the first
     first_order : IsPassed start.shape (part.Tc between) view x → x.to.block ≡ block.Takeover
         → x.body ≡ Takeover TakeoverOrd → (ordered + 1 ≤ ordered_behind) × (ordered ≡ 0)
-    first_order passed to is = (more, omega (arith, more, under))
+    first_order passed to is = (more, omega (arith, more, order_few orders start all e es moment number))
       where
         more : ordered + 1 ≤ ordered_behind
         more = takes_one is_order plain passed to (ap is_order is)
-
-        under : ordered_behind ≤ 1
-        under =
-            omega (
-              arith,
-              orders start all (e ∷ es) moment number,
-              total_at (hosts start) (λ h. taken_along start (numbered number is_order) (logs_of start (e ∷ es) h))
-                  e.host (host_low start all e es moment),
-              ap (taken_along start (numbered number is_order)) (own_log start all e es moment),
-            )
 
     -- what stands once the view is installed
     module _ (before : StandsAsked start me node number e.host log between.takeover) (few : sent ≤ ordered) where

@@ -6,7 +6,7 @@ use Rattle.std.proofs.lemmas.Bool.{cases_eq, eq-eqb, ne_eqb, and_right}
 use Rattle.std.proofs.lemmas.List.{append_assoc, append_cancel_right}
 use Rattle.std.specs.Prelude.{if◌then◌else◌, not}
 use Rattle.run_theory.proofs.Links.{sent_by_each}
-use Rattle.run_theory.proofs.Pasts.{each_map}
+use Rattle.run_theory.proofs.Pasts.{each_filter, each_map}
 use Rattle.run_theory.proofs.Runs.{if_false, if_true, log_of-other, log_of-own, taken-asked, taken-other, taken-step}
 use Rattle.run_theory.specs.Links.{IsGiven, put, sent, sent_by, taken}
 use Rattle.run_theory.specs.Lists.{Each, IsPast}
@@ -19,7 +19,6 @@ use Rattle.run_laws.specs.Transit.{joined, taken_by}
 use Rattle.run_laws.proofs.transit.Runs.{IsLast, chosen, chosen_without, is_on, last_chosen}
 use Rattle.world_views.specs.Machine.{cause_in, signals_of}
 use Rattle.view_laws.specs.Order.{is_sound, sound_machine}
-use Rattle.view_laws.proofs.eras.SoundLogs.{each_filter}
 use Rattle.view_laws.proofs.follow.Senders.{each_sent}
 use Rattle.moment_laws.specs.Moments.{IsMoment, logs_of}
 use Rattle.moment_laws.proofs.MomentViews.{moment_less}

@@ -22,7 +22,6 @@ use Rattle.sig_core.specs.declared.signal.takeover.TakeoverSignal.TheVariants.{L
 use Rattle.sig_core.specs.declared.view.View.{View}
 use Rattle.sig_core.specs.Step.{Step, stay}
 use Rattle.frag_map.specs.Layout.{first_layout}
-use Rattle.tc_block.specs.Complete.{one_if}
 use Rattle.lqh_views.specs.Replica.{replica_row}
 use Rattle.lqh_views.specs.State.{ReplicaState}
 use Rattle.takeover_block.specs.declared.stage.Stage.TheVariants.{Resting}
@@ -50,13 +49,12 @@ use Rattle.request_laws.specs.Tokens.{all_taken}
 use Rattle.request_laws.proofs.routes.Headers.{sent_so, takeover_fenced}
 use Rattle.request_laws.proofs.routes.Hosts.{PartHost, coordinates, is_beside, keeps_rows, part_host}
 use Rattle.request_laws.proofs.routes.PartSteps.{TcStep, own_tc, takeover_is}
-use Rattle.request_laws.proofs.tokens.RowHosts.{test_taken}
 use Rattle.request_laws.proofs.tokens.FirstInView.{all_taken_more, taken_now}
 use Rattle.commit_laws.specs.Takeovers.{takeover_at}
 use Rattle.commit_laws.specs.Traces.{rows_at}
 use Rattle.commit_laws.proofs.drive.Idle.{idle_stays}
 use Rattle.commit_laws.proofs.drive.Kinds.{numbered}
-use Rattle.commit_laws.proofs.drive.Ruled.{is_order, plain}
+use Rattle.commit_laws.proofs.drive.Ruled.{is_order, order_taken}
 use Rattle.commit_laws.proofs.hosts.RowsTurn.{IsBetween, RowsTurn, as_was, enter_now, entered, rest_now, rows_turn}
 use Rattle.commit_laws.proofs.hosts.RowsTurn.{take_now}
 use Rattle.commit_laws.proofs.hosts.SaverGoes.{IsOfSaver, of_saver}
@@ -117,17 +115,11 @@ module _ (start : Start) (all : ℕ → List HostStep) (e : HostStep) (es : List
     unordered : Stands e.host → IsTakenNow start all e es moment block.Takeover → x.body ≡ Takeover TakeoverOrd → ⊥
     unordered stands taken is = omega (arith, now, none)
       where
-        own : one_if (is_order x.body) ≡ 1
-        own = ap (λ b. one_if (is_order b)) is
-
-        one : 1 ≤ taken_now start all e es moment
-            (numbered (current_number start (logs_of start (e ∷ es))) is_order)
-        one = omega (arith, test_taken start all e es moment is_order plain block.Takeover taken, own)
-
         now : 1 ≤ taken_now start all e es moment (numbered number is_order)
         now =
             subst (λ m. 1 ≤ taken_now start all e es moment (numbered m is_order))
-            (current_is stands block.Takeover taken) one
+            (current_is stands block.Takeover taken)
+            (order_taken start all e es moment taken is)
 
     unasked : Stands e.host → IsTakenNow start all e es moment block.Lqh → x.body ≡ Takeover LqhTransReq → ⊥
     unasked stands taken is = true≢false (sym (ap is_of_reports is) ∙ off)

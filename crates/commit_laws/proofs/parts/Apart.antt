@@ -1,7 +1,7 @@
 -- The parts of a transaction's operations behind an event of the rows of a member, in the current view, where the rows
 -- do nothing, install a view, or do what isn't of the transaction.
 use Rattle.std.proofs.Common.{◌≡◌, ◌⊎◌, ◌∙◌, ℕ, true, false, List, ◌∷◌, refl, sym, ap, subst, inr}
-use Rattle.run_theory.proofs.Pasts.{each_map}
+use Rattle.run_theory.proofs.Pasts.{each_filter, each_map}
 use Rattle.run_theory.proofs.Runs.{log_of-own}
 use Rattle.run_theory.specs.Lists.{Each, IsIn}
 use Rattle.sig_core.specs.declared.member.Member.{Member}
@@ -22,7 +22,6 @@ use Rattle.run_laws.proofs.circle.OthersStay.{is_of}
 use Rattle.world_core.specs.Start.{Start, made}
 use Rattle.world_core.specs.Steps.{Addressed, HostStep}
 use Rattle.world_views.specs.Machine.{machine, step_after}
-use Rattle.view_laws.proofs.eras.SoundLogs.{each_filter}
 use Rattle.view_laws.specs.Runs.{view_after}
 use Rattle.moment_laws.specs.Moments.{IsMoment, current, logs_of}
 use Rattle.moment_laws.specs.Places.{ldm_of}

@@ -2,6 +2,7 @@
 -- for it, and no two are of one transaction.
 use Rattle.std.proofs.Common.{◌≡◌, ◌⊎◌, ◌==◌, ◌∙◌, ℕ, Bool, true, false, List, [], ◌∷◌, refl, sym, ap, subst, inl, inr}
 use Rattle.std.specs.Prelude.{if◌then◌else◌, Option, None, Some}
+use Rattle.run_theory.proofs.Pasts.{each_filter}
 use Rattle.run_theory.specs.Lists.{Each, IsIn}
 use Rattle.sig_core.specs.declared.member.Member.{Member}
 use Rattle.sig_core.specs.declared.member.TxId.{TxId}
@@ -30,7 +31,6 @@ use Rattle.key_laws.specs.Replica.{expires, expires_if, if_on, is_refused, rests
 use Rattle.world_core.specs.Start.{Start, made}
 use Rattle.world_core.specs.Steps.{Addressed, HostStep}
 use Rattle.run_laws.specs.Tokens.{is_token}
-use Rattle.view_laws.proofs.eras.SoundLogs.{each_filter}
 use Rattle.moment_laws.specs.Moments.{IsMoment, logs_of}
 use Rattle.moment_laws.proofs.MomentHosts.{ldm_started}
 use Rattle.moment_laws.proofs.MomentViews.{moment_less}

@@ -1,6 +1,7 @@
 -- What a signal makes of the record of one transaction on one key, where nothing is asked for it there.
 use Rattle.std.proofs.Common.{◌≡◌, ◌⊎◌, ◌==◌, ◌∙◌, ℕ, Bool, true, false, List, [], ◌∷◌, refl, sym, ap, subst, inl, inr}
 use Rattle.std.specs.Prelude.{if◌then◌else◌, Option, None, Some}
+use Rattle.run_theory.proofs.Pasts.{each_filter}
 use Rattle.run_theory.specs.Lists.{Each}
 use Rattle.sig_core.specs.declared.member.Member.{Member}
 use Rattle.sig_core.specs.declared.member.TxId.{TxId}
@@ -34,7 +35,6 @@ use Rattle.host_laws.specs.ReplicaLaws.{IsWell}
 use Rattle.host_laws.proofs.rows.Replicas.{signals_are_events as rows_are_events}
 use Rattle.run_laws.proofs.circle.OthersStay.{event_of, is_of, of_first, others_stay}
 use Rattle.run_laws.specs.Tokens.{is_token}
-use Rattle.view_laws.proofs.eras.SoundLogs.{each_filter}
 use Rattle.request_laws.proofs.replicas.WaitersHaveRequests.{rows_within}
 
 -- a record, or none, behind an edit of its own

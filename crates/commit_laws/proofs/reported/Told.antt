@@ -12,7 +12,7 @@ use Rattle.run_theory.specs.Logs.{IsRunning}
 use Rattle.run_theory.specs.Machine.{Machine}
 use Rattle.run_theory.specs.Runs.{Happens}
 use Rattle.run_theory.proofs.Links.{put_each, sent_by_each}
-use Rattle.run_theory.proofs.Pasts.{each_in, each_map, each_past}
+use Rattle.run_theory.proofs.Pasts.{each_filter, each_in, each_map, each_past}
 use Rattle.run_theory.proofs.Runs.{log_of-other, log_of-own}
 use Rattle.run_theory.proofs.EventCases.{event_cases}
 use Rattle.commit_laws.proofs.forth.TellersFull.{untold_off}
@@ -56,7 +56,6 @@ use Rattle.world_core.specs.Steps.{Addressed, HostStep}
 use Rattle.world_views.specs.Machine.{after, cause_in, machine, signals_of, step_after, stops_by}
 use Rattle.world_views.specs.Sending.{is_own_work}
 use Rattle.view_laws.proofs.eras.Rises.{view_rises}
-use Rattle.view_laws.proofs.eras.SoundLogs.{each_filter}
 use Rattle.view_laws.proofs.follow.Senders.{each_sent}
 use Rattle.view_laws.proofs.runs.AllSound.{have_orderly}
 use Rattle.view_laws.proofs.runs.ViewsShrink.{views_shrink}

@@ -5,7 +5,7 @@ use Rattle.std.proofs.lemmas.Bool.{true≢false}
 use Rattle.std.specs.Prelude.{not}
 use Rattle.run_theory.specs.Links.{IsGiven, sent}
 use Rattle.run_theory.specs.Lists.{Each, IsPast}
-use Rattle.run_theory.proofs.Pasts.{each_map, each_past}
+use Rattle.run_theory.proofs.Pasts.{each_filter, each_map, each_past}
 use Rattle.run_theory.proofs.Runs.{log_of-past}
 use Rattle.run_theory.specs.Runs.{Happens}
 use Rattle.run_theory.proofs.EventCases.{event_keeps, event_leaves, event_each}
@@ -26,7 +26,6 @@ use Rattle.view_laws.specs.Order.{is_sound, sound_machine}
 use Rattle.view_laws.specs.Runs.{events_in, view_after}
 use Rattle.view_laws.specs.Votes.{main_of}
 use Rattle.view_laws.proofs.eras.Shapes.{shape_stays}
-use Rattle.view_laws.proofs.eras.SoundLogs.{each_filter}
 use Rattle.view_laws.proofs.runs.Growth.{asks_more, good_more, member_more, signal_more}
 use Rattle.view_laws.proofs.runs.TrueSends.{host_sends}
 use Rattle.view_laws.proofs.runs.Sound.{AreSoundLogs, Asks, IsGood, IsSoundMember, IsSoundSignal}

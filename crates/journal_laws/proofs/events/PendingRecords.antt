@@ -5,6 +5,7 @@ use Rattle.std.proofs.lemmas.Bool.{and_parts}
 use Rattle.run_theory.specs.Lists.{Each}
 use Rattle.run_theory.proofs.EachSent.{each_get, each_removed, each_set}
 use Rattle.run_theory.proofs.Pasts.{each_append}
+use Rattle.sig_core.proofs.RecordLemmas.{record_of-first}
 use Rattle.sig_core.specs.declared.member.TxId.{TxId}
 use Rattle.sig_core.specs.declared.rows.PendingRecord.{PendingRecord}
 use Rattle.sig_core.specs.Firsts.{first}
@@ -16,7 +17,7 @@ use Rattle.sig_core.specs.Same.{same_key, same_tx}
 use Rattle.sig_core.proofs.Firsts.{first_passes}
 use Rattle.sig_core.proofs.TxLemmas.{same_tx-is}
 use Rattle.local_ckpt.specs.Orderly.{image_in, prepared_in}
-use Rattle.local_ckpt.proofs.RecordLemmas.{key_of_first, record_of-first}
+use Rattle.local_ckpt.proofs.RecordLemmas.{key_of_first}
 
 -- the transaction has a prepared record on the key
 pub record IsOpen (s : RowsState) (tx : TxId) (key : List ℕ) : Type 0 where

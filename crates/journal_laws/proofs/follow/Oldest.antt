@@ -6,6 +6,7 @@ use Rattle.std.proofs.lemmas.Bool.{and_parts, true≢false}
 use Rattle.std.proofs.lemmas.List.{length-append}
 use Rattle.std.specs.Prelude.{if◌then◌else◌, Option, None, Some, option_to_list}
 use Rattle.run_theory.specs.Lists.{Each}
+use Rattle.sig_core.proofs.RecordLemmas.{record_of-first}
 use Rattle.sig_core.specs.declared.member.TxId.{TxId}
 use Rattle.sig_core.specs.declared.redo.Redo.{Redo}
 use Rattle.sig_core.specs.declared.redo.Redo.TheVariants as redo
@@ -21,7 +22,6 @@ use Rattle.redo_log.specs.Replaying.{id_of, image_of, log_bytes, prepared_by, sa
 use Rattle.local_ckpt.specs.Events.{Abort, Commit, Complete, Event, Prepare, Step, log_if, logged}
 use Rattle.local_ckpt.specs.Laws.{HasPrepares, last_image}
 use Rattle.local_ckpt.specs.Orderly.{image_in, prepared_in}
-use Rattle.local_ckpt.proofs.RecordLemmas.{record_of-first}
 use Rattle.lqh_saver.specs.Redo.{is_open, is_unfinished, oldest_from}
 use Rattle.journal_laws.specs.Events.{records_behind, rows_behind}
 use Rattle.journal_laws.proofs.follow.Parsing.{in_turn, sized, turn_append}

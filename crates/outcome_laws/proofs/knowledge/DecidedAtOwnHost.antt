@@ -1,6 +1,6 @@
 -- At each moment a transaction was decided only at the host of its coordinator's member, if anywhere.
 use Rattle.std.proofs.Common.{◌≡◌, ◌∙◌, ◌+◌, ◌-◌, ◌*◌, ℕ, zero, suc, true, List, [], ◌∷◌, sym, ap, subst}
-use Rattle.run_theory.proofs.Pasts.{each_in, each_map}
+use Rattle.run_theory.proofs.Pasts.{each_filter, each_in, each_map}
 use Rattle.run_theory.specs.Lists.{Each, IsIn}
 use Rattle.run_theory.specs.Runs.{Happens}
 use Rattle.run_theory.proofs.EventCases.{event_cases, event_each}
@@ -32,7 +32,6 @@ use Rattle.world_views.specs.Hosts.{reached, started}
 use Rattle.world_views.specs.Machine.{after, machine, signals_of, step_after, told}
 use Rattle.view_laws.specs.Order.{is_sound, sound_machine}
 use Rattle.view_laws.proofs.eras.Shapes.{shape_stays}
-use Rattle.view_laws.proofs.eras.SoundLogs.{each_filter}
 use Rattle.view_laws.proofs.fences.Hosts.{own_reaches}
 use Rattle.view_laws.proofs.follow.Senders.{IsSentBy, each_sent}
 use Rattle.moment_laws.specs.Moments.{IsMoment, logs_of}

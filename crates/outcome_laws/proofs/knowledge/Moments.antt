@@ -1,7 +1,7 @@
 -- At each moment all that hosts know, tell and mark of transactions is true.
 use Rattle.std.proofs.Common.{◌≡◌, ◌∙◌, ◌%◌, ℕ, zero, suc, Bool, true, false, List, [], ◌∷◌, refl, sym, ap}
 use Rattle.std.proofs.Common.{subst, inl, inr}
-use Rattle.run_theory.proofs.Pasts.{each_from, each_in, each_map}
+use Rattle.run_theory.proofs.Pasts.{each_filter, each_from, each_in, each_map}
 use Rattle.run_theory.proofs.Runs.{log_of-own}
 use Rattle.run_theory.specs.Lists.{Each, IsIn}
 use Rattle.run_theory.specs.Runs.{Happens}
@@ -28,7 +28,6 @@ use Rattle.world_views.specs.Machine.{IsOwnWork, after, machine, signals_of, ste
 use Rattle.world_views.proofs.FreshBodies.{none_pending}
 use Rattle.view_laws.specs.Order.{is_sound, sound_machine}
 use Rattle.view_laws.proofs.eras.Shapes.{shape_stays}
-use Rattle.view_laws.proofs.eras.SoundLogs.{each_filter}
 use Rattle.view_laws.proofs.follow.Senders.{IsSentBy, each_sent}
 use Rattle.moment_laws.specs.Moments.{IsMoment, logs_of}
 use Rattle.moment_laws.specs.Places.{tc_of}

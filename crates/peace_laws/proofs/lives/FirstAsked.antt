@@ -9,7 +9,7 @@ use Rattle.std.proofs.lemmas.List.{map-append}
 use Rattle.std.proofs.lemmas.List.Elements.{filter-append}
 use Rattle.node_core.specs.Requests.{is_request}
 use Rattle.run_theory.proofs.Growth.{grow}
-use Rattle.run_theory.proofs.Pasts.{each_before, each_past, past_self, past_trans}
+use Rattle.run_theory.proofs.Pasts.{each_before, each_past, past_self, past_short, past_trans}
 use Rattle.run_theory.proofs.Runs.{log_of-own, log_of-past}
 use Rattle.run_theory.specs.Along.{Grows}
 use Rattle.run_theory.specs.Cuts.{IsCut}
@@ -37,7 +37,7 @@ use Rattle.world_views.specs.Sending.{is_asked}
 use Rattle.command_laws.proofs.waits.Run.{is_asked_in}
 use Rattle.calm_laws.specs.Plain.{is_beating}
 use Rattle.calm_laws.proofs.lives.Arrivals.{arriving, given_running}
-use Rattle.calm_laws.proofs.lives.Asked.{IsAskedAlike, IsAskedBehind, asked_behind, past_short}
+use Rattle.calm_laws.proofs.lives.Asked.{IsAskedAlike, IsAskedBehind, asked_behind}
 use Rattle.calm_laws.proofs.lives.Events.{none_before}
 use Rattle.peace_laws.specs.Laws.{GoOnBy}
 use Rattle.peace_laws.specs.Parts.{is_beside, levelled, plain_part, plain_parts}

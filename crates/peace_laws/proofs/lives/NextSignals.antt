@@ -7,7 +7,7 @@ use Rattle.std.proofs.lemmas.Bool.{cases_lt}
 use Rattle.std.proofs.lemmas.List.{append_cancel_right}
 use Rattle.node_core.specs.Requests.{is_request}
 use Rattle.run_theory.proofs.Cuts.{taken_past}
-use Rattle.run_theory.proofs.Pasts.{each_in, each_past}
+use Rattle.run_theory.proofs.Pasts.{each_in, each_past, past_short}
 use Rattle.run_theory.proofs.Runs as theory
 use Rattle.run_theory.proofs.Runs.{log_of-own, log_of-past}
 use Rattle.run_theory.specs.Links.{sent, taken}
@@ -33,7 +33,7 @@ use Rattle.world_views.specs.Requests.{request_of, requests}
 use Rattle.world_views.specs.Sending.{is_asked}
 use Rattle.calm_laws.specs.Calm.{has_block, is_calm, is_calm_request, is_for}
 use Rattle.calm_laws.proofs.lives.Arrivals.{arriving, given_running}
-use Rattle.calm_laws.proofs.lives.Asked.{IsAskedBehind, asked_behind, past_short}
+use Rattle.calm_laws.proofs.lives.Asked.{IsAskedBehind, asked_behind}
 use Rattle.calm_laws.proofs.lives.Events.{host_there, none_before, within_before}
 use Rattle.calm_laws.proofs.places.Main.{main_at}
 use Rattle.calm_laws.proofs.plain_steps.SentStep.{IsFine, IsSince}

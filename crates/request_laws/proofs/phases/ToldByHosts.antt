@@ -2,7 +2,7 @@
 -- given only if its epochs have decided so.
 use Rattle.std.proofs.Common.{◌≡◌, ◌⊎◌, ℕ, true, List, [], ◌∷◌, sym, inl, inr}
 use Rattle.run_theory.proofs.Links.{put_each, sent_by_each}
-use Rattle.run_theory.proofs.Pasts.{each_map}
+use Rattle.run_theory.proofs.Pasts.{each_filter, each_map}
 use Rattle.run_theory.specs.Links.{sent, sent_by}
 use Rattle.run_theory.specs.Lists.{Each, IsIn}
 use Rattle.run_theory.specs.Machine.{Machine}
@@ -20,7 +20,6 @@ use Rattle.world_core.specs.Start.{Start}
 use Rattle.world_core.specs.Steps.{Addressed, HostStep}
 use Rattle.world_views.specs.Machine.{signals_of, step_after}
 use Rattle.view_laws.specs.Order.{is_sound, sound_machine}
-use Rattle.view_laws.proofs.eras.SoundLogs.{each_filter}
 use Rattle.view_laws.proofs.follow.Senders.{each_sent}
 use Rattle.moment_laws.specs.Places.{tc_of}
 use Rattle.outcome_laws.specs.Counts.{coordinator_member}

@@ -3,7 +3,7 @@
 -- what their host sends.
 use Rattle.std.proofs.Common.{◌≡◌, ℕ, true, filter, List, ◌∷◌, ap, refl, subst, sym}
 use Rattle.run_theory.specs.Lists.{Each, IsPast}
-use Rattle.run_theory.proofs.Pasts.{each_in, each_map, each_past}
+use Rattle.run_theory.proofs.Pasts.{each_filter, each_in, each_map, each_past}
 use Rattle.sig_core.specs.declared.outs.Outgoing.{Outgoing}
 use Rattle.sig_core.specs.declared.place.Place.{Place}
 use Rattle.sig_core.specs.declared.signal.Body.{Body}
@@ -22,7 +22,6 @@ use Rattle.world_core.specs.Steps.{Addressed, HostStep}
 use Rattle.world_views.specs.Machine.{IsOwnWork, signals_of, step_after}
 use Rattle.view_laws.specs.Order.{is_sound}
 use Rattle.view_laws.specs.Runs.{WasInstalled, view_after}
-use Rattle.view_laws.proofs.eras.SoundLogs.{each_filter}
 use Rattle.view_laws.proofs.follow.Senders.{IsSentBy, each_sent}
 use Rattle.view_laws.proofs.runs.Headers.{headers_installed}
 use Rattle.view_laws.proofs.runs.AllSound.{have_orderly}

@@ -4,7 +4,7 @@ use Rattle.std.proofs.Common.{◌≡◌, ◌⊎◌, ◌≤◌, ◌<◌, ℕ, tru
 use Rattle.std.proofs.lemmas.Bool.{cases_lt}
 use Rattle.frag_map.specs.Layout.{first_layout}
 use Rattle.run_theory.proofs.Links.{put_each, sent_by_each}
-use Rattle.run_theory.proofs.Pasts.{in_past, past_less, past_self}
+use Rattle.run_theory.proofs.Pasts.{each_filter, in_past, past_less, past_self}
 use Rattle.run_theory.proofs.Runs.{log_of-past}
 use Rattle.run_theory.specs.Links.{sent, sent_by}
 use Rattle.run_theory.specs.Lists.{Each, IsIn, IsPast}
@@ -22,7 +22,6 @@ use Rattle.world_core.specs.Steps.{Addressed, HostStep}
 use Rattle.world_views.specs.Machine.{IsOwnWork, after, machine, signals_of}
 use Rattle.view_laws.specs.Order.{is_sound, sound_machine}
 use Rattle.view_laws.specs.Runs.{view_after}
-use Rattle.view_laws.proofs.eras.SoundLogs.{each_filter}
 use Rattle.view_laws.proofs.fences.OfOwnMember.{HasAsked, IsPromisedAt, each_promised}
 use Rattle.view_laws.proofs.runs.Growth.{events_more, in_made, promises_past}
 use Rattle.view_laws.proofs.runs.ChosenViews.{past_none}

@@ -8,7 +8,7 @@ use Rattle.frag_map.specs.Layout.{members}
 use Rattle.run_theory.specs.Links.{sent_by}
 use Rattle.run_theory.specs.Lists.{Each, IsIn}
 use Rattle.run_theory.proofs.Links.{sent_by_each}
-use Rattle.run_theory.proofs.Pasts.{each_map}
+use Rattle.run_theory.proofs.Pasts.{each_filter, each_map}
 use Rattle.host_laws.proofs.hosts.Sums.{total_one, total_same, total_zero}
 use Rattle.sig_core.specs.declared.member.Member.{Member}
 use Rattle.sig_core.specs.declared.signal.Body.{Body}
@@ -23,7 +23,6 @@ use Rattle.world_views.specs.Machine.{signals_of}
 use Rattle.view_laws.specs.Order.{is_sound, sound_machine}
 use Rattle.view_laws.specs.Runs.{view_after}
 use Rattle.view_laws.proofs.eras.Rises.{view_rises}
-use Rattle.view_laws.proofs.eras.SoundLogs.{each_filter}
 use Rattle.view_laws.proofs.follow.Senders.{each_sent}
 use Rattle.moment_laws.specs.Moments.{IsMoment, logs_of}
 use Rattle.moment_laws.proofs.MomentTurns.{host_low, other_log, own_log}

@@ -15,11 +15,10 @@ use Rattle.sig_core.specs.declared.signal.Body.TheVariants.{Chain}
 use Rattle.sig_core.specs.declared.signal.Signal.{Signal}
 use Rattle.sig_core.specs.declared.signal.chain.ChainSignal.TheVariants.{LqhKeyReq}
 use Rattle.sig_core.specs.declared.view.View.{View}
-use Rattle.frag_map.specs.Replicas.{first_start}
 use Rattle.tc_block.specs.Phases.{is_aborting}
 use Rattle.tc_block.specs.Complete.{one_if}
 use Rattle.node_views.specs.declared.host_body.HostBody as node
-use Rattle.world_core.proofs.MadeFirst.{begins_made, made_begins, nobody_starts}
+use Rattle.world_core.proofs.MadeFirst.{begins_made}
 use Rattle.world_core.specs.Hosts.{hosts}
 use Rattle.world_core.specs.Start.{Start, made}
 use Rattle.world_core.specs.Steps.{Addressed, HostStep}
@@ -28,8 +27,7 @@ use Rattle.world_views.specs.Machine.{step_after, stops_by}
 use Rattle.run_laws.specs.Tokens.{is_token}
 use Rattle.view_laws.specs.Order.{sound_machine}
 use Rattle.view_laws.specs.Runs.{view_after}
-use Rattle.view_laws.proofs.follow.Hosts.{first_of}
-use Rattle.view_laws.proofs.runs.FirstMembers.{first_in, node_low, node_some}
+use Rattle.view_laws.proofs.runs.FirstMembers.{first_again, first_in, node_low, node_some}
 use Rattle.moment_laws.specs.Moments.{IsMoment, logs_of}
 use Rattle.moment_laws.specs.PartSteps.{tc_kind}
 use Rattle.moment_laws.specs.Places.{ldm_of, tc_of}
@@ -253,18 +251,13 @@ module _ (start : Start) (all : ℕ → List HostStep) (e : HostStep) (es : List
           + t)
           at (ldm_keeps start all e es moment tx me there at))
 
-      own_is : node_of me.node ≡ me
-      own_is =
-          let first = first_of start.shape.nodes me (made_begins start (nobody_starts start) me there) in
-          ap first_start (ap (λ (m : Member). m.node) first.is) ∙ sym first.is
-
       all_rows : all_waiting start new tx now + waiting_at start old tx now me
           ≡ all_waiting start old tx now + waiting_at start new tx now me
       all_rows =
           subst
           (λ one. all_waiting start new tx now + waiting_at start old tx now one
           ≡ all_waiting start old tx now + waiting_at start new tx now one)
-          own_is
+          (first_again start me there)
           (total_of_made start (waiting_at start old tx now) (waiting_at start new tx now) me.node
           (node_some start me there) (node_low start me there)
           (λ k some low off.

@@ -5,6 +5,7 @@ use Rattle.std.specs.Prelude.{◌==◌, if◌then◌else◌, Option, None, Some}
 use Rattle.std.specs.List.{list_any}
 use Rattle.std.proofs.lemmas.Bool.{false≢true, or_left}
 use Rattle.row_records.proofs.KeyLemmas as keys
+use Rattle.run_theory.proofs.Pasts.{each_filter}
 use Rattle.run_theory.specs.Lists.{Each}
 use Rattle.sig_core.specs.declared.mark.Mark.{Mark}
 use Rattle.sig_core.specs.declared.member.Member.{Member}
@@ -42,7 +43,6 @@ use Rattle.key_laws.specs.Records.{found}
 use Rattle.key_laws.specs.Replica.{Event, Replica, asks_for, at_key, cell_at, commits, event_at, expires_if, if_on}
 use Rattle.key_laws.specs.Replica.{key_after, rests, serves_if}
 use Rattle.host_laws.specs.ReplicaLaws.{event_in, key_in}
-use Rattle.run_laws.proofs.history.EachEntry.{each_filter}
 use Rattle.key_laws.proofs.EpochLemmas.{state_found}
 use Rattle.run_laws.specs.Tokens.{is_token, waiting_in}
 use Rattle.run_laws.proofs.fades.Records.{Fading, IsHarmless, commit_ends, is_committed, is_completed, stays}

@@ -1,19 +1,12 @@
 -- What holds of each entry of each log holds of each entry of the history.
-use Rattle.std.proofs.Common.{ℕ, zero, suc, Bool, true, false, cond, List, [], ◌∷◌, filter}
+use Rattle.std.proofs.Common.{ℕ, zero, suc, Bool, true, false, List, [], ◌∷◌}
 use Rattle.std.specs.Prelude.{if◌then◌else◌}
+use Rattle.run_theory.proofs.Pasts.{each_filter}
 use Rattle.run_theory.specs.Lists.{Each}
 use Rattle.sig_core.specs.declared.entry.Entry.{Entry}
 use Rattle.world_core.specs.Steps.{HostStep}
 use Rattle.world_core.specs.Entries.{entries, entries_of, insert, insert_all, is_before}
 use Rattle.world_core.specs.History.{history, is_kept}
-
-pub each_filter : {A : Type 0} (P : A → Type 0) (p : A → Bool) (xs : List A) → Each P xs → Each P (filter p xs)
-each_filter P p [] all = tt
-each_filter {A} P p (x ∷ xs) all = go (p x) (each_filter P p xs all.1)
-  where
-    go : (b : Bool) → Each P (filter p xs) → Each P (cond b (x ∷ filter p xs) (filter p xs))
-    go true rest = (all.0, rest)
-    go false rest = rest
 
 module _ (P : Entry → Type 0) where
   pub each_insert : (a : Entry) (xs : List Entry) → P a → Each P xs → Each P (insert a xs)

@@ -4,13 +4,13 @@ use Rattle.std.proofs.Common.{filter, refl, sym, ap, ◌∙◌, subst, inl, inr,
 use Rattle.std.specs.Prelude.{◌==◌, nat_lt, if◌then◌else◌}
 use Rattle.std.proofs.lemmas.Bool.{eqb-true, ltb-false, ltb-true}
 use Rattle.run_theory.specs.Lists.{Each, IsIn}
-use Rattle.run_theory.proofs.Pasts.{each_in, each_map}
+use Rattle.run_theory.proofs.Pasts.{each_filter, each_in, each_map}
 use Rattle.sig_core.specs.declared.entry.Entry.{Entry}
 use Rattle.world_core.specs.Steps.{HostStep}
 use Rattle.world_core.specs.Entries.{entries, entries_of, insert, insert_all, is_before}
 use Rattle.world_core.specs.History.{history, is_kept}
 use Rattle.world_core.specs.Strict.{StandsBefore}
-use Rattle.run_laws.proofs.history.EachEntry.{each_filter, each_insert}
+use Rattle.run_laws.proofs.history.EachEntry.{each_insert}
 
 abbrev pub AreSorted : List Entry → Type 0
 AreSorted [] = Unit {0}

@@ -4,7 +4,7 @@ use Rattle.std.proofs.Common.{inl, inr}
 use Rattle.std.specs.Prelude.{cond, filter, Option, None, Some}
 use Rattle.std.proofs.lemmas.Bool.{cases_lt}
 use Rattle.run_theory.specs.Lists.{IsIn}
-use Rattle.run_theory.proofs.Pasts.{each_from}
+use Rattle.run_theory.proofs.Pasts.{each_filter, each_from}
 use Rattle.world_core.specs.Steps.{Addressed, HostStep}
 use Rattle.sig_core.specs.declared.member.TxId.{TxId}
 use Rattle.sig_core.specs.Same.{same_tx}
@@ -17,7 +17,6 @@ use Rattle.world_core.specs.Start.{Start}
 use Rattle.key_laws.specs.PrimaryEvents.{NoneOf}
 use Rattle.key_laws.specs.Replica.{asks_for}
 use Rattle.host_laws.specs.ReplicaLaws.{key_in}
-use Rattle.run_laws.proofs.history.EachEntry.{each_filter}
 use Rattle.sig_core.proofs.Keys.{same_tx-self}
 use Rattle.run_theory.specs.Counts.{one_if, tally}
 use Rattle.host_laws.proofs.hosts.Sums.{total_at}

@@ -2,6 +2,7 @@
 use Rattle.std.proofs.Common.{◌≡◌, ◌∙◌, ℕ, Bool, true, false, List, [], ◌∷◌, refl, sym, ap, subst}
 use Rattle.std.specs.Prelude.{if◌then◌else◌, Option, None, Some}
 use Rattle.run_theory.specs.Lists.{IsIn}
+use Rattle.sig_core.proofs.RecordLemmas.{record_of-first}
 use Rattle.sig_core.specs.declared.member.Member.{Member}
 use Rattle.sig_core.specs.declared.member.TxId.{TxId}
 use Rattle.sig_core.specs.declared.rows.PendingRecord.{PendingRecord}
@@ -15,7 +16,6 @@ use Rattle.row_locks.specs.Holders.{holds_enough}
 use Rattle.row_locks.specs.Tables.{lock_at}
 use Rattle.local_ckpt.specs.Locking.{AreLocked}
 use Rattle.local_ckpt.specs.Orderly.{image_in, prepared_in}
-use Rattle.local_ckpt.proofs.RecordLemmas.{record_of-first}
 use Rattle.lqh_block.specs.State.{LqhState}
 use Rattle.lqh_views.specs.State.{ReplicaState}
 use Rattle.key_laws.specs.Records.{without_epoch}

@@ -4,7 +4,7 @@ use Rattle.std.proofs.Common.{◌≡◌, ◌<◌, ◌⊎◌, ℕ, Bool, true, fa
 use Rattle.std.proofs.Common.{inl, inr, arith}
 use Rattle.frag_map.specs.Layout.{first_layout}
 use Rattle.run_theory.proofs.EventCases.{event_cases}
-use Rattle.run_theory.proofs.Pasts.{each_in, each_map, past_self}
+use Rattle.run_theory.proofs.Pasts.{each_filter, each_in, each_map, past_self}
 use Rattle.run_theory.specs.Links.{sent}
 use Rattle.run_theory.specs.Lists.{Each, IsIn}
 use Rattle.sig_core.specs.declared.mark.Mark.TheVariants.{Durable}
@@ -31,7 +31,6 @@ use Rattle.world_views.specs.Machine.{machine, signals_of, step_after}
 use Rattle.view_laws.specs.Order.{is_sound, sound_machine}
 use Rattle.view_laws.specs.Runs.{WasInstalled, view_after}
 use Rattle.view_laws.specs.Votes.{main_of}
-use Rattle.view_laws.proofs.eras.SoundLogs.{each_filter}
 use Rattle.view_laws.proofs.follow.Hosts.{main_started}
 use Rattle.view_laws.proofs.follow.Senders.{IsSentBy, each_sent}
 use Rattle.moment_laws.specs.Moments.{IsMoment, logs_of}

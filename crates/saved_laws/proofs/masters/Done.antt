@@ -2,7 +2,7 @@
 -- has still to tell (DoneSteps), which no other block and no installation adds to.
 use Rattle.std.proofs.Common.{◌≡◌, ◌++◌, ◌%◌, ℕ, zero, suc, true, List, [], ◌∷◌, sym, subst, inl, inr}
 use Rattle.run_theory.proofs.Links.{log_past, put_each, sent_by_each}
-use Rattle.run_theory.proofs.Pasts.{each_append, each_in, each_map, in_append}
+use Rattle.run_theory.proofs.Pasts.{each_append, each_filter, each_in, each_map, in_append}
 use Rattle.run_theory.specs.Links.{sent, sent_by}
 use Rattle.run_theory.specs.Lists.{Each, IsIn}
 use Rattle.run_theory.specs.Logs.{IsLog}
@@ -44,7 +44,6 @@ use Rattle.world_views.specs.Hosts.{part_started, started}
 use Rattle.world_views.specs.Machine.{FitsRow, after, machine, signals_of, step_after, step_by, told}
 use Rattle.world_views.proofs.StepWalk.{step_so}
 use Rattle.view_laws.specs.Order.{is_sound, sound_machine}
-use Rattle.view_laws.proofs.eras.SoundLogs.{each_filter}
 use Rattle.view_laws.proofs.follow.Senders.{IsSentBy, each_sent}
 use Rattle.view_laws.proofs.ballots.MadeSets.{in_front}
 use Rattle.moment_laws.specs.Moments.{logs_of}

@@ -1,6 +1,5 @@
 -- The master of a main host at an event, before it and behind it: what it orders, and what it marks.
 use Rattle.std.proofs.Common.{◌≡◌, ◌≤◌, ◌⊎◌, ◌∙◌, ℕ, zero, suc, true, List, ◌∷◌, refl, sym, ap, subst, inl, inr, arith}
-use Rattle.frag_map.specs.Layout.{first_layout}
 use Rattle.run_theory.specs.Lists.{IsIn}
 use Rattle.run_theory.specs.Runs.{Happens}
 use Rattle.sig_core.specs.declared.mark.Mark.{Mark}
@@ -11,7 +10,7 @@ use Rattle.sig_core.specs.declared.signal.Signal.{Signal}
 use Rattle.sig_core.specs.declared.view.View.{View}
 use Rattle.sig_core.specs.Step.{Step}
 use Rattle.gcp_master.specs.declared.phase.Phase.TheVariants.{Unordered}
-use Rattle.gcp_master.specs.Master.{fresh_master, master_row}
+use Rattle.gcp_master.specs.Master.{master_row}
 use Rattle.gcp_master.specs.State.{MasterState}
 use Rattle.node_views.specs.declared.host_body.HostBody as node
 use Rattle.node_views.specs.declared.main_part.MainPart.{MainPart}
@@ -30,10 +29,10 @@ use Rattle.moment_laws.specs.Moments.{IsMoment, logs_of}
 use Rattle.moment_laws.specs.Places.{ldm_of, tc_of}
 use Rattle.moment_laws.proofs.MomentHosts.{part_some}
 use Rattle.moment_laws.proofs.MomentTurns.{host_low, own_log}
-use Rattle.epoch_laws.specs.Members.{master_in, master_of}
+use Rattle.epoch_laws.specs.Members.{master_of}
 use Rattle.epoch_laws.proofs.MasterSpeaks.{installed}
-use Rattle.epoch_laws.proofs.StandKinds.{RunsMain, Whose, of_main, of_rows, of_shell, of_tc, runs_main, runs_rows}
-use Rattle.epoch_laws.proofs.StandKinds.{runs_shell, whose}
+use Rattle.epoch_laws.proofs.StandKinds.{RunsMain, Whose, main_at, master_at, of_main, of_rows, of_shell, of_tc}
+use Rattle.epoch_laws.proofs.StandKinds.{runs_rows, runs_shell, whose}
 use Rattle.epoch_laws.proofs.StandMarks.{runs_epochs}
 use Rattle.closing_laws.proofs.closers.MainSteps.{Entering, Goes, enters, leaves, main_goes, remains, takes}
 use Rattle.closing_laws.proofs.closers.NoClosings.{is_closing, not_among}
@@ -75,30 +74,22 @@ module _ (start : Start) (all : ℕ → List HostStep) (e : HostStep) (es : List
       pub marked : IsIn mark (master_row between x).effects.marks
 
     module _ (me : Member) (there : IsIn me (made start)) (at : e.host ≡ main_of start me) where
-      abbrev masters_in : Parts → MasterState
-      masters_in parts = master_in (fresh_master me (first_layout start.shape).view 0) parts
-
       some : 1 ≤ e.host
       some = subst (λ h. 1 ≤ h) (sym at) (part_some start Main me)
 
       runs_old : RunsMain start s.parts
-      runs_old =
-          subst (λ h. RunsMain start (after start h (old h)).parts) (sym at)
-          (runs_main start me there (old (main_of start me)))
+      runs_old = main_at start me there e.host at (old e.host)
 
       runs_new : RunsMain start (after start e.host (e ∷ old e.host)).parts
-      runs_new =
-          subst (λ h. RunsMain start (after start h (e ∷ old e.host)).parts) (sym at)
-          (runs_main start me there (e ∷ old e.host))
+      runs_new = main_at start me there e.host at (e ∷ old e.host)
 
       master_old : master_of start old me ≡ runs_old.main.master
-      master_old = ap (λ h. masters_in (after start h (old h)).parts) (sym at) ∙ ap masters_in runs_old.is
+      master_old = master_at start old me e.host at (part.Main runs_old.main) runs_old.is
 
       master_new : master_of start new me ≡ runs_new.main.master
       master_new =
-          ap (λ h. masters_in (after start h (new h)).parts) (sym at)
-          ∙ ap (λ log. masters_in (after start e.host log).parts) (own_log start all e es moment)
-          ∙ ap masters_in runs_new.is
+          master_at start new me e.host at (part.Main runs_new.main)
+          (ap (λ log. (after start e.host log).parts) (own_log start all e es moment) ∙ runs_new.is)
 
       -- what is ordered is due in the phase behind the event
       pub orders_now : MayOrderAll (master_of start new me) step.effects.sends

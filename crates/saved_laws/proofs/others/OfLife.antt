@@ -9,18 +9,18 @@ use Rattle.sig_core.specs.declared.mark.Mark.TheVariants.{Closed}
 use Rattle.sig_core.specs.declared.member.Member.{Member}
 use Rattle.sig_core.specs.declared.signal.Signal.{Signal}
 use Rattle.sig_core.specs.declared.view.View.{View}
-use Rattle.frag_map.specs.Layout.{first_layout}
 use Rattle.dih_node.specs.Dih.{fresh_dih}
 use Rattle.dih_node.specs.State.{DihState}
 use Rattle.gcp_master.specs.declared.phase.Phase.TheVariants.{Committing, Unordered}
 use Rattle.gcp_master.specs.declared.phase.Run.{Run}
-use Rattle.gcp_master.specs.Master.{fresh_master, master_row}
+use Rattle.gcp_master.specs.Master.{master_row}
 use Rattle.gcp_master.specs.State.{MasterState}
 use Rattle.gcp_master.specs.Voices.{same_member}
 use Rattle.gcp_master.proofs.Outcomes.{voice_of}
 use Rattle.lqh_views.specs.State.{ReplicaState}
 use Rattle.node_views.specs.declared.host_body.HostBody as node
 use Rattle.node_views.specs.declared.main_part.MainPart.{MainPart}
+use Rattle.node_views.specs.declared.parts.Parts.TheVariants as part
 use Rattle.world_core.specs.Start.{Start, made}
 use Rattle.world_core.specs.Steps.{HostStep}
 use Rattle.world_views.specs.Machine.{after, step_after}
@@ -39,12 +39,12 @@ use Rattle.request_laws.proofs.replicas.AlongLogs.{always}
 use Rattle.request_laws.specs.Blocks.{rows_after}
 use Rattle.epoch_laws.specs.Alike.{IsAcross}
 use Rattle.epoch_laws.specs.Masters.{IsRightIn}
-use Rattle.epoch_laws.specs.Members.{IsFirst, IsPresident, IsStanding, dih_in, epochs_of, master_in, master_of}
+use Rattle.epoch_laws.specs.Members.{IsFirst, IsPresident, IsStanding, dih_in, epochs_of, master_of}
 use Rattle.epoch_laws.specs.Stand.{AllStand}
 use Rattle.epoch_laws.proofs.MasterHears.{same_member-is, same_member-self}
 use Rattle.epoch_laws.proofs.MasterSpeaks.{installed}
 use Rattle.epoch_laws.proofs.StandAll.{epochs_stand}
-use Rattle.epoch_laws.proofs.StandKinds.{RunsMain, runs_main}
+use Rattle.epoch_laws.proofs.StandKinds.{RunsMain, main_at, master_at}
 use Rattle.epoch_laws.proofs.StandMarks.{marks_are}
 use Rattle.epoch_laws.proofs.StandMasters.{first_inside}
 use Rattle.epoch_laws.proofs.StandTakes.{Carries, carries, commits, others_same, prepares, stay}
@@ -151,18 +151,13 @@ module _ (start : Start) where
           current_made start all (e ∷ es) moment me (first_inside me (current start new).full closing.is.president)
 
       main_runs : RunsMain start (after start e.host (old e.host)).parts
-      main_runs =
-          subst (λ k. RunsMain start (after start k (old k)).parts) (sym closing.is.host_is)
-          (runs_main start me there (old h))
+      main_runs = main_at start me there e.host closing.is.host_is (old e.host)
 
       abbrev p : MainPart
       p = main_runs.main
 
       master_is : master_of start old me ≡ p.master
-      master_is =
-          ap (λ k. master_in (fresh_master me (first_layout start.shape).view 0) (after start k (old k)).parts)
-          (sym closing.is.host_is)
-          ∙ ap (master_in (fresh_master me (first_layout start.shape).view 0)) main_runs.is
+      master_is = master_at start old me e.host closing.is.host_is (part.Main p) main_runs.is
 
       -- its master was about to, in the view in which its host stands
       record ClosesHere : Type 0 where

@@ -2,7 +2,7 @@
 use Rattle.std.proofs.Common.{◌≡◌, ◌≤◌, ◌<◌, ◌⊎◌, ◌∙◌, ◌++◌, ℕ, true, List, [], ◌∷◌, refl, sym, ap, subst, inl, inr}
 use Rattle.std.proofs.Common.{append-nil, append_assoc, arith}
 use Rattle.std.specs.FinMap as map
-use Rattle.run_theory.proofs.Pasts.{each_after, each_append, each_before, each_map, each_past, past_trans}
+use Rattle.run_theory.proofs.Pasts.{each_after, each_before, each_map, each_past, past_trans}
 use Rattle.run_theory.specs.Lists.{Each, IsIn, IsPast}
 use Rattle.frag_map.specs.Layout.{holds}
 use Rattle.sig_core.specs.Rows.{row_of}
@@ -33,7 +33,7 @@ use Rattle.saved_laws.specs.Closings.{ClosedOnesAreCommitted, CommitsWereDecided
 use Rattle.saved_laws.specs.Closings.{SavedWereClosed, WasFullAtClosing}
 use Rattle.saved_laws.specs.History.{SavedRowsAreHistory, row_up_to}
 use Rattle.saved_laws.proofs.rows.Along.{own_is_history}
-use Rattle.saved_laws.proofs.rows.Decisions.{DecideWith, HasLater, IsOfEpoch, Split, part, split, whole}
+use Rattle.saved_laws.proofs.rows.Decisions.{DecideWith, HasLater, IsOfEpoch, Split, decide_both, part, split, whole}
 use Rattle.saved_laws.proofs.rows.Front.{first_stays}
 use Rattle.saved_laws.proofs.rows.Histories.{history_up_to}
 use Rattle.saved_laws.proofs.rows.Later.{late_behind_closing, late_behind_later, late_in_life}
@@ -77,11 +77,6 @@ module _ (saved : SavedWereClosed) (closed : ClosedOnesAreCommitted) (finals : C
   back_late : (xs ys : List HostStep) → DecideWith (λ at. epoch < at) (xs ++ ys) → DecideWith (λ at. epoch < at) ys
   back_late xs ys late = each_after (λ (e : HostStep). Each (IsOfEpoch (λ at. epoch < at)) e.step.marks) xs ys late
 
-  both_late : (xs ys : List HostStep) → DecideWith (λ at. epoch < at) xs → DecideWith (λ at. epoch < at) ys
-      → DecideWith (λ at. epoch < at) (xs ++ ys)
-  both_late xs ys one other =
-      each_append (λ (e : HostStep). Each (IsOfEpoch (λ at. epoch < at)) e.step.marks) xs ys one other
-
   module _ (es : List HostStep) (past : IsPast es (events_of start logs)) where
     -- where nothing is decided up to the epoch the rows are the first ones
     from_start : epoch < start.epoch → (events : List Event) → HasHistory es events
@@ -106,7 +101,7 @@ module _ (saved : SavedWereClosed) (closed : ClosedOnesAreCommitted) (finals : C
       all_before up_to events is =
           own_is_history closed finals decided start logs begins are member there before epoch key held (before_is key)
           es past last low full full.older [] refl up_to tt
-          (both_late full.newer (full.closing ∷ []) (back_late past.newer full.newer front)
+          (decide_both (λ at. epoch < at) full.newer (full.closing ∷ []) (back_late past.newer full.newer front)
           (back_late (past.newer ++ full.newer) (full.closing ∷ []) late)) (front_late past.newer full.newer front)
           events is
         where
@@ -132,10 +127,11 @@ module _ (saved : SavedWereClosed) (closed : ClosedOnesAreCommitted) (finals : C
           own_is_history closed finals decided start logs begins are member there before epoch key held (before_is key)
           es past last low full ms (newer ++ d ∷ [])
           (older_is ∙ sym (append_assoc newer (d ∷ []) ms)) up_to
-          (both_late newer (d ∷ [])
+          (decide_both (λ at. epoch < at) newer (d ∷ [])
           (back_late (full.closing ∷ []) newer (back_late full.newer (full.closing ∷ newer) rest))
           (back_late all (d ∷ []) late))
-          (both_late full.newer (full.closing ∷ []) (front_late full.newer (full.closing ∷ newer) rest)
+          (decide_both (λ at. epoch < at) full.newer (full.closing ∷ [])
+          (front_late full.newer (full.closing ∷ newer) rest)
           (front_late (full.closing ∷ []) newer (back_late full.newer (full.closing ∷ newer) rest)))
           (front_late past.newer (full.newer ++ full.closing ∷ newer) front) events is
         where

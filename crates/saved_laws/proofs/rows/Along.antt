@@ -7,8 +7,8 @@ use Rattle.std.specs.FinMap as map
 use Rattle.std.specs.List.{list_any}
 use Rattle.std.specs.Prelude.{Option, Some}
 use Rattle.run_theory.proofs.EventCases.{event_cases}
-use Rattle.run_theory.proofs.Pasts.{each_append, past_less, past_self, past_trans}
-use Rattle.run_theory.specs.Lists.{Each, IsIn, IsPast}
+use Rattle.run_theory.proofs.Pasts.{past_less, past_self, past_trans}
+use Rattle.run_theory.specs.Lists.{IsIn, IsPast}
 use Rattle.frag_map.specs.Layout.{holds}
 use Rattle.sig_core.proofs.Keys.{same_tx-self}
 use Rattle.sig_core.specs.Rows.{row_of, state_by}
@@ -52,7 +52,7 @@ use Rattle.journal_laws.specs.Journal.{AreEventsOf, first_rows}
 use Rattle.saved_laws.specs.Closings.{ClosedOnesAreCommitted, Commits, CommitsWereDecided, CommittedOnesAreFinal}
 use Rattle.saved_laws.specs.Closings.{WasFullAtClosing}
 use Rattle.saved_laws.specs.History.{row_up_to}
-use Rattle.saved_laws.proofs.rows.Decisions.{DecideWith, IsOfEpoch, decided_before, decided_with}
+use Rattle.saved_laws.proofs.rows.Decisions.{DecideWith, decide_both, decided_before, decided_with}
 use Rattle.saved_laws.proofs.rows.Front.{IsFront, front_stands}
 use Rattle.saved_laws.proofs.rows.Histories.{history_up_to}
 use Rattle.saved_laws.proofs.rows.Kept.{Leaves, an_image, leaves, the_row, unspoilt}
@@ -124,11 +124,6 @@ module _ (closed : ClosedOnesAreCommitted) (finals : CommittedOnesAreFinal) (dec
     abbrev value : Option (List ℕ)
     value = value_at start (events_of start logs) key ms
 
-    both_late : (xs ys : List HostStep) → DecideWith (λ at. epoch < at) xs → DecideWith (λ at. epoch < at) ys
-        → DecideWith (λ at. epoch < at) (xs ++ ys)
-    both_late xs ys one other =
-        each_append (λ (e : HostStep). Each (IsOfEpoch (λ at. epoch < at)) e.step.marks) xs ys one other
-
     -- what comes behind the first moment
     record IsBehind (xs : List HostStep) : Type 0 where
       newer : List HostStep
@@ -139,7 +134,7 @@ module _ (closed : ClosedOnesAreCommitted) (finals : CommittedOnesAreFinal) (dec
     behind_older ys late = record {
       newer = ys ++ between;
       is = ap (λ xs. ys ++ xs) older_is ∙ sym (append_assoc ys between ms);
-      late = both_late ys between late late_then;
+      late = decide_both (λ at. epoch < at) ys between late late_then;
     }
 
     es_is : es ≡ (full.newer ++ full.closing ∷ []) ++ full.older
@@ -160,7 +155,7 @@ module _ (closed : ClosedOnesAreCommitted) (finals : CommittedOnesAreFinal) (dec
         ap (row_at_end key (map.get (rows_of start.rows) key))
         (history_up_to start logs are epoch (past.newer ++ es_behind.newer) ms
         (past.is ∙ ap (λ xs. past.newer ++ xs) es_behind.is ∙ sym (append_assoc past.newer es_behind.newer ms)) up_to
-        (both_late past.newer es_behind.newer late_rest es_behind.late))
+        (decide_both (λ at. epoch < at) past.newer es_behind.newer late_rest es_behind.late))
 
     replica_older : IsReplicaOf start (logs_of start full.older) key member
     replica_older =

@@ -3,6 +3,7 @@ use Rattle.std.proofs.Common.{◌≡◌, ◌∙◌, ℕ, Bool, true, false, List
 use Rattle.std.specs.FinMap as map
 use Rattle.std.specs.Prelude.{nat_le, if◌then◌else◌, Option, None, Some}
 use Rattle.sig_core.proofs.Keys.{same_key-self, same_key-swap}
+use Rattle.sig_core.proofs.RecordLemmas.{record_of-first}
 use Rattle.sig_core.proofs.TxLemmas.{same_tx-is}
 use Rattle.sig_core.specs.Rows.{RowsState, record_of, state_by}
 use Rattle.sig_core.specs.Rows as rows
@@ -23,7 +24,6 @@ use Rattle.key_laws.specs.Replica.{Cell, aborting, cell_at, committing, completi
 use Rattle.key_laws.proofs.CellsAt.{cell-aborted, cell-committed, cell-completed, cell-storing}
 use Rattle.key_laws.proofs.EpochLemmas.{record_in_cell, without}
 use Rattle.key_laws.proofs.RecordLemmas.{KeepsTx, committed_keeps, found-edited, found-stored, if_keeps, unless_keeps}
-use Rattle.key_laws.proofs.RecordsAt.{record_of-first}
 use Rattle.commit_laws.proofs.records.Moves.{found_own, now_by}
 
 -- the cell of a key behind an event

@@ -2,7 +2,7 @@
 use Rattle.std.proofs.Common.{◌≡◌, ◌≤◌, ◌<◌, ◌⊎◌, ◌++◌, ℕ, List, [], ◌∷◌, refl, ap, inl, inr}
 use Rattle.std.proofs.lemmas.Bool.{cases_lt}
 use Rattle.run_theory.proofs.EventCases.{event_cases}
-use Rattle.run_theory.proofs.Pasts.{each_in}
+use Rattle.run_theory.proofs.Pasts.{each_append, each_in}
 use Rattle.run_theory.specs.Lists.{Each, IsIn}
 use Rattle.sig_core.specs.declared.entry.Entry.{Entry}
 use Rattle.sig_core.specs.declared.mark.Mark.{Mark}
@@ -26,6 +26,9 @@ IsOfEpoch P mark = Unit {0}
 -- so it is of all that these events decide
 abbrev pub DecideWith : (ℕ → Type 0) → List HostStep → Type 0
 DecideWith P es = Each (λ (e : HostStep). Each (IsOfEpoch P) e.step.marks) es
+
+pub decide_both : (P : ℕ → Type 0) (xs ys : List HostStep) → DecideWith P xs → DecideWith P ys → DecideWith P (xs ++ ys)
+decide_both P xs ys one other = each_append (λ (e : HostStep). Each (IsOfEpoch P) e.step.marks) xs ys one other
 
 pub with_epoch : (P : ℕ → Type 0) (tx : TxId) (at : ℕ) (marks : List Mark) → Each (IsOfEpoch P) marks
     → IsIn (Decided tx at) marks → P at

@@ -5,7 +5,7 @@ use Rattle.std.proofs.lemmas.Bool.{le-leb, lt-leb}
 use Rattle.std.proofs.lemmas.List.{reverse-append}
 use Rattle.std.proofs.lemmas.List.Elements.{filter-append}
 use Rattle.std.specs.Prelude.{nat_le}
-use Rattle.run_theory.proofs.Pasts.{each_map}
+use Rattle.run_theory.proofs.Pasts.{each_filter, each_map}
 use Rattle.run_theory.specs.Lists.{Each}
 use Rattle.sig_core.specs.declared.entry.Entry.{Entry}
 use Rattle.world_core.specs.History.{history, is_kept}
@@ -13,7 +13,6 @@ use Rattle.world_core.specs.Hosts.{hosts}
 use Rattle.world_core.specs.Start.{Start}
 use Rattle.world_core.specs.Steps.{HostStep}
 use Rattle.view_laws.proofs.eras.Entries.{stand_in_order}
-use Rattle.view_laws.proofs.eras.SoundLogs.{each_filter}
 use Rattle.view_laws.specs.Order.{decisions, entries_along}
 use Rattle.view_laws.specs.Runs.{AreOfCluster}
 use Rattle.view_laws.proofs.eras.Sorted.{each_turned}

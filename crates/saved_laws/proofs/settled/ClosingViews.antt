@@ -1,6 +1,6 @@
 -- Where an epoch is closed the current view stays: whoever closes it has heard in that view that takeover is over, and
 -- nothing is heard in a view before a host stands in it; or the view is the first.
-use Rattle.std.proofs.Common.{◌<◌, ◌≡◌, ◌≤◌, ◌⊎◌, ◌∙◌, ℕ, List, [], ◌∷◌, sym, ap, inl, inr, arith}
+use Rattle.std.proofs.Common.{◌<◌, ◌≡◌, ◌≤◌, ◌⊎◌, ℕ, List, [], ◌∷◌, ap, inl, inr, arith}
 use Rattle.run_theory.proofs.Runs.{given_taken, logs_of_run}
 use Rattle.run_theory.specs.Links.{IsGiven, taken}
 use Rattle.run_theory.specs.Lists.{IsIn}
@@ -8,9 +8,6 @@ use Rattle.run_theory.specs.Machine.{Machine}
 use Rattle.frag_map.specs.Layout.{first_layout}
 use Rattle.sig_core.specs.declared.mark.Mark.TheVariants.{Closed}
 use Rattle.sig_core.specs.declared.member.Member.{Member}
-use Rattle.sig_core.specs.declared.signal.Body.TheVariants.{Host, Takeover}
-use Rattle.sig_core.specs.declared.signal.host.HostSignal.TheVariants as host
-use Rattle.sig_core.specs.declared.signal.takeover.TakeoverSignal.TheVariants.{TakeoverEnd}
 use Rattle.sig_core.specs.declared.view.View.{View}
 use Rattle.world_core.specs.Start.{Start, made}
 use Rattle.world_core.specs.Steps.{Addressed, HostStep}
@@ -18,12 +15,13 @@ use Rattle.view_laws.specs.Order.{sound_machine}
 use Rattle.view_laws.specs.Votes.{main_of}
 use Rattle.moment_laws.proofs.MomentHosts.{ldm_number, main_number}
 use Rattle.moment_laws.proofs.MomentMembers.{current_made}
-use Rattle.moment_laws.proofs.MomentSignals.{IsClosed, sent_below}
+use Rattle.moment_laws.proofs.MomentSignals.{sent_below}
 use Rattle.moment_laws.proofs.MomentTurns.{current_rises, old_current, other_log}
 use Rattle.moment_laws.proofs.MomentViews.{current_number, first_below, moment_less}
 use Rattle.moment_laws.specs.Moments.{IsMoment, current, logs_of}
 use Rattle.moment_laws.specs.Places.{ldm_of, tc_of}
 use Rattle.epoch_laws.proofs.StandMasters.{first_inside}
+use Rattle.outcome_laws.proofs.knowledge.Moments.{is_host, not_closed}
 use Rattle.commit_laws.proofs.orders.Sound.{given_so, sound_closes}
 use Rattle.closing_laws.proofs.closers.Hear.{closers_have_heard_all}
 use Rattle.closing_laws.specs.Closed.{IsClosing, IsOver}
@@ -59,7 +57,8 @@ module _ (start : Start) (all : ℕ → List HostStep) (e : HostStep) (es : List
     over_low over =
         let low : over.signal.signal.view.number ≤ current_number start old =
         given_so n (sound_closes start) (λ (y : Addressed). y.signal.view.number ≤ current_number start old) h k (old h)
-        (taken n h (new k)) (sent_below start all es before h k) given over.signal over.there not_closed in
+        (taken n h (new k)) (sent_below start all es before h k) given over.signal over.there
+        (not_closed over.signal.signal.body (ap is_host over.body)) in
         let same = over.number in
         omega (arith, low, same)
       where
@@ -74,10 +73,6 @@ module _ (start : Start) (all : ℕ → List HostStep) (e : HostStep) (es : List
             (taken (sound_machine start) (tc_of start closing.member)
             (logs_of start (e ∷ es) (main_of start closing.member)))
         given = given_taken n es e h k moment.run.1 ((logs_of_run n es before.run).linked h k)
-
-        not_closed : IsClosed over.signal.signal.body → ⊥
-        not_closed closed =
-            let differ : Takeover TakeoverEnd ≡ Host (host.Closed closed.cause) = sym over.body ∙ closed.is in absurd cc
 
     stays_low : current_number start (logs_of start (e ∷ es)) ≤ current_number start (logs_of start es)
     stays_low = by closing.is.over

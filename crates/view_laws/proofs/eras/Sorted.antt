@@ -5,11 +5,11 @@ use Rattle.std.proofs.lemmas.Bool.{cases_eq, eq-eqb, ne_eqb, true≢false}
 use Rattle.std.proofs.lemmas.Bool.Decides.{nat_tests}
 use Rattle.std.proofs.lemmas.List.{append-nil, reverse-append}
 use Rattle.std.proofs.lemmas.List.Elements.{filter-append}
-use Rattle.run_theory.proofs.Pasts.{each_append, each_in, each_map}
+use Rattle.run_theory.proofs.Pasts.{each_append, each_filter, each_in, each_map}
 use Rattle.run_theory.specs.Lists.{Each, IsIn}
 use Rattle.sig_core.specs.declared.entry.Entry.{Entry}
 use Rattle.world_core.specs.Entries.{insert, insert_all, is_before}
-use Rattle.view_laws.proofs.eras.SoundLogs.{each_filter, in_filter}
+use Rattle.view_laws.proofs.eras.SoundLogs.{in_filter}
 
 -- the order, over plain numbers
 before_not : (v w s t h k : ℕ) → (nat_lt v w || ((v == w) && (nat_lt s t || ((s == t) && nat_lt h k)))) ≡ true

@@ -3,8 +3,9 @@ use Rattle.std.proofs.Common.{◌≡◌, ◌==◌, ◌||◌, ◌&&◌, ℕ, Bool
 use Rattle.std.proofs.Common.{subst, ◌∙◌, inl, inr}
 use Rattle.std.proofs.lemmas.List.Elements.{filter-append}
 use Rattle.std.specs.Prelude.{if◌then◌else◌, not, max, ◌<◌}
+use Rattle.run_theory.proofs.Pasts.{each_filter}
 use Rattle.run_theory.specs.Links.{Closes, IsGiven, put, sent, sent_by, taken}
-use Rattle.run_theory.specs.Lists.{Each, IsIn, IsPast}
+use Rattle.run_theory.specs.Lists.{IsIn, IsPast}
 use Rattle.run_theory.specs.Logs.{IsLog, IsRunning, IsStep, last}
 use Rattle.run_theory.specs.Machine.{IsStamped, Machine}
 use Rattle.run_theory.specs.Runs.{AreLogs}
@@ -13,14 +14,6 @@ use Rattle.world_core.specs.Steps.{Addressed, HostStep}
 use Rattle.world_views.proofs.SentFacts.{is_stamped}
 use Rattle.world_views.specs.Machine.{machine}
 use Rattle.view_laws.specs.Order.{is_sound, sound_machine}
-
-pub each_filter : {A : Type 0} (P : A → Type 0) (p : A → Bool) (xs : List A) → Each P xs → Each P (filter p xs)
-each_filter P p [] all = tt
-each_filter {A} P p (x ∷ xs) all = go (p x) (each_filter P p xs all.1)
-  where
-    go : (b : Bool) → Each P (filter p xs) → Each P (cond b (x ∷ filter p xs) (filter p xs))
-    go true rest = (all.0, rest)
-    go false rest = rest
 
 -- what passes a test was there
 pub in_filter : {A : Type 0} (p : A → Bool) (y : A) (xs : List A) → IsIn y (filter p xs) → IsIn y xs

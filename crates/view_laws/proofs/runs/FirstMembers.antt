@@ -85,6 +85,12 @@ module _ (start : Start) where
       let first = first_of start.shape.nodes me (made_begins start (nobody_starts start) me there) in
       subst (λ (m : Member). m.node ≤ start.shape.nodes) (sym first.is) first.low
 
+  -- it is the first one of its node
+  pub first_again : (me : Member) → IsIn me (made start) → first_start me.node ≡ me
+  first_again me there =
+      let first = first_of start.shape.nodes me (made_begins start (nobody_starts start) me there) in
+      ap first_start (ap (λ (m : Member). m.node) first.is) ∙ sym first.is
+
   -- two of one main host are one
   pub main_same : (one other : Member) → IsIn one (made start) → IsIn other (made start)
       → main_of start one ≡ main_of start other → one ≡ other

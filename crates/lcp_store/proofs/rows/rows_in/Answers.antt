@@ -6,7 +6,7 @@ use Rattle.lcp_store.proofs.rows.rows_in.Goals as goal
 -- behind the head all rows are left
 pub rows-init : goal.rows-init
 rows-init c =
-    begins c.args.file c.args.saved c.args.bytes.now c.in-Ok.found.0 c.in-Ok.found.1 _ _ (sym c.in-Ok.ensures.told)
+    begins c.args.file c.args.latest c.args.bytes.now c.in-Ok.found.0 c.in-Ok.found.1 _ _ (sym c.in-Ok.ensures.told)
     c.new-rows.ensures
     (take_rest c.args.bytes.now c.in-Ok.found.1)
 
@@ -15,7 +15,7 @@ pub rows-preserved : goal.rows-preserved
 rows-preserved c =
     let some : 1 ≤ length c.rows.rest.now = search rules in
     let one : 1 ≤ c.in-Ok-row_in.taken = search rules in
-    goes_on c.args.file c.args.saved c.args.bytes.now c.in-Ok.found.0 c.rows.rows c.rows.rest.now c.in-Ok-row_in.row
+    goes_on c.args.file c.args.latest c.args.bytes.now c.in-Ok.found.0 c.rows.rows c.rows.rest.now c.in-Ok-row_in.row
     c.in-Ok-row_in.taken _ _
     c.rows.invariant some one (sym c.in-Ok-row_in.ensures.told) c.in-Ok-insert.ensures.ok
     (take_rest c.rows.rest.now c.in-Ok-row_in.taken)

@@ -1,6 +1,7 @@
 use Rattle.std.proofs.Common.{rules, ◌∙◌, ◌+◌, ◌-◌, ◌<◌, [], get_or, length, map, sym}
 use Rattle.sys_restart.specs.Files.{disks_of}
-use Rattle.sys_restart.proofs.DisksLemmas.{one_cause, one_steady, same_size, same_told, steady_itself, steady_then, told_node}
+use Rattle.sys_restart.proofs.DisksLemmas.{one_cause, one_steady, same_size, same_told, steady_itself, steady_then}
+use Rattle.sys_restart.proofs.DisksLemmas.{told_node}
 use Rattle.life_start.proofs.LackLemmas.{one_lacks}
 use Rattle.life_start.proofs.SlotsLemmas.{next_more, none_yet}
 use Rattle.life_start.proofs.slots.slots_of.Goals as goal

@@ -3,8 +3,7 @@ use Rattle.sig_core.specs.Portion.{all_offered, offered_from, so_far}
 use Rattle.sig_core.specs.declared.signal.host.Work.TheVariants.{Transaction}
 use Rattle.sig_core.specs.Place.{takeover}
 use Rattle.takeover_block.specs.Sends.{stage_effects, stage_left, stage_sends}
-use Rattle.sig_core.proofs.PortionLemmas.{ends_with_portion, goes_on_after_portion}
-use Rattle.takeover_block.proofs.SendLemmas.{left_is}
+use Rattle.sig_core.proofs.PortionLemmas.{ends_with_portion, goes_on_after_portion, left_is}
 use Rattle.takeover_block.proofs.sends.send_stage.Goals as goal
 
 pub returns-then-portion-clause-effects : goal.returns-then-portion-clause-effects
