@@ -329,6 +329,25 @@ impl Client {
         ensures ok { OnOk result (IsTaken (client_row self.old signal.now) self.new out.old out.new) }
         ensures err { OnErr result (IsUntouched self.old self.new out.old out.new) }
     {
+        // Nearly always its view was seen before.
+        if self.api.view().number < signal.view.get().number {
+            return self.see_and_take(alloc, signal, out);
+        }
+        self.take(alloc, signal, out)
+    }
+
+    // Takes a signal of a greater view, which is seen.
+    #[tactic(auto, unfolding(crate::specs::Members::noted))]
+    fn see_and_take(
+        &mut self,
+        alloc: Global,
+        signal: &Signal,
+        out: &mut Outs,
+    ) -> Result<(), NoMemory>
+        requires { HasAllRoom out.old }
+        ensures ok { OnOk result (IsTaken (client_row self.old signal.now) self.new out.old out.new) }
+        ensures err { OnErr result (IsUntouched self.old self.new out.old out.new) }
+    {
         let before = *self.api.view();
         self.note(signal.view.get());
         let taken = self.take(alloc, signal, out);

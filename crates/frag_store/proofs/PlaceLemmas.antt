@@ -149,6 +149,13 @@ module _ (slots : List (Option Slot)) (index : linear_hash.PlaceMap) (spare : Op
       by i true e = let both : Some i ≡ None = sym (is.leads key i e) ∙ sym none in cc
       by i false e = e
 
+  -- a place that is taken is that of its key
+  pub own_place : (slot : Slot) (at : ℕ) → get_or slots at None ≡ Some slot → place_of slots slot.key ≡ Some at
+  own_place slot at there =
+      let here : is_at slot.key (get_or slots at None) ≡ true =
+      ap (is_at slot.key) there ∙ same_key-self slot.key in
+      sym (found_there slot.key at (sym (is.leads slot.key at here)) here)
+
   pub is_there : (key : List ℕ) (at : ℕ) → place_of slots key ≡ Some at → is_at key (get_or slots at None) ≡ true
   is_there key at e = there (is_at key) None slots at e
 

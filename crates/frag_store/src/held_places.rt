@@ -52,9 +52,10 @@ impl HeldPlaces {
         self.places.taken()
     }
 
-    /// What is at a place: none where it is free.
+    /// What is at a place, which is that of its key: none where it is free.
     pub fn get(&self, at: u64) -> Option<&Slot>
-        ensures { MatchOption result (slice_index_or self.now.places.slots at None ≡ None) (λ slot. slice_index_or self.now.places.slots at None ≡ Some slot.now) }
+        ensures slot { MatchOption result (slice_index_or self.now.places.slots at None ≡ None) (λ slot. slice_index_or self.now.places.slots at None ≡ Some slot.now) }
+        ensures own { IfSome result (λ slot. place_of self.now.places.slots slot.now.key ≡ Some at) }
     {
         self.places.get(at)
     }

@@ -63,9 +63,11 @@ impl Places {
         self.pages.next()
     }
 
-    /// What is at a place: none where it is free.
+    /// What is at a place, which is that of its key: none where it is free.
+    #[tactic(auto, using(crate::proofs::PlaceLemmas::own_place))]
     pub fn get(&self, at: u64) -> Option<&Slot>
-        ensures { MatchOption result (slice_index_or self.now.slots at None ≡ None) (λ slot. slice_index_or self.now.slots at None ≡ Some slot.now) }
+        ensures slot { MatchOption result (slice_index_or self.now.slots at None ≡ None) (λ slot. slice_index_or self.now.slots at None ≡ Some slot.now) }
+        ensures own { IfSome result (λ slot. place_of self.now.slots slot.now.key ≡ Some at) }
     {
         self.pages.get(at)
     }

@@ -208,6 +208,20 @@ impl Rows for Store {
             _ => unreachable!(),
         }
     }
+
+    #[tactic(auto, unfolding(sig_core::specs::Rows::row_epoch))]
+    fn row_at(&self, at: u64) -> (&Key, u64, &Value) {
+        match self.places.get(at) {
+            Some(
+                Slot {
+                    key,
+                    row: Some(value),
+                    epoch,
+                },
+            ) => (key, *epoch, value),
+            _ => unreachable!(),
+        }
+    }
 }
 
 // Makes the memory for one more write of the key.

@@ -49,7 +49,6 @@ fn put_row_at<R: Rows>(rows: &R, at: u64, out: &mut Vec<u8>) -> Result<(), NoMem
     requires { IsRowPlace (R.state_of rows.now) at }
     ensures { OnOk result (out.new.items ≡ out.old.items ++ flat_map row_bytes (row_in (R.state_of rows.now) (slice_index_or (R.state_of rows.now).places at None))) }
 {
-    let (key, value) = rows.at_place(at);
-    let epoch = rows.row_epoch(key).unwrap_or(0);
+    let (key, epoch, value) = rows.row_at(at);
     put_row2(out, key, epoch, value)
 }

@@ -36,6 +36,9 @@ use view::add_view;
 use waiting::add_waiting;
 use words::add;
 
+/// For how many bytes of a line there is room at first. Nearly all lines fit.
+const LINE: usize = 32;
+
 /// Adds the line of a reply, with its newline, to a text. Where the reply has the name of a
 /// transaction, the line begins with `@`, the name and a space. Numbers are in decimal, and a
 /// digest in hexadecimal.
@@ -46,7 +49,7 @@ pub fn print_reply(alloc: Global, reply: &ApiReply, text: &mut Vec<u8>) -> Resul
     ensures ok { OnOk result (text.new.items ≡ text.old.items ++ reply_text reply.now) }
     ensures err { OnErr result (text.new.items ≡ text.old.items) }
 {
-    let mut line = Vec::new(alloc);
+    let mut line = Vec::with_capacity(alloc, LINE)?;
     add_name(alloc, name_of(reply), &mut line)?;
     add_words(alloc, reply, &mut line)?;
     line.push(b'\n')?;

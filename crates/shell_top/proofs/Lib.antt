@@ -8,6 +8,7 @@ pub mod FitLemmas
 pub mod GivingUp
 pub mod HistoryLemmas
 pub mod LivedLemmas
+pub mod ArrangedLemmas
 pub mod BetweenLemmas
 pub mod ChapterLemmas
 pub mod CutLemmas

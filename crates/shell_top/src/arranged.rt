@@ -1,5 +1,6 @@
 //! The order in which the replies to a command are printed.
 ghost use Rattle.std.specs.Prelude.{◌≡◌, [], IfOk, OnOk, filter, map, position};
+ghost use Rattle.std.specs.List.{list_all};
 ghost use Rattle.shell_top.specs.Arranged.{arranged, by_rank, insert, is_before, is_others, late, rank_of};
 ghost use Rattle.shell_top.specs.Subject.{is_own};
 
@@ -29,6 +30,13 @@ pub fn arranged(
     let others = by_rank(alloc, &others)?;
     ordered.extend_from_slice(&others)?;
     Ok(ordered)
+}
+
+/// Whether all replies are the own ones of a command that is about this.
+pub fn are_own(asked: Subject, replies: &[ApiReply]) -> bool
+    ensures { result ≡ list_all (is_own asked) replies.now }
+{
+    replies.iter().all(|reply| is_own(asked, reply))
 }
 
 // The replies that are the command's own.

@@ -15,10 +15,10 @@ ghost use Rattle.world_views.specs.Driven.{IsSound};
 ghost use Rattle.world_views.specs.World.{is_down};
 ghost use Rattle.world_views.specs.WorldOf.{whole_of};
 
-use crate::arranged::arranged;
+use crate::arranged::{are_own, arranged};
 use crate::asked::{ask_about, ask_own};
 use crate::ended::Ending;
-use crate::subject::{is_own, subject_of};
+use crate::subject::{Subject, subject_of};
 use crate::taken::take_replies;
 use crate::writer::write_all;
 use disk_world::DiskWorld;
@@ -42,6 +42,18 @@ fn lines(alloc: Global, replies: &[ApiReply]) -> Result<Vec<u8>, NoMemory>
     Ok(text)
 }
 
+/// The lines of the replies to a command that is about this, in the order in which they are printed.
+#[tactic(auto, using(crate::proofs::ArrangedLemmas::all_own))]
+fn arranged_lines(alloc: Global, asked: Subject, replies: &[ApiReply]) -> Result<Vec<u8>, NoMemory>
+    ensures { IfOk result (λ text. text.items ≡ reply_lines (arranged asked replies.now)) }
+{
+    // Most often all are the command's own, and there is nothing to arrange.
+    if are_own(asked, replies) {
+        return lines(alloc, replies);
+    }
+    lines(alloc, &arranged(alloc, asked, replies)?)
+}
+
 /// The lines of all replies of the world to a command.
 ///
 /// # Errors
@@ -61,12 +73,7 @@ fn answers<D: Disk>(
     ensures lived { OnOk result (LivesOn start D.told world.old world.new) }
 {
     let replies = take_replies(alloc, world)?;
-    let subject = subject_of(command);
-    match replies.as_slice() {
-        // Most often there is one reply, the command's own, and nothing to arrange.
-        [reply] if is_own(subject, reply) => lines(alloc, &replies),
-        _ => lines(alloc, &arranged(alloc, subject, &replies)?),
-    }
+    arranged_lines(alloc, subject_of(command), &replies)
 }
 
 /// Has the world serve a command, and gives the text of the replies to it.

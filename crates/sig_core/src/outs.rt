@@ -106,6 +106,10 @@ impl Outs {
         ensures err { OnErr result (self.new.marks ≡ self.old.marks) }
         ensures sends { self.new.sends ≡ self.old.sends }
     {
+        // Most steps have none.
+        if self.marks.is_empty() {
+            return Ok(Seq::new(alloc));
+        }
         let mut marks = Vec::with_capacity(alloc, self.marks.len())?;
         marks.append(&mut self.marks)?;
         Ok(Seq::from_vec(marks))

@@ -42,11 +42,19 @@ impl Portion {
     {
         if self.skip > 0 {
             self.skip -= 1;
+            leave_out(body);
         } else if self.room > 0 {
             self.room -= 1;
             out.send(to, body);
         } else {
             self.more = true;
+            leave_out(body);
         }
     }
 }
+
+// Drops what isn't sent now, which is seldom. Not inlined, so that what is sent is moved as a whole, and not taken
+// apart.
+#[cold]
+#[inline(never)]
+fn leave_out(_body: Body) {}

@@ -144,4 +144,10 @@ pub trait Rows {
     fn at_place(&self, at: u64) -> (&Key, &Value)
         requires { IsTrue (has_row (slice_index_or (state_of self.now).places at None)) }
         ensures { IsRowAt (state_of self.now) at result.0.now result.1.now };
+
+    /// The row at a place that has one, with its epoch between its key and its value. Takes no memory.
+    fn row_at(&self, at: u64) -> (&Key, u64, &Value)
+        requires { IsTrue (has_row (slice_index_or (state_of self.now).places at None)) }
+        ensures row { IsRowAt (state_of self.now) at result.0.now result.2.now }
+        ensures epoch { row_epoch (state_of self.now) result.0.now ≡ Some result.1 };
 }

@@ -53,19 +53,23 @@ impl Page {
     {
         self.slots[at] = slot;
     }
+
+    /// Makes this the row of a slot that is taken, of this epoch, or none. A free one stays so.
+    pub fn rewrite(&mut self, at: usize, row: &Option<Value>, epoch: u64)
+        requires { at < length self.old }
+        ensures { self.new ≡ slice_set self.old at (rewritten (slice_index_or self.old at None) row.now epoch) }
+    {
+        rewrite(&mut self.slots[at], row, epoch);
+    }
 }
 
-/// What a slot is once its row is this, of this epoch.
-pub fn rewritten(slot: &Option<Slot>, row: &Option<Value>, epoch: u64) -> Option<Slot>
-    ensures { result ≡ rewritten slot.now row.now epoch }
+// Makes this the row of a slot that is taken, of this epoch, or none.
+fn rewrite(slot: &mut Option<Slot>, row: &Option<Value>, epoch: u64)
+    ensures { slot.new ≡ rewritten slot.old row.now epoch }
 {
-    match slot {
-        Some(slot) => Some(Slot {
-            key: slot.key,
-            row: *row,
-            epoch: kept_epoch(row, epoch),
-        }),
-        None => None,
+    if let Some(slot) = slot {
+        slot.row = *row;
+        slot.epoch = kept_epoch(row, epoch);
     }
 }
 

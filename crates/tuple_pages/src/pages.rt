@@ -8,7 +8,7 @@ ghost use Rattle.tuple_pages.specs.declared.page.TheConstants.{PAGE_SLOTS};
 ghost use Rattle.tuple_pages.specs.Free.{first_free};
 ghost use Rattle.tuple_pages.specs.Places.{ArePages, AreWhole, has_spare, place_at, places_in, rewritten, written};
 
-use crate::page::{PAGE_SLOTS, Page, rewritten};
+use crate::page::{PAGE_SLOTS, Page};
 use sig_core::{Key, NoMemory, Slot, Value};
 use std::alloc::Global;
 use std::cmp::Reverse;
@@ -123,9 +123,7 @@ impl Pages {
         ensures slots { self.new.slots ≡ slice_set self.old.slots at (rewritten (slice_index_or self.old.slots at None) row.now epoch) }
         ensures room { self.new.roomy ≡ self.old.roomy }
     {
-        let at = at as usize;
-        let slot = rewritten(place_at(&self.pages, at), row, epoch);
-        write(&mut self.pages, at, slot);
+        rewrite(&mut self.pages, at as usize, row, epoch);
     }
 
     /// Frees a place that is taken. Takes no memory.
@@ -222,6 +220,16 @@ fn write(pages: &mut Vec<Page>, at: usize, slot: Option<Slot>)
     ensures { pages.new.items ≡ written pages.old.items at slot }
 {
     pages[at / PAGE_SLOTS].set(at % PAGE_SLOTS, slot);
+}
+
+// Makes this the row of a place that is taken, of this epoch, or none.
+#[tactic(auto, unfolding(crate::specs::Places::place_at, crate::specs::Places::written))]
+fn rewrite(pages: &mut Vec<Page>, at: usize, row: &Option<Value>, epoch: u64)
+    requires page { at / PAGE_SLOTS < length pages.old.items }
+    requires slot { at % PAGE_SLOTS < length (slice_index_or pages.old.items (at / PAGE_SLOTS) []) }
+    ensures { pages.new.items ≡ written pages.old.items at (rewritten (place_at pages.old.items at) row.now epoch) }
+{
+    pages[at / PAGE_SLOTS].rewrite(at % PAGE_SLOTS, row, epoch);
 }
 
 // Puts a slot at the least free place, and answers which that is.

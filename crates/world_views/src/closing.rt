@@ -11,9 +11,11 @@ ghost use Rattle.world_views.specs.World.{is_unclosed};
 
 use crate::hosts::Made;
 use crate::network::Network;
-use crate::sender::Sender;
+use crate::sender::{Sender, refuse};
 use node_views::HostBody;
-use sig_core::{Body, Boxed, Held, HostId, HostSignal, Mark, NoMemory, Signal, StopCause, View};
+use sig_core::{
+    Body, Boxed, Held, HostId, HostSignal, Mark, NoMemory, Outgoing, Signal, StopCause, View,
+};
 use std::alloc::Global;
 
 /// Why a step stops its host, where it does.
@@ -81,13 +83,18 @@ pub fn first_signal(
 ) -> Result<Boxed<Signal>, NoMemory>
     ensures { IfOk result (λ signal. signal ≡ headed by.now 0 (record { to = front_of made.now to; body = body })) }
 {
+    let to = made.front_of(to);
+    let Ok(view) = by.view.share() else {
+        refuse(Outgoing { to, body });
+        return Err(NoMemory);
+    };
     let signal = Signal {
         from: HostId(by.host),
         member: by.member,
-        to: made.front_of(to),
+        to,
         seq: 0,
         stamp: by.stamp,
-        view: by.view.share()?,
+        view,
         body,
     };
     Boxed::new(alloc, signal)

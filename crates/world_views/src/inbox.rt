@@ -4,7 +4,7 @@ ghost use Rattle.std.specs.Prelude.{◌<◌, ◌^◌, nat_lt, count_by, length, 
 ghost use Rattle.world_views.specs.Links.{behind, closed_by, is_busy, link_from, new_link, rest_on, with_link, without};
 ghost use Rattle.world_views.specs.Sending.{routed};
 
-use crate::sender::Sender;
+use crate::sender::{Sender, refuse};
 use sig_core::{Boxed, HostId, NoMemory, Outgoing, Signal};
 use std::alloc::Global;
 use std::collections::VecDeque;
@@ -145,12 +145,14 @@ impl Inbox {
         ensures { OnOk result (self.new ≡ with_link self.old by.host (behind by (routed to sent) (link_from self.old by.host))) }
     {
         let at = by.host as usize;
-        if at < self.links.len() {
-            let was_busy = self.links[at].is_busy();
-            self.links[at].put(alloc, by, to, sent)?;
-            if !was_busy {
-                self.busy += 1;
-            }
+        if at >= self.links.len() {
+            refuse(sent);
+            return Ok(());
+        }
+        let was_busy = self.links[at].is_busy();
+        self.links[at].put(alloc, by, to, sent)?;
+        if !was_busy {
+            self.busy += 1;
         }
         Ok(())
     }

@@ -4,7 +4,7 @@ ghost use Rattle.world_views.specs.Links.{arrival, has_signal, new_link};
 ghost use Rattle.world_views.specs.Sending.{routed};
 
 use crate::inbox::Inbox;
-use crate::sender::Sender;
+use crate::sender::{Sender, refuse};
 use sig_core::{Boxed, NoMemory, Outgoing, Signal};
 use std::alloc::Global;
 use std::marker::Model;
@@ -66,10 +66,11 @@ impl Network {
         ensures { OnOk result (self.new ≡ put self.old by (routed to sent)) }
     {
         let at = to as usize;
-        if at < self.inboxes.len() {
-            self.inboxes[at].put(alloc, by, to, sent)?;
+        if at >= self.inboxes.len() {
+            refuse(sent);
+            return Ok(());
         }
-        Ok(())
+        self.inboxes[at].put(alloc, by, to, sent)
     }
 
     /// Puts the last signal on the link from a host to another, behind the others.

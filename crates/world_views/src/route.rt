@@ -1,5 +1,5 @@
 //! Which of what a step sends goes where.
-ghost use Rattle.std.specs.Prelude.{◌≡◌, ◌∷◌, [], ◌==◌, ◌&&◌, ◌||◌, OnOk};
+ghost use Rattle.std.specs.Prelude.{◌≡◌, ◌<◌, ◌∷◌, [], ◌==◌, ◌&&◌, ◌||◌, IfOk, OnOk, false, length, true};
 ghost use Rattle.node_views.specs.Row.{is_cut};
 ghost use Rattle.world_views.specs.Links.{put_all};
 ghost use Rattle.world_views.specs.Machine.{sender};
@@ -7,7 +7,7 @@ ghost use Rattle.world_views.specs.Sending.{is_own_work, routed_all};
 
 use crate::hosts::Made;
 use crate::network::Network;
-use crate::sender::Sender;
+use crate::sender::{Sender, refuse};
 use node_views::HostBody;
 use sig_core::{Body, HostId, HostSignal, NoMemory, Outgoing, Outs, Work};
 use std::alloc::Global;
@@ -29,14 +29,38 @@ pub fn dispatch(
 ) -> Result<(), NoMemory>
     ensures { OnOk result (network.new ≡ put_all network.old (sender made.now from stamp host.now.standing.view) (routed_all made.now from host.now.standing outs.old.sends)) }
 {
-    while let Some(sent) = outs.take_send() {
-        pass_on(alloc, network, made, host, from, stamp, sent)?;
-    }
+    while pass_next(alloc, network, made, host, from, stamp, outs)? {}
     Ok(())
 }
 
-// Puts one of them on its way. Not inlined, so that the step keeps its own values at hand.
+// Puts the first of them on its way. Says whether there was one. Not inlined, so that the step keeps its own values
+// at hand.
 #[inline(never)]
+#[tactic(auto, using(crate::proofs::RouteLemmas::passed_on))]
+fn pass_next(
+    alloc: Global,
+    network: &mut Network,
+    made: &Made,
+    host: &HostBody,
+    from: u32,
+    stamp: u64,
+    outs: &mut Outs,
+) -> Result<bool, NoMemory>
+    ensures passed { OnOk result (put_all network.new (sender made.now from stamp host.now.standing.view) (routed_all made.now from host.now.standing outs.new.sends) ≡ put_all network.old (sender made.now from stamp host.now.standing.view) (routed_all made.now from host.now.standing outs.old.sends)) }
+    ensures fewer { IfOk result (λ more. more ≡ true → length outs.new.sends < length outs.old.sends) }
+    ensures none { IfOk result (λ more. more ≡ false → outs.new.sends ≡ []) }
+{
+    match outs.take_send() {
+        Some(sent) => {
+            pass_on(alloc, network, made, host, from, stamp, sent)?;
+            Ok(true)
+        }
+        None => Ok(false),
+    }
+}
+
+// Puts one of them on its way.
+#[inline(always)]
 fn pass_on(
     alloc: Global,
     network: &mut Network,
@@ -54,14 +78,12 @@ fn pass_on(
         refuse(sent);
         return Ok(());
     }
-    let by = Sender::of(made, from, stamp, view.share()?);
-    network.put(alloc, by, to, sent)
+    let Ok(view) = view.share() else {
+        refuse(sent);
+        return Err(NoMemory);
+    };
+    network.put(alloc, Sender::of(made, from, stamp, view), to, sent)
 }
-
-// Drops what isn't sent, which is seldom.
-#[cold]
-#[inline(never)]
-fn refuse(_sent: Outgoing) {}
 
 // Whether a host doesn't send this to another.
 fn is_kept_back(host: &HostBody, from: u32, to: u32, body: &Body) -> bool
@@ -70,7 +92,8 @@ fn is_kept_back(host: &HostBody, from: u32, to: u32, body: &Body) -> bool
     host.is_cut(HostId(to)) || (to == from && is_own_work(body))
 }
 
-/// Whether only a host itself asks this of itself, and no link gives it.
+/// Whether only a host itself asks this of itself, and no link gives it. Not inlined, as `refuse`.
+#[inline(never)]
 pub fn is_own_work(body: &Body) -> bool
     ensures { result ≡ is_own_work body.now }
 {

@@ -3,7 +3,7 @@ ghost use Rattle.std.specs.Prelude.{◌≡◌};
 ghost use Rattle.world_views.specs.Machine.{sender};
 
 use crate::hosts::Made;
-use sig_core::{Held, Member, View};
+use sig_core::{Held, Member, Outgoing, View};
 
 /// The host of whose step signals are sent, as their headers tell.
 #[derive(Drop)]
@@ -29,3 +29,9 @@ impl Sender {
         }
     }
 }
+
+/// Drops what isn't sent, which is seldom. Not inlined, so that what is sent is moved as a whole, and not taken
+/// apart.
+#[cold]
+#[inline(never)]
+pub fn refuse(_sent: Outgoing) {}

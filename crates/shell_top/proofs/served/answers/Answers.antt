@@ -7,9 +7,8 @@ use Rattle.shell_top.proofs.served.answers.Goals as goal
 
 pub returns-clause-text : goal.returns-clause-text
 returns-clause-text g c =
-    let all = c.deref-in_default.ensures.value ∙ c.in_ok-replies.ensures.replies in
-    lines_are c.lines-in_default.result c.deref-in_default-2.result.now
-    (arranged (subject_in c.args.command.now) (whole_of c.args.world.now.world).replies) c.lines-in_default.ensures
-    (c.deref-in_default-2.ensures.value ∙ c.in_ok-arranged-in_default.ensures
-    ∙ ap (λ subject. arranged subject c.deref-in_default.result.now) c.subject_of-subject.ensures
+    let all = c.deref.ensures.value ∙ c.in_ok-replies.ensures.replies in
+    lines_are c.arranged_lines.result (arranged c.subject_of.result c.deref.result.now)
+    (arranged (subject_in c.args.command.now) (whole_of c.args.world.now.world).replies) c.arranged_lines.ensures
+    (ap (λ subject. arranged subject c.deref.result.now) c.subject_of.ensures
     ∙ ap (arranged (subject_in c.args.command.now)) all)
