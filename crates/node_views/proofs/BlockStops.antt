@@ -1,8 +1,7 @@
 -- The blocks of a host mark that it stops just where they have it stop. A block more is a line more.
-use Rattle.std.proofs.Common.{◌≡◌, Bool, true, false, List, refl, sym, subst, inl, inr, ◌⊎◌, ap, ◌∙◌}
-use Rattle.std.specs.Prelude.{Option, None, Some}
+use Rattle.std.proofs.Common.{◌≡◌, List, refl, sym, subst, inl, inr, ◌⊎◌, ap, ◌∙◌}
+use Rattle.std.specs.Prelude.{None, Some}
 use Rattle.sig_core.specs.declared.mark.Mark.{Mark}
-use Rattle.sig_core.specs.declared.mark.Mark.TheVariants.{Stopped}
 use Rattle.sig_core.specs.declared.outcome.StopCause.{StopCause}
 use Rattle.sig_core.specs.declared.outcome.StopCause.TheVariants.{Clock, Disk, Excluded, Killed, Memory, NoGroup, Sibling}
 use Rattle.sig_core.specs.declared.outs.Outgoing.{Outgoing}
@@ -13,30 +12,24 @@ use Rattle.sig_core.specs.declared.signal.Body.TheVariants.{Membership}
 use Rattle.sig_core.specs.declared.signal.Signal.{Signal}
 use Rattle.sig_core.specs.declared.signal.membership.MembershipSignal.TheVariants.{StopSet}
 use Rattle.sig_core.specs.declared.view.View.{View}
-use Rattle.api_views.specs.Client.{client_row}
 use Rattle.api_views.specs.Words.{is_client_mark}
 use Rattle.api_views.proofs.Walk.{client_words}
-use Rattle.arbiter_block.specs.Arbiter.{arbiter_row}
 use Rattle.arbiter_block.specs.Words.{is_arbiter_mark}
 use Rattle.arbiter_block.proofs.Walk.{arbiter_words}
-use Rattle.dih_node.specs.Dih.{dih_row}
 use Rattle.dih_node.specs.Orders as dih
 use Rattle.dih_node.specs.Words.{is_dih_mark}
 use Rattle.dih_node.proofs.Walk.{dih_words}
 use Rattle.lqh_saver.specs.State.{saving}
 use Rattle.lqh_saver.proofs.StepLemmas.{saver_marks}
 use Rattle.lqh_saver.proofs.Walk.{rows_words}
-use Rattle.lqh_views.specs.Replica.{replica_row}
 use Rattle.lqh_views.specs.Words.{is_replica_mark}
-use Rattle.qmgr_block.specs.Decide.{stop_by, stop_row}
+use Rattle.qmgr_block.specs.Decide.{stop_row}
 use Rattle.qmgr_block.specs.Qmgr.{qmgr_installed, qmgr_row, qmgr_table}
 use Rattle.qmgr_block.specs.State.{QmgrState}
 use Rattle.qmgr_block.specs.Stop.{body_stops, qmgr_stops}
 use Rattle.qmgr_block.proofs.Walk.{qmgr_each, qmgr_installed_each}
-use Rattle.takeover_block.specs.Takeover.{takeover_row}
 use Rattle.takeover_block.specs.Words.{is_takeover_mark}
 use Rattle.takeover_block.proofs.Walk.{takeover_words}
-use Rattle.tc_views.specs.Coordinator.{coordinator_row}
 use Rattle.tc_views.specs.Views as coordinator
 use Rattle.tc_views.specs.Words.{is_coordinator_mark}
 use Rattle.tc_views.proofs.Walk.{coordinator_words}

@@ -1,6 +1,6 @@
 -- In calm the shell's host does at a signal what its plain one does, but that a round of time goes to the membership
 -- besides.
-use Rattle.std.proofs.Common.{◌≡◌, Bool, true, false, List, [], ◌++◌, refl, sym, ap, ◌∙◌, subst, subst₂}
+use Rattle.std.proofs.Common.{◌≡◌, true, List, [], ◌++◌, refl, sym, ap, ◌∙◌, subst, subst₂}
 use Rattle.std.specs.Prelude.{◌&&◌, None}
 use Rattle.run_theory.specs.Lists.{Each}
 use Rattle.sig_core.specs.declared.place.BlockId.{BlockId}
