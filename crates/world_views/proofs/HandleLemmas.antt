@@ -1,6 +1,6 @@
 -- What becomes of a signal in the hand of a host.
-use Rattle.std.proofs.Common.{◌≡◌, inl, inr, ℕ, zero, suc, ◌<◌, ◌≤◌, List, ◌++◌, length, Bool, true, false, refl, ap}
-use Rattle.std.proofs.Common.{sym, ◌∙◌, subst}
+use Rattle.std.proofs.Common.{◌≡◌, inl, inr, ℕ, zero, suc, ◌<◌, ◌≤◌, List, [], ◌∷◌, ◌++◌, length, Bool, true, false}
+use Rattle.std.proofs.Common.{refl, ap, sym, ◌∙◌, subst}
 use Rattle.std.specs.Prelude.{Err, get_or, IfSome, is_some, MatchOption, nat_lt, None, Ok, OnOk, Option, Result}
 use Rattle.std.specs.Prelude.{slice_set, Some, ◌^◌}
 use Rattle.std.proofs.lemmas.Bool.{lt-ltb, true≢false}
