@@ -3,7 +3,8 @@ use Rattle.std.proofs.Common.{◌≡◌, List, refl, sym, subst, inl, inr, ◌�
 use Rattle.std.specs.Prelude.{None, Some}
 use Rattle.sig_core.specs.declared.mark.Mark.{Mark}
 use Rattle.sig_core.specs.declared.outcome.StopCause.{StopCause}
-use Rattle.sig_core.specs.declared.outcome.StopCause.TheVariants.{Clock, Disk, Excluded, Killed, Memory, NoGroup, Sibling}
+use Rattle.sig_core.specs.declared.outcome.StopCause.TheVariants.{Clock, Disk, Excluded, Killed, Memory, NoGroup}
+use Rattle.sig_core.specs.declared.outcome.StopCause.TheVariants.{Sibling}
 use Rattle.sig_core.specs.declared.outs.Outgoing.{Outgoing}
 use Rattle.sig_core.specs.declared.place.BlockId.{BlockId}
 use Rattle.sig_core.specs.declared.place.BlockId.TheVariants as block

@@ -12,7 +12,8 @@ use Rattle.node_views.specs.Laws.{CalmHostsLeaveItToBlocks, IsCalm, MalformedSig
 use Rattle.node_views.specs.Laws.{InstalledViewsGiveWalksUp, StoppingHostsAreSilent, is_own}
 use Rattle.node_views.specs.Blocks.{stop_at}
 use Rattle.node_views.specs.Row.{blocks_row, counted_row, counted_stop, headed_if, headed_row, headed_stop}
-use Rattle.node_views.specs.Row.{headed_stop_if, host_row, host_table, hushed, is_stop, passed_if, passed_row, passed_stop}
+use Rattle.node_views.specs.Row.{headed_stop_if, host_row, host_table, hushed, is_stop, passed_if, passed_row}
+use Rattle.node_views.specs.Row.{passed_stop}
 use Rattle.node_views.specs.Row.{passed_stop_if, table_stop, taken_if, unless_stopped}
 use Rattle.node_views.specs.WellFormed.{is_well_formed}
 use Rattle.node_views.specs.declared.host_body.HostBody as hosts

@@ -28,23 +28,29 @@ use Rattle.gcp_master.specs.declared.phase.Run.{Run}
 use Rattle.gcp_master.specs.declared.sends.TheConstants.{SENDS}
 use Rattle.gcp_master.specs.declared.voices.Voice.{Voice}
 use Rattle.gcp_master.specs.Begin.{begins, begins_if, begun}
-use Rattle.gcp_master.specs.Closing.{close_if_all, closed_if, copied_if, copy_by, copy_if, copy_row, finish_by, finish_if}
+use Rattle.gcp_master.specs.Closing.{close_if_all, closed_if, copied_if, copy_by, copy_if, copy_row, finish_by}
+use Rattle.gcp_master.specs.Closing.{finish_if}
 use Rattle.gcp_master.specs.Closing.{finish_row, note_by, note_if, note_row, noted_by, noted_if, prepare_by, prepare_if}
 use Rattle.gcp_master.specs.Closing.{prepare_row, prepared_if, save_by, save_if, save_row, saved_if, switching}
 use Rattle.gcp_master.specs.Closing.{takeover_by, takeover_row}
 use Rattle.gcp_master.specs.Known.{resumed}
 use Rattle.gcp_master.specs.Local.{all_local, counted_local, counts_local, hear_switch_if, hear_walk_if, switched_by}
-use Rattle.gcp_master.specs.Local.{switched_if, switched_row, walk_by, walk_if, walk_row, walked_by, walked_if, walked_row}
+use Rattle.gcp_master.specs.Local.{switched_if, switched_row, walk_by, walk_if, walk_row, walked_by, walked_if}
+use Rattle.gcp_master.specs.Local.{walked_row}
 use Rattle.gcp_master.specs.Master.{epoch_table, local_table, master_row, master_table, told}
 use Rattle.gcp_master.specs.Numbers.{is_first}
 use Rattle.gcp_master.specs.Requests.{asked_by, asked_row, global_asked, local_asked, micro_asked}
-use Rattle.gcp_master.specs.Resume.{is_president, knowing, learned_if, order_by, order_row, resume_at, state_by, state_if}
+use Rattle.gcp_master.specs.Resume.{is_president, knowing, learned_if, order_by, order_row, resume_at, state_by}
+use Rattle.gcp_master.specs.Resume.{state_if}
 use Rattle.gcp_master.specs.Resume.{state_row, told_all_if}
 use Rattle.gcp_master.specs.Sends.{go_on_if, go_on_row, list_effects, listing}
 use Rattle.gcp_master.specs.Spent.{asked_spent, body_spent, copied_spent_if, copy_spent, copy_spent_by, copy_spent_if}
-use Rattle.gcp_master.specs.Spent.{epoch_spent, hear_walk_spent_if, local_spent, master_stops, note_spent, note_spent_by}
-use Rattle.gcp_master.specs.Spent.{note_spent_if, noted_spent_by, noted_spent_if, resumed_spent_if, spent_at, state_spent}
-use Rattle.gcp_master.specs.Spent.{state_spent_by, state_spent_if, stop_if, walked_spent, walked_spent_by, walked_spent_if}
+use Rattle.gcp_master.specs.Spent.{epoch_spent, hear_walk_spent_if, local_spent, master_stops, note_spent}
+use Rattle.gcp_master.specs.Spent.{note_spent_by}
+use Rattle.gcp_master.specs.Spent.{note_spent_if, noted_spent_by, noted_spent_if, resumed_spent_if, spent_at}
+use Rattle.gcp_master.specs.Spent.{state_spent}
+use Rattle.gcp_master.specs.Spent.{state_spent_by, state_spent_if, stop_if, walked_spent, walked_spent_by}
+use Rattle.gcp_master.specs.Spent.{walked_spent_if}
 use Rattle.gcp_master.specs.State.{MasterState, all_in, at_phase, at_stage, counted, counts}
 use Rattle.gcp_master.specs.Voices.{is_among}
 use Rattle.node_views.specs.Stop.{stop_in}
@@ -124,12 +130,12 @@ copy_tells : (s : MasterState) (voice : Voice) (epoch : ℕ) → TellsIf (copy_s
 unfolding copy_row copy_spent
 copy_tells s voice epoch = by s.phase
   where
-    all : (now : MasterState) (run : Run) (b : Bool) → TellsIf (copied_spent_if now run b) (copied_if now run b)
-    all now run true =
+    all : (t : MasterState) (run : Run) (b : Bool) → TellsIf (copied_spent_if t run b) (copied_if t run b)
+    all t run true =
         begins_tells
-        (record (at_phase (switching now run) (Resting run.next)) { front = Some (Global run.epoch run.copy run.local) })
+        (record (at_phase (switching t run) (Resting run.next)) { front = Some (Global run.epoch run.copy run.local) })
         run.next false
-    all now run false = refl
+    all t run false = refl
 
     counts_if : (run : Run) (b : Bool) → TellsIf (copy_spent_if s voice run b) (copy_if s voice run b)
     counts_if run true = all (counted s voice) run (all_in 1 (counted s voice))

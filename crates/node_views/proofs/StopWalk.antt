@@ -15,7 +15,8 @@ use Rattle.node_views.specs.Blocks.{parts_entered, parts_row, settled_at, stop_a
 use Rattle.node_views.specs.declared.host_body.HostBody as hosts
 use Rattle.node_views.specs.declared.parts.Parts.{Parts}
 use Rattle.node_views.specs.Row.{blocks_row, closed_if, closed_stop, counted_row, counted_stop, cut_if, entered}
-use Rattle.node_views.specs.Row.{entering_if, entering_stop, headed_if, headed_row, headed_stop, headed_stop_if, host_row}
+use Rattle.node_views.specs.Row.{entering_if, entering_stop, headed_if, headed_row, headed_stop, headed_stop_if}
+use Rattle.node_views.specs.Row.{host_row}
 use Rattle.node_views.specs.Row.{host_stop, host_table, is_barred, is_cut, is_excluded, is_stop, kill_row, kill_stop}
 use Rattle.node_views.specs.Row.{killed_after, passed_if, passed_row, passed_stop, passed_stop_if, settle, standing_at}
 use Rattle.node_views.specs.Row.{stop_if, table_stop, taken_if, with_parts}
