@@ -95,7 +95,11 @@ fn encode_form<'a>(
 }
 
 // Adds how many operations with their answers are to come.
-fn encode_count(word: &str, left: &mut Vec<&'static str>, bytes: &mut Vec<u8>) -> Result<(), Fault> {
+fn encode_count(
+    word: &str,
+    left: &mut Vec<&'static str>,
+    bytes: &mut Vec<u8>,
+) -> Result<(), Fault> {
     match word.parse::<u8>() {
         Ok(count) => {
             add_number(u64::from(count), 8, bytes)?;

@@ -12,20 +12,20 @@
 //! | `ask REQUEST` | the shell asks for it; `waits` and `pending` too, and a `tick` round by round |
 //! | `install VIEW` | its host installs a view |
 //! | `stop HOST` | a host is killed |
-//! | `pass` | what hosts of the conversation sent each other is taken, the oldest first, until nothing is under way |
+//! | `pass` | what they sent each other is taken, the oldest first, until nothing is under way |
 //! | `N times LINE` | the line, so many times |
 //!
-//! The crate `node_views` has a host with all its blocks, which is told at its first block: `api0`, or `qmgr2`, `tc2` or
-//! `lqh2` of node 2. A SETTING is `shape NODES REPLICAS FRAGMENTS` (without it, 2 2 1), `epoch 1/0`, `start 0/5` (the
-//! epoch that the life starts from), `rows N` (rows with the keys a, b and so on and value x), `fill N` (so many rows
-//! more) or `reserve N` (bytes that the journal keeps free).
+//! The crate `node_views` has a host with all its blocks, which is told at its first block: `api0`, or `qmgr2`, `tc2`
+//! or `lqh2` of node 2. A SETTING is `shape NODES REPLICAS FRAGMENTS` (without it, 2 2 1), `epoch 1/0`, `start 0/5`
+//! (the epoch that the life starts from), `rows N` (rows with the keys a, b and so on and value x), `fill N` (so many
+//! rows more) or `reserve N` (bytes that the journal keeps free).
 //!
 //! A SIGNAL is the name of its kind and its fields, in the order and with the words in which signals are told too
 //! (`forms.rt`): a transaction as `1.7`, of node 1 the seventh, or `1.2.7` where the node has started twice since; an
-//! epoch as `1/0`; the name that a script gives as `@7`; a member as `2`, or `2.1` at its later start; members as `1,2`;
-//! a VIEW as `view 2 full 1,2 starting -`; and a dash for nothing. At the end of a line of a block `in VIEW` is the view
-//! in which it begins, without it the first of the shape; and of a signal the view of its sender, which else is the one
-//! that was told last.
+//! epoch as `1/0`; the name that a script gives as `@7`; a member as `2`, or `2.1` at its later start; members as
+//! `1,2`; a VIEW as `view 2 full 1,2 starting -`; and a dash for nothing. At the end of a line of a block `in VIEW` is
+//! the view in which it begins, without it the first of the shape; and of a signal the view of its sender, which else
+//! is the one that was told last.
 //!
 //! Below a line stand `to PLACE SIGNAL` for each signal that is sent, `mark MARK`, `reply` with a line for the shell,
 //! and `disk` with what a disk is to do of the step, each in order, and `open` where the last request is left

@@ -78,7 +78,8 @@ impl Talk {
         let life = self.round(alloc, host, place)?;
         match signal_in(&life) {
             Some(signal) => {
-                self.partners.push(partner_of(alloc, name, signal, &setting)?)?;
+                self.partners
+                    .push(partner_of(alloc, name, signal, &setting)?)?;
                 Ok(())
             }
             None => Err(Fault::Line),

@@ -1,6 +1,7 @@
 //! What blocks do, told in words: signals and marks, from the bytes that a trace has of them.
 use crate::decode::{decode, take_number};
 use crate::fault::Fault;
+use gcp_master::MICROS;
 use lqh_saver::Todo;
 use sig_core::{HostId, LogStep};
 use std::alloc::Global;
@@ -105,8 +106,12 @@ pub fn tell_todo(todo: &Todo, text: &mut String) -> Result<(), Fault> {
         }
         Todo::Sync => text.push_str("  disk sync\n")?,
         Todo::Name(finished) => {
-            let (size, from, epoch) = (finished.size, finished.from, finished.epoch);
-            write!(text, "  disk name bytes {size} from {from} epoch {epoch}\n")?;
+            let (size, from) = (finished.size, finished.from);
+            let (checkpoint, micro) = (finished.epoch / MICROS, finished.epoch % MICROS);
+            write!(
+                text,
+                "  disk name bytes {size} from {from} epoch {checkpoint}/{micro}\n"
+            )?;
         }
     }
     Ok(())
