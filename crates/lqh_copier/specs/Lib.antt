@@ -1,0 +1,10 @@
+pub mod Asking
+pub mod Commits
+pub mod Copier
+pub mod Draining
+pub mod Laws
+pub mod Passing
+pub mod Scanning
+pub mod Seeking
+pub mod State
+pub mod Words
