@@ -1,5 +1,5 @@
 //! When what stood at an installation has ended.
-use crate::node::{Do, Says, wrong_in};
+use crate::node::{Do, Says, WHOLE, wrong_in};
 use std::test::Fail;
 
 #[test]
@@ -16,7 +16,7 @@ fn a_marker_that_a_record_became_is_waited_for(rt: HostRuntime) -> Result<(), Fa
         (Do::Acknowledge(2), &[]),
         (Do::Drain, &[Says::Drained]),
     ];
-    assert_eq!(rt; wrong_in(rt.alloc(), 1, &lines)?, None);
+    assert_eq!(rt; wrong_in(rt.alloc(), WHOLE, &lines)?, None);
     Ok(())
 }
 
@@ -34,7 +34,7 @@ fn one_after_the_other_is_named(rt: HostRuntime) -> Result<(), Fail> {
         (Do::Acknowledge(1), &[Says::Drained]),
         (Do::Acknowledge(1), &[]),
     ];
-    assert_eq!(rt; wrong_in(rt.alloc(), 1, &lines)?, None);
+    assert_eq!(rt; wrong_in(rt.alloc(), WHOLE, &lines)?, None);
     Ok(())
 }
 
@@ -51,6 +51,6 @@ fn an_installation_notes_anew(rt: HostRuntime) -> Result<(), Fail> {
         (Do::Leave, &[]),
         (Do::Abort(2, b'b'), &[Says::Other]),
     ];
-    assert_eq!(rt; wrong_in(rt.alloc(), 1, &lines)?, None);
+    assert_eq!(rt; wrong_in(rt.alloc(), WHOLE, &lines)?, None);
     Ok(())
 }

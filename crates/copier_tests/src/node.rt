@@ -1,4 +1,6 @@
 //! A node's rows that are told one signal after the other.
+ghost use Rattle.frag_map.specs.Shape.{IsShape};
+
 use frag_map::Layout;
 use frag_store::Store;
 use lqh_copier::Copier;
@@ -12,6 +14,20 @@ use sig_core::{
 };
 use std::alloc::Global;
 use std::test::Fail;
+
+/// One node with one fragment.
+pub const WHOLE: Shape = Shape {
+    nodes: 1,
+    replicas: 1,
+    fragments: 1,
+};
+
+/// One with two.
+pub const HALVES: Shape = Shape {
+    nodes: 1,
+    replicas: 1,
+    fragments: 2,
+};
 
 /// The only node.
 const NODE: Member = Member { node: 1, start: 0 };
@@ -195,13 +211,10 @@ fn said(send: &Outgoing) -> Says {
 }
 
 impl Node {
-    /// A node without rows, in a cluster with so many fragments.
-    pub fn new(alloc: Global, fragments: u8) -> Result<Node, Fail> {
-        let shape = Shape {
-            nodes: 1,
-            replicas: 1,
-            fragments,
-        };
+    /// A node without rows, in a cluster of this shape.
+    pub fn new(alloc: Global, shape: Shape) -> Result<Node, Fail>
+        requires { IsShape shape }
+    {
         let view = View {
             number: 1,
             full: alone(),
@@ -220,7 +233,8 @@ impl Node {
     }
 
     fn install(&mut self, starting: Members) {
-        self.view.number += 1;
+        self.out.clear();
+        self.view.number = self.view.number.saturating_add(1);
         self.view.starting = starting;
         let view = self.view;
         self.copier
@@ -237,6 +251,7 @@ impl Node {
             view: Held::new(alloc, self.view)?,
             body,
         };
+        self.out.clear();
         self.copier.handle(
             alloc,
             &mut self.replica,
@@ -249,7 +264,6 @@ impl Node {
 
     /// They are told something.
     pub fn tell(&mut self, alloc: Global, told: Do) -> Result<(), Fail> {
-        self.out.clear();
         match told {
             Do::Join => self.install(joined()),
             Do::Leave => self.install(Members::new()),
@@ -271,8 +285,10 @@ impl Node {
 }
 
 /// The first line at which they say something else.
-pub fn wrong_in(alloc: Global, fragments: u8, lines: &[Line<'_>]) -> Result<Option<usize>, Fail> {
-    let mut node = Node::new(alloc, fragments)?;
+pub fn wrong_in(alloc: Global, shape: Shape, lines: &[Line<'_>]) -> Result<Option<usize>, Fail>
+    requires { IsShape shape }
+{
+    let mut node = Node::new(alloc, shape)?;
     for (at, line) in lines.iter().enumerate() {
         node.tell(alloc, line.0)?;
         if !node.says(line.1) {

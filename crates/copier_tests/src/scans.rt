@@ -1,5 +1,5 @@
 //! The scan of a fragment.
-use crate::node::{Do, Says, wrong_in};
+use crate::node::{Do, HALVES, Says, WHOLE, wrong_in};
 use std::test::Fail;
 
 #[test]
@@ -23,7 +23,7 @@ fn a_locked_row_is_waited_for(rt: HostRuntime) -> Result<(), Fail> {
         (Do::Unlock(b'b'), &[]),
         (Do::Scan(2), &[Says::NoRow]),
     ];
-    assert_eq!(rt; wrong_in(rt.alloc(), 1, &lines)?, None);
+    assert_eq!(rt; wrong_in(rt.alloc(), WHOLE, &lines)?, None);
     Ok(())
 }
 
@@ -46,7 +46,7 @@ fn a_row_that_is_gone_is_passed_over(rt: HostRuntime) -> Result<(), Fail> {
         (Do::Granted, &[Says::Other]),
         (Do::Held, &[Says::Row(b'b', 5, 2)]),
     ];
-    assert_eq!(rt; wrong_in(rt.alloc(), 1, &lines)?, None);
+    assert_eq!(rt; wrong_in(rt.alloc(), WHOLE, &lines)?, None);
     Ok(())
 }
 
@@ -67,7 +67,7 @@ fn an_installation_ends_a_scan_and_its_locks(rt: HostRuntime) -> Result<(), Fail
         (Do::Held, &[]),
         (Do::Scan(0), &[Says::Row(b'a', 6, 1)]),
     ];
-    assert_eq!(rt; wrong_in(rt.alloc(), 1, &lines)?, None);
+    assert_eq!(rt; wrong_in(rt.alloc(), WHOLE, &lines)?, None);
     Ok(())
 }
 
@@ -89,6 +89,6 @@ fn rows_of_other_fragments_are_passed(rt: HostRuntime) -> Result<(), Fail> {
         (Do::Unlock(b'c'), &[]),
         (Do::Scan(4), &[Says::NoRow]),
     ];
-    assert_eq!(rt; wrong_in(rt.alloc(), 2, &lines)?, None);
+    assert_eq!(rt; wrong_in(rt.alloc(), HALVES, &lines)?, None);
     Ok(())
 }
