@@ -43,7 +43,7 @@ saver_few s x =
     })
 
 -- what is said to others is no more
-sifted_few : (sends : List Outgoing) → length (to_others sends) ≤ length sends
+pub sifted_few : (sends : List Outgoing) → length (to_others sends) ≤ length sends
 sifted_few [] = omega arith
 sifted_few (send ∷ sends) = by (is_to_reader send.body) (sifted_few sends)
   where
