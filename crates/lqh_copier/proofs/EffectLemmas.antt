@@ -1,6 +1,5 @@
 -- Effects behind one another.
-use Rattle.std.proofs.Common.{◌≡◌, List, [], ◌∷◌, ◌++◌, append_assoc}
-use Rattle.sig_core.specs.declared.outs.Outgoing.{Outgoing}
+use Rattle.std.proofs.Common.{◌≡◌, [], ◌∷◌, ◌++◌, append_assoc}
 use Rattle.sig_core.specs.declared.place.Place.{Place}
 use Rattle.sig_core.specs.declared.signal.Body.{Body}
 use Rattle.sig_core.specs.Step.{Effects, and_send, joined, to_place}

@@ -1,5 +1,5 @@
 -- What is true of each step of the rows with their saver and their copier, form by form.
-use Rattle.std.proofs.Common.{◌≡◌, ◌∙◌, ℕ, Bool, true, false, List, [], ◌∷◌, refl, sym, ap, subst, append-nil}
+use Rattle.std.proofs.Common.{◌≡◌, ℕ, Bool, true, false, List, [], ◌∷◌, refl, sym, ap, subst, append-nil}
 use Rattle.std.proofs.lemmas.Bool.{true≢false}
 use Rattle.std.specs.Prelude.{Option, None, Some}
 use Rattle.run_theory.specs.Lists.{Each}
@@ -10,7 +10,6 @@ use Rattle.sig_core.specs.declared.signal.Body.TheVariants.{Copying, Joining}
 use Rattle.sig_core.specs.declared.signal.Signal.{Signal}
 use Rattle.sig_core.specs.declared.signal.copying.CopyingSignal.TheVariants.{LqhScanConf}
 use Rattle.sig_core.specs.declared.signal.joining.JoiningSignal.TheVariants.{DrainConf}
-use Rattle.sig_core.specs.declared.view.View.{View}
 use Rattle.sig_core.specs.Passing.{epoch_or}
 use Rattle.sig_core.specs.Rows.{RowsState, row_epoch, row_of}
 use Rattle.sig_core.specs.Step.{Step, stay}
@@ -22,20 +21,16 @@ use Rattle.lqh_saver.proofs.Walk.{saver_words}
 use Rattle.lqh_copier.specs.declared.stage.Part.{Part}
 use Rattle.lqh_copier.specs.declared.stage.Reached.{Reached}
 use Rattle.lqh_copier.specs.declared.stage.Stood.TheVariants.{Noted}
-use Rattle.lqh_copier.specs.Asking.{asks_ahead, asks_lock, lets_go, listens, saying, takes, to_others}
-use Rattle.lqh_copier.specs.Commits.{watched}
-use Rattle.lqh_copier.specs.Copier.{copier_row}
+use Rattle.lqh_copier.specs.Asking.{takes, to_others}
 use Rattle.lqh_copier.specs.Draining.{behind, first_left, is_left, left_if, noted, told_by}
-use Rattle.lqh_copier.specs.Laws.{CommitsAreMarkers, DrainsTellTheTruth, HasCommits, IsOfRows, ScansTellRows}
-use Rattle.lqh_copier.specs.Laws.{StepsAreOfRows, TakesBase, TellsEnd, TellsRow, WhatStoodStays, of_end, of_lock}
-use Rattle.lqh_copier.specs.Laws.{of_wait}
+use Rattle.lqh_copier.specs.Laws.{DrainsTellTheTruth, IsOfRows, ScansTellRows}
+use Rattle.lqh_copier.specs.Laws.{StepsAreOfRows, TakesBase, TellsEnd, TellsRow, WhatStoodStays}
 use Rattle.lqh_copier.specs.Laws as law
 use Rattle.lqh_copier.specs.Scanning.{copied, copied_by, on_grant, on_lock, told_ahead}
-use Rattle.lqh_copier.specs.State.{CopyingState, node_of, rows_in, with_commits}
+use Rattle.lqh_copier.specs.State.{CopyingState, markers_in, node_of, rows_in}
 use Rattle.lqh_copier.specs.Words.{CopierKeepsToItsWords}
-use Rattle.lqh_copier.proofs.CommitLemmas.{saver_markers}
-use Rattle.lqh_copier.proofs.Walk.{CopierForms, IsHeard, IsQuiet, answer_forms, copier_forms, each_ahead, each_asked}
-use Rattle.lqh_copier.proofs.Walk.{each_grant, each_more, each_same, each_sifted, goes_on_forms, itself, noticed}
+use Rattle.lqh_copier.proofs.Walk.{CopierForms, IsHeard, answer_forms, copier_forms, each_ahead, each_asked}
+use Rattle.lqh_copier.proofs.Walk.{each_grant, each_more, each_same, each_sifted, goes_on_forms, itself}
 use Rattle.lqh_copier.proofs.Walk.{question, speaks}
 
 pub copier_words : CopierKeepsToItsWords
@@ -47,7 +42,7 @@ copier_words = record {
 module _ (s : CopyingState) (x : Signal) where
   -- the rows took the signal, or what was asked in its place
   of_heard : (y : Signal) → IsHeard x y → (t : Step CopyingState) → TakesBase s.base y t → IsOfRows s.base x t
-  of_heard y (itself is quiet) t base = law.takes (subst (λ z. TakesBase s.base z t) is base)
+  of_heard y (itself is) t base = law.takes (subst (λ z. TakesBase s.base z t) is base)
   of_heard y (question asked) t base = law.asks y asked base
 
   -- what the copying is told marks nothing
@@ -62,14 +57,14 @@ module _ (s : CopyingState) (x : Signal) where
   steps_of : CopierForms s x (IsOfRows s.base x)
   steps_of = record {
     passed = law.takes
-        (goes_on_forms (noticed s x) (takes s x).effects (TakesBase s.base x) (based (noticed s x) refl)
-        (λ to parts noted left is. told_based (noticed s x) refl to left));
-    taken = λ quiet. law.takes (record { base = refl; marks = refl });
-    drains = λ quiet. law.takes
+        (goes_on_forms (takes s x).state (takes s x).effects (TakesBase s.base x) (based (takes s x).state refl)
+        (λ to parts noted left is. told_based (takes s x).state refl to left));
+    taken = law.takes (record { base = refl; marks = refl });
+    drains = law.takes
         (answer_forms (takes s x).state (takes s x).effects (TakesBase s.base x) (based (takes s x).state refl)
         (λ to parts noted left is. told_based (takes s x).state refl to left) x.member.node);
-    seeks_on = λ quiet scan. law.takes (record { base = refl; marks = refl });
-    ends = λ quiet. law.takes (record { base = refl; marks = refl });
+    seeks_on = λ scan. law.takes (record { base = refl; marks = refl });
+    ends = law.takes (record { base = refl; marks = refl });
     heard = λ y is. of_heard y is _ (record { base = refl; marks = refl });
     goes_on = λ y is scan. of_heard y is _ (record { base = refl; marks = refl });
     asks = λ y is row h. of_heard y is _ (record { base = refl; marks = refl });
@@ -82,12 +77,12 @@ module _ (s : CopyingState) (x : Signal) where
 
   stands : CopierForms s x Stays
   stands = record {
-    passed = goes_on_forms (noticed s x) (takes s x).effects Stays refl (λ to parts noted left is. refl);
-    taken = λ quiet. refl;
-    drains = λ quiet.
+    passed = goes_on_forms (takes s x).state (takes s x).effects Stays refl (λ to parts noted left is. refl);
+    taken = refl;
+    drains =
         answer_forms (takes s x).state (takes s x).effects Stays refl (λ to parts noted left is. refl) x.member.node;
-    seeks_on = λ quiet scan. refl;
-    ends = λ quiet. refl;
+    seeks_on = λ scan. refl;
+    ends = refl;
     heard = λ y is. refl;
     goes_on = λ y is scan. refl;
     asks = λ y is row h. refl;
@@ -102,52 +97,6 @@ pub what_stood_stays : WhatStoodStays
 what_stood_stays = record {
   takes = λ s x. copier_forms (noted s) x (Stays (noted s) x) (stands (noted s) x);
   installs = λ s view. refl;
-}
-
-module _ (s : CopyingState) (x : Signal) (has : HasCommits s) where
-  markers : List Marker
-  markers = s.base.replica.lqh.markers
-
-  -- what is heard tells nothing of commits
-  heard_quiet : (y : Signal) → IsHeard x y → IsQuiet y.body
-  heard_quiet y (itself is quiet) rows commits =
-      ap (λ (z : Signal). watched rows commits z.body) is ∙ quiet rows commits
-  heard_quiet y (question (of_lock key is)) rows commits = ap (λ (z : Signal). watched rows commits z.body) is
-  heard_quiet y (question (of_wait key is)) rows commits = ap (λ (z : Signal). watched rows commits z.body) is
-  heard_quiet y (question (of_end key is)) rows commits = ap (λ (z : Signal). watched rows commits z.body) is
-
-  -- so the commits are the markers behind it
-  unmarked : (y : Signal) → IsQuiet y.body → s.copier.commits ≡ (saver_row s.base y).state.replica.lqh.markers
-  unmarked y quiet =
-      has ∙ sym (quiet s.base.replica.lqh.rows s.base.replica.lqh.markers) ∙ sym (saver_markers s.base y)
-
-  noticed_has : HasCommits (noticed s x)
-  noticed_has =
-      ap (λ commits. watched s.base.replica.lqh.rows commits x.body) has ∙ sym (saver_markers s.base x)
-
-  abbrev Has : Step CopyingState → Type 0
-  Has step = HasCommits step.state
-
-  haves : CopierForms s x Has
-  haves = record {
-    passed = goes_on_forms (noticed s x) (takes s x).effects Has noticed_has (λ to parts noted left is. noticed_has);
-    taken = λ quiet. unmarked x quiet;
-    drains = λ quiet.
-        answer_forms (takes s x).state (takes s x).effects Has (unmarked x quiet)
-        (λ to parts noted left is. unmarked x quiet) x.member.node;
-    seeks_on = λ quiet scan. unmarked x quiet;
-    ends = λ quiet. unmarked x quiet;
-    heard = λ y is. unmarked y (heard_quiet y is);
-    goes_on = λ y is scan. unmarked y (heard_quiet y is);
-    asks = λ y is row h. unmarked y (heard_quiet y is);
-    waits = λ y is row h. unmarked y (heard_quiet y is);
-    grants = λ y is row h. unmarked y (heard_quiet y is);
-  }
-
-pub commits_are_markers : CommitsAreMarkers
-commits_are_markers = record {
-  takes = λ s x has. copier_forms (noted s) x (Has (noted s) x has) (haves (noted s) x has);
-  installs = λ s view has. has;
 }
 
 -- where none is found that is left, none is
@@ -173,7 +122,7 @@ row_word s (Copying (LqhScanConf (Some row) epoch next)) is = absurd (true≢fal
 row_word s (Copying (LqhScanConf None epoch next)) is = tt
 row_word s _ is = tt
 
-module _ (s : CopyingState) (x : Signal) (has : HasCommits s) where
+module _ (s : CopyingState) (x : Signal) where
   abbrev Ends : CopyingState → Outgoing → Type 0
   Ends t send = TellsEnd t send.body
 
@@ -191,17 +140,16 @@ module _ (s : CopyingState) (x : Signal) (has : HasCommits s) where
   same_true : (t : CopyingState) → True (behind (takes s x).effects (stay t))
   same_true t = each_same (Ends t) (saver_row s.base x).effects.sends (base_ends t x)
 
-  told_true : (t : CopyingState) → HasCommits t → (to : ℕ) (parts : List Part) → t.copier.stood ≡ Noted parts
-      → (left : Option Part) → first_left (rows_in t) t.copier.commits parts ≡ left
+  told_true : (t : CopyingState) (to : ℕ) (parts : List Part) → t.copier.stood ≡ Noted parts
+      → (left : Option Part) → first_left (rows_in t) (markers_in t) parts ≡ left
       → True (behind (takes s x).effects (told_by t to left))
-  told_true t same to parts noted None none =
+  told_true t to parts noted None none =
       each_more (Ends _) (saver_row s.base x).effects.sends _ (base_ends _ x) (record {
         parts = parts;
         stood = noted;
-        gone = none_left (rows_in t) t.base.replica.lqh.markers parts
-            (ap (λ commits. first_left (rows_in t) commits parts) (sym same) ∙ none);
+        gone = none_left (rows_in t) (markers_in t) parts none;
       })
-  told_true t same to parts noted (Some p) is =
+  told_true t to parts noted (Some p) is =
       each_more (Ends _) (saver_row s.base x).effects.sends _ (base_ends _ x) tt
 
   lock_ends : (t : CopyingState) (row : Reached) (found : Option ((List ℕ × List ℕ) × ℕ))
@@ -212,14 +160,14 @@ module _ (s : CopyingState) (x : Signal) (has : HasCommits s) where
   truths : CopierForms s x True
   truths = record {
     passed =
-        goes_on_forms (noticed s x) (takes s x).effects True (same_true (noticed s x))
-        (told_true (noticed s x) (noticed_has s x has));
-    taken = λ quiet. base_ends _ x;
-    drains = λ quiet.
+        goes_on_forms (takes s x).state (takes s x).effects True (same_true (takes s x).state)
+        (told_true (takes s x).state);
+    taken = base_ends _ x;
+    drains =
         answer_forms (takes s x).state (takes s x).effects True (same_true (takes s x).state)
-        (told_true (takes s x).state (unmarked s x has x quiet)) x.member.node;
-    seeks_on = λ quiet scan. each_more (Ends _) (saver_row s.base x).effects.sends _ (base_ends _ x) tt;
-    ends = λ quiet. each_more (Ends _) (saver_row s.base x).effects.sends _ (base_ends _ x) tt;
+        (told_true (takes s x).state) x.member.node;
+    seeks_on = λ scan. each_more (Ends _) (saver_row s.base x).effects.sends _ (base_ends _ x) tt;
+    ends = each_more (Ends _) (saver_row s.base x).effects.sends _ (base_ends _ x) tt;
     heard = λ y is. heard_ends _ y;
     goes_on = λ y is scan. each_more (Ends _) (to_others (saver_row s.base y).effects.sends) _ (heard_ends _ y) tt;
     asks = λ y is row h.
@@ -235,7 +183,7 @@ module _ (s : CopyingState) (x : Signal) (has : HasCommits s) where
   }
 
 pub drains_tell_the_truth : DrainsTellTheTruth
-drains_tell_the_truth s x has = copier_forms (noted s) x (True (noted s) x has) (truths (noted s) x has)
+drains_tell_the_truth s x = copier_forms (noted s) x (True (noted s) x) (truths (noted s) x)
 
 module _ (s : CopyingState) where
   abbrev RowTold : Outgoing → Type 0
@@ -271,14 +219,14 @@ module _ (s : CopyingState) where
   rows_told : (x : Signal) → CopierForms s x RowsTold
   rows_told x = record {
     passed =
-        goes_on_forms (noticed s x) (takes s x).effects RowsTold (same_rows x (noticed s x))
-        (λ to parts noted left is. told_rows x (noticed s x) to left);
-    taken = λ quiet. base_rows x;
-    drains = λ quiet.
+        goes_on_forms (takes s x).state (takes s x).effects RowsTold (same_rows x (takes s x).state)
+        (λ to parts noted left is. told_rows x (takes s x).state to left);
+    taken = base_rows x;
+    drains =
         answer_forms (takes s x).state (takes s x).effects RowsTold (same_rows x (takes s x).state)
         (λ to parts noted left is. told_rows x (takes s x).state to left) x.member.node;
-    seeks_on = λ quiet scan. each_more RowTold (saver_row s.base x).effects.sends _ (base_rows x) tt;
-    ends = λ quiet. each_more RowTold (saver_row s.base x).effects.sends _ (base_rows x) tt;
+    seeks_on = λ scan. each_more RowTold (saver_row s.base x).effects.sends _ (base_rows x) tt;
+    ends = each_more RowTold (saver_row s.base x).effects.sends _ (base_rows x) tt;
     heard = λ y is. heard_rows y;
     goes_on = λ y is scan. each_more RowTold (to_others (saver_row s.base y).effects.sends) _ (heard_rows y) tt;
     asks = λ y is row h.

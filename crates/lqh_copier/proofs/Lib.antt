@@ -1,4 +1,3 @@
-pub mod CommitLemmas
 pub mod DrainLemmas
 pub mod EffectLemmas
 pub mod FewLemmas

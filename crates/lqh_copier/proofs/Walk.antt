@@ -3,7 +3,6 @@ use Rattle.std.proofs.Common.{◌≡◌, ◌==◌, ℕ, Bool, true, false, List,
 use Rattle.std.specs.Prelude.{Option, None, Some}
 use Rattle.run_theory.specs.Lists.{Each}
 use Rattle.run_theory.proofs.Pasts.{each_append, each_map}
-use Rattle.sig_core.specs.declared.mark.Mark.{Mark}
 use Rattle.sig_core.specs.declared.member.TxId.{TxId}
 use Rattle.sig_core.specs.declared.outs.Outgoing.{Outgoing}
 use Rattle.sig_core.specs.declared.signal.Body.{Body}
@@ -14,11 +13,9 @@ use Rattle.sig_core.specs.declared.signal.host.HostSignal.TheVariants.{Continue}
 use Rattle.sig_core.specs.declared.signal.host.Work.TheVariants as work
 use Rattle.sig_core.specs.declared.signal.joining.JoiningSignal.TheVariants.{DrainConf, DrainReq, DrainWait}
 use Rattle.sig_core.specs.Place.{copying, rows_of}
-use Rattle.sig_core.specs.Rows.{RowsState}
 use Rattle.sig_core.specs.Step.{Effects, Step, stay, to_place}
 use Rattle.step_forms.specs.Does.{IsAmong, IsWord, Speaks}
 use Rattle.step_forms.proofs.DoesLemmas.{joined_have}
-use Rattle.lqh_block.specs.declared.request.Marker.{Marker}
 use Rattle.lqh_views.specs.Words.{is_replica_mark}
 use Rattle.lqh_saver.specs.Saver.{saver_row}
 use Rattle.lqh_saver.specs.Words.{is_saver_word}
@@ -37,7 +34,6 @@ use Rattle.lqh_copier.specs.declared.stage.Stood.TheVariants.{Unasked, Fresh, No
 use Rattle.lqh_copier.specs.Asking.{asks_ahead, asks_lock, heard_at, is_reader, is_to_reader, lets_go, listens}
 use Rattle.lqh_copier.specs.Asking.{saying, takes}
 use Rattle.lqh_copier.specs.Asking.{to_others, unless_said}
-use Rattle.lqh_copier.specs.Commits.{watched}
 use Rattle.lqh_copier.specs.Copier.{copier_by, drain_row}
 use Rattle.lqh_copier.specs.Draining.{answer_by, answers, behind, first_left, goes_on, goes_on_by, goes_on_if}
 use Rattle.lqh_copier.specs.Draining.{is_left, told_by}
@@ -47,26 +43,22 @@ use Rattle.lqh_copier.specs.Scanning.{granted_by, on_ask, on_grant, on_lock, sca
 use Rattle.lqh_copier.specs.Scanning.{told_ahead, unlock_by, waits, waits_by}
 use Rattle.lqh_copier.specs.Laws.{IsQuestion, of_end, of_lock, of_wait}
 use Rattle.lqh_copier.specs.Seeking.{seek}
-use Rattle.lqh_copier.specs.State.{CopyingState, node_of, rows_in, with_commits}
+use Rattle.lqh_copier.specs.State.{CopyingState, markers_in, node_of, rows_in}
 use Rattle.lqh_copier.specs.Words.{is_copier_word}
-
--- a signal that tells nothing of commits
-abbrev pub IsQuiet : Body → Type 0
-IsQuiet body = (rows : RowsState) (commits : List Marker) → watched rows commits body ≡ commits
 
 -- what the rows and their saver take in a step: the signal, or what the copying asks in its place
 pub data IsHeard (x y : Signal) : Type 0 where
-  itself : y ≡ x → IsQuiet x.body → IsHeard x y
+  itself : y ≡ x → IsHeard x y
   question : IsQuestion x y → IsHeard x y
 
 -- R is of each step that they may take at the signal
 pub record CopierForms (s : CopyingState) (x : Signal) (R : Step CopyingState → Type 0) : Type 0 where
   pub passed : R (passes s x)
-  pub taken : IsQuiet x.body → R (takes s x)
-  pub drains : IsQuiet x.body → R (drain_row s x)
+  pub taken : R (takes s x)
+  pub drains : R (drain_row s x)
   -- a scan goes on, or ends
-  pub seeks_on : IsQuiet x.body → (scan : Scan) → R (scans_on s (takes s x) scan)
-  pub ends : IsQuiet x.body → R (ends_scan s (takes s x))
+  pub seeks_on : (scan : Scan) → R (scans_on s (takes s x) scan)
+  pub ends : R (ends_scan s (takes s x))
   -- the rows are heard: a lock is asked for, waited for, granted, or let go of
   pub heard : (y : Signal) → IsHeard x y → R (listens s y)
   pub goes_on : (y : Signal) → IsHeard x y → (scan : Scan) → R (scans_on s (listens s y) scan)
@@ -80,77 +72,65 @@ module _ (s : CopyingState) (x : Signal) (R : Step CopyingState → Type 0) (for
       forms.asks (saying x (asks_lock row.key)) (question (of_lock row.key refl)) row
       (heard_at s (saying x (asks_lock row.key)))
 
-  seeks_row : IsQuiet x.body → (fragment at : ℕ) → R (seeks s x fragment at)
-  seeks_row quiet fragment at = by (seek s.copier.shape (rows_in s) fragment at)
+  seeks_row : (fragment at : ℕ) → R (seeks s x fragment at)
+  seeks_row fragment at = by (seek s.copier.shape (rows_in s) fragment at)
     where
       by : (found : Sought) → R (seeks_by s x fragment found)
       by (Found row) = asks_row row
-      by (Further next) = forms.seeks_on quiet (Seeking fragment next)
-      by Over = forms.ends quiet
+      by (Further next) = forms.seeks_on (Seeking fragment next)
+      by Over = forms.ends
 
-  scans : IsQuiet x.body → (fragment at : ℕ) → (scan : Scan) → R (scan_by s x fragment at scan)
-  scans quiet fragment at Idle = seeks_row quiet fragment at
-  scans quiet fragment at (Seeking other from) = forms.taken quiet
-  scans quiet fragment at (Waiting row) = forms.taken quiet
-  scans quiet fragment at (Gone row) = forms.taken quiet
+  scans : (fragment at : ℕ) → (scan : Scan) → R (scan_by s x fragment at scan)
+  scans fragment at Idle = seeks_row fragment at
+  scans fragment at (Seeking other from) = forms.taken
+  scans fragment at (Waiting row) = forms.taken
+  scans fragment at (Gone row) = forms.taken
 
   waits_row : (row : Reached) → R (waits s x row)
   waits_row row =
       forms.waits (saying x (asks_ahead row.key)) (question (of_wait row.key refl)) row
       (heard_at s (saying x (asks_ahead row.key)))
 
-  goes_at : IsQuiet x.body → (scan : Scan) → R (go_on_at s x scan)
-  goes_at quiet Idle = forms.taken quiet
-  goes_at quiet (Seeking fragment at) = seeks_row quiet fragment at
-  goes_at quiet (Waiting row) = waits_row row
-  goes_at quiet (Gone row) =
+  goes_at : (scan : Scan) → R (go_on_at s x scan)
+  goes_at Idle = forms.taken
+  goes_at (Seeking fragment at) = seeks_row fragment at
+  goes_at (Waiting row) = waits_row row
+  goes_at (Gone row) =
       forms.goes_on (saying x (lets_go row.key)) (question (of_end row.key refl)) (Seeking row.fragment row.next)
 
-  goes_if : IsQuiet x.body → (same : Bool) → R (go_on_if s x same)
-  goes_if quiet true = goes_at quiet s.copier.scan
-  goes_if quiet false = forms.taken quiet
+  goes_if : (same : Bool) → R (go_on_if s x same)
+  goes_if true = goes_at s.copier.scan
+  goes_if false = forms.taken
 
-  grants : IsQuiet x.body → (scan : Scan) → R (granted_at s x scan)
-  grants quiet Idle = forms.passed
-  grants quiet (Seeking fragment at) = forms.passed
-  grants quiet (Gone row) = forms.passed
-  grants quiet (Waiting row) = forms.grants x (itself refl quiet) row (heard_at s x)
+  grants : (scan : Scan) → R (granted_at s x scan)
+  grants Idle = forms.passed
+  grants (Seeking fragment at) = forms.passed
+  grants (Gone row) = forms.passed
+  grants (Waiting row) = forms.grants x (itself refl) row (heard_at s x)
 
-  unlocks : IsQuiet x.body → (key : List ℕ) → (scan : Scan) → R (unlock_by s x key scan)
-  unlocks quiet key Idle = forms.heard (saying x (lets_go key)) (question (of_end key refl))
-  unlocks quiet key (Seeking fragment at) = forms.taken quiet
-  unlocks quiet key (Waiting row) = forms.taken quiet
-  unlocks quiet key (Gone row) = forms.taken quiet
+  unlocks : (key : List ℕ) → (scan : Scan) → R (unlock_by s x key scan)
+  unlocks key Idle = forms.heard (saying x (lets_go key)) (question (of_end key refl))
+  unlocks key (Seeking fragment at) = forms.taken
+  unlocks key (Waiting row) = forms.taken
+  unlocks key (Gone row) = forms.taken
 
   -- whatever they take
   pub copier_forms : R (copier_by s x x.body)
-  copier_forms = by x.body refl
+  copier_forms = by x.body
     where
-      quiet : (body : Body) → x.body ≡ body → IsQuiet body → IsQuiet x.body
-      quiet body is none rows commits = rw is (none rows commits)
-
-      by : (body : Body) → x.body ≡ body → R (copier_by s x body)
-      by (Joining DrainReq) is = forms.drains (quiet (Joining DrainReq) is (λ rows commits. refl))
-      by (Copying (LqhScanReq fragment at)) is =
-          scans (quiet (Copying (LqhScanReq fragment at)) is (λ rows commits. refl)) fragment at s.copier.scan
-      by (Copying (LqhUnlock key)) is =
-          unlocks (quiet (Copying (LqhUnlock key)) is (λ rows commits. refl)) key s.copier.scan
-      by (Host (Continue work.Held at)) is =
-          goes_if (quiet (Host (Continue work.Held at)) is (λ rows commits. refl))
-          (x.view.number == s.base.replica.lqh.layout.view.number)
-      by (Host (Continue work.Granted at)) is =
-          grants (quiet (Host (Continue work.Granted at)) is (λ rows commits. refl)) s.copier.scan
-      by _ is = forms.passed
-
--- the state behind a signal that the rows take, of which the copier has noticed the commits
-abbrev pub noticed : CopyingState → Signal → CopyingState
-noticed s x = with_commits (takes s x).state (watched (rows_in s) s.copier.commits x.body)
+      by : (body : Body) → R (copier_by s x body)
+      by (Joining DrainReq) = forms.drains
+      by (Copying (LqhScanReq fragment at)) = scans fragment at s.copier.scan
+      by (Copying (LqhUnlock key)) = unlocks key s.copier.scan
+      by (Host (Continue work.Held at)) = goes_if (x.view.number == s.base.replica.lqh.layout.view.number)
+      by (Host (Continue work.Granted at)) = grants s.copier.scan
+      by _ = forms.passed
 
 -- what the copying is told of the end of what stood, behind effects: nothing, or how far it is
 module _ (s : CopyingState) (effects : Effects) (Q : Step CopyingState → Type 0)
     (nothing : Q (behind effects (stay s)))
     (told : (to : ℕ) (parts : List Part) → s.copier.stood ≡ Noted parts → (left : Option Part)
-    → first_left (rows_in s) s.copier.commits parts ≡ left → Q (behind effects (told_by s to left)))
+    → first_left (rows_in s) (markers_in s) parts ≡ left → Q (behind effects (told_by s to left)))
   where
     pub answer_forms : (to : ℕ) → Q (behind effects (answers s to))
     answer_forms to = by s.copier.stood refl
@@ -158,7 +138,7 @@ module _ (s : CopyingState) (effects : Effects) (Q : Step CopyingState → Type 
         by : (stood : Stood) → s.copier.stood ≡ stood → Q (behind effects (answer_by s to stood))
         by Unasked is = nothing
         by Fresh is = nothing
-        by (Noted parts) is = told to parts is (first_left (rows_in s) s.copier.commits parts) refl
+        by (Noted parts) is = told to parts is (first_left (rows_in s) (markers_in s) parts) refl
 
     pub goes_on_forms : Q (behind effects (goes_on s))
     goes_on_forms = by s.copier.drain
@@ -169,7 +149,7 @@ module _ (s : CopyingState) (effects : Effects) (Q : Step CopyingState → Type 
 
         by : (drain : Option Drain) → Q (behind effects (goes_on_by s drain))
         by None = nothing
-        by (Some d) = by_if d.to (is_left (rows_in s) s.copier.commits d.named)
+        by (Some d) = by_if d.to (is_left (rows_in s) (markers_in s) d.named)
 
 -- what is so of each signal is so of those that are said to others
 pub each_sifted : (P : Outgoing → Type 0) (sends : List Outgoing) → Each P sends → Each P (to_others sends)
@@ -260,14 +240,14 @@ module _ (s : CopyingState) where
   pub speaks : (x : Signal) → CopierForms s x Speak
   speaks x = record {
     passed =
-        goes_on_forms (noticed s x) (takes s x).effects Speak (same (noticed s x) x)
-        (λ to parts noted left is. told (noticed s x) x to left);
-    taken = λ quiet. (words x, marks x);
-    drains = λ quiet.
+        goes_on_forms (takes s x).state (takes s x).effects Speak (same (takes s x).state x)
+        (λ to parts noted left is. told (takes s x).state x to left);
+    taken = (words x, marks x);
+    drains =
         answer_forms (takes s x).state (takes s x).effects Speak (same (takes s x).state x)
         (λ to parts noted left is. told (takes s x).state x to left) x.member.node;
-    seeks_on = λ quiet scan. (each_more (IsWord is_copier_word) _ _ (words x) refl, marks x);
-    ends = λ quiet. (each_more (IsWord is_copier_word) _ _ (words x) refl, marks x);
+    seeks_on = λ scan. (each_more (IsWord is_copier_word) _ _ (words x) refl, marks x);
+    ends = (each_more (IsWord is_copier_word) _ _ (words x) refl, marks x);
     heard = λ y is. (heard_words y, marks y);
     goes_on = λ y is scan. (each_more (IsWord is_copier_word) _ _ (heard_words y) refl, marks y);
     asks = λ y is row h. (

@@ -1,5 +1,5 @@
 -- What the rows of a node do with their saver and their copier, signal by signal.
-use Rattle.std.specs.Prelude.{[], None}
+use Rattle.std.specs.Prelude.{None}
 use Rattle.sig_core.specs.declared.signal.Body.{Body}
 use Rattle.sig_core.specs.declared.signal.Body.TheVariants.{Copying, Host, Joining}
 use Rattle.sig_core.specs.declared.signal.Signal.{Signal}
@@ -21,7 +21,7 @@ use Rattle.lqh_copier.specs.State.{CopierState, CopyingState}
 
 -- a copier before the first signal of a life, at rows that nobody has asked for anything
 abbrev pub fresh_copier : Shape → CopierState
-fresh_copier shape = record { shape = shape; commits = []; stood = Unasked; drain = None; scan = Idle }
+fresh_copier shape = record { shape = shape; stood = Unasked; drain = None; scan = Idle }
 
 -- the copying of a node asks for the end of what stood when the view was installed
 abbrev pub drain_row : CopyingState → Signal → Step CopyingState
@@ -47,7 +47,6 @@ copier_installed s view =
       base = saver_installed s.base view;
       copier = record {
         shape = s.copier.shape;
-        commits = s.copier.commits;
         stood = stood_in view.starting;
         drain = None;
         scan = Idle;

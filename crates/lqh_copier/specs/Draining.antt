@@ -15,7 +15,7 @@ use Rattle.lqh_copier.specs.declared.stage.Drain.{Drain}
 use Rattle.lqh_copier.specs.declared.stage.Part.{Part}
 use Rattle.lqh_copier.specs.declared.stage.Stood.{Stood}
 use Rattle.lqh_copier.specs.declared.stage.Stood.TheVariants.{Unasked, Fresh, Noted}
-use Rattle.lqh_copier.specs.State.{CopierState, CopyingState, has_stood, rows_in, with_drain}
+use Rattle.lqh_copier.specs.State.{CopierState, CopyingState, has_stood, markers_in, rows_in, with_drain}
 
 abbrev pub part_of_record : PendingRecord → Part
 part_of_record r = record { tx = r.tx; key = r.key }
@@ -46,11 +46,11 @@ restored c true = has_stood c Fresh
 restored c false = c
 
 -- what stands is noted, where it is what stood when the view was installed
-abbrev pub noting : CopierState → RowsState → CopierState
-noting c rows = has_stood c (noted_by c.stood (parts_of rows.pending c.commits))
+abbrev pub noting : CopierState → RowsState → List Marker → CopierState
+noting c rows commits = has_stood c (noted_by c.stood (parts_of rows.pending commits))
 
 abbrev pub noted : CopyingState → CopyingState
-noted s = record { base = s.base; copier = noting s.copier (rows_in s) }
+noted s = record { base = s.base; copier = noting s.copier (rows_in s) (markers_in s) }
 
 -- a record or a marker is left of it
 abbrev pub is_left : RowsState → List Marker → Part → Bool
@@ -78,7 +78,7 @@ abbrev pub told_by : CopyingState → ℕ → Option Part → Step CopyingState
 told_by s to left = sending (with_drain s (told_drain to left)) (copying to) (Joining (told_body left))
 
 abbrev pub answer_by : CopyingState → ℕ → Stood → Step CopyingState
-answer_by s to (Noted parts) = told_by s to (first_left (rows_in s) s.copier.commits parts)
+answer_by s to (Noted parts) = told_by s to (first_left (rows_in s) (markers_in s) parts)
 answer_by s to _ = stay s
 
 -- the copying of a node is told how far it is
@@ -91,7 +91,7 @@ goes_on_if s to false = answers s to
 
 abbrev pub goes_on_by : CopyingState → Option Drain → Step CopyingState
 goes_on_by s None = stay s
-goes_on_by s (Some d) = goes_on_if s d.to (is_left (rows_in s) s.copier.commits d.named)
+goes_on_by s (Some d) = goes_on_if s d.to (is_left (rows_in s) (markers_in s) d.named)
 
 -- where what the copying was told of is gone, it is told how far it is
 abbrev pub goes_on : CopyingState → Step CopyingState

@@ -17,7 +17,7 @@ use Rattle.lqh_copier.specs.declared.stage.Stood.TheVariants.{Noted}
 use Rattle.lqh_copier.specs.Asking.{asks_ahead, asks_lock, lets_go, saying}
 use Rattle.lqh_copier.specs.Copier.{copier_installed, copier_row}
 use Rattle.lqh_copier.specs.Draining.{is_left, noted, stood_in}
-use Rattle.lqh_copier.specs.State.{CopyingState, rows_in}
+use Rattle.lqh_copier.specs.State.{CopyingState, markers_in, rows_in}
 
 -- what the copying may ask of the rows in place of a signal: the shared lock of a key, for whom it waits there, and to
 -- let go of it
@@ -39,20 +39,11 @@ pub data IsOfRows (before : SavingState) (x : Signal) (t : Step CopyingState) : 
 abbrev pub StepsAreOfRows : Type 0
 StepsAreOfRows = (s : CopyingState) (x : Signal) → IsOfRows s.base x (copier_row s x)
 
--- the copier has the commits that the rows have
-abbrev pub HasCommits : CopyingState → Type 0
-HasCommits s = s.copier.commits ≡ s.base.replica.lqh.markers
-
--- it has them all the while
-pub record CommitsAreMarkers : Type 0 where
-  pub takes : (s : CopyingState) (x : Signal) → HasCommits s → HasCommits (copier_row s x).state
-  pub installs : (s : CopyingState) (view : View) → HasCommits s → HasCommits (copier_installed s view)
-
 -- what stood was noted, and of none of it a record or a marker is left
 pub record IsDrained (s : CopyingState) : Type 0 where
   pub parts : List Part
   pub stood : s.copier.stood ≡ Noted parts
-  pub gone : Each (λ p. is_left (rows_in s) s.base.replica.lqh.markers p ≡ false) parts
+  pub gone : Each (λ p. is_left (rows_in s) (markers_in s) p ≡ false) parts
 
 -- what the copying is told of the end of what stood is so
 abbrev pub TellsEnd : CopyingState → Body → Type 0
@@ -61,7 +52,7 @@ TellsEnd s _ = Unit {0}
 
 abbrev pub DrainsTellTheTruth : Type 0
 DrainsTellTheTruth =
-    (s : CopyingState) (x : Signal) → HasCommits s
+    (s : CopyingState) (x : Signal)
     → Each (λ send. TellsEnd (copier_row s x).state send.body) (copier_row s x).effects.sends
 
 -- what is noted at the first signal behind an installation is all that stands there, and it stays so up to the next one

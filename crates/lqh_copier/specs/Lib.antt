@@ -1,5 +1,4 @@
 pub mod Asking
-pub mod Commits
 pub mod Copier
 pub mod Draining
 pub mod Laws

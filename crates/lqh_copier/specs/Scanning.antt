@@ -15,7 +15,7 @@ use Rattle.sig_core.specs.Place.{copying, rows_of}
 use Rattle.sig_core.specs.Rows.{RowsState, row_epoch, row_of}
 use Rattle.sig_core.specs.Step.{Step, and_send, to_place}
 use Rattle.lqh_copier.specs.declared.stage.Heard.{Heard}
-use Rattle.lqh_copier.specs.declared.stage.Heard.TheVariants.{Silence, Granted, Ahead}
+use Rattle.lqh_copier.specs.declared.stage.Heard.TheVariants.{Granted, Ahead}
 use Rattle.lqh_copier.specs.declared.stage.Reached.{Reached}
 use Rattle.lqh_copier.specs.declared.stage.Scan.{Scan}
 use Rattle.lqh_copier.specs.declared.stage.Scan.TheVariants.{Idle, Seeking, Waiting, Gone}

@@ -9,11 +9,10 @@ use Rattle.lqh_copier.specs.declared.stage.Drain.{Drain}
 use Rattle.lqh_copier.specs.declared.stage.Scan.{Scan}
 use Rattle.lqh_copier.specs.declared.stage.Stood.{Stood}
 
--- The shape of the cluster; the commits that clients haven't acknowledged, as the rows have them; what stood when the
--- view was installed; who waits for the end of that, if one does; and how far the scan of a fragment has come.
+-- The shape of the cluster; what stood when the view was installed; who waits for the end of that, if one does; and how
+-- far the scan of a fragment has come.
 pub record CopierState : Type 0 where
   pub shape : Shape
-  pub commits : List Marker
   pub stood : Stood
   pub drain : Option Drain
   pub scan : Scan
@@ -29,18 +28,15 @@ together replica saver copier = record { base = saving replica saver; copier = c
 abbrev pub rows_in : CopyingState → RowsState
 rows_in s = s.base.replica.lqh.rows
 
+-- the commits that clients haven't acknowledged
+abbrev pub markers_in : CopyingState → List Marker
+markers_in s = s.base.replica.lqh.markers
+
 abbrev pub node_of : CopyingState → ℕ
 node_of s = s.base.replica.lqh.node
 
 abbrev pub with_base : CopyingState → SavingState → CopyingState
 with_base s base = record { base = base; copier = s.copier }
-
-abbrev pub has_commits : CopierState → List Marker → CopierState
-has_commits c commits =
-    record c { commits = commits }
-
-abbrev pub with_commits : CopyingState → List Marker → CopyingState
-with_commits s commits = record { base = s.base; copier = has_commits s.copier commits }
 
 abbrev pub has_stood : CopierState → Stood → CopierState
 has_stood c stood =

@@ -2,7 +2,6 @@
 //! locks and waits are the rows' own matter; what the rows say to it goes no further.
 ghost use Rattle.std.specs.Prelude.{◌≡◌, ◌+◌, ◌++◌, ◌<◌, ◌≤◌, [], IfOk, OnOk, OnErr, length};
 ghost use Rattle.sig_core.specs.Step.{HasRoom, IsTaken, IsUntouched, nothing};
-ghost use Rattle.lqh_saver.specs.State.{saving};
 ghost use Rattle.lqh_copier.specs.Asking.{asks_ahead, asks_lock, heard_at, heard_in, hearing, hearing_if, is_reader};
 ghost use Rattle.lqh_copier.specs.Asking.{is_to_reader, lets_go, listens, reader, saying, to_others, unless_said};
 ghost use Rattle.lqh_copier.specs.State.{together};

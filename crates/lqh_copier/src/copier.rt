@@ -8,9 +8,7 @@ ghost use Rattle.lqh_copier.specs.Draining.{stood_in};
 ghost use Rattle.lqh_copier.specs.Passing.{passes};
 ghost use Rattle.lqh_copier.specs.State.{together};
 
-use crate::commits::{acknowledge, leaves, mark};
 use crate::stage::{Drain, Scan, Stood};
-use lqh_block::Marker;
 use lqh_saver::Saver;
 use lqh_views::Replica;
 use redo_log::Log;
@@ -27,8 +25,6 @@ use std::marker::Model;
 #[derive(Drop)]
 pub struct Copier {
     pub(crate) shape: Shape,
-    /// The commits that clients haven't acknowledged, as the rows have them: those don't lend theirs.
-    pub(crate) commits: Vec<Marker>,
     pub(crate) stood: Stood,
     /// Who waits for the end of what stood.
     pub(crate) drain: Option<Drain>,
@@ -45,7 +41,7 @@ impl Model for Copier {
 
     ghost Value = { CopierState };
 
-    ghost view = { λ c. record { shape = c.shape; commits = c.commits.items; stood = c.stood; drain = c.drain; scan = c.scan } };
+    ghost view = { λ c. record { shape = c.shape; stood = c.stood; drain = c.drain; scan = c.scan } };
 
     ghost invariant = { λ c. IsShape c.shape × (c.aside ≡ nothing) };
 }
@@ -62,7 +58,6 @@ impl Copier {
         let aside = Outs::new(alloc)?;
         Ok(Copier {
             shape,
-            commits: Vec::new(alloc),
             stood: Stood::Unasked,
             drain: None,
             scan: Scan::Idle,
@@ -88,7 +83,7 @@ impl Copier {
         ensures err { OnErr result (IsUntouched (together replica.old saver.old self.old) (together replica.new saver.new self.new) out.old out.new) }
     {
         let fresh = self.is_fresh();
-        self.note(alloc, replica.rows())?;
+        self.note(alloc, replica.rows(), replica.markers())?;
         match self.take(alloc, replica, saver, signal, out) {
             Ok(()) => Ok(()),
             Err(NoMemory) => {
@@ -173,11 +168,7 @@ impl Copier {
         ensures ok { OnOk result (IsTaken (passes (together replica.old saver.old self.old) signal.now) (together replica.new saver.new self.new) out.old out.new) }
         ensures err { OnErr result (IsUntouched (together replica.old saver.old self.old) (together replica.new saver.new self.new) out.old out.new) }
     {
-        self.commits.reserve(1)?;
-        let left = leaves(replica.rows(), &signal.body);
         saver.handle(alloc, replica, signal, out)?;
-        mark(&mut self.commits, &left);
-        acknowledge(&mut self.commits, &signal.body);
         self.drain_on(replica, saver, out);
         Ok(())
     }

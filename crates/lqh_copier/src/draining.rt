@@ -3,6 +3,7 @@ ghost use Rattle.std.specs.Prelude.{◌≡◌, ◌<◌, ◌++◌, IfOk, OnOk, On
 ghost use Rattle.std.specs.List.{list_any};
 ghost use Rattle.sig_core.specs.declared.signal.Body.TheVariants.{Joining};
 ghost use Rattle.sig_core.specs.Place.{copying};
+ghost use Rattle.sig_core.specs.Same.{same_tx};
 ghost use Rattle.sig_core.specs.Step.{IsTaken, and_send};
 ghost use Rattle.lqh_block.specs.Commit.{is_marker};
 ghost use Rattle.lqh_copier.specs.Draining.{answers, first_left, goes_on, is_fresh, is_left, noting, part_of_marker};
@@ -10,14 +11,13 @@ ghost use Rattle.lqh_copier.specs.Draining.{part_by, part_of_record, parts_of, r
 ghost use Rattle.lqh_copier.specs.Draining.{told_drain};
 ghost use Rattle.lqh_copier.specs.State.{has_drain, together};
 
-use crate::commits::is_marker;
 use crate::copier::Copier;
 use crate::stage::{Drain, Part, Stood};
 use lqh_block::Marker;
 use lqh_saver::Saver;
 use lqh_views::Replica;
 use redo_log::Log;
-use sig_core::{Body, JoiningSignal, NoMemory, Outs, PendingRecord, Rows, Seq, copying};
+use sig_core::{Body, JoiningSignal, Key, NoMemory, Outs, PendingRecord, Rows, Seq, TxId, copying};
 use std::alloc::Global;
 
 // The transaction's part in a row that a record is.
@@ -95,6 +95,19 @@ fn has_marker(commits: &[Marker], part: &Part) -> bool
         .any(|marker| is_marker(part.tx, &part.key, marker))
 }
 
+// Whether the marker is the transaction's on this key.
+fn is_marker(tx: TxId, key: &Key, marker: &Marker) -> bool
+    ensures { result ≡ is_marker tx key.now marker.now }
+{
+    same_tx(marker.tx, tx) && marker.key == *key
+}
+
+fn same_tx(one: TxId, other: TxId) -> bool
+    ensures { result ≡ same_tx one other }
+{
+    one.tc == other.tc && one.start == other.start && one.seq == other.seq
+}
+
 // The first part that is left. It goes through all that stood, since one of which nothing is left may have
 // something again, as far as the rows know.
 fn first_left<R: Rows>(rows: &R, commits: &[Marker], parts: &[Part]) -> Option<Part>
@@ -113,12 +126,17 @@ impl Copier {
     ///
     /// # Errors
     /// `NoMemory`, and then nothing has happened.
-    pub(crate) fn note<R: Rows>(&mut self, alloc: Global, rows: &R) -> Result<(), NoMemory>
-        ensures ok { OnOk result (self.new ≡ noting self.old (R.state_of rows.now)) }
+    pub(crate) fn note<R: Rows>(
+        &mut self,
+        alloc: Global,
+        rows: &R,
+        commits: &[Marker],
+    ) -> Result<(), NoMemory>
+        ensures ok { OnOk result (self.new ≡ noting self.old (R.state_of rows.now) commits.now) }
         ensures err { OnErr result (self.new ≡ self.old) }
     {
         if let Stood::Fresh = &self.stood {
-            let parts = standing(alloc, rows, &self.commits)?;
+            let parts = standing(alloc, rows, commits)?;
             self.stood = Stood::Noted(parts);
         }
         Ok(())
@@ -152,7 +170,7 @@ impl Copier {
         ensures { IsTaken (answers (together replica.now saver.now self.old) to) (together replica.now saver.now self.new) out.old out.new }
     {
         if let Stood::Noted(parts) = &self.stood {
-            let left = first_left(replica.rows(), &self.commits, parts.as_slice());
+            let left = first_left(replica.rows(), replica.markers(), parts.as_slice());
             self.tell(left, to, out);
         }
     }
@@ -188,7 +206,7 @@ impl Copier {
     {
         if let Some(drain) = &self.drain {
             let drain = *drain;
-            if !is_left(replica.rows(), &self.commits, &drain.named) {
+            if !is_left(replica.rows(), replica.markers(), &drain.named) {
                 self.answer(replica, saver, drain.to, out);
             }
         }

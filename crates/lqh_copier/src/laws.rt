@@ -1,5 +1,5 @@
 //! What is true of each step of the rows of a node with their saver and their copier.
-ghost use Rattle.lqh_copier.specs.Laws.{CommitsAreMarkers, DrainsTellTheTruth, ScansTellRows, StepsAreOfRows};
+ghost use Rattle.lqh_copier.specs.Laws.{DrainsTellTheTruth, ScansTellRows, StepsAreOfRows};
 ghost use Rattle.lqh_copier.specs.Laws.{WhatStoodStays};
 ghost use Rattle.lqh_copier.specs.Words.{CopierKeepsToItsWords};
 
@@ -14,12 +14,6 @@ pub fn steps_are_of_rows()
 #[tactic(auto, using(crate::proofs::LawLemmas::copier_words))]
 pub fn keeps_to_its_words()
     ensures { CopierKeepsToItsWords }
-{}
-
-/// A law, which does nothing: where the copier has had the commits that the rows mark, it goes on having them.
-#[tactic(auto, using(crate::proofs::LawLemmas::commits_are_markers))]
-pub fn commits_are_markers()
-    ensures { CommitsAreMarkers }
 {}
 
 /// A law, which does nothing: what is noted at the first signal behind an installation is all that stands there, and it

@@ -1,7 +1,7 @@
 //! The search for the next row of a fragment, which passes a number of rows of others at most.
-ghost use Rattle.std.specs.Prelude.{◌≡◌, ◌+◌, ◌<◌, ◌^◌, IfSome, IsTrue, None, slice_index_or};
+ghost use Rattle.std.specs.Prelude.{◌≡◌, ◌+◌, ◌<◌, IfSome, None};
 ghost use Rattle.frag_map.specs.Shape.{IsShape};
-ghost use Rattle.sig_core.specs.Rows.{has_row, next_place};
+ghost use Rattle.sig_core.specs.Rows.{next_place};
 ghost use Rattle.local_ckpt.specs.Passing.{IsRowPlace};
 ghost use Rattle.lqh_copier.specs.declared.stage.Sought.TheVariants.{Further};
 ghost use Rattle.lqh_copier.specs.Seeking.{found_at, found_by, key_at, seek};

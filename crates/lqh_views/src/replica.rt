@@ -6,7 +6,7 @@ ghost use Rattle.lqh_views.specs.Replica.{is_stale, passed, replica_row, serve_i
 use crate::address::{address_behind, count_sends, goes_straight};
 use crate::report::Report;
 use frag_map::Layout;
-use lqh_block::Lqh;
+use lqh_block::{Lqh, Marker};
 use sig_core::{
     Actor, Body, HostSignal, Journal, MembershipSignal, NoMemory, Outs, Rows, Signal,
     TakeoverSignal, View, Work,
@@ -105,6 +105,13 @@ impl<R: Rows, J: Journal> Replica<R, J> {
         ensures { self.new ≡ with_lqh self.old (with_journal self.old.lqh (J.used_of journal) (J.outlet_of journal)) }
     {
         self.lqh.set_journal(journal);
+    }
+
+    /// The markers of commits that clients haven't acknowledged.
+    pub fn markers(&self) -> &[Marker]
+        ensures { result.now ≡ self.now.lqh.markers }
+    {
+        self.lqh.markers()
     }
 
     /// The node.
