@@ -36,11 +36,18 @@ pub struct Node {
 impl Node {
     /// A node with some rows of these many keys.
     pub fn new(alloc: Global, dice: &mut Dice, keys: u64) -> Result<Node, RunFault> {
+        let mut node = Node::empty(alloc)?;
+        node.fill(dice, keys)?;
+        Ok(node)
+    }
+
+    fn empty(alloc: Global) -> Result<Node, RunFault> {
+        let rows = Store::new(alloc)?;
         let Ok(log) = Log::new(alloc, 1, 0) else {
             return Err(RunFault::NoMemory);
         };
-        let mut node = Node {
-            rows: Store::new(alloc)?,
+        Ok(Node {
+            rows,
             log,
             bytes: Vec::new(alloc),
             commits: Vec::new(alloc),
@@ -49,23 +56,30 @@ impl Node {
             epoch: 1,
             greatest: 0,
             txs: 0,
-        };
+        })
+    }
+
+    fn fill(&mut self, dice: &mut Dice, keys: u64) -> Result<(), RunFault> {
         for number in 0..keys {
             let key = key_of(number)?;
-            node.keys.push(key).map_err(|_| RunFault::NoMemory)?;
-            node.prepared.push(None).map_err(|_| RunFault::NoMemory)?;
+            self.keys.push(key).map_err(|_| RunFault::NoMemory)?;
+            self.prepared.push(None).map_err(|_| RunFault::NoMemory)?;
             if dice.roll(3) > 0 {
-                let value = value_of(dice.roll(10))?;
-                node.rows.put_row(&key, &value, 0)?;
-                let commit = Commit {
-                    key,
-                    image: Some(value),
-                    epoch: 0,
-                };
-                node.commits.push(commit).map_err(|_| RunFault::NoMemory)?;
+                self.put(key, value_of(dice.roll(10))?)?;
             }
         }
-        Ok(node)
+        Ok(())
+    }
+
+    // A row that the node begins with.
+    fn put(&mut self, key: Key, value: Value) -> Result<(), RunFault> {
+        self.rows.put_row(&key, &value, 0)?;
+        let commit = Commit {
+            key,
+            image: Some(value),
+            epoch: 0,
+        };
+        self.commits.push(commit).map_err(|_| RunFault::NoMemory)
     }
 
     /// Something goes on at a row.

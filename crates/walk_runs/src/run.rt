@@ -4,6 +4,7 @@ use crate::dice::Dice;
 use crate::fault::RunFault;
 use crate::node::Node;
 use crate::plain::{compare, rows_up_to};
+use frag_store::Store;
 use lcp_store::rows_in;
 use local_ckpt::Ckpt;
 use redo_log::replay_bytes;
@@ -25,15 +26,29 @@ pub fn run_one(alloc: Global, seed: u64) -> Result<(), RunFault> {
     let mut dice = Dice::new(seed);
     let keys = dice.roll(KEYS);
     let mut node = Node::new(alloc, &mut dice, keys)?;
-    go_on(&mut dice, &mut node)?;
+    pass(alloc, &mut dice, &mut node)
+}
+
+fn pass(alloc: Global, dice: &mut Dice, node: &mut Node) -> Result<(), RunFault> {
+    go_on(dice, node)?;
     let mut written = Vec::new(alloc);
-    let finished = walk(alloc, &mut dice, &mut node, &mut written)?;
-    go_on(&mut dice, &mut node)?;
+    let finished = walk(alloc, dice, node, &mut written)?;
+    go_on(dice, node)?;
+    check_epochs(alloc, node, &finished, &written)
+}
+
+// The epoch of the checkpoint, the next one, and the last.
+fn check_epochs(
+    alloc: Global,
+    node: &Node,
+    finished: &Finished,
+    written: &[u8],
+) -> Result<(), RunFault> {
     for more in 0..2 {
         let epoch = finished.epoch.saturating_add(more);
-        check(alloc, &node, &finished, &written, epoch)?;
+        check(alloc, node, finished, written, epoch)?;
     }
-    check(alloc, &node, &finished, &written, u64::MAX)
+    check(alloc, node, finished, written, u64::MAX)
 }
 
 fn go_on(dice: &mut Dice, node: &mut Node) -> Result<(), RunFault> {
@@ -52,27 +67,39 @@ fn walk(
 ) -> Result<Finished, RunFault> {
     let mut ckpt = Ckpt::start(alloc, 2, node.oldest(), node.greatest)?;
     for _ in 0..KEYS {
-        let Some(piece) = ckpt.step(&node.rows)? else {
+        if !take_piece(&mut ckpt, &node.rows, written)? {
             return Ok(ckpt.finish());
-        };
-        if piece.file != 2
-            || piece.at != written.len() as u64
-            || piece.bytes.as_slice().is_empty()
-        {
-            return Err(RunFault::Pieces);
         }
-        written
-            .extend_from_slice(piece.bytes.as_slice())
-            .map_err(|_| RunFault::NoMemory)?;
-        for _ in 0..dice.roll(CHANGES) {
-            let before = node.commits.len();
-            node.change(dice)?;
-            if let Some(commit) = node.commits.get(before) {
-                ckpt.committed(commit.epoch);
-            }
-        }
+        go_by(dice, node, &mut ckpt)?;
     }
     Err(RunFault::Pieces)
+}
+
+// Takes the next piece of the walk, and says whether there was one.
+fn take_piece(ckpt: &mut Ckpt, rows: &Store, written: &mut Vec<u8>) -> Result<bool, RunFault> {
+    let Some(piece) = ckpt.step(rows)? else {
+        return Ok(false);
+    };
+    let bytes = piece.bytes.as_slice();
+    if piece.file != 2 || piece.at != written.len() as u64 || bytes.is_empty() {
+        return Err(RunFault::Pieces);
+    }
+    written
+        .extend_from_slice(bytes)
+        .map_err(|_| RunFault::NoMemory)?;
+    Ok(true)
+}
+
+// Something goes on at rows that the walk has passed or comes to.
+fn go_by(dice: &mut Dice, node: &mut Node, ckpt: &mut Ckpt) -> Result<(), RunFault> {
+    for _ in 0..dice.roll(CHANGES) {
+        let before = node.commits.len();
+        node.change(dice)?;
+        if let Some(commit) = node.commits.get(before) {
+            ckpt.committed(commit.epoch);
+        }
+    }
+    Ok(())
 }
 
 // The rows of the checkpoint, with the log from its position on, are those that were committed up to the
