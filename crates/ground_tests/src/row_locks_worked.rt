@@ -1,6 +1,7 @@
 //! Worked cases: calls on keys, and what each is to answer.
 use row_locks::{Lock, LockTable, Mode};
 use sig_core::{Key, TxId};
+use std::alloc::Global;
 use std::test::Fail;
 
 // A call on a key, with the number of a transaction, and what it is to answer.
@@ -88,127 +89,120 @@ fn fits(locks: &mut LockTable, key: &Key, line: Line) -> Result<bool, Fail> {
     })
 }
 
-// The first line, on the key of this letter, that isn't answered so.
-fn first_wrong(locks: &mut LockTable, letter: u8, lines: &[Line]) -> Result<Option<usize>, Fail> {
-    let key = Key::new(&[letter])?;
-    for (at, line) in lines.iter().enumerate() {
-        if !fits(locks, &key, *line)? {
+// A line, and the letter of the key that it is on.
+type Row = (u8, Line);
+
+// The first row, of calls on a new table, that isn't answered so.
+fn first_wrong(alloc: Global, rows: &[Row]) -> Result<Option<usize>, Fail> {
+    let mut locks = LockTable::new(alloc)?;
+    wrong_in(&mut locks, rows)
+}
+
+fn wrong_in(locks: &mut LockTable, rows: &[Row]) -> Result<Option<usize>, Fail> {
+    for (at, row) in rows.iter().enumerate() {
+        if !fits(locks, &Key::new(&[row.0])?, row.1)? {
             return Ok(Some(at));
         }
     }
     Ok(None)
 }
 
-#[test]
-fn two_share_and_an_exclusive_request_waits(rt: HostRuntime) -> Result<(), Fail> {
-    let mut locks = LockTable::new(rt.alloc())?;
-    let lines = [
-        Line::Share(1, None),
-        Line::Share(2, None),
-        Line::Share(2, None),
-        Line::Exclude(3, Some(1)),
-        Line::Share(4, Some(1)),
-        Line::Holder(1, Some(2)),
-        Line::Holder(2, None),
-        Line::Release(1, 0),
-        Line::Ahead(3, Some(2)),
-        Line::Release(2, 1),
-        Line::Holder(0, Some(3)),
-        Line::Release(3, 1),
-        Line::Holder(0, Some(4)),
-        Line::Release(4, 0),
-        Line::Holder(0, None),
-    ];
-    assert_eq!(rt; first_wrong(&mut locks, b'a', &lines)?, None);
-    Ok(())
-}
+// Two share, and an exclusive request waits.
+const SHARED: [Row; 15] = [
+    (b'a', Line::Share(1, None)),
+    (b'a', Line::Share(2, None)),
+    (b'a', Line::Share(2, None)),
+    (b'a', Line::Exclude(3, Some(1))),
+    (b'a', Line::Share(4, Some(1))),
+    (b'a', Line::Holder(1, Some(2))),
+    (b'a', Line::Holder(2, None)),
+    (b'a', Line::Release(1, 0)),
+    (b'a', Line::Ahead(3, Some(2))),
+    (b'a', Line::Release(2, 1)),
+    (b'a', Line::Holder(0, Some(3))),
+    (b'a', Line::Release(3, 1)),
+    (b'a', Line::Holder(0, Some(4))),
+    (b'a', Line::Release(4, 0)),
+    (b'a', Line::Holder(0, None)),
+];
+
+// A raise is granted at once, or stands first.
+const RAISED: [Row; 11] = [
+    (b'a', Line::Share(1, None)),
+    (b'a', Line::Exclude(1, None)),
+    (b'a', Line::Share(2, Some(1))),
+    (b'a', Line::Share(3, Some(1))),
+    (b'a', Line::Release(1, 2)),
+    (b'a', Line::Exclude(4, Some(2))),
+    (b'a', Line::Exclude(2, Some(3))),
+    (b'a', Line::Release(3, 1)),
+    (b'a', Line::Holder(0, Some(2))),
+    (b'a', Line::Holder(1, None)),
+    (b'a', Line::Ahead(4, Some(2))),
+];
+
+// Who waits no more keeps what it holds.
+const UNWAITED: [Row; 12] = [
+    (b'a', Line::Share(1, None)),
+    (b'a', Line::Share(2, None)),
+    (b'a', Line::Exclude(1, Some(2))),
+    (b'a', Line::Share(3, Some(1))),
+    (b'a', Line::Unwait(1, 1)),
+    (b'a', Line::Ahead(1, None)),
+    (b'a', Line::Holder(0, Some(1))),
+    (b'a', Line::Holder(2, Some(3))),
+    (b'a', Line::Exclude(4, Some(1))),
+    (b'a', Line::UnwaitAll),
+    (b'a', Line::Ahead(4, None)),
+    (b'a', Line::Holder(3, None)),
+];
+
+// Waits age to eight rounds.
+const AGED: [Row; 15] = [
+    (b'b', Line::Exclude(1, None)),
+    (b'b', Line::Share(0, Some(1))),
+    (b'b', Line::Share(2, Some(1))),
+    (b'a', Line::Exclude(1, None)),
+    (b'a', Line::Share(0, Some(1))),
+    (b'a', Line::Share(2, Some(1))),
+    (b'a', Line::Age(7)),
+    (b'a', Line::Expired(None)),
+    (b'a', Line::Age(1)),
+    (b'a', Line::Expired(Some((2, b'a')))),
+    (b'a', Line::Age(1)),
+    (b'a', Line::Unwait(2, 0)),
+    (b'b', Line::Expired(Some((2, b'b')))),
+    (b'b', Line::Unwait(2, 0)),
+    (b'b', Line::Expired(None)),
+];
+
+// Who stood eight rounds is not granted.
+const STOOD: [Row; 12] = [
+    (b'a', Line::Exclude(1, None)),
+    (b'a', Line::Share(2, Some(1))),
+    (b'a', Line::Age(1)),
+    (b'a', Line::Share(3, Some(1))),
+    (b'a', Line::Age(7)),
+    (b'a', Line::Release(1, 0)),
+    (b'a', Line::Holder(0, None)),
+    (b'a', Line::Expired(Some((2, b'a')))),
+    (b'a', Line::Share(4, Some(4))),
+    (b'a', Line::Unwait(2, 2)),
+    (b'a', Line::Holder(0, Some(3))),
+    (b'a', Line::Holder(1, Some(4))),
+];
 
 #[test]
-fn a_raise_is_granted_at_once_or_stands_first(rt: HostRuntime) -> Result<(), Fail> {
-    let mut locks = LockTable::new(rt.alloc())?;
-    let lines = [
-        Line::Share(1, None),
-        Line::Exclude(1, None),
-        Line::Share(2, Some(1)),
-        Line::Share(3, Some(1)),
-        Line::Release(1, 2),
-        Line::Exclude(4, Some(2)),
-        Line::Exclude(2, Some(3)),
-        Line::Release(3, 1),
-        Line::Holder(0, Some(2)),
-        Line::Holder(1, None),
-        Line::Ahead(4, Some(2)),
+fn calls_are_answered_as_the_tables_say(rt: HostRuntime) -> Result<(), Fail> {
+    let tables = [
+        SHARED.as_slice(),
+        RAISED.as_slice(),
+        UNWAITED.as_slice(),
+        AGED.as_slice(),
+        STOOD.as_slice(),
     ];
-    assert_eq!(rt; first_wrong(&mut locks, b'a', &lines)?, None);
-    Ok(())
-}
-
-#[test]
-fn who_waits_no_more_keeps_what_it_holds(rt: HostRuntime) -> Result<(), Fail> {
-    let mut locks = LockTable::new(rt.alloc())?;
-    let lines = [
-        Line::Share(1, None),
-        Line::Share(2, None),
-        Line::Exclude(1, Some(2)),
-        Line::Share(3, Some(1)),
-        Line::Unwait(1, 1),
-        Line::Ahead(1, None),
-        Line::Holder(0, Some(1)),
-        Line::Holder(2, Some(3)),
-        Line::Exclude(4, Some(1)),
-        Line::UnwaitAll,
-        Line::Ahead(4, None),
-        Line::Holder(3, None),
-    ];
-    assert_eq!(rt; first_wrong(&mut locks, b'a', &lines)?, None);
-    Ok(())
-}
-
-#[test]
-fn waits_age_to_eight_rounds(rt: HostRuntime) -> Result<(), Fail> {
-    let mut locks = LockTable::new(rt.alloc())?;
-    let waits = [
-        Line::Exclude(1, None),
-        Line::Share(0, Some(1)),
-        Line::Share(2, Some(1)),
-    ];
-    assert_eq!(rt; first_wrong(&mut locks, b'b', &waits)?, None);
-    assert_eq!(rt; first_wrong(&mut locks, b'a', &waits)?, None);
-    let rounds = [
-        Line::Age(7),
-        Line::Expired(None),
-        Line::Age(1),
-        Line::Expired(Some((2, b'a'))),
-        Line::Age(1),
-        Line::Unwait(2, 0),
-    ];
-    assert_eq!(rt; first_wrong(&mut locks, b'a', &rounds)?, None);
-    let last = [
-        Line::Expired(Some((2, b'b'))),
-        Line::Unwait(2, 0),
-        Line::Expired(None),
-    ];
-    assert_eq!(rt; first_wrong(&mut locks, b'b', &last)?, None);
-    Ok(())
-}
-
-#[test]
-fn who_stood_eight_rounds_is_not_granted(rt: HostRuntime) -> Result<(), Fail> {
-    let mut locks = LockTable::new(rt.alloc())?;
-    let lines = [
-        Line::Exclude(1, None),
-        Line::Share(2, Some(1)),
-        Line::Age(1),
-        Line::Share(3, Some(1)),
-        Line::Age(7),
-        Line::Release(1, 0),
-        Line::Holder(0, None),
-        Line::Expired(Some((2, b'a'))),
-        Line::Share(4, Some(4)),
-        Line::Unwait(2, 2),
-        Line::Holder(0, Some(3)),
-        Line::Holder(1, Some(4)),
-    ];
-    assert_eq!(rt; first_wrong(&mut locks, b'a', &lines)?, None);
+    for (table, rows) in tables.iter().enumerate() {
+        assert_eq!(rt; first_wrong(rt.alloc(), rows)?, None, "in table {table}");
+    }
     Ok(())
 }

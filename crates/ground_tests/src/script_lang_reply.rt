@@ -69,13 +69,14 @@ fn answers_with_and_without_a_name(rt: HostRuntime) -> Result<(), Fail> {
     Ok(())
 }
 
+const LOG_FULL: AbortCause = AbortCause::LogFull {
+    used: 4000,
+    reserved: 90,
+    need: 250,
+};
+
 #[test]
 fn outcomes_with_and_without_a_name(rt: HostRuntime) -> Result<(), Fail> {
-    let log_full = AbortCause::LogFull {
-        used: 4000,
-        reserved: 90,
-        need: 250,
-    };
     let table = [
         (Outcome::Committed(1), b"committed 0/1\n".as_slice()),
         (Outcome::Committed(4294967296), b"committed 1/0\n"),
@@ -97,7 +98,7 @@ fn outcomes_with_and_without_a_name(rt: HostRuntime) -> Result<(), Fail> {
         ),
         (Outcome::Aborted(AbortCause::Down), b"aborted down\n"),
         (
-            Outcome::Aborted(log_full),
+            Outcome::Aborted(LOG_FULL),
             b"aborted log full 4000 90 250\n",
         ),
         (
@@ -107,18 +108,17 @@ fn outcomes_with_and_without_a_name(rt: HostRuntime) -> Result<(), Fail> {
         (Outcome::Unknown, b"unknown\n"),
     ];
     for (outcome, line) in &table {
-        let unnamed = ApiReply::Ended {
-            name: None,
-            outcome: *outcome,
-        };
-        let named = ApiReply::Ended {
-            name: Some(9),
-            outcome: *outcome,
-        };
-        expect(&rt, rt.alloc(), &unnamed, b"", line)?;
-        expect(&rt, rt.alloc(), &named, b"@9 ", line)?;
+        expect(&rt, rt.alloc(), &ended(None, outcome), b"", line)?;
+        expect(&rt, rt.alloc(), &ended(Some(9), outcome), b"@9 ", line)?;
     }
     Ok(())
+}
+
+fn ended(name: Option<u16>, outcome: &Outcome) -> ApiReply {
+    ApiReply::Ended {
+        name,
+        outcome: *outcome,
+    }
 }
 
 #[test]

@@ -168,15 +168,6 @@ fn work_is_held_once_more(rt: HostRuntime) -> Result<(), Fail> {
 }
 
 #[test]
-fn operations_have_their_keys(rt: HostRuntime) -> Result<(), Fail> {
-    let (key, value) = (Key::new(b"k")?, Value::new(b"v")?);
-    for op in [Op::Get(key), Op::Upd(key, value)] {
-        assert_eq!(rt; *op.key(), key);
-    }
-    Ok(())
-}
-
-#[test]
 fn transactions_are_told_apart(rt: HostRuntime) {
     assert!(rt; tx(1, 1) < tx(1, 2));
     assert_ne!(rt; tx(1, 1), tx(2, 1));
@@ -203,29 +194,23 @@ fn redo_records_have_the_size_of_their_bytes(rt: HostRuntime) -> Result<(), Fail
 }
 
 #[test]
-fn operations_are_answered_by_their_row(rt: HostRuntime) -> Result<(), Fail> {
+fn operations_have_a_key_an_answer_and_an_image(rt: HostRuntime) -> Result<(), Fail> {
     let (key, value) = (Key::new(b"k")?, Value::new(b"v")?);
     let row = Some(value);
-    let answers = [
-        (Op::Get(key), None, Answer::Missing),
-        (Op::GetX(key), row, Answer::Found(value)),
-        (Op::Put(key, value), row, Answer::Done),
-        (Op::Ins(key, value), row, Answer::E630),
-        (Op::Upd(key, value), None, Answer::E626),
-        (Op::Del(key), None, Answer::E626),
-        (Op::Del(key), row, Answer::Done),
+    let table = [
+        (Op::Get(key), None, Answer::Missing, None),
+        (Op::GetX(key), row, Answer::Found(value), None),
+        (Op::Put(key, value), row, Answer::Done, row),
+        (Op::Ins(key, value), row, Answer::E630, row),
+        (Op::Upd(key, value), None, Answer::E626, row),
+        (Op::Del(key), None, Answer::E626, None),
+        (Op::Del(key), row, Answer::Done, None),
     ];
-    for (op, row, answer) in answers {
+    for (op, row, answer, image) in table {
+        assert_eq!(rt; *op.key(), key);
         assert_eq!(rt; op.answer_to(&row), answer);
+        assert_eq!(rt; op.image(), image);
     }
-    Ok(())
-}
-
-#[test]
-fn writes_have_their_images(rt: HostRuntime) -> Result<(), Fail> {
-    let (key, value) = (Key::new(b"k")?, Value::new(b"v")?);
-    assert_eq!(rt; Op::Upd(key, value).image(), Some(value));
-    assert_eq!(rt; Op::Del(key).image(), None);
     Ok(())
 }
 
