@@ -29,6 +29,7 @@ pub fn run_one(alloc: Global, seed: u64) -> Result<(), RunFault> {
     pass(alloc, &mut dice, &mut node)
 }
 
+// The walk, with what goes on before it and behind it.
 fn pass(alloc: Global, dice: &mut Dice, node: &mut Node) -> Result<(), RunFault> {
     go_on(dice, node)?;
     let mut written = Vec::new(alloc);
