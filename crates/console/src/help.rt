@@ -58,6 +58,16 @@ the code with which it would have ended a script.
 docs/SCRIPT.md is the manual, docs/TUTORIAL.md a first hour.
 ";
 
+const BEGIN: &str = "\
+begin T, begin T N: transaction T begins, at node N or else the least one:
+`@T begun N`. Then come `@T put a 1` and others, and `commit T` or `abort T`.
+";
+
+const GCP: &str = "\
+gcp: closes the current epoch, and makes it durable: `durable E`. What was
+committed up to then outlasts a crash.
+";
+
 /// What a command does.
 pub fn of_form(form: Form) -> &'static str {
     match form {
@@ -70,10 +80,7 @@ pub fn of_form(form: Form) -> &'static str {
         Form::Upd =>
             "upd K V: as `put`, of a row that is there, or `error 626 tuple did not exist`.\n",
         Form::Del => "del K: the row is gone: `ok`, or `error 626 tuple did not exist`.\n",
-        Form::Begin => "\
-begin T, begin T N: transaction T begins, at node N or else the least one:
-`@T begun N`. Then come `@T put a 1` and others, and `commit T` or `abort T`.
-",
+        Form::Begin => BEGIN,
         Form::Commit => "commit T: `@T committed E`, in epoch E: all of T's writes at once.\n",
         Form::Abort => "abort T: `@T aborted by request`: none of T's writes.\n",
         Form::Tick => "tick C: lets C rounds of time pass, 1 to 16. A wait for a lock has eight.\n",
@@ -87,10 +94,7 @@ cut A B: nodes A and B no longer hear each other. Missing heartbeats are
 noticed in the fourth round: `tick 4`.
 ",
         Form::Micro => "micro: closes the current epoch, in memory alone: `closed E`.\n",
-        Form::Gcp => "\
-gcp: closes the current epoch, and makes it durable: `durable E`. What was
-committed up to then outlasts a crash.
-",
+        Form::Gcp => GCP,
         Form::Lcp => "\
 lcp: writes the rows of each node's disk anew, up to an epoch that is durable:
 `checkpoint E`. The journal has its room again, and a restart is short.
