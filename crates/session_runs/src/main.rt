@@ -54,10 +54,10 @@ fn take<R: Threads + Wait + Sync>(
 ) -> Result<(), Fault> {
     if let Line::Session(title) = line {
         let next = Session::new(alloc, title)?;
-        if let Some(ended) = session.replace(next) {
-            play(rt, alloc, ended, text)?;
-        }
-        return Ok(());
+        return match session.replace(next) {
+            Some(ended) => play(rt, alloc, &ended, text),
+            None => Ok(()),
+        };
     }
     match session {
         Some(session) => session.add(alloc, line),
@@ -74,19 +74,43 @@ fn told<R: Threads + Wait + Sync>(
     at: &mut u32,
 ) -> Result<Vec<u8>, Fault> {
     let mut text = Vec::new(alloc);
+    tell_all(rt, alloc, input, at, &mut text)?;
+    Ok(text)
+}
+
+fn tell_all<R: Threads + Wait + Sync>(
+    rt: &R,
+    alloc: Global,
+    input: &str,
+    at: &mut u32,
+    text: &mut Vec<u8>,
+) -> Result<(), Fault> {
     let mut session = None;
+    take_all(rt, alloc, input, at, &mut session, text)?;
+    match session {
+        Some(ended) => play(rt, alloc, &ended, text),
+        None => Ok(()),
+    }
+}
+
+/// Takes all lines; the last session is left to be played.
+fn take_all<R: Threads + Wait + Sync>(
+    rt: &R,
+    alloc: Global,
+    input: &str,
+    at: &mut u32,
+    session: &mut Option<Session>,
+    text: &mut Vec<u8>,
+) -> Result<(), Fault> {
     for line in input.lines() {
         *at = at.saturating_add(1);
         match parse(line) {
             Some(Line::Nothing) => {}
-            Some(line) => take(rt, alloc, line, &mut session, &mut text)?,
+            Some(line) => take(rt, alloc, line, session, text)?,
             None => return Err(Fault::Line),
         }
     }
-    if let Some(ended) = session {
-        play(rt, alloc, ended, &mut text)?;
-    }
-    Ok(text)
+    Ok(())
 }
 
 fn main(rt: HostRuntime) -> Result<ExitCode, Fail> {

@@ -1,10 +1,12 @@
 //! What comes of a session.
+ghost use Rattle.std.specs.Prelude.{◌≡◌, length};
+
 use crate::fault::Fault;
 use crate::logs::tell_lives;
 use crate::pieces::Pieces;
 use crate::session::{DiskWrite, Run, Session, Setting};
 use host_io::{Disk, MemDisk, MemSink, MemSource, NoGate, Sink, Source};
-use shell_top::run_shell;
+use shell_top::{Ended, run_shell};
 use std::alloc::Global;
 use std::sync::Wait;
 use std::thread::Threads;
@@ -17,26 +19,35 @@ const DISKS: u8 = 8;
 pub fn play<R: Threads + Wait + Sync>(
     rt: &R,
     alloc: Global,
-    session: Session,
+    session: &Session,
     text: &mut Vec<u8>,
 ) -> Result<(), Fault> {
-    let Session {
-        title,
-        run,
-        earlier,
-        setting,
-    } = session;
-    let title = title.as_str();
+    let title = session.title.as_str();
     add(text, &format!(in alloc; "session {title}\n")?)?;
+    let disks = fresh_disks(alloc, &session.setting)?;
+    play_runs(rt, alloc, session, disks, text)
+}
+
+fn fresh_disks(alloc: Global, setting: &Setting) -> Result<Vec<Box<dyn Disk + Send>>, Fault> {
     let mut disks: Vec<Box<dyn Disk + Send>> = Vec::new(alloc);
     for node in 1..=DISKS {
-        disks.push(Box::new(alloc, fresh_disk(alloc, &setting, node)?)?)?;
+        disks.push(Box::new(alloc, fresh_disk(alloc, setting, node)?)?)?;
     }
-    let mut runs = earlier;
-    runs.push(run)?;
-    for run in runs {
-        disks = play_run(rt, alloc, run, &setting, disks, text)?;
+    Ok(disks)
+}
+
+fn play_runs<R: Threads + Wait + Sync>(
+    rt: &R,
+    alloc: Global,
+    session: &Session,
+    disks: Vec<Box<dyn Disk + Send>>,
+    text: &mut Vec<u8>,
+) -> Result<(), Fault> {
+    let mut disks = disks;
+    for run in session.earlier.as_slice() {
+        disks = play_run(rt, alloc, run, &session.setting, disks, text)?;
     }
+    play_run(rt, alloc, &session.run, &session.setting, disks, text)?;
     Ok(())
 }
 
@@ -44,35 +55,64 @@ pub fn play<R: Threads + Wait + Sync>(
 fn play_run<R: Threads + Wait + Sync>(
     rt: &R,
     alloc: Global,
-    run: Run,
+    run: &Run,
     setting: &Setting,
     disks: Vec<Box<dyn Disk + Send>>,
     text: &mut Vec<u8>,
 ) -> Result<Vec<Box<dyn Disk + Send>>, Fault> {
-    let Run {
-        words,
-        script,
-        writes,
-    } = run;
     let mut disks = disks;
-    lay_all(disks.as_mut_slice(), &writes)?;
+    lay_all(disks.as_mut_slice(), &run.writes)?;
     // All come back from each run; this says so to its check.
     if disks.len() != usize::from(DISKS) {
         return Ok(disks);
     }
-    let mut source = Pieces {
+    let mut source = source_of(alloc, run, setting)?;
+    let mut sink = MemSink::new(alloc, copied(alloc, &setting.no_writes)?)?;
+    let ended = serve(rt, alloc, &run.words, &mut source, &mut sink, disks);
+    tell_run(alloc, &ended, &source, &sink, setting, text)?;
+    Ok(ended.disks)
+}
+
+// Where the script of a run is read.
+fn source_of(alloc: Global, run: &Run, setting: &Setting) -> Result<Pieces, Fault> {
+    let mut script = Vec::new(alloc);
+    script.extend_from_slice(&run.script)?;
+    Ok(Pieces {
         source: MemSource::new(script, copied(alloc, &setting.no_reads)?)?,
         most: setting.piece,
-    };
-    let mut sink = MemSink::new(alloc, copied(alloc, &setting.no_writes)?)?;
-    let ended = run_shell(rt, alloc, &words, &mut source, &mut sink, disks, &NoGate);
+    })
+}
+
+// The call of the program. What that promises is asked of no run, and would be carried along behind it.
+fn serve<R: Threads + Wait + Sync>(
+    rt: &R,
+    alloc: Global,
+    words: &[String],
+    source: &mut Pieces,
+    sink: &mut MemSink,
+    disks: Vec<Box<dyn Disk + Send>>,
+) -> Ended
+    requires { length disks.items ≡ 8 }
+{
+    run_shell(rt, alloc, words, source, sink, disks, &NoGate)
+}
+
+// What came of a run.
+fn tell_run(
+    alloc: Global,
+    ended: &Ended,
+    source: &Pieces,
+    sink: &MemSink,
+    setting: &Setting,
+    text: &mut Vec<u8>,
+) -> Result<(), Fault> {
     tell(alloc, sink.written(), ended.status, text)?;
     tell_faults(alloc, "reads", source.faults(), text)?;
     tell_faults(alloc, "writes", sink.faults(), text)?;
     if setting.tells_logs {
         tell_lives(alloc, &ended.lives, text)?;
     }
-    Ok(ended.disks)
+    Ok(())
 }
 
 // The disk of a node, which was never written.
