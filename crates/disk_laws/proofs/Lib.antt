@@ -30,3 +30,4 @@ pub mod StepLaw
 pub mod StopsKeepSaved
 pub mod SystemSaved
 pub mod shapes_of
+pub mod told_slots

@@ -66,7 +66,7 @@ tells_below : (low high : ℕ) (body : Body) → low ≤ high → TellsDone high
 tells_below low high (Epoch (GcpDone at)) below told = omega (arith, below, told)
 tells_below low high body below told = absurd told
 
-told_below : (start : Start) (member : Member) (log : List HostStep) (low high : ℕ) → low ≤ high
+pub told_below : (start : Start) (member : Member) (log : List HostStep) (low high : ℕ) → low ≤ high
     → IsToldDone start member log high → IsToldDone start member log low
 told_below start member [] low high below told = omega (arith, below, told)
 told_below start member (e ∷ log) low high below (inl (sound, told)) =
@@ -74,30 +74,30 @@ told_below start member (e ∷ log) low high below (inl (sound, told)) =
 told_below start member (e ∷ log) low high below (inr told) = inr (told_below start member log low high below told)
 
 -- what makes a checkpoint usable
-record IsUsable (v : SaverState) (saved : ℕ) (finished : Finished) (end : ℕ) : Type 0 where
-  from : finished.from ≤ v.saved_end
-  ends : end ≤ v.saved_end
-  durable : finished.epoch ≤ v.durable
-  saved_is : finished.epoch ≤ saved
-  low : finished.from < POSITIONS
-  small : finished.size < POSITIONS
-  few : v.named < CHECKPOINTS
+pub record IsUsable (v : SaverState) (saved : ℕ) (finished : Finished) (end : ℕ) : Type 0 where
+  pub from : finished.from ≤ v.saved_end
+  pub ends : end ≤ v.saved_end
+  pub durable : saved ≤ v.durable
+  pub saved_is : finished.epoch ≤ saved
+  pub low : finished.from < POSITIONS
+  pub small : finished.size < POSITIONS
+  pub few : v.named < CHECKPOINTS
 
 usable_is : (v : SaverState) (saved : ℕ) (finished : Finished) (end : ℕ)
-    → ((nat_le finished.from v.saved_end && nat_le end v.saved_end && nat_le finished.epoch v.durable
+    → ((nat_le finished.from v.saved_end && nat_le end v.saved_end && nat_le saved v.durable
     && nat_le finished.epoch saved && has_numbers v finished) ≡ true)
     → IsUsable v saved finished end
 usable_is v saved finished end is =
     let five = and_parts _ (has_numbers v finished) is in
     let four = and_parts _ (nat_le finished.epoch saved) five.0 in
-    let three = and_parts _ (nat_le finished.epoch v.durable) four.0 in
+    let three = and_parts _ (nat_le saved v.durable) four.0 in
     let two = and_parts (nat_le finished.from v.saved_end) (nat_le end v.saved_end) three.0 in
     let numbers = and_parts _ (nat_lt v.named CHECKPOINTS) five.1 in
     let positions = and_parts (nat_lt finished.from POSITIONS) (nat_lt finished.size POSITIONS) numbers.0 in
     record {
       from = leb-true finished.from v.saved_end two.0;
       ends = leb-true end v.saved_end two.1;
-      durable = leb-true finished.epoch v.durable three.1;
+      durable = leb-true saved v.durable three.1;
       saved_is = leb-true finished.epoch saved four.1;
       low = ltb-true finished.from POSITIONS positions.0;
       small = ltb-true finished.size POSITIONS positions.1;
@@ -138,7 +138,7 @@ module _ (start : Start) (member : Member) (there : IsIn member (made start)) (b
   abbrev old_bytes : List ℕ
   old_bytes = log_bytes (records has.events)
 
-  usable : IsUsable v (rows_after start member log).saved finished switch.end
+  pub usable : IsUsable v (rows_after start member log).saved finished switch.end
   usable = usable_is v (rows_after start member log).saved finished switch.end switch.usable
 
   pub checkpoint : IsCheckpoint start member before log finished switch.end
@@ -233,7 +233,7 @@ module _ (start : Start) (member : Member) (there : IsIn member (made start)) (b
         has.begins,
       )
 
-  may : MayName s finished
+  pub may : MayName s finished
   may = record {
     readable = record {
       least_file = (next_file_is (Some s.control)).0;
@@ -309,7 +309,8 @@ module _ (start : Start) (member : Member) (there : IsIn member (made start)) (b
   its_epoch : (longer : List HostStep) → IsPast log longer → IsToldDone start member longer finished.epoch
   its_epoch longer behind =
       told_longer start member log longer finished.epoch behind
-      (told_below start member log finished.epoch v.durable usable.durable can.followed.durable)
+      (told_below start member log finished.epoch v.durable
+      (omega (arith, usable.saved_is, usable.durable)) can.followed.durable)
 
   -- Either way it has what is to be found.
   pub named_found : (longer : List HostStep) → IsPast log longer

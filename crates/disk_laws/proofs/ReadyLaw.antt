@@ -25,7 +25,6 @@ use Rattle.node_disk.specs.Slots.{SlotsInUse}
 use Rattle.node_disk.proofs.StartLaw.{are_in_use, ready_has}
 use Rattle.node_restart.specs.Rows.{HasRows}
 use Rattle.node_restart.proofs.StartLaw.{ready_rows}
-use Rattle.node_views.specs.declared.host_body.HostBody as hosts
 use Rattle.lqh_saver.specs.Saver.{fresh_saver}
 use Rattle.lqh_saver.specs.State.{SaverState}
 use Rattle.request_laws.specs.Blocks.{rows_after, saver_after}

@@ -85,10 +85,10 @@ named_same s t body it event (steps.passes walk step writes) none = walk.leaves.
 named_same s t body it event (steps.ends walk no_event syncs) none = walk.leaves.noted.named
 named_same s t body it event (steps.switches finished switch no_event names) none = absurd (none finished names)
 
-no_name_of : (it other : Todo) → it ≡ other → IsNoName other → IsNoName it
+pub no_name_of : (it other : Todo) → it ≡ other → IsNoName other → IsNoName it
 no_name_of it other same none finished names = none finished (sym same ∙ names)
 
-nothing_names : IsNoName todo.Nothing
+pub nothing_names : IsNoName todo.Nothing
 nothing_names finished names = cc
 
 module _ (start : Start) (member : Member) (before : Rows) (first : SystemSlot) (there : IsIn member (made start)) where
@@ -147,7 +147,7 @@ module _ (start : Start) (member : Member) (before : Rows) (first : SystemSlot) 
     made_by : IsStepBy (saving_after start member log) (saving_after start member (e ∷ log)) e.step.taken.body it event
     made_by = new.records.events_of.1.1.2
 
-    goes_on : IsNoName it → GoesOn start member before first log (e ∷ log) s calls last
+    pub goes_on : IsNoName it → GoesOn start member before first log (e ∷ log) s calls last
     goes_on none =
         let same =
         named_same (saving_after start member log) (saving_after start member (e ∷ log)) e.step.taken.body it event

@@ -194,7 +194,7 @@ module _ (start : Start) (member : Member) (there : IsIn member (made start)) (b
     pub left_size : length outlet.left ≡ length (log_bytes has.redo) + length (log_bytes newer)
     left_size = ap length left_both ∙ length-append (log_bytes has.redo) (log_bytes newer)
 
-    rest_is : redo_from outlet s.control.redo_end ≡ log_bytes newer
+    pub rest_is : redo_from outlet s.control.redo_end ≡ log_bytes newer
     rest_is =
         ap (λ (behind : Bool). if behind then [] else drop (s.control.redo_end - outlet.flushed) outlet.left)
         (le-ltb s.control.redo_end outlet.flushed (omega (arith, has.rows.named.ends, on.begins)))
@@ -227,7 +227,7 @@ module _ (start : Start) (member : Member) (there : IsIn member (made start)) (b
         by (inl few) = omega (arith, few, has.few)
         by (inr (some, few)) = omega (arith, few, has.few, up, can.saved, late)
 
-    may : s.control.saved < epoch → MaySaveRows s epoch (log_bytes newer)
+    pub may : s.control.saved < epoch → MaySaveRows s epoch (log_bytes newer)
     may up = record {
       readable = record {
         least_file = names.least;

@@ -3,3 +3,4 @@ pub mod Laws
 pub mod Noted
 pub mod OnDisk
 pub mod Shapes
+pub mod ToldSlots

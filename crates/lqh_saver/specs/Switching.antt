@@ -34,11 +34,11 @@ abbrev pub has_numbers : SaverState → Finished → Bool
 has_numbers v finished =
     nat_lt finished.from POSITIONS && nat_lt finished.size POSITIONS && nat_lt v.named CHECKPOINTS
 
--- The checkpoint is good for what is saved, which is up to this epoch: the rows were saved behind its end, and a
--- restart comes to no epoch before that of its rows.
+-- The checkpoint is good for what is saved, which is up to this epoch: the rows were saved behind its end, and what is
+-- saved is durable. So a restart comes to no epoch before that of its rows, nor before the one that its slot tells.
 abbrev pub is_usable : SaverState → ℕ → Finished → ℕ → Bool
 is_usable v saved finished end =
-    nat_le finished.from v.saved_end && nat_le end v.saved_end && nat_le finished.epoch v.durable
+    nat_le finished.from v.saved_end && nat_le end v.saved_end && nat_le saved v.durable
     && nat_le finished.epoch saved && has_numbers v finished
 
 -- no commit that is given up is of a later epoch than the checkpoint, and nothing is under way

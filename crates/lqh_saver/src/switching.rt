@@ -88,7 +88,7 @@ impl Saver {
     {
         finished.from <= self.saved_end
             && end <= self.saved_end
-            && finished.epoch <= self.durable
+            && saved <= self.durable
             && finished.epoch <= saved
             && self.has_numbers(finished)
     }

@@ -16,7 +16,7 @@ use Rattle.sig_core.specs.declared.slots.SystemSlot.{SystemSlot}
 use Rattle.sig_core.specs.declared.view.Shape.{Shape}
 use Rattle.sys_restart.proofs.AlikeLemmas.{no_answer, same_answer}
 use Rattle.sys_restart.proofs.GroupsLemmas.{rows_fail}
-use Rattle.sys_restart.proofs.HeldLemmas.{held_is}
+use Rattle.sys_restart.proofs.HeldLemmas.{held_is, rows_are}
 use Rattle.sys_restart.proofs.LostLemmas.{nothing_only}
 use Rattle.sys_restart.specs.Answers.{on_node}
 use Rattle.sys_restart.specs.Checkpoint.{rows_of_file}
@@ -51,8 +51,7 @@ module _ (disks : Disks) (are : (node file : ℕ) → AreBytes (disks node file)
       → rows_of_group shape disks system first ≡ Ok all → HaveWords all
   group_has shape system first all is =
       elim (source_of disks system first shape.replicas)
-      as (λ source. rows_by shape disks system.epoch (first_listed system.mask first first shape.replicas) source
-      ≡ Ok all
+      as (λ source. rows_by shape disks system (first_listed system.mask first first shape.replicas) source ≡ Ok all
       → HaveWords all) [
         | Err fault ↦ λ is. absurd (no_answer fault all _ refl is)
         | Ok None ↦ λ is. absurd (no_answer _ all _ refl is)
@@ -61,7 +60,8 @@ module _ (disks : Disks) (are : (node file : ℕ) → AreBytes (disks node file)
             on source.node (rows_of_slot system.epoch (disks source.node) source.slot)
             (λ found found-is. slot_has system.epoch (disks source.node) source.slot found (are source.node) found-is)
             (held_is shape source.node (disks source.node)
-            (on_node source.node (rows_of_slot system.epoch (disks source.node) source.slot)) all is).0
+            (on_node source.node (rows_of_slot system.epoch (disks source.node) source.slot)) all
+            (rows_are shape system source.node (disks source.node) source.slot all is).1).0
       ] is
     where
       on : (node : ℕ) (rows : Result Rows ReadFault) → ((found : Rows) → rows ≡ Ok found → HaveWords found)

@@ -14,6 +14,7 @@ use Rattle.sys_restart.specs.Calls.{next_system, rows_of_node}
 use Rattle.sys_restart.specs.Files.{Disks}
 use Rattle.sys_restart.specs.Latest.{latest_on}
 use Rattle.sys_restart.specs.Restored.{restored_of}
+use Rattle.sysfile_core.specs.declared.place.TheConstants.{CONTROL_FILE}
 use Rattle.view_laws.specs.Runs.{AreOfCluster}
 use Rattle.world_core.specs.Hosts.{hosts}
 use Rattle.world_core.specs.Start.{Start, made}
@@ -25,6 +26,7 @@ use Rattle.journal_laws.specs.Journal.{first_rows}
 use Rattle.saved_laws.specs.History.{row_up_to}
 use Rattle.disk_laws.specs.Found.{HasLatest, HasSavedRows}
 use Rattle.disk_laws.specs.Noted.{kept_part}
+use Rattle.disk_laws.specs.ToldSlots.{SlotsAreTold}
 use Rattle.restart_laws.specs.Told.{TellsNotedDurable, TellsNotedRows}
 
 -- Each group has rows of its keys alone.
@@ -48,6 +50,8 @@ pub record IsLeftOf (start : Start) (r : Restored) (logs : ℕ → List HostStep
       (logs (tc_of start member)) (images member.node)
   -- no slot there is of another shape
   pub latest : latest_on start.shape member.node (images member.node) ≡ Ok (Some noted.slot)
+  -- of two control slots one was saved at an epoch that is durable
+  pub ahead : SlotsAreTold start member (r.generation + 1) logs (images member.node CONTROL_FILE)
   -- nobody was told what wasn't kept
   pub told_saved :
       (j : ℕ) → j < hosts start

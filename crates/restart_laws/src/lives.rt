@@ -2,7 +2,7 @@
 ghost use Rattle.restart_laws.specs.Lived.{LivesAsk, LivesBegin, LivesGoOn, LivesHear, LivesRestart};
 ghost use Rattle.restart_laws.specs.Lived.{OpenedAreReady, RowsBegin};
 
-use saved_laws::walked_checkpoints_stand;
+use saved_laws::{saved_before_is_durable, walked_checkpoints_stand};
 
 /// A life begins on disks that are ready for it, as those are that it was opened on.
 pub fn lives_begin()
@@ -16,6 +16,7 @@ pub fn lives_go_on()
     ensures { LivesGoOn }
 {
     walked_checkpoints_stand();
+    saved_before_is_durable();
 }
 
 /// Where the shell asks for something, it goes on with the same disks; and where it is given replies.

@@ -7,14 +7,14 @@ use crate::own::own_rows;
 use crate::ring::redo_round_the_ring;
 use crate::shapes::{another_shape, empty_disks};
 use crate::slots::{
-    a_group_without_a_slot, a_lost_slot, a_lost_system_slot, an_unlisted_node, disks_that_disagree,
-    the_later_slots,
+    a_group_without_a_slot, a_lost_slot, a_lost_system_slot, a_slot_lost_behind_a_checkpoint,
+    an_unlisted_node, disks_that_disagree, the_later_slots,
 };
 use crate::trouble::Trouble;
 use crate::versions::{a_first_version, sizes_at_the_limits, the_longest_words};
 use std::alloc::Global;
 
-const FORMS: u64 = 18;
+const FORMS: u64 = 19;
 
 /// Tries all forms, and answers how many.
 ///
@@ -46,6 +46,7 @@ fn try_one(alloc: Global, form: u64) -> Result<(), Trouble> {
         14 => lost_system_slots(alloc),
         15 => first_life_stopped(alloc),
         16 => a_lost_system_slot(alloc),
+        17 => a_slot_lost_behind_a_checkpoint(alloc),
         _ => the_longest_words(alloc),
     }
 }

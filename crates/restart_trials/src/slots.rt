@@ -6,7 +6,7 @@ use crate::trouble::Trouble;
 use host_io::MemDisk;
 use sig_core::RestartFault;
 use std::alloc::Global;
-use sysfile_core::{CONTROL_FILE, OPEN};
+use sysfile_core::{CONTROL_FILE, OPEN, SYSTEM_FILE};
 
 /// What a disk has of a life of one row.
 #[derive(Clone, Copy)]
@@ -133,6 +133,43 @@ pub fn a_lost_system_slot(alloc: Global) -> Result<(), Trouble> {
         byte: 0,
     };
     expect_fault(alloc, &mut disks_of(&lost, &lost)?, fault)
+}
+
+/// So has one whose system file lost its later slot behind a local checkpoint, of which each row is older: the control
+/// slots tell that the later epoch was durable, so a row that was deleted before isn't given back as deleted.
+pub fn a_slot_lost_behind_a_checkpoint(alloc: Global) -> Result<(), Trouble> {
+    a_slot_lost_behind(alloc, 10)?;
+    a_slot_lost_behind(alloc, 11)
+}
+
+// The same, where the later of the control slots was saved at this epoch.
+fn a_slot_lost_behind(alloc: Global, later: u64) -> Result<(), Trouble> {
+    let lost = saved_twice(alloc, later)?;
+    let mut whole = saved_twice(alloc, later)?;
+    whole.system(4_096, &system_of(3, 10, 3))?;
+    let wanted = wanted(alloc, 3, 10, &[(b'a', b'1')])?;
+    expect(alloc, &mut disks_of(&lost, &whole)?, &wanted)?;
+    let fault = RestartFault::Damaged {
+        node: 1,
+        file: SYSTEM_FILE,
+        at: 0,
+        byte: OPEN,
+    };
+    expect_fault(alloc, &mut disks_of(&lost, &lost)?, fault)
+}
+
+// What a disk has whose rows were saved at epoch 10 and then at a later one, or of which a checkpoint was named at 10
+// too, with the system slot of epoch 9 alone.
+fn saved_twice(alloc: Global, later: u64) -> Result<Layout, Trouble> {
+    let bytes = checkpoint(alloc, &[(b'a', b'1', 9)])?;
+    let size = bytes.len() as u64;
+    let mut layout = Layout::new(alloc);
+    layout.system(0, &system_of(3, 9, 3))?;
+    layout.put(2, 0, &bytes)?;
+    layout.put(3, 0, &bytes)?;
+    layout.control(0, &slot_without_redo(2, 3, 2, 10, size))?;
+    layout.control(4_096, &slot_without_redo(3, 3, 3, later, size))?;
+    Ok(layout)
 }
 
 /// A greater generation counts before a greater epoch, and lists who has it.

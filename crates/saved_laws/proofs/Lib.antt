@@ -1,3 +1,4 @@
+pub mod behind
 pub mod locking
 pub mod masters
 pub mod others

@@ -1,3 +1,4 @@
+pub mod Behind
 pub mod Checkpoints
 pub mod Closings
 pub mod Copied

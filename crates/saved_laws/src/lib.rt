@@ -8,7 +8,7 @@ mod history;
 mod keys;
 mod locks;
 
-pub use checkpoints::{saved_are_of_the_life, walked_checkpoints_stand};
+pub use checkpoints::{saved_are_of_the_life, saved_before_is_durable, walked_checkpoints_stand};
 pub use closings::{
     closed_ones_are_committed, commits_were_decided, committed_ones_are_final, saved_were_closed,
 };

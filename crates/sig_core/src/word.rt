@@ -33,7 +33,7 @@ pub fn first_unprintable(bytes: &[u8]) -> Option<usize>
     if are_printable(bytes) {
         return None;
     }
-    bytes.iter().position(|b| *b < 0x21 || 0x7e < *b)
+    bytes.iter().position(|b| !is_printable(*b))
 }
 
 // Whether words have all these bytes. It looks at each and has no branch for one, so that many are compared at once.

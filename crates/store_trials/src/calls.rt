@@ -6,6 +6,7 @@ use frag_store::Store;
 use sig_core::{
     Answer, HashedKey, Key, NoMemory, Op, PLACES, PendingRecord, Rows, RowsFault, TxId, Value,
 };
+use std::alloc::Global;
 use std::test::Fail;
 
 /// How many keys and transactions there are.
@@ -188,28 +189,44 @@ fn stretch(
     Ok(same_rows(store, plain) && same_records(store, plain))
 }
 
-/// Makes so many calls on both, and tells whether they told the same.
-pub fn try_all(rt: &HostRuntime, seed: u64, count: u64) -> Result<bool, Fail> {
-    let mut random = Random(seed);
-    let mut store = Store::new(rt.alloc())?;
-    let mut plain = Plain::new(rt.alloc());
+// The number of calls before the first stretch in which they differ.
+fn first_wrong(
+    random: &mut Random,
+    store: &mut Store,
+    plain: &mut Plain,
+    count: u64,
+) -> Result<Option<u64>, Fail> {
     for made in (0..count).step_by(STRETCH as usize) {
-        if !stretch(
-            &mut random,
-            &mut store,
-            &mut plain,
-            STRETCH.min(count.saturating_sub(made)),
-        )? {
-            println!(rt;
-                "calls {made} to {}: not the same",
-                made.saturating_add(STRETCH)
-            )?;
-            return Ok(false);
+        let calls = STRETCH.min(count.saturating_sub(made));
+        if !stretch(random, store, plain, calls)? {
+            return Ok(Some(made));
         }
     }
-    println!(rt;
-        "{count} calls: the same, {} records at last",
-        store.records()
-    )?;
-    Ok(true)
+    Ok(None)
+}
+
+fn compare(alloc: Global, seed: u64, store: &mut Store, count: u64) -> Result<Option<u64>, Fail> {
+    let mut plain = Plain::new(alloc);
+    first_wrong(&mut Random(seed), store, &mut plain, count)
+}
+
+fn report(rt: &HostRuntime, count: u64, wrong: Option<u64>, records: usize) -> Result<bool, Fail> {
+    match wrong {
+        Some(made) => {
+            let end = made.saturating_add(STRETCH);
+            println!(rt; "calls {made} to {end}: not the same")?;
+            Ok(false)
+        }
+        None => {
+            println!(rt; "{count} calls: the same, {records} records at last")?;
+            Ok(true)
+        }
+    }
+}
+
+/// Makes so many calls on both, and tells whether they told the same.
+pub fn try_all(rt: &HostRuntime, seed: u64, count: u64) -> Result<bool, Fail> {
+    let mut store = Store::new(rt.alloc())?;
+    let wrong = compare(rt.alloc(), seed, &mut store, count)?;
+    report(rt, count, wrong, store.records())
 }

@@ -86,40 +86,63 @@ fn tell(rt: &HostRuntime, what: &str, bytes: usize, watch: &Watch) -> Result<(),
     Ok(())
 }
 
-// Redo, written, decoded and replayed; whether all of it was.
-fn time_redo(rt: &HostRuntime, rows: &[Row]) -> Result<bool, Fail> {
-    let mut bytes = Vec::new(rt.alloc());
+fn write_redo(rt: &HostRuntime, rows: &[Row], bytes: &mut Vec<u8>) -> Result<(), Fail> {
     let watch = Watch::start(rt)?;
     for row in rows {
-        append(&mut bytes, row)?;
+        append(bytes, row)?;
     }
-    tell(rt, "encode", bytes.len(), &watch)?;
+    tell(rt, "encode", bytes.len(), &watch)
+}
+
+// How many records there are.
+fn decode_redo(rt: &HostRuntime, bytes: &[u8]) -> Result<u64, Fail> {
     let watch = Watch::start(rt)?;
-    let records = count_records(&bytes);
+    let records = count_records(bytes);
     tell(rt, "decode", bytes.len(), &watch)?;
+    Ok(records)
+}
+
+fn replay_redo(rt: &HostRuntime, bytes: &[u8]) -> Result<bool, Fail> {
     if bytes.len() > MANY {
         return Ok(false);
     }
     let mut table = RowMap::new(rt.alloc());
     let watch = Watch::start(rt)?;
-    let replayed = replay_bytes(rt.alloc(), &mut table, 0, 0, &bytes, 1).is_ok();
+    let replayed = replay_bytes(rt.alloc(), &mut table, 0, 0, bytes, 1).is_ok();
     tell(rt, "replay", bytes.len(), &watch)?;
+    Ok(replayed)
+}
+
+// Redo, written, decoded and replayed; whether all of it was.
+fn time_redo(rt: &HostRuntime, rows: &[Row]) -> Result<bool, Fail> {
+    let mut bytes = Vec::new(rt.alloc());
+    write_redo(rt, rows, &mut bytes)?;
+    let records = decode_redo(rt, &bytes)?;
+    let replayed = replay_redo(rt, &bytes)?;
     Ok(replayed && records / 2 == rows.len() as u64)
+}
+
+fn write_checkpoint(rt: &HostRuntime, rows: &[Row], bytes: &mut Vec<u8>) -> Result<(), Fail> {
+    let watch = Watch::start(rt)?;
+    put_head(bytes)?;
+    for row in rows {
+        put_row2(bytes, &row.key, 1, &row.value)?;
+    }
+    tell(rt, "checkpoint", bytes.len(), &watch)
+}
+
+fn read_checkpoint(rt: &HostRuntime, bytes: &[u8]) -> Result<bool, Fail> {
+    let watch = Watch::start(rt)?;
+    let read = rows_in(rt.alloc(), 2, 1, bytes).is_ok();
+    tell(rt, "checkpoint_read", bytes.len(), &watch)?;
+    Ok(read)
 }
 
 // A checkpoint, written and read; whether it could be.
 fn time_checkpoint(rt: &HostRuntime, rows: &[Row]) -> Result<bool, Fail> {
     let mut bytes = Vec::new(rt.alloc());
-    let watch = Watch::start(rt)?;
-    put_head(&mut bytes)?;
-    for row in rows {
-        put_row2(&mut bytes, &row.key, 1, &row.value)?;
-    }
-    tell(rt, "checkpoint", bytes.len(), &watch)?;
-    let watch = Watch::start(rt)?;
-    let read = rows_in(rt.alloc(), 2, 1, &bytes).is_ok();
-    tell(rt, "checkpoint_read", bytes.len(), &watch)?;
-    Ok(read)
+    write_checkpoint(rt, rows, &mut bytes)?;
+    read_checkpoint(rt, &bytes)
 }
 
 /// Prints how many bytes there are of redo and of a checkpoint, and how many are dealt with in a second.

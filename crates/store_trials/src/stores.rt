@@ -89,10 +89,22 @@ fn tell(rt: &HostRuntime, name: &str, count: u64, filled: u64, taken: &Taken) ->
     Ok(())
 }
 
-/// Prints for each store, by its number of rows, how many insertions, look-ups and deletions it does in a
-/// second.
-pub fn time_all(rt: &HostRuntime, count: u64) -> Result<bool, Fail> {
-    let keys = keys_of(rt.alloc(), count)?;
+fn time_store(rt: &HostRuntime, keys: &[Key], taken: &mut Taken) -> Result<bool, Fail> {
+    let mut rows = Store::new(rt.alloc())?;
+    time(rt, &mut rows, keys, taken)
+}
+
+fn time_sorted(rt: &HostRuntime, keys: &[Key], taken: &mut Taken) -> Result<bool, Fail> {
+    let mut rows = BTreeMap::new(rt.alloc());
+    time(rt, &mut rows, keys, taken)
+}
+
+fn time_hashed(rt: &HostRuntime, keys: &[Key], taken: &mut Taken) -> Result<bool, Fail> {
+    let mut rows = HashMap::new(rt.alloc());
+    time(rt, &mut rows, keys, taken)
+}
+
+fn time_each(rt: &HostRuntime, count: u64, keys: &[Key]) -> Result<bool, Fail> {
     let filled = LEAST / count.max(1) + 1;
     let mut all_found = true;
     let none = Taken {
@@ -102,15 +114,19 @@ pub fn time_all(rt: &HostRuntime, count: u64) -> Result<bool, Fail> {
     };
     let (mut store, mut sorted, mut hashed) = (none, none, none);
     for _ in 0..filled {
-        let mut rows = Store::new(rt.alloc())?;
-        all_found = all_found && time(rt, &mut rows, &keys, &mut store)?;
-        let mut rows = BTreeMap::new(rt.alloc());
-        all_found = all_found && time(rt, &mut rows, &keys, &mut sorted)?;
-        let mut rows = HashMap::new(rt.alloc());
-        all_found = all_found && time(rt, &mut rows, &keys, &mut hashed)?;
+        all_found = all_found && time_store(rt, keys, &mut store)?;
+        all_found = all_found && time_sorted(rt, keys, &mut sorted)?;
+        all_found = all_found && time_hashed(rt, keys, &mut hashed)?;
     }
     tell(rt, "frag_store", count, filled, &store)?;
     tell(rt, "BTreeMap", count, filled, &sorted)?;
     tell(rt, "HashMap", count, filled, &hashed)?;
     Ok(all_found)
+}
+
+/// Prints for each store, by its number of rows, how many insertions, look-ups and deletions it does in a
+/// second.
+pub fn time_all(rt: &HostRuntime, count: u64) -> Result<bool, Fail> {
+    let keys = keys_of(rt.alloc(), count)?;
+    time_each(rt, count, &keys)
 }

@@ -16,10 +16,11 @@ use Rattle.sys_restart.specs.Answers.{on_node}
 use Rattle.sys_restart.specs.Files.{Disks, Files}
 use Rattle.sys_restart.specs.Groups.{and_rows, control_on, first_listed, if_saved, is_listed, rows_by, rows_from, rows_of_group, rows_of_groups, source_of, source_or}
 use Rattle.sys_restart.specs.Latest.{later, latest_from, latest_of, latest_on}
+use Rattle.sys_restart.specs.Outdated.{is_outdated}
 use Rattle.sys_restart.specs.Restored.{nothing_by, restored_by, restored_of, with_rows}
 use Rattle.sys_restart.specs.SlotRows.{rows_of_slot}
 use Rattle.sys_restart.proofs.GroupsLemmas.{rows_fail}
-use Rattle.sys_restart.proofs.HeldLemmas.{held_alike}
+use Rattle.sys_restart.proofs.HeldLemmas.{held_alike, rows_are, rows_current}
 use Rattle.sys_restart.proofs.LostLemmas.{StayUnsaved, lost_alike, nothing_only}
 
 pub same_answer : {A E : Type 0} (a b : A) (r : Result A E) → r ≡ Ok a → r ≡ Ok b → a ≡ b
@@ -35,7 +36,7 @@ pub not_none : {A : Type 0} (a : A) (x : Option A) → x ≡ None → x ≡ Some
 not_none a x one other = cc
 
 -- A restart of a generation reads the same of two disks of a node: the latest system slot; the control slot in use,
--- where it can be read; and the rows of that slot.
+-- where it can be read; the rows of that slot; and that control slots tell of no later epoch.
 pub record AreAlike (shape : Shape) (node generation : ℕ) (one two : Files) : Type 0 where
   pub system : latest_on shape node two ≡ latest_on shape node one
   pub slots :
@@ -44,10 +45,13 @@ pub record AreAlike (shape : Shape) (node generation : ℕ) (one two : Files) : 
   pub rows :
       (slot : ControlSlot) (epoch : ℕ) → control_of_file generation (one CONTROL_FILE) ≡ Ok (Some slot)
       → rows_of_slot epoch two slot ≡ rows_of_slot epoch one slot
+  pub ahead :
+      (epoch : ℕ) → is_outdated generation epoch (one CONTROL_FILE) ≡ false
+      → is_outdated generation epoch (two CONTROL_FILE) ≡ false
 
 pub alike_itself : (shape : Shape) (node generation : ℕ) (files : Files) → AreAlike shape node generation files files
 alike_itself shape node generation files =
-    record { system = refl; slots = λ slot is. is; rows = λ slot epoch is. refl }
+    record { system = refl; slots = λ slot is. is; rows = λ slot epoch is. refl; ahead = λ epoch is. is }
 
 abbrev pub AllAlike : Shape → ℕ → Disks → Disks → Type 0
 AllAlike shape generation one two = (node : ℕ) → AreAlike shape node generation (one node) (two node)
@@ -156,16 +160,21 @@ module _ (shape : Shape) (system : SystemSlot) (one two : Disks)
 
       by : (found : Result (Option Source) RestartFault) → source_of one system first shape.replicas ≡ found
           → rows_of_group shape two system first ≡ Ok part
-      by (Err fault) e = absurd (no_answer fault part _ (ap (rows_by shape one system.epoch node) e) is)
-      by (Ok None) e = absurd (no_answer _ part _ (ap (rows_by shape one system.epoch node) e) is)
+      by (Err fault) e = absurd (no_answer fault part _ (ap (rows_by shape one system node) e) is)
+      by (Ok None) e = absurd (no_answer _ part _ (ap (rows_by shape one system node) e) is)
       by (Ok (Some source)) e =
           let both = sources_alike first shape.replicas source e in
-          ap (rows_by shape two system.epoch node) both.0
+          let was =
+          rows_are shape system source.node (one source.node) source.slot part
+          (sym (ap (rows_by shape one system node) e) ∙ is) in
+          ap (rows_by shape two system node) both.0
+          ∙ rows_current shape system source.node (two source.node) source.slot
+          ((alike source.node).ahead system.epoch was.0)
           ∙ held_alike shape source.node (one source.node) (two source.node)
           (on_node source.node (rows_of_slot system.epoch (one source.node) source.slot))
           (on_node source.node (rows_of_slot system.epoch (two source.node) source.slot)) part
           (ap (on_node source.node) ((alike source.node).rows source.slot system.epoch both.1))
-          (sym (ap (rows_by shape one system.epoch node) e) ∙ is)
+          was.1
 
   pub groups_alike : (group more : ℕ) (before all : List Rows)
       → rows_from shape one system group more (Ok before) ≡ Ok all

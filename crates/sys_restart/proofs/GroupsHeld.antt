@@ -22,7 +22,7 @@ use Rattle.sys_restart.specs.Restored.{restored_by, restored_of, with_rows}
 use Rattle.sys_restart.specs.SlotRows.{rows_of_slot}
 use Rattle.sys_restart.proofs.AlikeLemmas.{no_answer, same_answer}
 use Rattle.sys_restart.proofs.GroupsLemmas.{rows_fail}
-use Rattle.sys_restart.proofs.HeldLemmas.{held_is, none_held}
+use Rattle.sys_restart.proofs.HeldLemmas.{held_is, none_held, rows_are}
 use Rattle.sys_restart.proofs.LostLemmas.{nothing_only}
 use Rattle.sys_restart.proofs.SeatLemmas.{first_of_group, node_of_group}
 
@@ -110,7 +110,7 @@ module _ (shape : Shape) (is_shape : IsShape shape) (disks : Disks) where
       first = group * shape.replicas + 1
 
       by : (found : Result (Option Source) RestartFault) → source_of disks system first shape.replicas ≡ found
-          → rows_by shape disks system.epoch (first_listed system.mask first first shape.replicas) found ≡ Ok part
+          → rows_by shape disks system (first_listed system.mask first first shape.replicas) found ≡ Ok part
           → are_held shape first part ≡ true
       by (Err fault) e is = absurd (no_answer fault part _ refl is)
       by (Ok None) e is = absurd (no_answer _ part _ refl is)
@@ -118,7 +118,8 @@ module _ (shape : Shape) (is_shape : IsShape shape) (disks : Disks) where
           let within = source_within disks system first shape.replicas source e in
           let kept =
           held_is shape source.node (disks source.node)
-          (on_node source.node (rows_of_slot system.epoch (disks source.node) source.slot)) part is in
+          (on_node source.node (rows_of_slot system.epoch (disks source.node) source.slot)) part
+          (rows_are shape system source.node (disks source.node) source.slot part is).1 in
           ap
           (λ (of : ℕ). list_all (λ (row : List ℕ × List ℕ). of == group_of_key shape row.0) (finmap.entries part))
           (first_of_group shape.replicas group is_shape.replicas_some is_shape.replicas_few

@@ -12,9 +12,8 @@ use Rattle.sysfile_core.specs.declared.place.TheConstants.{CONTROL_FILE}
 use Rattle.sysfile_core.specs.Reading.{control_of_file}
 use Rattle.sys_restart.specs.Answers.{ReadsAll, is_outside, on_node}
 use Rattle.sys_restart.specs.Files.{Disks, Files}
-use Rattle.sys_restart.specs.Groups.{and_rows, control_on, first_listed, if_held, if_saved, is_listed, rows_by, rows_from, rows_of_group, source_of, source_or, that_saved}
+use Rattle.sys_restart.specs.Groups.{and_rows, control_on, first_listed, if_saved, is_listed, rows_by, rows_from, rows_of_group, rows_on, source_of, source_or, that_saved}
 use Rattle.sys_restart.specs.Lack.{lacking}
-use Rattle.sys_restart.specs.SlotRows.{rows_of_slot}
 
 -- one less is left behind each, and none behind the last
 pub one_less : (all done : ℕ) → done < all → all - done ≡ suc (all - (done + 1))
@@ -121,15 +120,12 @@ listed_ends mask other node (suc more) none = absurd (omega (arith, none))
 -- the rows of a group whose source was found, those of one that has none, and what is wrong with a source
 pub group_found : (shape : Shape) (disks : Disks) (system : SystemSlot) (first : ℕ) (source : Source)
     (result : Result Rows RestartFault) → source_of disks system first shape.replicas ≡ Ok (Some source)
-    → ReadsAll
-    (if_held shape source.node (disks source.node)
-    (on_node source.node (rows_of_slot system.epoch (disks source.node) source.slot)))
-    result
+    → ReadsAll (rows_on shape system source.node (disks source.node) source.slot) result
     → ReadsAll (rows_of_group shape disks system first) result
 group_found shape disks system first source result is reads =
     subst
     (λ (found : Result (Option Source) RestartFault). ReadsAll
-    (rows_by shape disks system.epoch (first_listed system.mask first first shape.replicas) found) result)
+    (rows_by shape disks system (first_listed system.mask first first shape.replicas) found) result)
     (sym is) reads
 
 pub group_lacks : (shape : Shape) (disks : Disks) (system : SystemSlot) (first node : ℕ) (fault : RestartFault)
@@ -138,15 +134,15 @@ pub group_lacks : (shape : Shape) (disks : Disks) (system : SystemSlot) (first n
     → (is_outside fault ≡ false → fault ≡ lacking node CONTROL_FILE (disks node))
     → is_outside fault ≡ false → rows_of_group shape disks system first ≡ Err fault
 group_lacks shape disks system first node fault is at lacks inside =
-    ap (rows_by shape disks system.epoch (first_listed system.mask first first shape.replicas)) is
-    ∙ ap (λ (n : ℕ). rows_by shape disks system.epoch n (Ok None)) (sym at)
+    ap (rows_by shape disks system (first_listed system.mask first first shape.replicas)) is
+    ∙ ap (λ (n : ℕ). rows_by shape disks system n (Ok None)) (sym at)
     ∙ ap Err (sym (lacks inside))
 
 pub group_fails : (shape : Shape) (disks : Disks) (system : SystemSlot) (first : ℕ) (fault : RestartFault)
     → (is_outside fault ≡ false → source_of disks system first shape.replicas ≡ Err fault)
     → is_outside fault ≡ false → rows_of_group shape disks system first ≡ Err fault
 group_fails shape disks system first fault is inside =
-    ap (rows_by shape disks system.epoch (first_listed system.mask first first shape.replicas)) (is inside)
+    ap (rows_by shape disks system (first_listed system.mask first first shape.replicas)) (is inside)
 
 -- one more group
 pub rows_fail : (shape : Shape) (disks : Disks) (system : SystemSlot) (group more : ℕ) (fault : RestartFault)

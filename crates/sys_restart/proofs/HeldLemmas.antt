@@ -10,12 +10,17 @@ use Rattle.frag_map.specs.Fragment.{frag_of, group_of_key}
 use Rattle.frag_map.specs.Shape.{IsShape, group_of, groups}
 use Rattle.sig_core.specs.Table.{Rows}
 use Rattle.sig_core.specs.declared.fault.RestartFault.{RestartFault}
+use Rattle.sig_core.specs.declared.slots.ControlSlot.{ControlSlot}
+use Rattle.sig_core.specs.declared.slots.SystemSlot.{SystemSlot}
 use Rattle.sig_core.specs.declared.view.Shape.{Shape}
-use Rattle.sysfile_core.specs.declared.place.TheConstants.{CONTROL_FILE}
+use Rattle.sysfile_core.specs.declared.place.TheConstants.{CONTROL_FILE, SYSTEM_FILE}
+use Rattle.sys_restart.specs.Answers.{on_node}
 use Rattle.sys_restart.specs.Files.{Files}
-use Rattle.sys_restart.specs.Groups.{if_held}
+use Rattle.sys_restart.specs.Groups.{if_held, rows_on, unless_outdated}
 use Rattle.sys_restart.specs.Held.{are_held, is_held}
 use Rattle.sys_restart.specs.Lack.{lacking}
+use Rattle.sys_restart.specs.Outdated.{is_outdated}
+use Rattle.sys_restart.specs.SlotRows.{rows_of_slot}
 use Rattle.sys_restart.proofs.TableLemmas.{nothing_listed}
 
 no_rows : (fault : RestartFault) (part : Rows) → ◌≡◌ {A = Result Rows RestartFault} (Err fault) (Ok part) → ⊥
@@ -47,6 +52,31 @@ pub held_alike : (shape : Shape) (node : ℕ) (one two : Files) (found other : R
 held_alike shape node one two found other part same is =
     let kept = held_is shape node one found part is in
     ap (if_held shape node two) (same ∙ kept.0) ∙ held_kept shape node two part kept.1
+
+-- the rows of a disk whose control slots tell of no later epoch, and of one that gave rows
+pub rows_current : (shape : Shape) (system : SystemSlot) (node : ℕ) (files : Files) (slot : ControlSlot)
+    → is_outdated system.generation system.epoch (files CONTROL_FILE) ≡ false
+    → rows_on shape system node files slot
+    ≡ if_held shape node files (on_node node (rows_of_slot system.epoch files slot))
+rows_current shape system node files slot is =
+    ap
+    (λ (b : Bool). unless_outdated node files b
+    (if_held shape node files (on_node node (rows_of_slot system.epoch files slot))))
+    is
+
+pub rows_are : (shape : Shape) (system : SystemSlot) (node : ℕ) (files : Files) (slot : ControlSlot) (part : Rows)
+    → rows_on shape system node files slot ≡ Ok part
+    → (is_outdated system.generation system.epoch (files CONTROL_FILE) ≡ false)
+    × (if_held shape node files (on_node node (rows_of_slot system.epoch files slot)) ≡ Ok part)
+rows_are shape system node files slot part is =
+    by (is_outdated system.generation system.epoch (files CONTROL_FILE)) is
+  where
+    by : (b : Bool)
+        → unless_outdated node files b (if_held shape node files (on_node node (rows_of_slot system.epoch files slot)))
+        ≡ Ok part
+        → (b ≡ false) × (if_held shape node files (on_node node (rows_of_slot system.epoch files slot)) ≡ Ok part)
+    by true is = absurd (no_rows (lacking node SYSTEM_FILE files) part is)
+    by false is = (refl, is)
 
 -- a node holds no rows, and all of them where it holds each
 pub none_held : (shape : Shape) (node : ℕ) → are_held shape node finmap.empty ≡ true

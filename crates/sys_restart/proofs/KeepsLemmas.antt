@@ -32,6 +32,7 @@ use Rattle.sys_restart.proofs.ControlLemmas.{IsOtherOr, first_written, free_eith
 use Rattle.sys_restart.proofs.LostLemmas.{AreWritten, IsWritten, stays_unsaved}
 use Rattle.sys_restart.proofs.MomentLemmas.{AreOn, kept_in_the_end, kept_through, moments_then, runs_record, through_map}
 use Rattle.sys_restart.proofs.NextLemmas.{control_long, control_size, control_split, next_file_is, next_is_slot, other_file, pieces_fit, pieces_on, read_back, slot_on, some_checkpoint}
+use Rattle.sys_restart.proofs.OutdatedLemmas.{stays_current}
 use Rattle.sys_restart.proofs.SlotWrite.{HasPlace, IsMoment, IsSlotWrite, behind_has, other_has, place_has}
 use Rattle.sys_restart.proofs.StandsLemmas.{IsNear, LeavesOthers, disks_alike, disks_unsaved, left_as, near_alike, near_file, others_kept, settled_alike}
 
@@ -218,12 +219,16 @@ module _ (before : List Call) (shape : Shape) (node : ℕ) (r : Restored) where
         left_as older image other (files_of before other) left there
         (stays other not_control ∙ mid_leaves other not_file ∙ settles other there);
     slots = λ found is.
-        slots_stand control (image CONTROL_FILE) r.generation slot written
-        (ne_eqb (r.generation + 1) r.generation (λ same. absurd (omega (arith, same)))) found is;
+        slots_stand control (image CONTROL_FILE) r.generation slot written other found is;
+    ahead = λ bound is.
+        stays_current r.generation bound slot places_now.free control (image CONTROL_FILE) other written is;
     unsaved = λ zero is.
         stays_unsaved slot places_now.free control (image CONTROL_FILE) (ap (λ (n : ℕ). nat_lt 0 n) zero) written is;
   }
     where
+      other : (slot.generation == r.generation) ≡ false
+      other = ne_eqb (r.generation + 1) r.generation (λ same. absurd (omega (arith, same)))
+
       written : AreWritten slot places_now.free control (image CONTROL_FILE)
       written =
           places_written mid after older ok control r.generation slot image

@@ -17,6 +17,7 @@ pub mod NameLemmas
 pub mod NamedLemmas
 pub mod NamingLemmas
 pub mod NextLemmas
+pub mod OutdatedLemmas
 pub mod OwnLemmas
 pub mod PieceLemmas
 pub mod PlacesLemmas

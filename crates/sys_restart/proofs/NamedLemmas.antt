@@ -8,6 +8,7 @@ use Rattle.frag_map.specs.Shape.{IsShape, groups}
 use Rattle.sig_core.specs.declared.slots.ControlSlot.{ControlSlot}
 use Rattle.sig_core.specs.declared.slots.SystemSlot.{SystemSlot}
 use Rattle.sig_core.specs.declared.view.Shape.{Shape}
+use Rattle.sysfile_core.specs.declared.place.TheConstants.{CONTROL_FILE}
 use Rattle.sysfile_core.specs.Reading.{later_system}
 use Rattle.sys_restart.specs.declared.restored.Restored.{Restored}
 use Rattle.sys_restart.specs.Answers.{on_node}
@@ -20,9 +21,10 @@ use Rattle.sys_restart.specs.Restored.{restored_by, restored_of, with_rows}
 use Rattle.sys_restart.proofs.AlikeLemmas.{same_answer}
 use Rattle.sys_restart.proofs.GroupsHeld.{AreHeldFrom, group_held_in}
 use Rattle.sys_restart.proofs.GroupsLemmas.{control_saved, source_found}
-use Rattle.sys_restart.proofs.HeldLemmas.{held_kept}
+use Rattle.sys_restart.proofs.HeldLemmas.{held_kept, rows_current}
 use Rattle.sys_restart.proofs.ListedLemmas.{listed_all}
 use Rattle.sys_restart.proofs.NameLemmas.{first_named, later_either, second_named}
+use Rattle.sys_restart.proofs.OutdatedLemmas.{in_use_last}
 use Rattle.sys_restart.proofs.SeatLemmas.{first_of_group, group_fits}
 
 -- each of so many nodes names the life by its latest slot, or none as late
@@ -94,7 +96,12 @@ module _ (shape : Shape) (r : Restored) (disks : Disks) (is : IsShape shape) (ea
       ≡ Ok (Some (record { node = first; slot = has.0 })) =
       source_found disks (next_system shape r) first shape.replicas less has.0
       (source_of disks (next_system shape r) first shape.replicas) size there refl in
-      ap (rows_by shape disks r.epoch (first_listed (next_system shape r).mask first first shape.replicas)) found
+      ap
+      (rows_by shape disks (next_system shape r) (first_listed (next_system shape r).mask first first shape.replicas))
+      found
+      ∙ rows_current shape (next_system shape r) first (disks first) has.0
+      (in_use_last (r.generation + 1) r.epoch (disks first CONTROL_FILE) has.0 has.1.in_use
+      (let low : has.0.saved ≤ r.epoch = omega (arith, has.1.saved) in low))
       ∙ ap (if_held shape first (disks first))
       (ap (on_node first) has.1.has_rows
       ∙ ap (λ (g : ℕ). Ok (get_or r.groups g finmap.empty))

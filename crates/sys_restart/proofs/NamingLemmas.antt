@@ -31,6 +31,7 @@ use Rattle.sys_restart.specs.Files.{Disks, Files}
 use Rattle.sys_restart.specs.Latest.{later, latest_on, of_shape, same_shape}
 use Rattle.sys_restart.specs.Places.{free_of, free_system, usable}
 use Rattle.sys_restart.specs.Lost.{has_saved}
+use Rattle.sys_restart.specs.Outdated.{is_outdated}
 use Rattle.sys_restart.specs.Prepared.{AreToBeNamed, HasSlot, IsBelow, IsNamedOrBelow, IsSettled, KeepsOrNames, RestartsAs, with_files}
 use Rattle.sys_restart.specs.SlotRows.{rows_of_slot}
 use Rattle.sys_restart.proofs.AlikeLemmas.{AreAlike, no_answer, not_none, restored_alike, same_answer}
@@ -342,6 +343,7 @@ system_alike before shape node generation image latest same = record {
   system = latest;
   slots = λ slot is. ap (control_of_file generation) (same CONTROL_FILE (omega arith) refl) ∙ is;
   rows = rows_alike before generation image same;
+  ahead = λ epoch is. ap (is_outdated generation epoch) (same CONTROL_FILE (omega arith) refl) ∙ is;
 }
 
 -- and a node that is prepared still is

@@ -16,6 +16,7 @@ use Rattle.sysfile_core.specs.Reading.{control_of_file, system_at}
 use Rattle.sys_restart.specs.Files.{Disks, Files}
 use Rattle.sys_restart.specs.Latest.{later, of_shape}
 use Rattle.sys_restart.specs.Lost.{has_saved}
+use Rattle.sys_restart.specs.Outdated.{is_outdated}
 use Rattle.sys_restart.specs.Prepared.{IsSettled, with_files}
 use Rattle.sys_restart.proofs.AlikeLemmas.{AllAlike, AreAlike, alike_itself}
 use Rattle.sys_restart.proofs.ControlLemmas.{in_use_names}
@@ -42,8 +43,9 @@ others_kept file end states = record {
   by_sync = λ calls holds other. (else_kept file other end (states other)).by_sync calls (holds other);
 }
 
--- An image is near to what a disk reads as: it is the same but for one file and the control slots, of which the one in
--- use still is, and without saved rows where it was so and none are saved at the epoch.
+-- An image is near to what a disk reads as: it is the same but for one file and the control slots. Of these the one in
+-- use still is, they tell of no later epoch where they didn't, and no rows were saved under them where none were and
+-- none are saved at the epoch.
 pub record IsNear (before : List Call) (file generation epoch : ℕ) (image : Files) : Type 0 where
   pub others :
       (other : ℕ) → other < FILES → (file == other) ≡ false → (CONTROL_FILE == other) ≡ false
@@ -51,6 +53,9 @@ pub record IsNear (before : List Call) (file generation epoch : ℕ) (image : Fi
   pub slots :
       (slot : Option ControlSlot) → control_of_file generation (files_of before CONTROL_FILE) ≡ Ok slot
       → control_of_file generation (image CONTROL_FILE) ≡ Ok slot
+  pub ahead :
+      (bound : ℕ) → is_outdated generation bound (files_of before CONTROL_FILE) ≡ false
+      → is_outdated generation bound (image CONTROL_FILE) ≡ false
   pub unsaved :
       epoch ≡ 0 → has_saved (files_of before CONTROL_FILE) ≡ false → has_saved (image CONTROL_FILE) ≡ false
 
@@ -61,6 +66,7 @@ pub near_file : (before moment : List Call) (file generation epoch : ℕ) (image
 near_file before moment file generation epoch image settles leaves apart left = record {
   others = λ other there not_file not_control. same other there not_file;
   slots = λ slot is. ap (control_of_file generation) (same CONTROL_FILE (omega arith) apart) ∙ is;
+  ahead = λ bound is. ap (is_outdated generation bound) (same CONTROL_FILE (omega arith) apart) ∙ is;
   unsaved = λ zero is. ap has_saved (same CONTROL_FILE (omega arith) apart) ∙ is;
 }
   where
@@ -90,6 +96,7 @@ near_alike before shape node file generation epoch image near least most apart =
       near.others (file_of slot.parity position) at.1
       (ne_eqb file (file_of slot.parity position) (λ same. absurd (omega (arith, same, at.0, most))))
       (ne_eqb CONTROL_FILE (file_of slot.parity position) (λ same. absurd (omega (arith, same, at.0)))));
+  ahead = near.ahead;
 }
 
 -- files that are the same are as good
@@ -105,6 +112,7 @@ settled_alike before shape node generation image same = record {
       let names = in_use_names generation (files_of before CONTROL_FILE) slot is in
       rows_same epoch (files_of before) image slot (same slot.ckpt_file (omega (arith, names.most)))
       (λ position. same (file_of slot.parity position) (redo_file slot.parity position names.parity).1);
+  ahead = λ epoch is. ap (is_outdated generation epoch) (same CONTROL_FILE (omega arith)) ∙ is;
 }
 
 -- all disks are alike where those of one node are

@@ -1,12 +1,12 @@
 -- The rows of the groups of a cluster.
-use Rattle.std.specs.Prelude.{◌≤◌, ℕ, zero, suc, ◌+◌, ◌-◌, ◌*◌, ◌/◌, ◌%◌, ◌^◌, ◌==◌, nat_le, Bool, List, [], ◌∷◌, ◌++◌, Option, None, Some, Result, Ok, Err, if◌then◌else◌}
+use Rattle.std.specs.Prelude.{◌≤◌, ℕ, zero, suc, ◌+◌, ◌-◌, ◌*◌, ◌/◌, ◌%◌, ◌^◌, ◌==◌, nat_le, Bool, true, false, List, [], ◌∷◌, ◌++◌, Option, None, Some, Result, Ok, Err, if◌then◌else◌}
 use Rattle.frag_map.specs.Shape.{groups}
 use Rattle.sig_core.specs.Table.{Rows}
 use Rattle.sig_core.specs.declared.fault.RestartFault.{RestartFault}
 use Rattle.sig_core.specs.declared.slots.ControlSlot.{ControlSlot}
 use Rattle.sig_core.specs.declared.slots.SystemSlot.{SystemSlot}
 use Rattle.sig_core.specs.declared.view.Shape.{Shape}
-use Rattle.sysfile_core.specs.declared.place.TheConstants.{CONTROL_FILE}
+use Rattle.sysfile_core.specs.declared.place.TheConstants.{CONTROL_FILE, SYSTEM_FILE}
 use Rattle.sysfile_core.specs.Found.{HasRedo}
 use Rattle.sysfile_core.specs.Reading.{control_of_file}
 use Rattle.sys_restart.specs.declared.groups.Source.{Source}
@@ -14,6 +14,7 @@ use Rattle.sys_restart.specs.Answers.{on_node}
 use Rattle.sys_restart.specs.Files.{Disks, Files}
 use Rattle.sys_restart.specs.Held.{are_held}
 use Rattle.sys_restart.specs.Lack.{lacking}
+use Rattle.sys_restart.specs.Outdated.{is_outdated}
 use Rattle.sys_restart.specs.SlotRows.{rows_of_slot}
 
 -- it is on the disk of one of so many nodes, and its redo can be read
@@ -65,18 +66,28 @@ abbrev pub if_held : Shape → ℕ → Files → Result Rows RestartFault → Re
 if_held shape node files (Err fault) = Err fault
 if_held shape node files (Ok rows) = if are_held shape node rows then Ok rows else Err (lacking node CONTROL_FILE files)
 
+-- rows of a node's disk, unless a later system slot than the latest was lost
+abbrev pub unless_outdated : ℕ → Files → Bool → Result Rows RestartFault → Result Rows RestartFault
+unless_outdated node files true rows = Err (lacking node SYSTEM_FILE files)
+unless_outdated node files false rows = rows
+
+-- the rows of a control slot on a node's disk, up to the epoch of a system slot
+abbrev pub rows_on : Shape → SystemSlot → ℕ → Files → ControlSlot → Result Rows RestartFault
+rows_on shape system node files slot =
+    unless_outdated node files (is_outdated system.generation system.epoch (files CONTROL_FILE))
+    (if_held shape node files (on_node node (rows_of_slot system.epoch files slot)))
+
 -- the rows of a source, or what is wrong without one at this node
-abbrev pub rows_by : Shape → Disks → ℕ → ℕ → Result (Option Source) RestartFault → Result Rows RestartFault
-rows_by shape disks epoch node (Err fault) = Err fault
-rows_by shape disks epoch node (Ok None) = Err (lacking node CONTROL_FILE (disks node))
-rows_by shape disks epoch node (Ok (Some source)) =
-    if_held shape source.node (disks source.node)
-    (on_node source.node (rows_of_slot epoch (disks source.node) source.slot))
+abbrev pub rows_by : Shape → Disks → SystemSlot → ℕ → Result (Option Source) RestartFault → Result Rows RestartFault
+rows_by shape disks system node (Err fault) = Err fault
+rows_by shape disks system node (Ok None) = Err (lacking node CONTROL_FILE (disks node))
+rows_by shape disks system node (Ok (Some source)) =
+    rows_on shape system source.node (disks source.node) source.slot
 
 -- the rows of the group whose first node this is
 abbrev pub rows_of_group : Shape → Disks → SystemSlot → ℕ → Result Rows RestartFault
 rows_of_group shape disks system first =
-    rows_by shape disks system.epoch (first_listed system.mask first first shape.replicas)
+    rows_by shape disks system (first_listed system.mask first first shape.replicas)
     (source_of disks system first shape.replicas)
 
 -- the rows of groups, and those of one more; what is wrong with the first comes first

@@ -8,6 +8,7 @@ pub mod Lack
 pub mod Latest
 pub mod LifeCalls
 pub mod Lost
+pub mod Outdated
 pub mod Own
 pub mod Places
 pub mod Prepared

@@ -7,19 +7,20 @@ ghost use Rattle.sysfile_core.specs.declared.place.TheConstants.{CONTROL_FILE};
 ghost use Rattle.sysfile_core.specs.Found.{HasRedo};
 ghost use Rattle.sys_restart.specs.Answers.{AreSteady, HasCauseAmong, HasCauseOf, IsCauseAmong, ReadsAll, is_outside, on_node};
 ghost use Rattle.sys_restart.specs.Files.{disks_of};
-ghost use Rattle.sys_restart.specs.Groups.{IsSource, control_on, first_listed, if_held, is_listed, rows_of_group, rows_of_groups, source_of, that_saved};
+ghost use Rattle.sys_restart.specs.Groups.{IsSource, control_on, first_listed, if_held, is_listed, rows_of_group, rows_of_groups, rows_on, source_of, that_saved};
 ghost use Rattle.sys_restart.specs.Lack.{lacking};
 ghost use Rattle.sys_restart.specs.SlotRows.{rows_of_slot};
 
 use crate::held::are_held;
 use crate::lack::lacking;
 use crate::on_node::of_node;
+use crate::outdated::is_outdated;
 use crate::slot_rows::rows_of_slot;
 use host_io::Disk;
 use row_map::RowMap;
 use sig_core::{ControlSlot, NoMemory, RestartFault, Seq, Shape, SystemSlot};
 use std::alloc::Global;
-use sysfile_core::{CONTROL_FILE, read_control};
+use sysfile_core::{CONTROL_FILE, SYSTEM_FILE, read_control};
 
 /// The node whose disk has the rows of a group, and the control slot there that names them.
 #[derive(Clone, Copy)]
@@ -34,8 +35,9 @@ pub(crate) struct Source {
 ///
 /// # Errors
 /// `Damaged` where a group has no such node, at its first node that is listed, or else at its first, at
-/// the first byte of the control file; there too, at that node, where it has rows of another group; and where
-/// a control slot, a checkpoint or redo is damaged. The first of them by group and node. `DiskFault`,
+/// the first byte of the control file; there too, at that node, where it has rows of another group; where its
+/// control slots tell that a later epoch was durable, at the first byte of its system file, which has lost a slot;
+/// and where a control slot, a checkpoint or redo is damaged. The first of them by group and node. `DiskFault`,
 /// `NoMemory`.
 pub(crate) fn rows_of_groups<D: Disk>(
     alloc: Global,
@@ -93,7 +95,7 @@ fn rows_of_group<D: Disk>(
     ensures steady { AreSteady (map D.faults disks.old) (map D.faults disks.new) }
 {
     match source_of(disks, first, shape.replicas, system) {
-        Ok(Some(source)) => rows_of_source(alloc, disks, &source, system.epoch, shape),
+        Ok(Some(source)) => rows_of_source(alloc, disks, &source, system, shape),
         Ok(None) => {
             let node = first_listed(system.mask, first, shape.replicas);
             Err(lacking_at(disks, node))
@@ -107,7 +109,7 @@ fn rows_of_source<D: Disk>(
     alloc: Global,
     disks: &mut [D],
     source: &Source,
-    epoch: u64,
+    system: &SystemSlot,
     shape: &Shape,
 ) -> Result<RowMap, RestartFault>
     requires shape { IsShape shape.now }
@@ -115,17 +117,42 @@ fn rows_of_source<D: Disk>(
     requires first { 1 ≤ source.now.node }
     requires last { source.now.node ≤ length disks.old }
     requires redo { HasRedo source.now.slot }
-    ensures read { (records : List (List Call)) → map D.told disks.old ≡ map Some records → ReadsAll (if_held shape.now source.now.node (disks_of records source.now.node) (on_node source.now.node (rows_of_slot epoch (disks_of records source.now.node) source.now.slot))) result }
+    ensures read { (records : List (List Call)) → map D.told disks.old ≡ map Some records → ReadsAll (rows_on shape.now system.now source.now.node (disks_of records source.now.node) source.now.slot) result }
     ensures unrecorded { map D.told disks.new ≡ map D.told disks.old }
     ensures cause { HasCauseAmong (map D.faults disks.old) (map D.faults disks.new) result }
     ensures steady { AreSteady (map D.faults disks.old) (map D.faults disks.new) }
 {
     let index = source.node as usize - 1;
-    rows_on(alloc, &mut disks[index], source, epoch, shape)
+    rows_on(alloc, &mut disks[index], source, system, shape)
 }
 
-// The same, of the disk of its node.
+// The same, of the disk of its node: unless that tells that the system slot isn't the last.
 fn rows_on<D: Disk>(
+    alloc: Global,
+    disk: &mut D,
+    source: &Source,
+    system: &SystemSlot,
+    shape: &Shape,
+) -> Result<RowMap, RestartFault>
+    requires shape { IsShape shape.now }
+    requires first { 1 ≤ source.now.node }
+    requires last { source.now.node ≤ shape.now.nodes }
+    requires redo { HasRedo source.now.slot }
+    ensures read { (calls : List Call) → D.told disk.old ≡ Some calls → ReadsAll (rows_on shape.now system.now source.now.node (files_of calls) source.now.slot) result }
+    ensures unrecorded { D.told disk.new ≡ D.told disk.old }
+    ensures cause { HasCauseOf source.now.node (D.faults disk.old) (D.faults disk.new) result }
+    ensures steady { D.faults disk.old ≤ D.faults disk.new }
+{
+    let node = source.node;
+    match is_outdated(disk, system) {
+        Ok(true) => Err(lacking(disk, node, SYSTEM_FILE)),
+        Ok(false) => held_on(alloc, disk, source, system.epoch, shape),
+        Err(count) => Err(RestartFault::DiskFault { node, count }),
+    }
+}
+
+// The rows that it names, if its node holds them.
+fn held_on<D: Disk>(
     alloc: Global,
     disk: &mut D,
     source: &Source,

@@ -10,6 +10,7 @@ mod life;
 mod lost;
 mod name;
 mod on_node;
+mod outdated;
 mod own;
 mod places;
 mod prepare;

@@ -108,8 +108,11 @@ fn places_beside<D: Disk>(
     }
 }
 
-// The control slot of the generation at a place, if it is open and not damaged.
-fn usable_control<D: Disk>(
+/// The control slot of the generation at a place, if it is open and not damaged.
+///
+/// # Errors
+/// A call on the disk failed; its count.
+pub(crate) fn usable_control<D: Disk>(
     disk: &mut D,
     generation: u64,
     which: u8,

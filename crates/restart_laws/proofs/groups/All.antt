@@ -1,9 +1,9 @@
 -- What is restored of the disks of a life is its history up to the epoch of the latest system slot.
-use Rattle.std.proofs.Common.{◌≡◌, ◌≤◌, ◌<◌, ◌⊎◌, ◌+◌, ◌*◌, ◌==◌, ◌∙◌, ℕ, true, false, List, [], sym, ap, subst, inl}
-use Rattle.std.proofs.Common.{inr}
-use Rattle.std.proofs.Common.{arith, get_or}
+use Rattle.std.proofs.Common.{◌≡◌, ◌≤◌, ◌<◌, ◌+◌, ◌*◌, ◌==◌, ◌∙◌, ℕ, true, false, nat_lt, List, [], refl, sym, ap}
+use Rattle.std.proofs.Common.{subst, inl, inr, arith, get_or}
 use Rattle.std.specs.FinMap as map
-use Rattle.std.specs.Prelude.{None, Some, Ok}
+use Rattle.std.specs.Prelude.{None, Option, Some, Ok}
+use Rattle.std.proofs.lemmas.Bool.{and_left, and_right, le-ltb}
 use Rattle.frag_map.specs.Fragment.{group_of_key}
 use Rattle.frag_map.specs.Layout.{holds}
 use Rattle.frag_map.specs.Replicas.{first_start}
@@ -13,6 +13,7 @@ use Rattle.run_theory.proofs.Pasts.{each_in, past_self}
 use Rattle.run_theory.specs.Lists.{IsIn}
 use Rattle.sig_core.specs.declared.mark.Mark.TheVariants.{Durable}
 use Rattle.sig_core.specs.declared.member.Member.{Member}
+use Rattle.sig_core.specs.declared.slots.ControlSlot.{ControlSlot}
 use Rattle.sig_core.specs.declared.slots.SystemSlot.{SystemSlot}
 use Rattle.sig_core.specs.Table.{Rows}
 use Rattle.sysfile_core.specs.declared.place.TheConstants.{CONTROL_FILE}
@@ -22,6 +23,7 @@ use Rattle.sys_restart.specs.declared.restored.Restored.{Restored}
 use Rattle.sys_restart.specs.Calls.{rows_of_node}
 use Rattle.sys_restart.specs.Files.{Disks}
 use Rattle.sys_restart.specs.Groups.{is_listed}
+use Rattle.sys_restart.specs.Outdated.{are_ahead, is_outdated}
 use Rattle.sys_restart.specs.Restored.{restored_of}
 use Rattle.world_core.proofs.MadeFirst.{begins_made}
 use Rattle.world_core.specs.Hosts.{hosts}
@@ -39,13 +41,16 @@ use Rattle.journal_laws.specs.Events.{records_behind}
 use Rattle.journal_laws.specs.Journal.{first_rows}
 use Rattle.journal_laws.specs.Laws.{ReplaysGiveOwnRows}
 use Rattle.journal_laws.proofs.events.FirstRows.{first_pending}
+use Rattle.saved_laws.specs.Behind.{IsDurable}
 use Rattle.saved_laws.specs.Copied.{CopiedWereSaved, DoneWereMarked, DurableWereNoted, IsOfDurable, TellsDurable}
 use Rattle.saved_laws.specs.Copied.{WasTold}
 use Rattle.saved_laws.specs.History.{SavedRowsAreHistory, row_up_to}
 use Rattle.saved_laws.specs.Keys.{OtherKeysStay}
+use Rattle.journal_laws.specs.Saver.{IsToldDone}
 use Rattle.disk_laws.specs.Found.{HasSavedRows}
+use Rattle.disk_laws.specs.ToldSlots.{AreTold, IsKnownDurable}
 use Rattle.restart_laws.specs.Restart.{AreGrouped, AreLeft, IsOfLife, RestartsAreHistory}
-use Rattle.restart_laws.proofs.groups.Done.{WasMarked, told_done}
+use Rattle.restart_laws.proofs.groups.Done.{told_done}
 use Rattle.restart_laws.proofs.groups.Held.{rows_held}
 use Rattle.restart_laws.proofs.groups.Left.{begins, told_durable}
 use Rattle.restart_laws.proofs.groups.Nodes.{first_below, group_low, has_full, node_group, node_low_group}
@@ -86,26 +91,47 @@ module _ (copied : CopiedWereSaved) (durable : DurableWereNoted) (done : DoneWer
           let up = system_up start r logs images left one.member there in
           omega (arith, own, up)
 
+  -- nor one that is durable
+  made_low : (epoch : ℕ) → IsDurable start logs epoch → epoch ≤ system.epoch
+  made_low epoch (inl first) =
+      let is = left.epoch_is in
+      let low = system_least start r logs images left in
+      omega (arith, first, is, low)
+  made_low epoch (inr was) =
+      let low = durable_low was.host was.at was.below was.marked in
+      let more = was.least in
+      omega (arith, low, more)
+
+  -- or that a member was told is so
+  told_low : (member : Member) (epoch : ℕ) → IsToldDone start member (logs (ldm_of start member)) epoch
+      → epoch ≤ system.epoch
+  told_low member epoch told =
+      made_low epoch
+      (told_done done start logs left.cluster (begins start r logs images left) member (ldm_of start member)
+      (logs (ldm_of start member)) (past_self (logs (ldm_of start member))) epoch told)
+
+  known_low : (member : Member) (epoch : ℕ) → IsKnownDurable start member (r.generation + 1) logs epoch
+      → epoch ≤ system.epoch
+  known_low member epoch (inl told) = told_low member epoch told
+  known_low member epoch (inr made_so) = made_low epoch made_so
+
   -- so what is found on the disk of a member is so up to it
   least_low : (member : Member) (there : IsIn member (made start))
       → (left.each member there).saved.least ≤ system.epoch
   least_low member there =
-      by
-      (told_done done start logs left.cluster (begins start r logs images left) member (ldm_of start member)
-      (logs (ldm_of start member)) (past_self (logs (ldm_of start member))) (left.each member there).saved.least
-      (left.each member there).saved.told)
-    where
-      by : ((left.each member there).saved.least ≤ start.start_epoch)
-          ⊎ WasMarked start logs (left.each member there).saved.least
-          → (left.each member there).saved.least ≤ system.epoch
-      by (inl first) =
-          let is = left.epoch_is in
-          let low = system_least start r logs images left in
-          omega (arith, first, is, low)
-      by (inr was) =
-          let low = durable_low was.host was.at was.below was.marked in
-          let more = was.least in
-          omega (arith, low, more)
+      told_low member (left.each member there).saved.least (left.each member there).saved.told
+
+  -- and of its control slots one wasn't saved behind it
+  none_ahead : (member : Member) (one other : Option ControlSlot)
+      → AreTold start member (r.generation + 1) logs one other → are_ahead system.epoch one other ≡ false
+  none_ahead member None other told = refl
+  none_ahead member (Some one) None told = refl
+  none_ahead member (Some one) (Some other) (inl known) =
+      and_left (nat_lt system.epoch one.saved) (nat_lt system.epoch other.saved)
+      (le-ltb system.epoch one.saved (known_low member one.saved known))
+  none_ahead member (Some one) (Some other) (inr known) =
+      and_right (nat_lt system.epoch one.saved) (nat_lt system.epoch other.saved)
+      (le-ltb system.epoch other.saved (known_low member other.saved known))
 
   -- a node's rows are those of the history up to the epoch of the slot, of its keys alone
   abbrev AreHistory : ℕ → Rows → Type 0
@@ -126,6 +152,10 @@ module _ (copied : CopiedWereSaved) (durable : DurableWereNoted) (done : DoneWer
     saved = saved_up;
     rows_are = has.restores.1 system.epoch (least_low member there);
     held = rows_held start.shape node _ others;
+    last =
+        ap (λ generation. is_outdated generation system.epoch (images node CONTROL_FILE))
+        (system_generation start r logs images left)
+        ∙ none_ahead member _ _ (left.each member there).ahead;
     so = (own, others);
   }
     where

@@ -18,6 +18,7 @@ use Rattle.moment_laws.proofs.MomentRuns.{are_moments}
 use Rattle.outcome_laws.specs.Decided.{IsMarked}
 use Rattle.closing_laws.proofs.settled.Cuts.{events_of, logs_are}
 use Rattle.journal_laws.specs.Saver.{IsToldDone, TellsDone}
+use Rattle.saved_laws.specs.Behind.{IsDurable, WasMadeDurable}
 use Rattle.saved_laws.specs.Copied.{DoneWereMarked}
 use Rattle.restart_laws.proofs.groups.Taken.{taken_so}
 
@@ -32,14 +33,6 @@ says_done (Epoch (GcpDone at)) epoch least = record { at = at; is = refl; least 
 says_done (Epoch _) epoch tells = absurd tells
 says_done _ epoch tells = absurd tells
 
--- a host has marked that an epoch is durable, or a later one
-pub record WasMarked (start : Start) (logs : ℕ → List HostStep) (epoch : ℕ) : Type 0 where
-  pub host : ℕ
-  pub below : host < hosts start
-  pub at : ℕ
-  pub marked : IsMarked (Durable at) (logs host)
-  pub least : epoch ≤ at
-
 module _ (done : DoneWereMarked) (start : Start) (logs : ℕ → List HostStep) (are : AreOfCluster start logs)
     (begins : start.start_epoch < start.epoch) where
   abbrev SaysMarked : ℕ → Addressed → Type 0
@@ -53,20 +46,20 @@ module _ (done : DoneWereMarked) (start : Start) (logs : ℕ → List HostStep) 
       (logs_are start logs are)
       (done start logs (events_of start logs) begins (are_moments start logs are) i j)
 
-  was_marked : (i epoch at : ℕ) → epoch ≤ at → IsMarked (Durable at) (logs i) → WasMarked start logs epoch
+  was_marked : (i epoch at : ℕ) → epoch ≤ at → IsMarked (Durable at) (logs i) → WasMadeDurable start logs epoch
   was_marked i epoch at least marked = by (cases_lt i (hosts start))
     where
-      by : (i < hosts start) ⊎ (hosts start ≤ i) → WasMarked start logs epoch
+      by : (i < hosts start) ⊎ (hosts start ≤ i) → WasMadeDurable start logs epoch
       by (inl below) = record { host = i; below = below; at = at; marked = marked; least = least }
       by (inr high) = absurd (subst (IsMarked (Durable at)) (are.within i high) marked)
 
   pub told_done : (member : Member) (h : ℕ) (log : List HostStep) → IsPast log (logs h) → (epoch : ℕ)
-      → IsToldDone start member log epoch → (epoch ≤ start.start_epoch) ⊎ WasMarked start logs epoch
+      → IsToldDone start member log epoch → IsDurable start logs epoch
   told_done member h [] past epoch first = inl first
   told_done member h (e ∷ log) past epoch (inr before) = told_done member h log (past_less e past) epoch before
   told_done member h (e ∷ log) past epoch (inl (sound, tells)) = of_says (says_done e.step.taken.body epoch tells)
     where
-      of_says : SaysDone epoch e.step.taken.body → (epoch ≤ start.start_epoch) ⊎ WasMarked start logs epoch
+      of_says : SaysDone epoch e.step.taken.body → IsDurable start logs epoch
       of_says says =
           inr (was_marked e.step.taken.from.0 epoch says.at says.least
           (taken_so start logs are SaysMarked all_marked h log e past (GcpDone says.at) says.is sound says.at says.is))

@@ -14,12 +14,13 @@ use Rattle.sysfile_core.specs.declared.place.TheConstants.{CONTROL_FILE}
 use Rattle.sysfile_core.specs.Reading.{control_of_file}
 use Rattle.sys_restart.proofs.GroupsLemmas.{control_saved, control_unlisted, rows_end, rows_more, source_found}
 use Rattle.sys_restart.proofs.GroupsLemmas.{source_more}
-use Rattle.sys_restart.proofs.HeldLemmas.{held_kept}
+use Rattle.sys_restart.proofs.HeldLemmas.{held_kept, rows_current}
 use Rattle.sys_restart.specs.Answers.{on_node}
 use Rattle.sys_restart.specs.Files.{Disks}
 use Rattle.sys_restart.specs.Groups.{first_listed, if_held, is_listed, rows_by, rows_from, rows_of_group}
 use Rattle.sys_restart.specs.Groups.{source_of}
 use Rattle.sys_restart.specs.Held.{are_held}
+use Rattle.sys_restart.specs.Outdated.{is_outdated}
 use Rattle.sys_restart.specs.SlotRows.{rows_of_slot}
 
 -- a node among so many is listed
@@ -39,6 +40,7 @@ module _ (shape : Shape) (disks : Disks) (system : SystemSlot) (Q : ℕ → Rows
     pub saved : system.epoch ≤ slot.saved
     pub rows_are : rows_of_slot system.epoch (disks node) slot ≡ Ok rows
     pub held : are_held shape node rows ≡ true
+    pub last : is_outdated system.generation system.epoch (disks node CONTROL_FILE) ≡ false
     pub so : Q node rows
 
   -- the source is one of so many nodes
@@ -116,7 +118,8 @@ module _ (shape : Shape) (disks : Disks) (system : SystemSlot) (Q : ℕ → Rows
       record {
         part = found.has.rows;
         is =
-            ap (rows_by shape disks system.epoch (first_listed system.mask first first shape.replicas)) found.is
+            ap (rows_by shape disks system (first_listed system.mask first first shape.replicas)) found.is
+            ∙ rows_current shape system found.at (disks found.at) found.has.slot found.has.last
             ∙ ap (if_held shape found.at (disks found.at)) (ap (on_node found.at) found.has.rows_are)
             ∙ held_kept shape found.at (disks found.at) found.has.rows found.has.held;
         of_one = record { node = found.at; from = found.from; below = found.below; so = found.has.so };

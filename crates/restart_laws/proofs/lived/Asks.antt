@@ -1,9 +1,12 @@
 -- A life on disks where the shell asks for something, and where it is given replies.
-use Rattle.std.proofs.Common.{◌≡◌, ◌∙◌, ℕ, List, ap, sym, subst}
+use Rattle.std.proofs.Common.{◌≡◌, ◌+◌, ◌∙◌, ℕ, List, ap, sym, subst}
 use Rattle.std.specs.Prelude.{IfSome}
 use Rattle.run_theory.specs.Links.{taken}
-use Rattle.run_theory.specs.Lists.{Each}
+use Rattle.run_theory.proofs.Pasts.{past_self}
+use Rattle.run_theory.specs.Cuts.{IsCut}
+use Rattle.run_theory.specs.Lists.{Each, IsPast}
 use Rattle.sig_core.specs.declared.log.HostLog.{HostLog}
+use Rattle.sig_core.specs.declared.member.Member.{Member}
 use Rattle.sig_core.specs.declared.signal.Body.{Body}
 use Rattle.sig_core.specs.declared.signal.Signal.{Signal}
 use Rattle.sys_restart.specs.Calls.{next_system, rows_of_node}
@@ -16,13 +19,27 @@ use Rattle.world_views.specs.Requests.{request_of, requests}
 use Rattle.world_views.specs.Right.{IsOpen}
 use Rattle.world_views.specs.World.{Whole}
 use Rattle.moment_laws.specs.Places.{ldm_of, tc_of}
+use Rattle.disk_world.specs.Disks.{Disks}
 use Rattle.journal_laws.specs.Asked.{AreOfWords, IsOfRequest}
 use Rattle.disk_laws.proofs.RequestLaw.{keeps_same, requests_kept}
 use Rattle.restart_laws.specs.Lived.{LivesAsk, LivesHear}
 use Rattle.disk_laws.specs.Noted.{kept_part}
+use Rattle.disk_laws.specs.ToldSlots.{KeepsTold}
+use Rattle.disk_laws.proofs.told_slots.Logs.{leaves_along}
 use Rattle.restart_laws.specs.Told.{IsTold, TellsNotedDurable, TellsNotedRows}
 use Rattle.restart_laws.proofs.lived.Goes.{asked_is}
 use Rattle.restart_laws.proofs.telling.Lives.{requests_tell_what_is_kept}
+
+-- what a disk leaves of control slots is so of a world with longer logs
+told_longer : (start : Start) (member : Member) (generation : ℕ) (w t : Whole) (disks : Disks)
+    → IsCut (logs_at w.logs) (logs_at t.logs) → KeepsTold start member generation w disks
+    → KeepsTold start member generation t disks
+told_longer start member generation w t disks grown kept = record {
+  calls = kept.calls;
+  told = kept.told;
+  leaves =
+      leaves_along start member generation (logs_at w.logs) (logs_at t.logs) grown kept.calls kept.leaves;
+}
 
 pub lives_ask : LivesAsk
 lives_ask start r request w t disks asked well lived =
@@ -48,6 +65,7 @@ lives_ask start r request w t disks asked well lived =
                 w t disks lived.sound there asked was.up;
             tells = requests_tell_what_is_kept start request w t lived.sound asked member there was.tells;
             shape = was.shape;
+            ahead = told_longer start member (r.generation + 1) w t disks asked.more was.ahead;
             storable = was.storable;
           };
     }
@@ -100,6 +118,11 @@ lives_hear start r w t disks sound logs links lived =
                       was.tells.durable);
                 };
             shape = was.shape;
+            ahead =
+                told_longer start member (r.generation + 1) w t disks
+                (λ h.
+                subst (λ (ls : List HostLog). IsPast (logs_at w.logs h) (logs_at ls h)) (sym logs)
+                (past_self (logs_at w.logs h))) was.ahead;
             storable = was.storable;
           };
     }

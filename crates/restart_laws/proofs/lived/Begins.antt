@@ -1,5 +1,5 @@
 -- A life begins on disks that are ready for it.
-use Rattle.std.proofs.Common.{◌≡◌, ◌≤◌, ◌<◌, ◌⊎◌, inl, inr, ℕ, [], map, reverse, refl, ap, sym, subst, arith}
+use Rattle.std.proofs.Common.{◌≡◌, ◌+◌, ◌≤◌, ◌<◌, ◌⊎◌, inl, inr, ℕ, [], map, reverse, refl, ap, sym, subst, arith}
 use Rattle.std.proofs.lemmas.Bool.{cases_lt}
 use Rattle.std.proofs.lemmas.List.{get_or_past}
 use Rattle.host_io.specs.Image.{IsImage}
@@ -12,7 +12,7 @@ use Rattle.sig_core.specs.declared.view.Shape.{Shape}
 use Rattle.life_start.specs.Shapes.{AreOfShape}
 use Rattle.sys_restart.specs.declared.restored.Restored.{Restored}
 use Rattle.sys_restart.specs.Calls.{next_system, rows_of_node}
-use Rattle.sysfile_core.specs.declared.place.TheConstants.{SYSTEM_FILE}
+use Rattle.sysfile_core.specs.declared.place.TheConstants.{CONTROL_FILE, SYSTEM_FILE}
 use Rattle.world_core.proofs.FreshWorld.{each_at, each_length}
 use Rattle.world_core.specs.Hosts.{hosts}
 use Rattle.world_core.specs.Start.{Start, made}
@@ -23,7 +23,9 @@ use Rattle.view_laws.proofs.runs.FirstMembers.{node_low, node_some}
 use Rattle.moment_laws.specs.Places.{ldm_of, tc_of}
 use Rattle.disk_world.specs.Disks.{Disks}
 use Rattle.disk_laws.proofs.ReadyLaw.{ready_keep_up}
+use Rattle.disk_laws.proofs.told_slots.Begun.{told_slots_begin}
 use Rattle.disk_laws.specs.OnDisk.{IsOnDisk}
+use Rattle.disk_laws.specs.ToldSlots.{SlotsAreTold}
 use Rattle.journal_laws.specs.Asked.{AreOfWords}
 use Rattle.restart_laws.specs.Lived.{AreReadyFor, IsLived, IsLivedAt, IsReadyFor, LivesBegin, MayBegin, start_behind}
 use Rattle.restart_laws.proofs.telling.Lives.{fresh_worlds_tell_what_is_kept}
@@ -54,6 +56,15 @@ module _ (shape : Shape) (r : Restored) (disks : Disks) (may : MayBegin shape r)
     own : IsReadyFor shape r disks member.node
     own = ready.each member.node (node_some start member there) (node_low start member there)
 
+    -- the one control slot of the life was saved at the epoch from which it starts
+    prepared_told : SlotsAreTold start member (r.generation + 1) (logs_at world.logs)
+        (files_of own.calls CONTROL_FILE)
+    prepared_told =
+        let has = own.ready.0.1.1 in
+        let begins : start.start_epoch ≡ r.epoch = refl in
+        told_slots_begin start member (r.generation + 1) (logs_at world.logs) own.ready.0.1.0
+        (files_of own.calls CONTROL_FILE) has.in_use (omega (arith, has.saved, begins))
+
     lived_at : IsLivedAt start r member world disks
     lived_at =
         record {
@@ -83,6 +94,15 @@ module _ (shape : Shape) (r : Restored) (disks : Disks) (may : MayBegin shape r)
                 (sym (settled_is_kept (files_of own.calls SYSTEM_FILE) bytes
                 (subst (λ s. IsImage s bytes) (own.ready.0.0 SYSTEM_FILE (omega arith)) image)))
                 own.shapes;
+          };
+          ahead = record {
+            calls = own.calls;
+            told = own.told;
+            leaves = λ bytes image.
+                subst (SlotsAreTold start member (r.generation + 1) (logs_at world.logs))
+                (sym (settled_is_kept (files_of own.calls CONTROL_FILE) bytes
+                (subst (λ s. IsImage s bytes) (own.ready.0.0 CONTROL_FILE (omega arith)) image)))
+                prepared_told;
           };
           storable = own.storable;
         }

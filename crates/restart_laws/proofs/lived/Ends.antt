@@ -10,7 +10,7 @@ use Rattle.sys_restart.specs.declared.restored.Restored.{Restored}
 use Rattle.sys_restart.specs.Calls.{next_system, rows_of_node}
 use Rattle.sys_restart.specs.Files as files
 use Rattle.sys_restart.specs.LifeCalls.{told_by}
-use Rattle.sysfile_core.specs.declared.place.TheConstants.{SYSTEM_FILE}
+use Rattle.sysfile_core.specs.declared.place.TheConstants.{CONTROL_FILE, SYSTEM_FILE}
 use Rattle.world_core.specs.Start.{Start, made}
 use Rattle.world_core.specs.World.{logs_at}
 use Rattle.world_views.specs.World.{Whole}
@@ -63,6 +63,11 @@ module _ (start : Start) (r : Restored) (w : Whole) (disks : Disks) (images : fi
               (same_calls (get_or disks.told (member.node - 1) None) up.calls at.shape.calls up.told at.shape.told)
               (image SYSTEM_FILE (omega arith))))
               noted.in_use;
+          ahead =
+              at.ahead.leaves (images member.node CONTROL_FILE)
+              (subst (λ calls. IsImage (state_of calls CONTROL_FILE) (images member.node CONTROL_FILE))
+              (same_calls (get_or disks.told (member.node - 1) None) up.calls at.ahead.calls up.told at.ahead.told)
+              (image CONTROL_FILE (omega arith)));
           told_saved = at.tells.saved.taken;
           told_durable = at.tells.durable.taken;
         }

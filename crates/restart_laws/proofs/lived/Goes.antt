@@ -4,7 +4,7 @@ use Rattle.std.proofs.Common.{length, get_or, refl, ap, sym, subst, arith}
 use Rattle.std.proofs.lemmas.Bool.{eq-eqb}
 use Rattle.std.proofs.lemmas.List.{length-append}
 use Rattle.std.specs.Prelude.{IfSome, option_to_list, Option, None, Some}
-use Rattle.run_theory.specs.Lists.{IsIn}
+use Rattle.run_theory.specs.Lists.{IsIn, IsPast}
 use Rattle.frag_map.specs.Replicas.{first_start}
 use Rattle.frag_map.specs.Shape.{IsShape}
 use Rattle.sig_core.specs.declared.member.Member.{Member}
@@ -23,16 +23,22 @@ use Rattle.world_views.specs.Requests.{request_of, requests}
 use Rattle.world_views.specs.World.{Whole}
 use Rattle.world_views.proofs.WorldLemmas.{stays_sound}
 use Rattle.view_laws.specs.Runs.{AreOfCluster}
+use Rattle.moment_laws.specs.Places.{ldm_of}
 use Rattle.disk_world.specs.Disks.{Disks, HasGoneOn, HaveGoneOn}
 use Rattle.journal_laws.specs.Asked.{AreOfWords, IsOfRequest}
+use Rattle.saved_laws.specs.Behind.{SavedBeforeIsDurable}
 use Rattle.saved_laws.specs.Checkpoints.{WalkedCheckpointsStand}
+use Rattle.disk_laws.specs.Laws.{AreSavable}
 use Rattle.disk_laws.specs.OnDisk.{KeepsUp}
 use Rattle.disk_laws.specs.Shapes.{KeepsShape}
+use Rattle.disk_laws.specs.ToldSlots.{KeepsTold}
 use Rattle.disk_laws.proofs.StepLaw.{steps_kept}
 use Rattle.disk_laws.proofs.shapes_of.Kept.{shapes_kept}
+use Rattle.disk_laws.proofs.told_slots.Kept.{told_slots_kept}
 use Rattle.restart_laws.specs.Lived.{IsLived, LivesGoOn}
 use Rattle.restart_laws.specs.Told.{TellsWhatIsKept}
 use Rattle.view_laws.proofs.runs.FirstMembers.{first_in}
+use Rattle.restart_laws.proofs.lived.Before.{before_durable}
 use Rattle.restart_laws.proofs.lived.Epochs.{below_first, first_high, first_low}
 use Rattle.restart_laws.proofs.lived.Notable.{notable}
 use Rattle.restart_laws.proofs.lived.Savable.{can_write, cluster, savable}
@@ -114,8 +120,8 @@ module _ (start : Start) (r : Restored) where
     all_slots = let inside = of_slots disks.slots (last.node - 1) up.slots up.slots_are in omega (arith, inside)
 
   -- one host went on, and the disk of its node kept what it was to keep of it
-  module _ (stand : WalkedCheckpointsStand) (w t : Whole) (old new : Disks) (counts : List ℕ)
-      (gone : HasGoneOn w old new counts t) (lived : IsLived r w old start) where
+  module _ (stand : WalkedCheckpointsStand) (behind : SavedBeforeIsDurable) (w t : Whole) (old new : Disks)
+      (counts : List ℕ) (gone : HasGoneOn w old new counts t) (lived : IsLived r w old start) where
     sound : IsSound start t
     sound = stays_sound start w t (gone.goes start lived.sound) lived.sound
 
@@ -137,16 +143,21 @@ module _ (start : Start) (r : Restored) where
         steps_tell_what_is_kept start member w t old new counts lived.sound there lived.told lived.slots gone
         (lived.each member there).tells
 
+    all_savable : (member : Member) → IsIn member (made start) → (log : List HostStep)
+        → IsPast log (logs_at t.logs (ldm_of start member))
+        → AreSavable start member (rows_of_node start.shape member.node r) log
+    all_savable member there log past =
+        savable start (logs_at t.logs) are (below_first start r lived.is_start lived.may)
+        (first_low start r lived.is_start lived.may) member there log past stand
+        (rows_of_node start.shape member.node r)
+        (can_write start r lived.is_start lived.may member there (lived.each member there).storable) words
+
     ups : (member : Member) → IsIn member (made start) → KeepsUp start member
         (rows_of_node start.shape member.node r) (next_system start.shape r) t new
     ups member there =
         steps_kept start member (rows_of_node start.shape member.node r) (next_system start.shape r) w t old new counts
         lived.sound there lived.told lived.slots gone (first_high start r lived.is_start lived.may)
-        (λ log past.
-        savable start (logs_at t.logs) are (below_first start r lived.is_start lived.may)
-        (first_low start r lived.is_start lived.may) member there log past stand
-        (rows_of_node start.shape member.node r)
-        (can_write start r lived.is_start lived.may member there (lived.each member there).storable) words)
+        (all_savable member there)
         (notable start r t are (below_first start r lived.is_start lived.may)
         (first_low start r lived.is_start lived.may) tells member there)
         (lived.each member there).up
@@ -156,6 +167,14 @@ module _ (start : Start) (r : Restored) where
         shapes_kept start member (rows_of_node start.shape member.node r) (next_system start.shape r) w t old new counts
         lived.sound there lived.told lived.slots gone (same_itself start.shape) (lived.each member there).up
         (lived.each member there).shape
+
+    aheads : (member : Member) → IsIn member (made start) → KeepsTold start member (r.generation + 1) t new
+    aheads member there =
+        told_slots_kept start member (rows_of_node start.shape member.node r) (next_system start.shape r) w t old new
+        counts lived.sound there lived.told lived.slots gone (first_high start r lived.is_start lived.may)
+        (all_savable member there)
+        (before_durable behind start (logs_at t.logs) are (below_first start r lived.is_start lived.may) member there)
+        (lived.each member there).up (lived.each member there).ahead
 
     pub one_step : IsLived r t new start
     one_step =
@@ -171,18 +190,22 @@ module _ (start : Start) (r : Restored) where
                 up = ups member there;
                 tells = tells member there;
                 shape = shapes member there;
+                ahead = aheads member there;
                 storable = (lived.each member there).storable;
               };
         }
 
-  many_steps : WalkedCheckpointsStand → (steps : ℕ) (w t : Whole) (old new : Disks) → HaveGoneOn steps w old t new
-      → IsLived r w old start → IsLived r t new start
-  many_steps stand zero w t old new same lived =
+  many_steps : WalkedCheckpointsStand → SavedBeforeIsDurable → (steps : ℕ) (w t : Whole) (old new : Disks)
+      → HaveGoneOn steps w old t new → IsLived r w old start → IsLived r t new start
+  many_steps stand behind zero w t old new same lived =
       subst (λ (v : Whole). IsLived r v new start) (sym same.0)
       (subst (λ (d : Disks). IsLived r w d start) (sym same.1) lived)
-  many_steps stand (suc steps) w t old new (between, (disks, (counts, (way, gone)))) lived =
-      one_step stand between t disks new counts gone (many_steps stand steps w between old disks way lived)
+  many_steps stand behind (suc steps) w t old new (between, (disks, (counts, (way, gone)))) lived =
+      one_step stand behind between t disks new counts gone
+      (many_steps stand behind steps w between old disks way lived)
 
--- where what a member has written stands for all that was before it
-pub lives_go_on : WalkedCheckpointsStand → LivesGoOn
-lives_go_on stand start r w t old new way lived = many_steps start r stand way.0 w t old new way.1 lived
+-- where what a member has written stands for all that was before it, and what it had saved is durable before it saves
+-- more
+pub lives_go_on : WalkedCheckpointsStand → SavedBeforeIsDurable → LivesGoOn
+lives_go_on stand behind start r w t old new way lived =
+    many_steps start r stand behind way.0 w t old new way.1 lived

@@ -1,5 +1,5 @@
 -- What a host told stays so where it makes no step, and others take only what stood on its links.
-use Rattle.std.proofs.Common.{◌≡◌, ◌==◌, ◌&&◌, ◌<◌, ℕ, List, [], ◌∷◌, Bool, true, false, not, refl, sym, subst}
+use Rattle.std.proofs.Common.{◌≡◌, ◌==◌, ◌&&◌, ◌<◌, ℕ, List, ◌∷◌, Bool, true, false, not, refl, sym, subst}
 use Rattle.std.proofs.Common.{if◌then◌else◌}
 use Rattle.std.proofs.lemmas.Bool.{eqb-true, true≢false}
 use Rattle.run_theory.specs.Links.{is_from, taken}

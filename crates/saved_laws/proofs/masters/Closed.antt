@@ -48,7 +48,7 @@ use Rattle.saved_laws.proofs.masters.All.{all_ordered}
 use Rattle.saved_laws.proofs.masters.Statement.{IsOrderedRightly, IsRightOrder}
 
 -- what is so of what rows have noted as saved, and of what they are ordered to save, is so whatever they take
-rows_keep : (P : ℕ → Type 0) (s : ReplicaState) (x : Signal) → P s.saved
+pub rows_keep : (P : ℕ → Type 0) (s : ReplicaState) (x : Signal) → P s.saved
     → ((epoch : ℕ) → x.body ≡ Epoch (GcpSaveReq epoch) → P epoch) → P (replica_row s x).state.saved
 rows_keep P s x was ordered =
     replica_outcomes s x (λ step. P step.state.saved) (record {

@@ -40,7 +40,7 @@ use Rattle.closing_laws.proofs.closers.Others.{HasNoMaster, others_close_none}
 use Rattle.saved_laws.proofs.masters.Orders.{AreNotLate, MayOrderAll, main_orders, others_late}
 
 -- the parts of a host of a node are those of its step
-node_parts : (start : Start) (h : ℕ) → 1 ≤ h → (log : List HostStep) (e : HostStep)
+pub node_parts : (start : Start) (h : ℕ) → 1 ≤ h → (log : List HostStep) (e : HostStep)
     → (after start h (e ∷ log)).parts ≡ (step_after start h log e).state.parts
 node_parts start zero some log e = absurd (omega (arith, some))
 node_parts start (suc h) some log e = refl

@@ -1,5 +1,5 @@
 -- A replica of a key was one before, and begins with the row of the start.
-use Rattle.std.proofs.Common.{◌≡◌, ◌∙◌, ◌++◌, ℕ, true, List, [], ap}
+use Rattle.std.proofs.Common.{◌≡◌, ◌∙◌, ◌++◌, ℕ, true, List, ap}
 use Rattle.std.specs.FinMap as map
 use Rattle.run_theory.specs.Lists.{IsIn}
 use Rattle.frag_map.specs.Layout.{first_layout, holds}

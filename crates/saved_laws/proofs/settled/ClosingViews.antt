@@ -1,6 +1,6 @@
 -- Where an epoch is closed the current view stays: whoever closes it has heard in that view that takeover is over, and
 -- nothing is heard in a view before a host stands in it; or the view is the first.
-use Rattle.std.proofs.Common.{◌<◌, ◌≡◌, ◌≤◌, ◌⊎◌, ℕ, List, [], ◌∷◌, ap, inl, inr, arith}
+use Rattle.std.proofs.Common.{◌<◌, ◌≡◌, ◌≤◌, ◌⊎◌, ℕ, List, ◌∷◌, ap, inl, inr, arith}
 use Rattle.run_theory.proofs.Runs.{given_taken, logs_of_run}
 use Rattle.run_theory.specs.Links.{IsGiven, taken}
 use Rattle.run_theory.specs.Lists.{IsIn}

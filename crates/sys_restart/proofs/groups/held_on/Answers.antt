@@ -7,7 +7,7 @@ use Rattle.sys_restart.specs.Answers.{ReadsAll, on_node}
 use Rattle.sys_restart.specs.Groups.{if_held}
 use Rattle.sys_restart.specs.SlotRows.{rows_of_slot}
 use Rattle.sys_restart.proofs.FaultLemmas.{node_answer, node_reason}
-use Rattle.sys_restart.proofs.groups.rows_on.Goals as goal
+use Rattle.sys_restart.proofs.groups.held_on.Goals as goal
 
 -- the rows were read
 pub returns-in-Ok-clause-read : goal.returns-in-Ok-clause-read
