@@ -243,7 +243,6 @@ impl<D: Disk> DiskWorld<D> {
     //
     // # Errors
     // How often the disk has failed by now.
-    #[inline(always)]
     #[tactic(auto, using(crate::proofs::TakenLemmas::now_is))]
     fn keep_on_disk(&mut self, host: HostId) -> Result<(), u64>
         requires world { IsWorld (whole_of self.old.world) }

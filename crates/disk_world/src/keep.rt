@@ -27,7 +27,6 @@ use sig_core::{BlockId, Body, CheckpointSignal, EpochSignal, HostSignal, Signal,
 ///
 /// # Errors
 /// How often that disk has failed by now: a call of it failed, and none was made behind it.
-#[inline(always)]
 pub(crate) fn keep_at<D: Disk>(
     disks: &mut Vec<D>,
     slots: &mut Vec<NodeSlots>,
@@ -57,7 +56,6 @@ pub(crate) fn keep_at<D: Disk>(
 ///
 /// # Errors
 /// `Failed`: a call of the disk failed, and none was made behind it.
-#[inline(always)]
 fn keep<D: Disk>(
     disk: &mut D,
     slots: &mut NodeSlots,
@@ -81,7 +79,6 @@ fn keep<D: Disk>(
 
 // Keeps what there is to do of a local checkpoint, and where that is nothing the rows up to the epoch that is
 // noted as saved.
-#[inline(always)]
 #[tactic(auto, using(crate::proofs::RowLemmas::keeps))]
 fn keep_rows<D: Disk>(
     disk: &mut D,
@@ -140,7 +137,6 @@ fn is_savers(signal: &Signal) -> bool
 
 // Keeps the epoch of an order to copy it that went on to the blocks of its host. Whether it did is looked at only
 // where it is one, since this is asked behind each step.
-#[inline(always)]
 #[tactic(auto, using(crate::proofs::RowLemmas::unsaid))]
 fn keep_epoch<D: Disk>(
     disk: &mut D,

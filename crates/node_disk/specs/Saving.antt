@@ -71,12 +71,12 @@ rows_calls control s epoch bytes =
     then []
     else slot_behind control s.control.redo_end bytes (1 - s.control_at) (next_control s epoch bytes)
 
--- the slots in use then
+-- the slots in use behind a save of a later epoch, and of any
+abbrev pub later_saved : SlotsInUse → ℕ → List ℕ → SlotsInUse
+later_saved s epoch bytes = record s { control = next_control s epoch bytes; control_at = 1 - s.control_at }
+
 abbrev pub rows_saved : SlotsInUse → ℕ → List ℕ → SlotsInUse
-rows_saved s epoch bytes =
-    if nat_le epoch s.control.saved
-    then s
-    else record s { control = next_control s epoch bytes; control_at = 1 - s.control_at }
+rows_saved s epoch bytes = if nat_le epoch s.control.saved then s else later_saved s epoch bytes
 
 -- the system slot of an epoch that is durable, at these full members
 abbrev pub noted_system : SystemSlot → ℕ → ℕ → SystemSlot

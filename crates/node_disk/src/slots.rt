@@ -6,7 +6,7 @@ ghost use Rattle.redo_log.specs.LogState.{bytes_from};
 ghost use Rattle.redo_log.specs.Stored.{files_of};
 ghost use Rattle.sysfile_core.specs.declared.place.TheConstants.{CONTROL_FILE, SYSTEM_FILE};
 ghost use Rattle.sysfile_core.specs.Runs.{Runs};
-ghost use Rattle.node_disk.specs.Saving.{noted_system, rows_calls, rows_saved, saved_control, system_calls, system_saved};
+ghost use Rattle.node_disk.specs.Saving.{later_saved, next_control, noted_system, rows_calls, rows_saved, saved_control, slot_behind, system_calls, system_saved};
 ghost use Rattle.node_disk.specs.Slots.{AreSlots};
 
 use crate::redo::write_rows;
@@ -95,6 +95,7 @@ impl NodeSlots {
     ///
     /// # Errors
     /// `Failed`: a call of the disk failed, and none was made behind it. The slots in use stay.
+    #[inline(always)]
     pub fn save_rows<D: Disk>(&mut self, disk: &mut D, epoch: u64, redo: &Log) -> Result<(), Failed>
         ensures runs { (calls : List Call) → D.told disk.old ≡ Some calls → Runs (rows_calls (files_of calls CONTROL_FILE) self.old epoch (bytes_from redo.now.log self.old.control.redo_end)) calls (D.told disk.new) (is_ok result) }
         ensures saved { OnOk result (self.new ≡ rows_saved self.old epoch (bytes_from redo.now.log self.old.control.redo_end)) }
@@ -102,9 +103,22 @@ impl NodeSlots {
         ensures cause { OnErr result (Rose (D.faults disk.old) (D.faults disk.new)) }
         ensures steady { D.faults disk.old ≤ D.faults disk.new }
     {
+        // This is asked behind each step of the rows, and then there is seldom a later epoch.
         if epoch <= self.control.saved {
             return Ok(());
         }
+        self.save_later(disk, epoch, redo)
+    }
+
+    // The same of an epoch that isn't saved.
+    #[inline(never)]
+    fn save_later<D: Disk>(&mut self, disk: &mut D, epoch: u64, redo: &Log) -> Result<(), Failed>
+        ensures runs { (calls : List Call) → D.told disk.old ≡ Some calls → Runs (slot_behind (files_of calls CONTROL_FILE) self.old.control.redo_end (bytes_from redo.now.log self.old.control.redo_end) (1 - self.old.control_at) (next_control self.old epoch (bytes_from redo.now.log self.old.control.redo_end))) calls (D.told disk.new) (is_ok result) }
+        ensures saved { OnOk result (self.new ≡ later_saved self.old epoch (bytes_from redo.now.log self.old.control.redo_end)) }
+        ensures same { OnErr result (self.new ≡ self.old) }
+        ensures cause { OnErr result (Rose (D.faults disk.old) (D.faults disk.new)) }
+        ensures steady { D.faults disk.old ≤ D.faults disk.new }
+    {
         let slot = self.control;
         // no position is behind the end of a log
         let _end = redo.end();

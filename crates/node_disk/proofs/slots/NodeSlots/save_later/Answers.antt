@@ -1,6 +1,6 @@
 use Rattle.std.proofs.Common.{◌^◌, ◌+◌, ◌<◌, length, rules, arith}
 use Rattle.node_disk.proofs.SaveLemmas.{within_log}
-use Rattle.node_disk.proofs.slots.NodeSlots.save_rows.Goals as goal
+use Rattle.node_disk.proofs.slots.NodeSlots.save_later.Goals as goal
 
 -- no position is behind the end of the log
 pub overflow_add-slot : goal.overflow_add-slot
