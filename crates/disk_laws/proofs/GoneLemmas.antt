@@ -36,6 +36,11 @@ kept_behind start h log = kept_of (after start h log) (newest_taken log)
 abbrev pub place_of : Start → ℕ → ℕ
 place_of start h = (member_at (made start) h).node - 1
 
+-- of a member's host it is that of its node
+pub place_is : (start : Start) (member : Member) (h : ℕ) → member_at (made start) h ≡ member
+    → place_of start h ≡ member.node - 1
+place_is start member h is = ap (λ (m : Member). m.node - 1) is
+
 -- a log of a host has a step more, by which the host stopped
 pub record HasStopped (start : Start) (g : ℕ) (log now : List HostStep) : Type 0 where
   pub e : HostStep

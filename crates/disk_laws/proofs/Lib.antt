@@ -4,7 +4,9 @@
 -- What a step comes to of a local checkpoint is written and synced in its file (`RowKept`, `PiecesWritten`), or named
 -- (`NamedSteps`); what the disk has stands for all that was, and with the records of each step for what is now
 -- (`StandLemmas`). `StepLaw` goes through whose step it was, by what `GoneLemmas` make of the world, and `OtherHosts`
--- say that of a main host nothing is kept: `CopyOrders` follow the only order that could be.
+-- say that of a main host nothing is kept: `CopyOrders` follow the only order that could be. `WhoseStep` tells whose
+-- step it was for what depends on the calls of one disk alone: `shapes_of`, `told_slots` and `owner_of` have a case for
+-- the rows, one for an epoch that is noted, and one for a disk that tells what it told.
 pub mod CopyOrders
 pub mod GoneLemmas
 pub mod ImageLemmas
@@ -29,5 +31,7 @@ pub mod StandLemmas
 pub mod StepLaw
 pub mod StopsKeepSaved
 pub mod SystemSaved
+pub mod WhoseStep
+pub mod owner_of
 pub mod shapes_of
 pub mod told_slots

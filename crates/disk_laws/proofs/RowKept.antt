@@ -299,8 +299,8 @@ module _ (start : Start) (member : Member) (there : IsIn member (made start)) (b
     pub sync_kept : KeptSo (OfCheckpoint todo.Sync)
     sync_kept =
         left_kept last (OfCheckpoint todo.Sync) refl sync_tells
-        (walks_keep.settled s last.least last.base last.redo calls sync_tells.calls ok last.rows sync_made [] sync_tells.calls refl
-        sync_tells.grows)
+        (walks_keep.settled s last.least last.base last.redo calls sync_tells.calls ok last.rows sync_made []
+        sync_tells.calls refl sync_tells.grows)
         (checkpoints_leave.settled s calls sync_tells.calls ok SYSTEM_FILE sync_made
         (λ is. absurd (omega (arith, is, (next_file_is (Some s.control)).0))))
         sync_walked

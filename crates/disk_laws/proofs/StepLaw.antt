@@ -17,7 +17,7 @@ use Rattle.sig_core.specs.declared.slots.SystemSlot.{SystemSlot}
 use Rattle.sig_core.specs.Table.{Rows}
 use Rattle.sysfile_core.specs.Runs.{Runs}
 use Rattle.node_disk.specs.Slots.{SlotsInUse}
-use Rattle.world_core.specs.Hosts.{hosts, member_at}
+use Rattle.world_core.specs.Hosts.{hosts}
 use Rattle.world_core.specs.Start.{Start, made}
 use Rattle.world_core.specs.Steps.{HostStep}
 use Rattle.world_core.specs.World.{logs_at}
@@ -35,8 +35,8 @@ use Rattle.disk_laws.specs.Laws.{AreNotable, AreSavable, StepsAreKept}
 use Rattle.disk_laws.specs.Noted.{WasNoted, is_disk_stop}
 use Rattle.disk_laws.specs.OnDisk.{IsOnDisk, KeepsNoted, KeepsRows, KeepsUp}
 use Rattle.disk_laws.proofs.GoneLemmas.{Comes, IsSameOrStopped, as_was, comes, failed_stop}
-use Rattle.disk_laws.proofs.GoneLemmas.{fails, keeps, kept_behind, logs_same, place_of, ran_before, sound_still}
-use Rattle.disk_laws.proofs.GoneLemmas.{stopped_or}
+use Rattle.disk_laws.proofs.GoneLemmas.{fails, keeps, kept_behind, logs_same, place_is, place_of, ran_before}
+use Rattle.disk_laws.proofs.GoneLemmas.{sound_still, stopped_or}
 use Rattle.disk_laws.proofs.NoteSteps.{AreKept, noted_kept, noted_stop}
 use Rattle.disk_laws.proofs.OtherHosts.{others_keep_nothing}
 use Rattle.disk_laws.proofs.RowKept.{AreOnDisk, RowsAreKept}
@@ -139,9 +139,6 @@ module _ (start : Start) (member : Member) (before : Rows) (first : SystemSlot) 
       let failed = failed_stop start w t old new counts sound gone count low same in
       record { stop = failed.stop; marks = failed.marks; own = failed.own; others = failed.others }
 
-  place_is : (g : ℕ) → member_at (made start) g ≡ member → place_of start g ≡ d
-  place_is g is = ap (λ (m : Member). m.node - 1) is
-
   module _ (late : 2 ^ 32 ≤ start.epoch)
       (savable : (log : List HostStep) → IsPast log (logs_at t.logs ldm) → AreSavable start member before log)
       (notable : AreNotable start member (logs_at t.logs tc)) where
@@ -159,7 +156,7 @@ module _ (start : Start) (member : Member) (before : Rows) (first : SystemSlot) 
       rows_has : HasKept kept_rows d old new ok
       rows_has =
           kept_as kept_rows kept_rows (place_of start ldm) d old old new new ok moves.kept refl
-          (place_is ldm (ldm_member start member there)) refl refl
+          (place_is start member ldm (ldm_member start member there)) refl refl
 
       noted_same : logs_at stepped.logs tc ≡ logs_at w.logs tc
       noted_same = moves.others tc apart
@@ -200,7 +197,7 @@ module _ (start : Start) (member : Member) (before : Rows) (first : SystemSlot) 
       noted_has : HasKept kept_noted d old new ok
       noted_has =
           kept_as kept_noted kept_noted (place_of start tc) d old old new new ok moves.kept refl
-          (place_is tc (tc_member start member there)) refl refl
+          (place_is start member tc (tc_member start member there)) refl refl
 
       grown : HasAtMostOneMore (logs_at w.logs tc) now_noted
       grown = inr (moves.step, moves.more)

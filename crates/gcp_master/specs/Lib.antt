@@ -9,6 +9,7 @@ pub mod Orders
 pub mod Requests
 pub mod Resume
 pub mod Sends
+pub mod Spent
 pub mod State
 pub mod Voices
 pub mod Words

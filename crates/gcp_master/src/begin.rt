@@ -86,18 +86,22 @@ impl GcpMaster {
     }
 
     // Nothing is under way any more: begins what is asked for. Where a list is under way it goes on
-    // with that. Where the numbers of epochs are used up the host stops.
+    // with that. Answers whether the numbers of epochs are used up: then the host stops.
     #[tactic(auto, unfolding(crate::specs::Begin::begins))]
-    pub(crate) fn begin(&mut self, current: u64, listed: bool, out: &mut Outs)
+    pub(crate) fn begin(&mut self, current: u64, listed: bool, out: &mut Outs) -> bool
         requires sends { length out.old.sends + 12 ≤ 16 }
         requires marks { length out.old.marks < 16 }
-        ensures { IsTaken (begins self.old current listed) self.new out.old out.new }
+        ensures taken { IsTaken (begins self.old current listed) self.new out.old out.new }
+        ensures spent { result ≡ (begun self.old current).spent }
     {
         if self.begin_asked(current) {
             let cause = StopCause::Clock;
             out.mark(Mark::Stopped { cause });
-        } else if !listed {
+            return true;
+        }
+        if !listed {
             self.send_list(0, out);
         }
+        false
     }
 }

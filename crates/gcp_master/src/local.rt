@@ -7,6 +7,7 @@ ghost use Rattle.gcp_master.specs.Closing.{switching_if};
 ghost use Rattle.gcp_master.specs.Local.{all_local, counted_local, counts_local, switched_row, walk_row};
 ghost use Rattle.gcp_master.specs.Local.{walked_row};
 ghost use Rattle.gcp_master.specs.Sends.{orders_at};
+ghost use Rattle.gcp_master.specs.Spent.{walked_spent};
 ghost use Rattle.gcp_master.specs.State.{no_local};
 
 use crate::master::{GcpMaster, is_president};
@@ -107,11 +108,12 @@ impl GcpMaster {
         }
     }
 
-    // The rows of a member have written what they had.
-    #[tactic(auto, unfolding(crate::specs::Local::walked_row))]
-    pub(crate) fn hear_walked(&mut self, voice: Voice, out: &mut Outs)
+    // The rows of a member have written what they had. Answers whether the numbers of epochs are used up.
+    #[tactic(auto, unfolding(crate::specs::Local::walked_row, crate::specs::Spent::walked_spent))]
+    pub(crate) fn hear_walked(&mut self, voice: Voice, out: &mut Outs) -> bool
         requires { HasRoom out.old }
-        ensures { IsTaken (walked_row self.old voice) self.new out.old out.new }
+        ensures taken { IsTaken (walked_row self.old voice) self.new out.old out.new }
+        ensures spent { result ≡ walked_spent self.old voice }
     {
         if let LocalStage::Walking = self.local.stage {
             if self.counts_local(&voice) {
@@ -119,10 +121,11 @@ impl GcpMaster {
                 let all = self.all_local();
                 if all {
                     self.local = Local::at(LocalStage::Closing);
-                    self.ask(self.asked.and_local(), out);
+                    return self.ask(self.asked.and_local(), out);
                 }
             }
         }
+        false
     }
 
     // The rows of a member have switched.

@@ -3,6 +3,7 @@ ghost use Rattle.std.specs.Prelude.{◌≡◌, IsOk, OnOk, OnErr, true};
 ghost use Rattle.sig_core.specs.Step.{HasRoom, IsTaken, IsUntouched};
 ghost use Rattle.gcp_master.specs.Master.{epoch_table, fresh_master, local_table, master_row};
 ghost use Rattle.gcp_master.specs.Resume.{in_view, is_president};
+ghost use Rattle.gcp_master.specs.Spent.{epoch_spent, local_spent, master_stops, stop_if};
 ghost use Rattle.gcp_master.specs.State.{all_in, counted, counts};
 
 use crate::known::Told;
@@ -12,7 +13,7 @@ use crate::phase::{Asked, Phase};
 use crate::voices::{VOICES, Voice, Voices, has_all, is_heard, is_in, is_same};
 use sig_core::{
     Actor, Body, CheckpointSignal, EpochSignal, HostSignal, Member, NoMemory, Outs, Signal,
-    TakeoverSignal, View, Work,
+    StopCause, TakeoverSignal, View, Work,
 };
 use std::alloc::Global;
 use std::marker::Model;
@@ -109,23 +110,31 @@ impl GcpMaster {
             && has_all(blocks, voices, self.view.starting.as_slice())
     }
 
-    // Handles a signal of local checkpoints.
-    fn handle_local(&mut self, voice: Voice, signal: &CheckpointSignal, out: &mut Outs)
+    // Handles a signal of local checkpoints. Answers whether the numbers of epochs are used up.
+    fn handle_local(&mut self, voice: Voice, signal: &CheckpointSignal, out: &mut Outs) -> bool
         requires { HasRoom out.old }
-        ensures { IsTaken (local_table self.old voice signal.now) self.new out.old out.new }
+        ensures taken { IsTaken (local_table self.old voice signal.now) self.new out.old out.new }
+        ensures spent { result ≡ local_spent self.old voice signal.now }
     {
         match signal {
-            CheckpointSignal::LcpReq => self.walk(out),
+            CheckpointSignal::LcpReq => {
+                self.walk(out);
+                false
+            }
             CheckpointSignal::LcpFragRep { epoch: _ } => self.hear_walked(voice, out),
-            CheckpointSignal::LcpSwitchConf => self.hear_switched(voice, out),
-            _ => {}
+            CheckpointSignal::LcpSwitchConf => {
+                self.hear_switched(voice, out);
+                false
+            }
+            _ => false,
         }
     }
 
-    // Handles a signal of epochs.
-    fn handle_epoch(&mut self, voice: Voice, signal: &EpochSignal, out: &mut Outs)
+    // Handles a signal of epochs. Answers whether their numbers are used up.
+    fn handle_epoch(&mut self, voice: Voice, signal: &EpochSignal, out: &mut Outs) -> bool
         requires { HasRoom out.old }
-        ensures { IsTaken (epoch_table self.old voice signal.now) self.new out.old out.new }
+        ensures taken { IsTaken (epoch_table self.old voice signal.now) self.new out.old out.new }
+        ensures spent { result ≡ epoch_spent self.old voice signal.now }
     {
         match signal {
             EpochSignal::GcpReq { by: _ } => self.ask(
@@ -133,7 +142,10 @@ impl GcpMaster {
                 out,
             ),
             EpochSignal::MicroReq => self.ask(self.asked.and_micro(), out),
-            EpochSignal::GcpOrd => self.gather(out),
+            EpochSignal::GcpOrd => {
+                self.gather(out);
+                false
+            }
             EpochSignal::GcpStateConf {
                 current,
                 prepared,
@@ -152,14 +164,60 @@ impl GcpMaster {
                 };
                 self.hear_state(voice, told, out)
             }
-            EpochSignal::GcpPrepareConf { epoch } => self.hear_prepared(voice, *epoch, out),
-            EpochSignal::GcpNodeFinish { epoch } => self.hear_finished(voice, *epoch, out),
+            EpochSignal::GcpPrepareConf { epoch } => {
+                self.hear_prepared(voice, *epoch, out);
+                false
+            }
+            EpochSignal::GcpNodeFinish { epoch } => {
+                self.hear_finished(voice, *epoch, out);
+                false
+            }
             EpochSignal::GcpClosedConf { epoch } => self.hear_noted(voice, *epoch, out),
-            EpochSignal::GcpSaveConf { epoch } => self.hear_saved(voice, *epoch, out),
+            EpochSignal::GcpSaveConf { epoch } => {
+                self.hear_saved(voice, *epoch, out);
+                false
+            }
             EpochSignal::CopyGciConf { epoch } => self.hear_copied(voice, *epoch, out),
-            _ => {}
+            _ => false,
         }
     }
+
+    /// Handles a signal, as `handle`, and answers why the host is to stop, if it is. Takes no memory.
+    pub fn drive(&mut self, signal: &Signal, out: &mut Outs) -> Option<StopCause>
+        requires { HasRoom out.old }
+        ensures taken { IsTaken (master_row self.old signal.now) self.new out.old out.new }
+        ensures stops { result ≡ master_stops self.old signal.now }
+    {
+        let voice = Voice {
+            member: signal.member,
+            from: signal.from,
+        };
+        match &signal.body {
+            Body::Host(
+                HostSignal::Continue {
+                    work: Work::Members,
+                    at,
+                },
+            ) => {
+                self.go_on(signal.view.get().number, *at, out);
+                None
+            }
+            Body::Takeover(TakeoverSignal::TakeoverEnd) => {
+                self.hear_takeover(out);
+                None
+            }
+            Body::Epoch(signal) => stop_if(self.handle_epoch(voice, signal, out)),
+            Body::Checkpoint(signal) => stop_if(self.handle_local(voice, signal, out)),
+            _ => None,
+        }
+    }
+}
+
+// Why the host stops, where the numbers of epochs are used up.
+fn stop_if(spent: bool) -> Option<StopCause>
+    ensures { result ≡ stop_if spent }
+{
+    if spent { Some(StopCause::Clock) } else { None }
 }
 
 impl Actor for GcpMaster {
@@ -176,34 +234,8 @@ impl Actor for GcpMaster {
         ensures err { OnErr result (IsUntouched self.old self.new out.old out.new) }
         ensures served { IsOk result }
     {
-        let voice = Voice {
-            member: signal.member,
-            from: signal.from,
-        };
-        match &signal.body {
-            Body::Host(
-                HostSignal::Continue {
-                    work: Work::Members,
-                    at,
-                },
-            ) => {
-                self.go_on(signal.view.get().number, *at, out);
-                Ok(())
-            }
-            Body::Takeover(TakeoverSignal::TakeoverEnd) => {
-                self.hear_takeover(out);
-                Ok(())
-            }
-            Body::Epoch(signal) => {
-                self.handle_epoch(voice, signal, out);
-                Ok(())
-            }
-            Body::Checkpoint(signal) => {
-                self.handle_local(voice, signal, out);
-                Ok(())
-            }
-            _ => Ok(()),
-        }
+        self.drive(signal, out);
+        Ok(())
     }
 
     fn install(&mut self, view: &View, _out: &mut Outs) {

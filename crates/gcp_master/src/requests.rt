@@ -2,6 +2,7 @@
 ghost use Rattle.std.specs.Prelude.{◌≡◌, is_some};
 ghost use Rattle.sig_core.specs.Step.{HasRoom, IsTaken};
 ghost use Rattle.gcp_master.specs.Requests.{asked_row, global_asked, local_asked, micro_asked};
+ghost use Rattle.gcp_master.specs.Spent.{asked_spent};
 
 use crate::master::GcpMaster;
 use crate::phase::{Asked, Phase};
@@ -56,16 +57,19 @@ impl Asked {
 }
 
 impl GcpMaster {
-    // This is asked for: it is begun where nothing is under way, and else is held.
-    #[tactic(auto, unfolding(crate::specs::Requests::asked_row))]
-    pub(crate) fn ask(&mut self, asked: Asked, out: &mut Outs)
+    // This is asked for: it is begun where nothing is under way, and else is held. Answers whether the
+    // numbers of epochs are used up.
+    #[tactic(auto, unfolding(crate::specs::Requests::asked_row, crate::specs::Spent::asked_spent))]
+    pub(crate) fn ask(&mut self, asked: Asked, out: &mut Outs) -> bool
         requires { HasRoom out.old }
-        ensures { IsTaken (asked_row self.old asked) self.new out.old out.new }
+        ensures taken { IsTaken (asked_row self.old asked) self.new out.old out.new }
+        ensures spent { result ≡ asked_spent self.old asked }
     {
         self.asked = asked;
         if let Phase::Resting { current } = self.phase {
             let listed = self.front.is_some();
-            self.begin(current, listed, out);
+            return self.begin(current, listed, out);
         }
+        false
     }
 }

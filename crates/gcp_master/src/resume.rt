@@ -2,6 +2,7 @@
 ghost use Rattle.std.specs.Prelude.{◌≡◌};
 ghost use Rattle.sig_core.specs.Step.{HasRoom, IsTaken};
 ghost use Rattle.gcp_master.specs.Resume.{in_view, learned_if, order_row, resume_at, state_row, still_asked};
+ghost use Rattle.gcp_master.specs.Spent.{spent_at, state_spent};
 
 use crate::known::{Known, Told};
 use crate::local::Local;
@@ -50,10 +51,12 @@ impl GcpMaster {
         }
     }
 
-    #[tactic(auto, unfolding(crate::specs::Resume::state_row))]
-    pub(crate) fn hear_state(&mut self, voice: Voice, told: Told, out: &mut Outs)
+    // A block of a member tells how far it is. Answers whether the numbers of epochs are used up.
+    #[tactic(auto, unfolding(crate::specs::Resume::state_row, crate::specs::Spent::state_spent))]
+    pub(crate) fn hear_state(&mut self, voice: Voice, told: Told, out: &mut Outs) -> bool
         requires { HasRoom out.old }
-        ensures { IsTaken (state_row self.old voice told) self.new out.old out.new }
+        ensures taken { IsTaken (state_row self.old voice told) self.new out.old out.new }
+        ensures spent { result ≡ state_spent self.old voice told }
     {
         if let Phase::Gathering { known } = self.phase {
             let full = is_among(self.view.full.as_slice(), &voice.member);
@@ -63,20 +66,25 @@ impl GcpMaster {
                 let all = self.all_in(2);
                 self.phase = Phase::Gathering { known };
                 if all {
-                    self.resume_at(known.resume(), out);
+                    return self.resume_at(known.resume(), out);
                 }
             }
         }
+        false
     }
 
     // All have told: the master goes on in this phase.
-    fn resume_at(&mut self, phase: Phase, out: &mut Outs)
+    fn resume_at(&mut self, phase: Phase, out: &mut Outs) -> bool
         requires { HasRoom out.old }
-        ensures { IsTaken (resume_at self.old phase) self.new out.old out.new }
+        ensures taken { IsTaken (resume_at self.old phase) self.new out.old out.new }
+        ensures spent { result ≡ spent_at self.old phase }
     {
         match phase {
             Phase::Resting { current } => self.begin(current, false, out),
-            _ => self.enter(phase, out),
+            _ => {
+                self.enter(phase, out);
+                false
+            }
         }
     }
 

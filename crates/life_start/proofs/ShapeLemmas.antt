@@ -1,5 +1,5 @@
 -- The system slots of disks on which a life is named are of the cluster's shape.
-use Rattle.std.proofs.Common.{◌≡◌, ◌∙◌, ℕ, ◌+◌, ◌≤◌, Bool, true, false, List, [], length, drop, refl, ap, sym, subst}
+use Rattle.std.proofs.Common.{◌≡◌, ◌∙◌, ℕ, ◌+◌, ◌≤◌, max, Bool, true, false, List, [], ◌++◌, length, drop, refl, ap, sym, subst}
 use Rattle.std.proofs.Common.{arith, inl, inr, if◌then◌else◌}
 use Rattle.std.specs.Prelude.{IfSome, Option, None, Some, Ok, Err}
 use Rattle.std.proofs.lemmas.Bool.{ne_eqb}
@@ -13,6 +13,7 @@ use Rattle.sig_core.specs.declared.fault.RestartFault.TheVariants.{OtherShape}
 use Rattle.sig_core.specs.declared.slots.SystemSlot.{SystemSlot}
 use Rattle.sig_core.specs.declared.view.Shape.{Shape}
 use Rattle.sysfile_core.specs.declared.control.TheConstants.{CONTROL_BYTES}
+use Rattle.sysfile_core.specs.declared.owner.TheConstants.{OWNER, OWNER_BYTES}
 use Rattle.sysfile_core.specs.declared.place.TheConstants.{CONTROL_FILE, SYSTEM_FILE}
 use Rattle.sysfile_core.specs.declared.system.TheConstants.{SYSTEM_BYTES}
 use Rattle.sysfile_core.specs.Places.{place_of}
@@ -29,11 +30,13 @@ use Rattle.sys_restart.specs.LifeCalls.{AreNamed, RunsAll, prepared_record, reco
 use Rattle.sys_restart.specs.Places.{free_of, free_system, usable}
 use Rattle.sys_restart.specs.ReadyDisks.{AreToPrepare}
 use Rattle.sys_restart.proofs.AlikeLemmas.{no_answer}
-use Rattle.sys_restart.proofs.KeepsLemmas.{HasNumbers, control, file, first, mid, mid_leaves, places_now, second, slot}
-use Rattle.sys_restart.proofs.MomentLemmas.{done_then, kept_in_the_end, longer, runs_record}
+use Rattle.sys_restart.proofs.KeepsLemmas.{HasNumbers, control, file, first, free_few, mid, mid_leaves, places_now}
+use Rattle.sys_restart.proofs.KeepsLemmas.{second, slot, third}
+use Rattle.sys_restart.proofs.MomentLemmas.{done_then, kept_in_the_end, longer, on_then, runs_record}
 use Rattle.sys_restart.proofs.NameLemmas.{next_is_system, system_long, system_split}
 use Rattle.sys_restart.proofs.NamingLemmas.{AreRead, both_read, free_either, itself, reaches, some_first}
 use Rattle.sys_restart.proofs.NextLemmas.{control_size, next_file_is, slot_on}
+use Rattle.sys_restart.proofs.OwnerWrite.{own_on}
 use Rattle.sys_restart.proofs.ReadyDisks.{each_below}
 use Rattle.sys_restart.proofs.SlotWrite.{IsMoment, IsSlotWrite}
 use Rattle.sys_restart.proofs.StandsLemmas.{LeavesOthers, others_kept}
@@ -67,22 +70,28 @@ module _ (before : List Call) (shape : Shape) (node : ℕ) (r : Restored) where
   system_unmoved after runs =
       ap (λ (calls : List Call). state_of calls SYSTEM_FILE)
       (all_done (node_calls before shape node r) before after runs
-      ∙ done_then (first before shape node r) (second before shape node r) before)
+      ∙ done_then (first before shape node r) (behind ++ third before shape node r) before)
       ∙ kept_in_the_end CONTROL_FILE end (LeavesOthers CONTROL_FILE (state_of (mid before shape node r)))
-      (second before shape node r) (mid before shape node r)
+      (behind ++ third before shape node r) (mid before shape node r)
       (others_kept CONTROL_FILE end (state_of (mid before shape node r)))
+      (on_then CONTROL_FILE end behind (third before shape node r)
       (slot_on (stands_closed place (control before shape node r)) CONTROL_FILE place end
-      (drop 1 (control_bytes (slot before shape node r))) (omega (arith, control_size (slot before shape node r))))
+      (drop 1 (control_bytes (slot before shape node r)))
+      (omega (arith, control_size (slot before shape node r), free_few before shape node r)))
+      (own_on node (max (length (control before shape node r)) (place + CONTROL_BYTES)) (control before shape node r)))
       (λ other away. refl) SYSTEM_FILE refl
       ∙ mid_leaves before shape node r SYSTEM_FILE
       (ne_eqb (file before shape node r) SYSTEM_FILE
       (λ same. absurd (omega (arith, same, (next_file_is (places_now before shape node r).in_use).0))))
     where
+      behind : List Call
+      behind = second before shape node r
+
       place : ℕ
       place = place_of (places_now before shape node r).free
 
       end : ℕ
-      end = place + CONTROL_BYTES
+      end = place_of OWNER + OWNER_BYTES
 
 -- The life is named on a disk whose system file is settled.
 module _ (before after : List Call) (shape : Shape) (r : Restored) (is : IsShape shape) (numbers : HasNumbers r)

@@ -1,6 +1,7 @@
 -- The rows that a restart finds on disks of bytes are storable.
-use Rattle.std.proofs.Common.{◌≡◌, ℕ, zero, suc, ◌+◌, ◌-◌, ◌*◌, List, [], ◌∷◌, ◌++◌, length, get_or, refl, sym, subst, inl, inr}
-use Rattle.std.specs.Prelude.{Option, None, Some, Result, Ok, Err}
+use Rattle.std.proofs.Common.{◌≡◌, ◌∙◌, ℕ, zero, suc, ◌+◌, ◌-◌, ◌*◌, List, [], ◌∷◌, ◌++◌, length, get_or, refl, ap, sym}
+use Rattle.std.proofs.Common.{subst, inl, inr}
+use Rattle.std.specs.Prelude.{IfSome, Option, None, Some, Result, Ok, Err}
 use Rattle.std.specs.FinMap as finmap
 use Rattle.std.specs.List.{All}
 use Rattle.std.proofs.lemmas.Bool.{cases_lt}
@@ -15,13 +16,14 @@ use Rattle.sig_core.specs.declared.slots.ControlSlot.{ControlSlot}
 use Rattle.sig_core.specs.declared.slots.SystemSlot.{SystemSlot}
 use Rattle.sig_core.specs.declared.view.Shape.{Shape}
 use Rattle.sys_restart.proofs.AlikeLemmas.{no_answer, same_answer}
-use Rattle.sys_restart.proofs.GroupsLemmas.{rows_fail}
+use Rattle.sys_restart.proofs.GroupsLemmas.{among_ends, among_more, group_among, joined_is, rows_fail}
 use Rattle.sys_restart.proofs.HeldLemmas.{held_is, rows_are}
 use Rattle.sys_restart.proofs.LostLemmas.{nothing_only}
 use Rattle.sys_restart.specs.Answers.{on_node}
 use Rattle.sys_restart.specs.Checkpoint.{rows_of_file}
 use Rattle.sys_restart.specs.Files.{Disks, Files}
-use Rattle.sys_restart.specs.Groups.{and_rows, first_listed, rows_by, rows_from, rows_of_group, rows_of_groups, source_of}
+use Rattle.sys_restart.specs.Groups.{also_on, and_rows, control_on, go_on, rows_among, rows_from, rows_of_group}
+use Rattle.sys_restart.specs.Groups.{rows_of_groups, rows_on}
 use Rattle.sys_restart.specs.Latest.{latest_of}
 use Rattle.sys_restart.specs.Restored.{restored_by, restored_of, with_rows}
 use Rattle.sys_restart.specs.SlotRows.{rows_of_slot, with_redo}
@@ -46,28 +48,62 @@ slot_has epoch files slot all are is =
         (checkpoint_has slot.ckpt_file slot.ckpt_size epoch (files slot.ckpt_file) rows rows-is) is
 
 module _ (disks : Disks) (are : (node file : ℕ) → AreBytes (disks node file)) where
+  -- rows that were read on a node's disk have words
+  rows_have : (shape : Shape) (system : SystemSlot) (node : ℕ) (slot : ControlSlot) (all : Rows)
+      → rows_on shape system node (disks node) slot ≡ Ok all → HaveWords all
+  rows_have shape system node slot all is =
+      on (rows_of_slot system.epoch (disks node) slot)
+      (λ found found-is. slot_has system.epoch (disks node) slot found (are node) found-is)
+      (held_is shape node (disks node) (on_node node (rows_of_slot system.epoch (disks node) slot)) all
+      (rows_are shape system node (disks node) slot all is).1).0
+    where
+      on : (rows : Result Rows ReadFault) → ((found : Rows) → rows ≡ Ok found → HaveWords found)
+          → on_node node rows ≡ Ok all → HaveWords all
+      on (Err fault) has is = absurd (no_answer _ all _ refl is)
+      on (Ok rows) has is = subst HaveWords (same_answer rows all _ refl is) (has rows refl)
+
+  -- rows that are found on one more node of a group have words, where those before have
+  also_have : (shape : Shape) (system : SystemSlot) (node : ℕ) (found after : Option Rows)
+      (slot : Result (Option ControlSlot) RestartFault) → IfSome found HaveWords
+      → also_on shape system node (disks node) found slot ≡ Ok after → IfSome after HaveWords
+  also_have shape system node found after (Err fault) have is = absurd (no_answer fault after _ refl is)
+  also_have shape system node found after (Ok None) have is =
+      subst (λ (rows : Option Rows). IfSome rows HaveWords) (same_answer found after _ refl is) have
+  also_have shape system node found after (Ok (Some slot)) have is =
+      let (rows, (read, (after_is, rest))) =
+      joined_is node (disks node) found after (rows_on shape system node (disks node) slot) is in
+      subst (λ (own : Option Rows). IfSome own HaveWords) (sym after_is) (rows_have shape system node slot rows read)
+
+  among_have : (shape : Shape) (system : SystemSlot) (node more : ℕ) (found after : Option Rows)
+      → IfSome found HaveWords → rows_among shape disks system node more found ≡ Ok after → IfSome after HaveWords
+  among_have shape system node zero found after have is =
+      subst (λ (rows : Option Rows). IfSome rows HaveWords)
+      (same_answer found after _ (among_ends shape disks system node found) is) have
+  among_have shape system node (suc more) found after have is =
+      by (also_on shape system node (disks node) found (control_on system node (disks node))) refl
+      (λ next. among_have shape system (node + 1) more next after)
+      (sym (among_more shape disks system node more found) ∙ is)
+    where
+      by : (here : Result (Option Rows) RestartFault)
+          → also_on shape system node (disks node) found (control_on system node (disks node)) ≡ here
+          → ((next : Option Rows) → IfSome next HaveWords
+          → rows_among shape disks system (node + 1) more next ≡ Ok after → IfSome after HaveWords)
+          → go_on (rows_among shape disks system (node + 1) more)
+          (also_on shape system node (disks node) found (control_on system node (disks node))) ≡ Ok after
+          → IfSome after HaveWords
+      by (Err fault) here again all =
+          absurd (no_answer fault after _ refl
+          (sym (ap (go_on (rows_among shape disks system (node + 1) more)) here) ∙ all))
+      by (Ok next) here again all =
+          again next
+          (also_have shape system node found next (control_on system node (disks node)) have here)
+          (sym (ap (go_on (rows_among shape disks system (node + 1) more)) here) ∙ all)
+
   -- the rows of a group have words
   group_has : (shape : Shape) (system : SystemSlot) (first : ℕ) (all : Rows)
       → rows_of_group shape disks system first ≡ Ok all → HaveWords all
   group_has shape system first all is =
-      elim (source_of disks system first shape.replicas)
-      as (λ source. rows_by shape disks system (first_listed system.mask first first shape.replicas) source ≡ Ok all
-      → HaveWords all) [
-        | Err fault ↦ λ is. absurd (no_answer fault all _ refl is)
-        | Ok None ↦ λ is. absurd (no_answer _ all _ refl is)
-        | Ok (Some source) ↦
-            λ is.
-            on source.node (rows_of_slot system.epoch (disks source.node) source.slot)
-            (λ found found-is. slot_has system.epoch (disks source.node) source.slot found (are source.node) found-is)
-            (held_is shape source.node (disks source.node)
-            (on_node source.node (rows_of_slot system.epoch (disks source.node) source.slot)) all
-            (rows_are shape system source.node (disks source.node) source.slot all is).1).0
-      ] is
-    where
-      on : (node : ℕ) (rows : Result Rows ReadFault) → ((found : Rows) → rows ≡ Ok found → HaveWords found)
-          → on_node node rows ≡ Ok all → HaveWords all
-      on node (Err fault) has is = absurd (no_answer _ all _ refl is)
-      on node (Ok rows) has is = subst HaveWords (same_answer rows all _ refl is) (has rows refl)
+      among_have shape system first shape.replicas None (Some all) tt (group_among shape disks system first all is)
 
   -- and so have those of one group after the other
   groups_have : (shape : Shape) (system : SystemSlot) (group more : ℕ) (before all : List Rows) → All HaveWords before

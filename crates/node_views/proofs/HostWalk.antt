@@ -2,7 +2,7 @@
 -- behind, and still where the host counts, cuts a node off or stops, is so of what its row does.
 use Rattle.std.proofs.Common.{◌≡◌, ◌||◌, ◌++◌, ℕ, zero, suc, Bool, true, false, nat_lt, List, [], ◌∷◌, refl, sym, subst}
 use Rattle.std.proofs.lemmas.List.{append-nil}
-use Rattle.std.specs.Prelude.{not, Option, None, Some}
+use Rattle.std.specs.Prelude.{is_some, not, Option, None, Some}
 use Rattle.std.specs.List.{list_any}
 use Rattle.sig_core.specs.declared.mark.Mark.{Mark}
 use Rattle.sig_core.specs.declared.mark.Mark.TheVariants.{Installed, Stopped}
@@ -20,11 +20,13 @@ use Rattle.node_views.specs.Blocks.{parts_entered, parts_row, settled_at}
 use Rattle.node_views.specs.declared.host_body.HostBody as hosts
 use Rattle.node_views.specs.declared.parts.Parts.{Parts}
 use Rattle.node_views.specs.declared.standing.Standing.{Standing}
-use Rattle.node_views.specs.Row.{blocks_row, closed_if, counted_row, cut_if, cut_marks, entered, entering_if, headed_if}
+use Rattle.node_views.specs.Row.{blocks_row, closed_if, counted_row, counted_stop, cut_if, cut_marks, entered}
+use Rattle.node_views.specs.Row.{entering_if, headed_if}
 use Rattle.node_views.specs.Row.{headed_row, host_row, host_table, in_view, is_barred, is_cut, is_excluded, is_stop}
 use Rattle.node_views.specs.Row.{kill_row, killed_after, passed_if, passed_row, settle, standing_at, stopping, taken_if}
 use Rattle.node_views.specs.Row.{unless_stopped, with_parts}
 use Rattle.node_views.specs.WellFormed.{is_first, is_well_formed}
+use Rattle.node_views.proofs.StopWalk.{counted_stops}
 
 -- of where the host stands, where its blocks come to, and what has been sent and marked
 abbrev pub Saying : Type 1
@@ -179,5 +181,6 @@ module _ (Says : Saying) (x : Signal) (own : StaysSo Says) where
 
       by : (b : Bool) → is_well_formed s.standing.shape x ≡ b → Comes [] [] (taken_if s x b)
       by true is =
-          hushed (counted_comes s walked is s.standing.left refl) (list_any is_stop step.effects.marks) refl
+          hushed (counted_comes s walked is s.standing.left refl) (is_some (counted_stop s x s.standing.left))
+          (counted_stops s x s.standing.left)
       by false is = walked.stays

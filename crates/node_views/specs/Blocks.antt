@@ -1,12 +1,13 @@
 -- What the blocks of a host do at a signal, and where a view is installed.
 use Rattle.std.specs.Prelude.{◌≡◌, ℕ, Bool, true, false, [], Option, None}
+use Rattle.sig_core.specs.declared.outcome.StopCause.{StopCause}
 use Rattle.sig_core.specs.declared.place.BlockId.{BlockId}
 use Rattle.sig_core.specs.declared.place.BlockId.TheVariants as block
 use Rattle.sig_core.specs.declared.signal.Signal.{Signal}
 use Rattle.sig_core.specs.declared.view.View.{View}
 use Rattle.sig_core.specs.Step.{Effects, HasRoom, Step}
-use Rattle.node_views.specs.Parts.{ldm_entered, ldm_row, main_entered, main_row, main_settled, shell_entered, shell_row}
-use Rattle.node_views.specs.Parts.{tc_entered, tc_row}
+use Rattle.node_views.specs.Parts.{ldm_entered, ldm_row, main_entered, main_row, main_settled, main_stops}
+use Rattle.node_views.specs.Parts.{shell_entered, shell_row, tc_entered, tc_row}
 use Rattle.node_views.specs.declared.ldm_part.LdmPart.{LdmPart}
 use Rattle.node_views.specs.declared.main_part.MainPart.{MainPart}
 use Rattle.node_views.specs.declared.parts.Parts.{Parts}
@@ -38,6 +39,11 @@ parts_row (Ldm p) x = in_ldm (ldm_row p x.to.block x)
 abbrev pub settled_at : Parts → Signal → Option View
 settled_at (Main p) x = main_settled p x.to.block x
 settled_at _ x = None
+
+-- why the blocks have their host stop at a signal
+abbrev pub stop_at : Parts → Signal → Option StopCause
+stop_at (Main p) x = main_stops p x.to.block x
+stop_at _ x = None
 
 -- a view is installed in each block
 abbrev pub parts_entered : Parts → View → Step Parts

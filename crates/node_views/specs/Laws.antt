@@ -1,5 +1,5 @@
 -- What is true of the steps of a host, whatever comes.
-use Rattle.std.specs.Prelude.{◌≡◌, Bool, true, false, nat_lt, [], None}
+use Rattle.std.specs.Prelude.{◌≡◌, Bool, true, false, is_some, nat_lt, [], None}
 use Rattle.std.specs.List.{list_any}
 use Rattle.sig_core.specs.declared.member.HostId.{HostId}
 use Rattle.sig_core.specs.declared.signal.Body.{Body}
@@ -10,6 +10,7 @@ use Rattle.sig_core.specs.declared.view.View.{View}
 use Rattle.sig_core.specs.Step.{stay}
 use Rattle.lqh_saver.specs.declared.stage.Stage.TheVariants.{Resting}
 use Rattle.lqh_saver.specs.declared.stage.Todo.TheVariants.{Nothing}
+use Rattle.node_views.specs.Blocks.{stop_at}
 use Rattle.node_views.specs.Parts.{ldm_entered}
 use Rattle.node_views.specs.Row.{blocks_row, host_row, hushed, is_barred, is_cut, is_stop}
 use Rattle.node_views.specs.WellFormed.{is_well_formed}
@@ -33,7 +34,9 @@ pub record IsCalm (s : hosts.HostBody) (x : Signal) : Type 0 where
 
 -- then the step is the blocks'
 abbrev pub CalmHostsLeaveItToBlocks : Type 0
-CalmHostsLeaveItToBlocks = (s : hosts.HostBody) (x : Signal) → IsCalm s x → host_row s x ≡ hushed (blocks_row s x)
+CalmHostsLeaveItToBlocks =
+    (s : hosts.HostBody) (x : Signal) → IsCalm s x
+    → host_row s x ≡ hushed (is_some (stop_at s.parts x)) (blocks_row s x)
 
 -- a step that stops its host sends nothing
 abbrev pub StoppingHostsAreSilent : Type 0

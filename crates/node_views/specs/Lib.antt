@@ -6,5 +6,6 @@ pub mod Parts
 pub mod Replies
 pub mod Row
 pub mod Saving
+pub mod Stop
 pub mod WellFormed
 pub mod Words

@@ -1,5 +1,6 @@
 -- What the blocks of a part do at a signal, and where a view is installed.
 use Rattle.std.specs.Prelude.{ℕ, if◌then◌else◌, nat_lt, Option, None}
+use Rattle.sig_core.specs.declared.outcome.StopCause.{StopCause}
 use Rattle.sig_core.specs.declared.place.BlockId.{BlockId}
 use Rattle.sig_core.specs.declared.place.BlockId.TheVariants as block
 use Rattle.sig_core.specs.declared.signal.Body.{Body}
@@ -17,12 +18,14 @@ use Rattle.dih_node.specs.Orders as dih
 use Rattle.dih_node.specs.State.{DihState}
 use Rattle.gcp_master.specs.Master.{master_row}
 use Rattle.gcp_master.specs.Resume as master
+use Rattle.gcp_master.specs.Spent.{master_stops}
 use Rattle.gcp_master.specs.State.{MasterState}
 use Rattle.lqh_saver.specs.Saver.{saver_installed, saver_row}
 use Rattle.lqh_saver.specs.State.{SavingState, saving}
 use Rattle.qmgr_block.specs.Qmgr.{qmgr_installed, qmgr_row}
 use Rattle.qmgr_block.specs.Settle.{qmgr_settles}
 use Rattle.qmgr_block.specs.State.{QmgrState}
+use Rattle.qmgr_block.specs.Stop.{qmgr_stops}
 use Rattle.takeover_block.specs.State as takeover
 use Rattle.takeover_block.specs.State.{TakeoverState}
 use Rattle.takeover_block.specs.Takeover.{takeover_row}
@@ -75,6 +78,12 @@ main_row p _ x = stay p
 abbrev pub main_settled : MainPart → BlockId → Signal → Option View
 main_settled p block.Qmgr x = qmgr_settles p.qmgr x
 main_settled p _ x = None
+
+-- why the part has its host stop at a signal
+abbrev pub main_stops : MainPart → BlockId → Signal → Option StopCause
+main_stops p block.Qmgr x = qmgr_stops x
+main_stops p block.GcpMaster x = master_stops p.master x
+main_stops p _ x = None
 
 unfoldable pub tc_row : TcPart → BlockId → Signal → Step TcPart
 tc_row p block.Tc x = in_coordinator p (coordinator_row p.coordinator x)

@@ -1,6 +1,6 @@
 -- What a host does at a signal.
 use Rattle.std.specs.Prelude.{ℕ, zero, suc, ◌+◌, ◌&&◌, ◌||◌, Bool, true, false, not, nat_le, nat_lt, List, [], ◌∷◌}
-use Rattle.std.specs.Prelude.{◌++◌, Option, None, Some}
+use Rattle.std.specs.Prelude.{◌++◌, is_some, Option, None, Some}
 use Rattle.std.specs.List.{list_any}
 use Rattle.sig_core.specs.declared.mark.Mark.{Mark}
 use Rattle.sig_core.specs.declared.mark.Mark.TheVariants.{CutOff, Installed, Stopped}
@@ -15,7 +15,7 @@ use Rattle.sig_core.specs.declared.signal.host.HostSignal.TheVariants.{Kill, Cut
 use Rattle.sig_core.specs.declared.view.View.{View}
 use Rattle.sig_core.specs.Step.{Effects, Step, joined, stay}
 use Rattle.api_views.specs.Members.{is_member, same_member}
-use Rattle.node_views.specs.Blocks.{fence_at, parts_entered, parts_row, settled_at}
+use Rattle.node_views.specs.Blocks.{fence_at, parts_entered, parts_row, settled_at, stop_at}
 use Rattle.node_views.specs.Fence.{is_fenced}
 use Rattle.node_views.specs.WellFormed.{is_first, is_well_formed}
 use Rattle.node_views.specs.declared.host_body.HostBody as hosts
@@ -67,6 +67,11 @@ abbrev pub kill_row : hosts.HostBody → ℕ → Step hosts.HostBody
 kill_row s zero = stopping s Killed
 kill_row s (suc after) = stay (standing_at s (killed_after s.standing (Some (suc after))))
 
+-- why that stops it, where it does
+abbrev pub kill_stop : ℕ → Option StopCause
+kill_stop zero = Some Killed
+kill_stop (suc after) = None
+
 -- the hosts of a node, of which this is the first: three, one for each part
 abbrev pub is_one_of : HostId → HostId → Bool
 is_one_of host first = nat_le first.0 host.0 && nat_lt host.0 (first.0 + 3)
@@ -95,12 +100,23 @@ abbrev pub closed_if : hosts.HostBody → Signal → Bool → Step hosts.HostBod
 closed_if s x true = stopping s (Sibling x.from)
 closed_if s x false = blocks_row s x
 
+abbrev pub closed_stop : hosts.HostBody → Signal → Bool → Option StopCause
+closed_stop s x true = Some (Sibling x.from)
+closed_stop s x false = stop_at s.parts x
+
 -- what the host does itself, and what it leaves to its blocks
 abbrev pub host_table : hosts.HostBody → Signal → Body → Step hosts.HostBody
 host_table s x (Host (Kill after)) = kill_row s after
 host_table s x (Host (Cut node first)) = cut_row s first
 host_table s x (Host (Closed cause)) = closed_if s x (same_member s.standing.member x.member)
 host_table s x body = blocks_row s x
+
+-- why it stops by that, where it does
+abbrev pub table_stop : hosts.HostBody → Signal → Body → Option StopCause
+table_stop s x (Host (Kill after)) = kill_stop after
+table_stop s x (Host (Cut node first)) = None
+table_stop s x (Host (Closed cause)) = closed_stop s x (same_member s.standing.member x.member)
+table_stop s x body = stop_at s.parts x
 
 -- a signal of a fenced kind, from a view below the fence of the block that it is for, is dropped
 abbrev pub is_barred : hosts.HostBody → Signal → Bool
@@ -112,6 +128,13 @@ passed_if s x false = host_table s x x.body
 
 unfoldable pub passed_row : hosts.HostBody → Signal → Step hosts.HostBody
 passed_row s x = passed_if s x (is_barred s x)
+
+abbrev pub passed_stop_if : hosts.HostBody → Signal → Bool → Option StopCause
+passed_stop_if s x true = None
+passed_stop_if s x false = table_stop s x x.body
+
+unfoldable pub passed_stop : hosts.HostBody → Signal → Option StopCause
+passed_stop s x = passed_stop_if s x (is_barred s x)
 
 -- a view without the member stops a host that has joined
 abbrev pub is_excluded : Standing → View → Bool
@@ -131,6 +154,17 @@ headed_if s x false = passed_row s x
 unfoldable pub headed_row : hosts.HostBody → Signal → Step hosts.HostBody
 headed_row s x = headed_if s x (nat_lt s.standing.view.number x.view.number)
 
+abbrev pub entering_stop : hosts.HostBody → Signal → Bool → Option StopCause
+entering_stop s x true = Some (Excluded x.view.number)
+entering_stop s x false = passed_stop (entered s x.view).state x
+
+abbrev pub headed_stop_if : hosts.HostBody → Signal → Bool → Option StopCause
+headed_stop_if s x true = entering_stop s x (is_excluded s.standing x.view)
+headed_stop_if s x false = passed_stop s x
+
+unfoldable pub headed_stop : hosts.HostBody → Signal → Option StopCause
+headed_stop s x = headed_stop_if s x (nat_lt s.standing.view.number x.view.number)
+
 -- a host that is to be killed takes so many more signals, the last of which it leaves alone
 abbrev pub counted_row : hosts.HostBody → Signal → Option ℕ → Step hosts.HostBody
 counted_row s x None = headed_row s x
@@ -138,7 +172,13 @@ counted_row s x (Some zero) = stopping s Killed
 counted_row s x (Some (suc zero)) = stopping s Killed
 counted_row s x (Some (suc (suc left))) = headed_row (standing_at s (killed_after s.standing (Some (suc left)))) x
 
--- the marks tell that the host stops
+abbrev pub counted_stop : hosts.HostBody → Signal → Option ℕ → Option StopCause
+counted_stop s x None = headed_stop s x
+counted_stop s x (Some zero) = Some Killed
+counted_stop s x (Some (suc zero)) = Some Killed
+counted_stop s x (Some (suc (suc left))) = headed_stop (standing_at s (killed_after s.standing (Some (suc left)))) x
+
+-- a mark that tells that the host stops; no step looks at it
 abbrev pub is_stop : Mark → Bool
 is_stop (Stopped cause) = true
 is_stop mark = false
@@ -148,20 +188,25 @@ unless_stopped sends true = []
 unless_stopped sends false = sends
 
 -- a step that stops the host sends nothing
-abbrev pub hushed : Step hosts.HostBody → Step hosts.HostBody
-hushed step =
+abbrev pub hushed : Bool → Step hosts.HostBody → Step hosts.HostBody
+hushed stops step =
     record {
       state = step.state;
-      effects = record {
-        sends = unless_stopped step.effects.sends (list_any is_stop step.effects.marks);
-        marks = step.effects.marks;
-      };
+      effects = record { sends = unless_stopped step.effects.sends stops; marks = step.effects.marks };
     }
 
 abbrev pub taken_if : hosts.HostBody → Signal → Bool → Step hosts.HostBody
-taken_if s x true = hushed (counted_row s x s.standing.left)
+taken_if s x true = hushed (is_some (counted_stop s x s.standing.left)) (counted_row s x s.standing.left)
 taken_if s x false = stay s
 
 -- What a host does at a signal. One that isn't well formed changes nothing.
 unfoldable pub host_row : hosts.HostBody → Signal → Step hosts.HostBody
 host_row s x = taken_if s x (is_well_formed s.standing.shape x)
+
+-- why the host stops by it, where it does
+abbrev pub stop_if : hosts.HostBody → Signal → Bool → Option StopCause
+stop_if s x true = counted_stop s x s.standing.left
+stop_if s x false = None
+
+unfoldable pub host_stop : hosts.HostBody → Signal → Option StopCause
+host_stop s x = stop_if s x (is_well_formed s.standing.shape x)

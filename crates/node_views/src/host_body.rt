@@ -1,16 +1,16 @@
 //! What a host is made of.
 ghost use Rattle.std.specs.Prelude.{◌≡◌, ◌≤◌, ◌+◌, ◌<◌, ◌++◌, IfOk, None, OnErr, OnOk, [], length, option_to_list};
-ghost use Rattle.std.specs.Prelude.{true};
-ghost use Rattle.std.specs.List.{list_any};
+ghost use Rattle.std.specs.Prelude.{Some, true};
 ghost use Rattle.sig_core.specs.declared.mark.Mark.TheVariants.{CutOff, Stopped};
 ghost use Rattle.sig_core.specs.Step.{HasRoom, IsTaken, and_mark, nothing};
 ghost use Rattle.api_views.specs.Members.{same_member};
-ghost use Rattle.node_views.specs.Blocks.{HasRoomFor, is_shell};
+ghost use Rattle.node_views.specs.Blocks.{HasRoomFor, is_shell, stop_at};
 ghost use Rattle.node_views.specs.Fresh.{fresh_ldm, fresh_main, fresh_shell, fresh_tc};
 ghost use Rattle.node_views.specs.Replies.{is_down, is_left_open, replies_of, with_replies};
-ghost use Rattle.node_views.specs.Row.{blocks_row, closed_if, counted_row, cut_row, entered, headed_row, host_row};
-ghost use Rattle.node_views.specs.Row.{host_table, is_barred, is_cut, is_excluded, is_one_of, is_stop, kill_row};
-ghost use Rattle.node_views.specs.Row.{passed_row, unless_stopped};
+ghost use Rattle.node_views.specs.Row.{blocks_row, closed_if, closed_stop, counted_row, counted_stop, cut_row, entered};
+ghost use Rattle.node_views.specs.Row.{headed_row, headed_stop, host_row, host_stop, host_table, is_barred, is_cut};
+ghost use Rattle.node_views.specs.Row.{is_excluded, is_one_of, kill_row, kill_stop, passed_row, passed_stop, table_stop};
+ghost use Rattle.node_views.specs.Row.{entering_if, entering_stop, unless_stopped};
 
 use crate::fence::is_fenced;
 use crate::ldm_part::LdmPart;
@@ -23,6 +23,7 @@ use crate::well_formed::is_well_formed;
 use api_views::is_member;
 use frag_map::Layout;
 use frag_store::Store;
+use qmgr_block::Handled;
 use sig_core::{
     ApiReply, Body, Held, HostId, HostSignal, Mark, Member, NoMemory, Outs, Signal, StopCause, View,
 };
@@ -115,39 +116,49 @@ impl HostBody {
     /// Takes a signal. In this order: one that isn't well formed changes nothing; a host that is to be
     /// killed counts it; a view of a greater number in its header is installed, or stops a host whose
     /// member it leaves out; a fence stops it; the host or the block that it is for handles it, and a
-    /// view that the membership settles on is installed. A step that stops the host, which its last
-    /// mark tells, sends nothing.
+    /// view that the membership settles on is installed. A step that stops the host sends nothing.
+    /// Answers why it stops, if it does: then it takes no more.
     ///
     /// # Errors
     /// `NoMemory`, and then the host is of no more use, but still tells which hosts it has cut off, and
     /// its view, unless that of the signal has a greater number.
-    #[tactic(auto, unfolding(crate::specs::Row::host_row))]
-    pub fn step(&mut self, alloc: Global, signal: &Signal, out: &mut Outs) -> Result<(), NoMemory>
+    #[tactic(auto, unfolding(crate::specs::Row::host_row, crate::specs::Row::host_stop))]
+    pub fn step(
+        &mut self,
+        alloc: Global,
+        signal: &Signal,
+        out: &mut Outs,
+    ) -> Result<Option<StopCause>, NoMemory>
         requires { out.old ≡ nothing }
         ensures taken { OnOk result (IsTaken (host_row self.old signal.now) self.new nothing out.new) }
+        ensures stops { IfOk result (λ cause. cause ≡ host_stop self.old signal.now) }
         ensures kept { OnErr result (self.new.standing.cut ≡ self.old.standing.cut) }
         ensures seen { OnErr result (signal.now.view.number ≤ self.old.standing.view.number → self.new.standing.view ≡ self.old.standing.view) }
     {
-        if is_well_formed(&self.standing.shape, signal) {
-            self.count(alloc, signal, out)?;
-            hush(out);
+        if !is_well_formed(&self.standing.shape, signal) {
+            return Ok(None);
         }
-        Ok(())
+        let stops = self.count(alloc, signal, out)?;
+        hush_if(stops.is_some(), out);
+        Ok(stops)
     }
 
     // A host that is to be killed takes so many more signals.
-    fn count(&mut self, alloc: Global, signal: &Signal, out: &mut Outs) -> Result<(), NoMemory>
+    fn count(
+        &mut self,
+        alloc: Global,
+        signal: &Signal,
+        out: &mut Outs,
+    ) -> Result<Option<StopCause>, NoMemory>
         requires { out.old ≡ nothing }
         ensures taken { OnOk result (IsTaken (counted_row self.old signal.now self.old.standing.left) self.new nothing out.new) }
+        ensures stops { IfOk result (λ cause. cause ≡ counted_stop self.old signal.now self.old.standing.left) }
         ensures kept { OnErr result (self.new.standing.cut ≡ self.old.standing.cut) }
         ensures seen { OnErr result (signal.now.view.number ≤ self.old.standing.view.number → self.new.standing.view ≡ self.old.standing.view) }
     {
         match self.standing.left {
             None => self.head(alloc, signal, out),
-            Some(left) if left <= 1 => {
-                stop(StopCause::Killed, out);
-                Ok(())
-            }
+            Some(left) if left <= 1 => Ok(stop(StopCause::Killed, out)),
             Some(left) => {
                 self.standing.left = Some(left - 1);
                 self.head(alloc, signal, out)
@@ -155,26 +166,48 @@ impl HostBody {
         }
     }
 
-    // A view of a greater number is installed.
+    // A view of a greater number is installed first.
     #[inline(always)]
-    #[tactic(auto, using(crate::proofs::RoomLemmas::all_room, crate::proofs::RoomLemmas::installed_room), unfolding(crate::specs::Row::headed_row))]
-    fn head(&mut self, alloc: Global, signal: &Signal, out: &mut Outs) -> Result<(), NoMemory>
+    #[tactic(auto, unfolding(crate::specs::Row::headed_row, crate::specs::Row::headed_stop))]
+    fn head(
+        &mut self,
+        alloc: Global,
+        signal: &Signal,
+        out: &mut Outs,
+    ) -> Result<Option<StopCause>, NoMemory>
         requires { out.old ≡ nothing }
         ensures taken { OnOk result (IsTaken (headed_row self.old signal.now) self.new nothing out.new) }
+        ensures stops { IfOk result (λ cause. cause ≡ headed_stop self.old signal.now) }
         ensures kept { OnErr result (self.new.standing.cut ≡ self.old.standing.cut) }
         ensures seen { OnErr result (signal.now.view.number ≤ self.old.standing.view.number → self.new.standing.view ≡ self.old.standing.view) }
     {
-        let view = &signal.view;
-        let number = view.get().number;
-        if self.standing.view.get().number < number {
-            if self.is_excluded(view.get()) {
-                stop(StopCause::Excluded { view: number }, out);
-                return Ok(());
-            }
-            let installed = view.share()?;
-            out.mark(Mark::Installed { view: installed });
-            self.enter(view.share()?, out);
+        if self.standing.view.get().number < signal.view.get().number {
+            self.enter_first(alloc, signal, out)
+        } else {
+            self.pass(alloc, signal, out)
         }
+    }
+
+    // The view of a signal is installed, unless it stops the host, before the signal is looked at.
+    #[tactic(auto, using(crate::proofs::RoomLemmas::all_room, crate::proofs::RoomLemmas::installed_room))]
+    fn enter_first(
+        &mut self,
+        alloc: Global,
+        signal: &Signal,
+        out: &mut Outs,
+    ) -> Result<Option<StopCause>, NoMemory>
+        requires { out.old ≡ nothing }
+        ensures taken { OnOk result (IsTaken (entering_if self.old signal.now (is_excluded self.old.standing signal.now.view)) self.new nothing out.new) }
+        ensures stops { IfOk result (λ cause. cause ≡ entering_stop self.old signal.now (is_excluded self.old.standing signal.now.view)) }
+        ensures kept { OnErr result (self.new.standing.cut ≡ self.old.standing.cut) }
+    {
+        if self.is_excluded(signal.view.get()) {
+            let view = signal.view.get().number;
+            return Ok(stop(StopCause::Excluded { view }, out));
+        }
+        let installed = signal.view.share()?;
+        out.mark(Mark::Installed { view: installed });
+        self.enter(signal.view.share()?, out);
         self.pass(alloc, signal, out)
     }
 
@@ -236,15 +269,21 @@ impl HostBody {
     }
 
     // A fence stops the signal, or it is handled.
-    #[tactic(auto, using(crate::proofs::RoomLemmas::some_room), unfolding(crate::specs::Row::passed_row))]
-    fn pass(&mut self, alloc: Global, signal: &Signal, out: &mut Outs) -> Result<(), NoMemory>
+    #[tactic(auto, using(crate::proofs::RoomLemmas::some_room), unfolding(crate::specs::Row::passed_row, crate::specs::Row::passed_stop))]
+    fn pass(
+        &mut self,
+        alloc: Global,
+        signal: &Signal,
+        out: &mut Outs,
+    ) -> Result<Option<StopCause>, NoMemory>
         requires { HasRoomFor self.old.parts out.old }
         ensures taken { OnOk result (IsTaken (passed_row self.old signal.now) self.new out.old out.new) }
+        ensures stops { IfOk result (λ cause. cause ≡ passed_stop self.old signal.now) }
         ensures kept { OnErr result (self.new.standing.cut ≡ self.old.standing.cut) }
         ensures seen { OnErr result (self.new.standing.view ≡ self.old.standing.view) }
     {
         if self.is_barred(signal) {
-            Ok(())
+            Ok(None)
         } else {
             self.take(alloc, signal, out)
         }
@@ -260,18 +299,24 @@ impl HostBody {
 
     // What the host does itself, and what it leaves to its blocks.
     #[tactic(auto, using(crate::proofs::RoomLemmas::some_room))]
-    fn take(&mut self, alloc: Global, signal: &Signal, out: &mut Outs) -> Result<(), NoMemory>
+    fn take(
+        &mut self,
+        alloc: Global,
+        signal: &Signal,
+        out: &mut Outs,
+    ) -> Result<Option<StopCause>, NoMemory>
         requires { HasRoomFor self.old.parts out.old }
         ensures taken { OnOk result (IsTaken (host_table self.old signal.now signal.now.body) self.new out.old out.new) }
+        ensures stops { IfOk result (λ cause. cause ≡ table_stop self.old signal.now signal.now.body) }
         ensures kept { OnErr result (self.new.standing.cut ≡ self.old.standing.cut) }
         ensures seen { OnErr result (self.new.standing.view ≡ self.old.standing.view) }
     {
         match &signal.body {
-            Body::Host(HostSignal::Kill { after }) => {
-                self.kill(*after, out);
-                Ok(())
+            Body::Host(HostSignal::Kill { after }) => Ok(self.kill(*after, out)),
+            Body::Host(HostSignal::Cut { node: _, first }) => {
+                self.cut(*first, out)?;
+                Ok(None)
             }
-            Body::Host(HostSignal::Cut { node: _, first }) => self.cut(*first, out),
             Body::Host(HostSignal::Closed { cause: _ }) => self.closed(alloc, signal, out),
             _ => self.handle(alloc, signal, out),
         }
@@ -279,15 +324,20 @@ impl HostBody {
 
     // A host has closed its links: one of the same member takes this host with it.
     #[tactic(auto, using(crate::proofs::RoomLemmas::some_room))]
-    fn closed(&mut self, alloc: Global, signal: &Signal, out: &mut Outs) -> Result<(), NoMemory>
+    fn closed(
+        &mut self,
+        alloc: Global,
+        signal: &Signal,
+        out: &mut Outs,
+    ) -> Result<Option<StopCause>, NoMemory>
         requires { HasRoomFor self.old.parts out.old }
         ensures taken { OnOk result (IsTaken (closed_if self.old signal.now (same_member self.old.standing.member signal.now.member)) self.new out.old out.new) }
+        ensures stops { IfOk result (λ cause. cause ≡ closed_stop self.old signal.now (same_member self.old.standing.member signal.now.member)) }
         ensures kept { OnErr result (self.new.standing.cut ≡ self.old.standing.cut) }
         ensures seen { OnErr result (self.new.standing.view ≡ self.old.standing.view) }
     {
         if self.standing.member == signal.member {
-            stop(StopCause::Sibling { host: signal.from }, out);
-            Ok(())
+            Ok(stop(StopCause::Sibling { host: signal.from }, out))
         } else {
             self.handle(alloc, signal, out)
         }
@@ -295,27 +345,36 @@ impl HostBody {
 
     // The blocks handle a signal, and install a view that the membership settles on.
     #[tactic(auto, using(crate::proofs::RoomLemmas::some_room), unfolding(crate::specs::Row::blocks_row))]
-    fn handle(&mut self, alloc: Global, signal: &Signal, out: &mut Outs) -> Result<(), NoMemory>
+    fn handle(
+        &mut self,
+        alloc: Global,
+        signal: &Signal,
+        out: &mut Outs,
+    ) -> Result<Option<StopCause>, NoMemory>
         requires { HasRoomFor self.old.parts out.old }
         ensures taken { OnOk result (IsTaken (blocks_row self.old signal.now) self.new out.old out.new) }
+        ensures stops { IfOk result (λ cause. cause ≡ stop_at self.old.parts signal.now) }
         ensures kept { OnErr result (self.new.standing.cut ≡ self.old.standing.cut) }
         ensures seen { OnErr result (self.new.standing.view ≡ self.old.standing.view) }
     {
-        if let Some(view) = self.parts.handle(alloc, signal, out)? {
+        let Handled { settled, stops } = self.parts.handle(alloc, signal, out)?;
+        if let Some(view) = settled {
             self.enter(view, out);
         }
-        Ok(())
+        Ok(stops)
     }
 
     // An order to stop: at once, or once so many more signals are taken.
-    fn kill(&mut self, after: u32, out: &mut Outs)
+    fn kill(&mut self, after: u32, out: &mut Outs) -> Option<StopCause>
         requires { HasRoom out.old }
-        ensures { IsTaken (kill_row self.old after) self.new out.old out.new }
+        ensures taken { IsTaken (kill_row self.old after) self.new out.old out.new }
+        ensures stops { result ≡ kill_stop after }
     {
         if after == 0 {
-            stop(StopCause::Killed, out);
+            stop(StopCause::Killed, out)
         } else {
             self.standing.left = Some(after);
+            None
         }
     }
 
@@ -359,36 +418,22 @@ fn is_one_of(host: HostId, first: HostId) -> bool
     host.0 >= first.0 && host.0 - first.0 < 3
 }
 
-// The host stops.
-fn stop(cause: StopCause, out: &mut Outs)
+// The host stops for this cause, which is answered.
+fn stop(cause: StopCause, out: &mut Outs) -> Option<StopCause>
     requires { length out.old.marks < 16 }
-    ensures { out.new ≡ and_mark out.old (Stopped cause) }
+    ensures marked { out.new ≡ and_mark out.old (Stopped cause) }
+    ensures stops { result ≡ Some cause }
 {
     out.mark(Mark::Stopped { cause });
+    Some(cause)
 }
 
 // A step that stops the host sends nothing.
-fn hush(out: &mut Outs)
-    ensures sends { out.new.sends ≡ unless_stopped out.old.sends (list_any is_stop out.old.marks) }
+fn hush_if(stops: bool, out: &mut Outs)
+    ensures sends { out.new.sends ≡ unless_stopped out.old.sends stops }
     ensures marks { out.new.marks ≡ out.old.marks }
 {
-    if stops(out.marks()) {
+    if stops {
         while let Some(_) = out.take_send() {}
-    }
-}
-
-// Whether the marks of a step tell that it stops its host.
-fn stops(marks: &[Mark]) -> bool
-    ensures { result ≡ list_any is_stop marks.now }
-{
-    marks.iter().any(is_stop)
-}
-
-fn is_stop(mark: &Mark) -> bool
-    ensures { result ≡ is_stop mark.now }
-{
-    match mark {
-        Mark::Stopped { cause: _ } => true,
-        _ => false,
     }
 }

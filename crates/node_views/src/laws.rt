@@ -1,6 +1,7 @@
 //! What is true of the steps of a host, whatever comes.
 ghost use Rattle.node_views.specs.Laws.{CalmHostsLeaveItToBlocks, CutHostsStayCut, MalformedSignalsChangeNothing};
 ghost use Rattle.node_views.specs.Laws.{InstalledViewsGiveWalksUp, StoppingHostsAreSilent};
+ghost use Rattle.node_views.specs.Stop.{MarksTellOfStops};
 ghost use Rattle.node_views.specs.Words.{HostsKeepToTheirWords};
 
 /// Where a host isn't to be killed, a signal from no greater view, which no fence stops and which isn't
@@ -14,6 +15,12 @@ pub fn calm_hosts_leave_it_to_blocks()
 #[tactic(auto, using(crate::proofs::LawLemmas::stopping_hosts_are_silent))]
 pub fn stopping_hosts_are_silent()
     ensures { StoppingHostsAreSilent }
+{}
+
+/// The marks of a step tell that its host stops, and why, just where the step says so.
+#[tactic(auto, using(crate::proofs::StopWalk::marks_tell_of_stops))]
+pub fn marks_tell_of_stops()
+    ensures { MarksTellOfStops }
 {}
 
 /// A signal that isn't well formed changes nothing, sends nothing and marks nothing.

@@ -17,7 +17,7 @@ mod well_formed;
 pub use host_body::HostBody;
 pub use laws::{
     calm_hosts_leave_it_to_blocks, hosts_keep_to_their_words, installed_views_give_walks_up,
-    malformed_signals_change_nothing, stopping_hosts_are_silent,
+    malformed_signals_change_nothing, marks_tell_of_stops, stopping_hosts_are_silent,
 };
 pub use ldm_part::LdmPart;
 pub use main_part::MainPart;

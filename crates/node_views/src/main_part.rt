@@ -5,12 +5,13 @@ ghost use Rattle.gcp_master.specs.Master.{fresh_master};
 ghost use Rattle.qmgr_block.specs.Qmgr.{qmgr_row};
 ghost use Rattle.qmgr_block.specs.Settle.{qmgr_settles};
 ghost use Rattle.qmgr_block.specs.State.{fresh_qmgr};
-ghost use Rattle.node_views.specs.Parts.{in_qmgr, main_entered, main_row, main_settled};
+ghost use Rattle.qmgr_block.specs.Stop.{qmgr_stops};
+ghost use Rattle.node_views.specs.Parts.{in_qmgr, main_entered, main_row, main_settled, main_stops};
 
 use frag_map::Layout;
 use gcp_master::GcpMaster;
-use qmgr_block::Qmgr;
-use sig_core::{Actor, BlockId, Held, Member, NoMemory, Outs, Signal, View};
+use qmgr_block::{Handled, Qmgr};
+use sig_core::{Actor, BlockId, Member, NoMemory, Outs, Signal, View};
 use std::alloc::Global;
 
 /// The membership of a node, and the master of checkpoints.
@@ -39,8 +40,8 @@ impl MainPart {
         Ok(MainPart { qmgr, master })
     }
 
-    /// The block that a signal is for handles it. Answers the view that the membership settles on
-    /// with it, if it does: that is to be installed in the same event.
+    /// The block that a signal is for handles it. Answers what is left to the host: to install the view
+    /// that the membership settles on, in the same event, or to stop.
     ///
     /// # Errors
     /// `NoMemory`.
@@ -50,19 +51,17 @@ impl MainPart {
         alloc: Global,
         signal: &Signal,
         out: &mut Outs,
-    ) -> Result<Option<Held<View>>, NoMemory>
+    ) -> Result<Handled, NoMemory>
         requires { HasRoom out.old }
         ensures taken { OnOk result (IsTaken (main_row self.old signal.now.to.block signal.now) self.new out.old out.new) }
-        ensures settled { IfOk result (λ view. view ≡ main_settled self.old signal.now.to.block signal.now) }
-        ensures few { IfOk result (λ view. IfSome view (λ v. length out.new.sends ≤ length out.old.sends + 1)) }
+        ensures settled { IfOk result (λ handled. handled.settled ≡ main_settled self.old signal.now.to.block signal.now) }
+        ensures stops { IfOk result (λ handled. handled.stops ≡ main_stops self.old signal.now.to.block signal.now) }
+        ensures few { IfOk result (λ handled. IfSome handled.settled (λ v. length out.new.sends ≤ length out.old.sends + 1)) }
     {
         match signal.to.block {
             BlockId::Qmgr => self.decide(alloc, signal, out),
-            BlockId::GcpMaster => {
-                self.master.handle(alloc, signal, out)?;
-                Ok(None)
-            }
-            _ => Ok(None),
+            BlockId::GcpMaster => Ok(Handled::stopping(self.master.drive(signal, out))),
+            _ => Ok(Handled::nothing()),
         }
     }
 
@@ -73,11 +72,12 @@ impl MainPart {
         alloc: Global,
         signal: &Signal,
         out: &mut Outs,
-    ) -> Result<Option<Held<View>>, NoMemory>
+    ) -> Result<Handled, NoMemory>
         requires { HasRoom out.old }
         ensures taken { OnOk result (IsTaken (in_qmgr self.old (qmgr_row self.old.qmgr signal.now)) self.new out.old out.new) }
-        ensures settled { IfOk result (λ view. view ≡ qmgr_settles self.old.qmgr signal.now) }
-        ensures few { IfOk result (λ view. IfSome view (λ v. length out.new.sends ≤ length out.old.sends + 1)) }
+        ensures settled { IfOk result (λ handled. handled.settled ≡ qmgr_settles self.old.qmgr signal.now) }
+        ensures stops { IfOk result (λ handled. handled.stops ≡ qmgr_stops signal.now) }
+        ensures few { IfOk result (λ handled. IfSome handled.settled (λ v. length out.new.sends ≤ length out.old.sends + 1)) }
     {
         self.qmgr.decide(alloc, signal, out)
     }

@@ -2,12 +2,14 @@
 ghost use Rattle.std.specs.Prelude.{◌≡◌, ◌≤◌, ◌+◌, IfOk, IfSome, OnOk, length, true};
 ghost use Rattle.sig_core.specs.Step.{IsTaken};
 ghost use Rattle.node_views.specs.Blocks.{HasRoomFor, fence_at, is_shell, parts_entered, parts_row, settled_at};
+ghost use Rattle.node_views.specs.Blocks.{stop_at};
 
 use crate::ldm_part::LdmPart;
 use crate::main_part::MainPart;
 use crate::shell_part::ShellPart;
 use crate::tc_part::TcPart;
-use sig_core::{BlockId, Held, NoMemory, Outs, Signal, View};
+use qmgr_block::Handled;
+use sig_core::{BlockId, NoMemory, Outs, Signal, View};
 use std::alloc::Global;
 
 /// The blocks of a host: those of the shell's, or of a part of a node.
@@ -20,8 +22,8 @@ pub enum Parts {
 }
 
 impl Parts {
-    /// The block that a signal is for handles it. Answers the view that is to be installed in the
-    /// same event, where the membership settles on one.
+    /// The block that a signal is for handles it. Answers what is left to the host: to install the view
+    /// that the membership settles on, in the same event, or to stop.
     ///
     /// # Errors
     /// `NoMemory`.
@@ -32,11 +34,12 @@ impl Parts {
         alloc: Global,
         signal: &Signal,
         out: &mut Outs,
-    ) -> Result<Option<Held<View>>, NoMemory>
+    ) -> Result<Handled, NoMemory>
         requires { HasRoomFor self.old out.old }
         ensures taken { OnOk result (IsTaken (parts_row self.old signal.now) self.new out.old out.new) }
-        ensures settled { IfOk result (λ view. view ≡ settled_at self.old signal.now) }
-        ensures few { IfOk result (λ view. IfSome view (λ v. length out.new.sends ≤ length out.old.sends + 1)) }
+        ensures settled { IfOk result (λ handled. handled.settled ≡ settled_at self.old signal.now) }
+        ensures stops { IfOk result (λ handled. handled.stops ≡ stop_at self.old signal.now) }
+        ensures few { IfOk result (λ handled. IfSome handled.settled (λ v. length out.new.sends ≤ length out.old.sends + 1)) }
     {
         match self {
             Parts::Shell(part) => part.handle(alloc, signal, out)?,
@@ -44,7 +47,7 @@ impl Parts {
             Parts::Tc(part) => part.handle(alloc, signal, out)?,
             Parts::Ldm(part) => part.handle(alloc, signal, out)?,
         }
-        Ok(None)
+        Ok(Handled::nothing())
     }
 
     /// A view is installed in each block. That adds three signals at most.

@@ -10,5 +10,6 @@ pub mod Sets
 pub mod Settle
 pub mod Starts
 pub mod State
+pub mod Stop
 pub mod Suspects
 pub mod Words

@@ -8,7 +8,9 @@ ghost use Rattle.qmgr_block.specs.Qmgr.{host_table, joining_table, membership_ta
 ghost use Rattle.qmgr_block.specs.Install.{work_row};
 ghost use Rattle.qmgr_block.specs.Settle.{membership_settles, qmgr_settles};
 ghost use Rattle.qmgr_block.specs.State.{beside, fresh_qmgr, sending_all};
+ghost use Rattle.qmgr_block.specs.Stop.{membership_stops, qmgr_stops};
 
+use crate::handled::Handled;
 use crate::known::Known;
 use crate::promise::{Promise, fences, first_waiting, is_ldm};
 use crate::sends::{send_all, send_stops};
@@ -259,8 +261,8 @@ impl Qmgr {
         }
     }
 
-    // Handles a signal of membership, by the host and the member that it comes from. Answers the view
-    // that it settles on.
+    // Handles a signal of membership, by the host and the member that it comes from. Answers what is
+    // left to the host.
     fn handle_membership(
         &mut self,
         alloc: Global,
@@ -268,48 +270,51 @@ impl Qmgr {
         member: &Member,
         signal: &MembershipSignal,
         out: &mut Outs,
-    ) -> Result<Option<Held<View>>, NoMemory>
+    ) -> Result<Handled, NoMemory>
         requires { HasRoom out.old }
-        ensures settles { IfOk result (λ view. view ≡ membership_settles self.old.known member.now signal.now) }
+        ensures settles { IfOk result (λ handled. handled.settled ≡ membership_settles self.old.known member.now signal.now) }
+        ensures stops { IfOk result (λ handled. handled.stops ≡ membership_stops signal.now) }
         ensures ok { OnOk result (IsTaken (membership_table self.old host.0 member.now signal.now) self.new out.old out.new) }
         ensures err { OnErr result (IsUntouched self.old self.new out.old out.new) }
     {
         match signal {
             MembershipSignal::Heartbeat => {
                 self.known.hear(member);
-                Ok(None)
+                Ok(Handled::nothing())
             }
             MembershipSignal::FailRep { suspects } => {
                 let mut next = self.known;
                 let sends = next.report(alloc, suspects)?;
                 self.settle(&next, sends, out);
-                Ok(None)
+                Ok(Handled::nothing())
             }
             MembershipSignal::PrepFailReq { proposal } => {
                 self.promise(alloc, member.node, proposal, out)?;
-                Ok(None)
+                Ok(Handled::nothing())
             }
             MembershipSignal::FenceConf => {
                 self.fence(host, out);
-                Ok(None)
+                Ok(Handled::nothing())
             }
             MembershipSignal::PrepFailConf { number } => {
-                self.known.confirm(alloc, *number, member, out)
+                Ok(Handled::settling(self.known.confirm(alloc, *number, member, out)?))
             }
             MembershipSignal::PrepFailRef { promised } => {
                 self.unpromised(alloc, promised.get(), out)?;
-                Ok(None)
+                Ok(Handled::nothing())
             }
-            MembershipSignal::ArbitConf { number } => self.known.grant(alloc, *number, out),
+            MembershipSignal::ArbitConf { number } => {
+                Ok(Handled::settling(self.known.grant(alloc, *number, out)?))
+            }
             MembershipSignal::ArbitRef { number, members } => {
                 self.known.refused(*number, members, out);
-                Ok(None)
+                Ok(Handled::nothing())
             }
             MembershipSignal::StopSet { cause } => {
                 self.known.stop(*cause, out);
-                Ok(None)
+                Ok(Handled::stopping(Some(*cause)))
             }
-            _ => Ok(None),
+            _ => Ok(Handled::nothing()),
         }
     }
 
@@ -347,8 +352,8 @@ impl Qmgr {
         }
     }
 
-    /// Handles a signal, as `handle`, and answers the view that it settles on with it, if it does: its
-    /// host is to install that in the same event.
+    /// Handles a signal, as `handle`, and answers what is left to the host: to install the view that it
+    /// settles on, in the same event, or to stop.
     ///
     /// # Errors
     /// `NoMemory`, and then nothing has happened.
@@ -357,9 +362,10 @@ impl Qmgr {
         alloc: Global,
         signal: &Signal,
         out: &mut Outs,
-    ) -> Result<Option<Held<View>>, NoMemory>
+    ) -> Result<Handled, NoMemory>
         requires { HasRoom out.old }
-        ensures settles { IfOk result (λ view. view ≡ qmgr_settles self.old signal.now) }
+        ensures settles { IfOk result (λ handled. handled.settled ≡ qmgr_settles self.old signal.now) }
+        ensures stops { IfOk result (λ handled. handled.stops ≡ qmgr_stops signal.now) }
         ensures ok { OnOk result (IsTaken (qmgr_row self.old signal.now) self.new out.old out.new) }
         ensures err { OnErr result (IsUntouched self.old self.new out.old out.new) }
     {
@@ -367,16 +373,16 @@ impl Qmgr {
             Body::Host(body) => {
                 let number = signal.view.get().number;
                 self.handle_host(alloc, &signal.member, number, body, out)?;
-                Ok(None)
+                Ok(Handled::nothing())
             }
             Body::Membership(body) => {
                 self.handle_membership(alloc, signal.from, &signal.member, body, out)
             }
             Body::Joining(body) => {
                 self.handle_joining(alloc, body, out)?;
-                Ok(None)
+                Ok(Handled::nothing())
             }
-            _ => Ok(None),
+            _ => Ok(Handled::nothing()),
         }
     }
 }

@@ -32,6 +32,7 @@ use Rattle.disk_world.specs.Starting.{start_from}
 use Rattle.journal_laws.specs.Asked.{AreOfWords, IsOfRequest}
 use Rattle.journal_laws.specs.Journal.{first_rows}
 use Rattle.disk_laws.specs.OnDisk.{KeepsUp}
+use Rattle.disk_laws.specs.Owners.{KeepsOwner}
 use Rattle.disk_laws.specs.Shapes.{KeepsShape}
 use Rattle.disk_laws.specs.ToldSlots.{KeepsTold}
 use Rattle.restart_laws.specs.Restart.{AreGrouped, IsOfLife}
@@ -86,7 +87,9 @@ pub record IsLivedAt (start : Start) (r : Restored) (member : Member) (w : Whole
       KeepsUp start member (rows_of_node start.shape member.node r) (next_system start.shape r) w disks
   pub tells : TellsWhatIsKept start member w
   pub shape : KeepsShape start.shape member.node disks
-  pub ahead : KeepsTold start member (r.generation + 1) w disks
+  -- of its two control slots one was saved at an epoch that is durable
+  pub told_slots : KeepsTold start member (r.generation + 1) w disks
+  pub owner : KeepsOwner member.node disks
   -- the rows with which it began can be written
   pub storable : AreStorable (rows_of_node start.shape member.node r)
 

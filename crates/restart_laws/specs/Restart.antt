@@ -15,6 +15,7 @@ use Rattle.sys_restart.specs.Files.{Disks}
 use Rattle.sys_restart.specs.Latest.{latest_on}
 use Rattle.sys_restart.specs.Restored.{restored_of}
 use Rattle.sysfile_core.specs.declared.place.TheConstants.{CONTROL_FILE}
+use Rattle.sysfile_core.specs.Owner.{owner_of}
 use Rattle.view_laws.specs.Runs.{AreOfCluster}
 use Rattle.world_core.specs.Hosts.{hosts}
 use Rattle.world_core.specs.Start.{Start, made}
@@ -51,7 +52,9 @@ pub record IsLeftOf (start : Start) (r : Restored) (logs : ℕ → List HostStep
   -- no slot there is of another shape
   pub latest : latest_on start.shape member.node (images member.node) ≡ Ok (Some noted.slot)
   -- of two control slots one was saved at an epoch that is durable
-  pub ahead : SlotsAreTold start member (r.generation + 1) logs (images member.node CONTROL_FILE)
+  pub told_slots : SlotsAreTold start member (r.generation + 1) logs (images member.node CONTROL_FILE)
+  -- and they stand in a file that names the node
+  pub owner : owner_of (images member.node CONTROL_FILE) ≡ Some member.node
   -- nobody was told what wasn't kept
   pub told_saved :
       (j : ℕ) → j < hosts start

@@ -1,5 +1,5 @@
-//! Forms of disks: empty ones, other shapes, old versions, nodes that aren't listed, slots that were lost, disks that
-//! changed places, sizes at the limits; and first lives that were stopped.
+//! Forms of disks: empty ones, other shapes, old versions, nodes that aren't listed or have other rows than their group,
+//! slots that were lost, disks that changed places, sizes at the limits; and first lives that were stopped.
 use crate::groups::three_groups;
 use crate::lost::{first_life_stopped, lost_system_slots};
 use crate::numbers::the_greatest_numbers;
@@ -8,13 +8,13 @@ use crate::ring::redo_round_the_ring;
 use crate::shapes::{another_shape, empty_disks};
 use crate::slots::{
     a_group_without_a_slot, a_lost_slot, a_lost_system_slot, a_slot_lost_behind_a_checkpoint,
-    an_unlisted_node, disks_that_disagree, the_later_slots,
+    an_unlisted_node, disks_that_disagree, other_rows, the_later_slots,
 };
 use crate::trouble::Trouble;
 use crate::versions::{a_first_version, sizes_at_the_limits, the_longest_words};
 use std::alloc::Global;
 
-const FORMS: u64 = 19;
+const FORMS: u64 = 20;
 
 /// Tries all forms, and answers how many.
 ///
@@ -47,6 +47,7 @@ fn try_one(alloc: Global, form: u64) -> Result<(), Trouble> {
         15 => first_life_stopped(alloc),
         16 => a_lost_system_slot(alloc),
         17 => a_slot_lost_behind_a_checkpoint(alloc),
+        18 => other_rows(alloc),
         _ => the_longest_words(alloc),
     }
 }

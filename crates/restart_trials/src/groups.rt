@@ -9,7 +9,7 @@ use row_map::RowMap;
 use sig_core::{RestartFault, Seq, Shape};
 use std::alloc::Global;
 use sys_restart::{Restored, prepare_life, restore};
-use sysfile_core::{CONTROL_FILE, OPEN};
+use sysfile_core::{CLOSED, CONTROL_FILE, OPEN, OWNER, place_of};
 
 const SIX: Shape = Shape {
     nodes: 6,
@@ -17,25 +17,63 @@ const SIX: Shape = Shape {
     fragments: 7,
 };
 
-/// Rows of all groups come back, and each node has those of its own. Where disks have changed places a restart gives
-/// the same rows, or is refused.
+/// Rows of all groups come back, and each node has those of its own. Where disks have changed places a restart is
+/// refused, or gives the same rows where they don't tell whose they are.
 pub fn three_groups(alloc: Global) -> Result<(), Trouble> {
     let mut disks = six_disks(alloc)?;
     prepare_six(alloc, &mut disks, &letters(alloc, 1)?)?;
     let found = restore_six(alloc, &mut disks)?;
     is_as(alloc, &found, &letters(alloc, 2)?)?;
     each_row_stands_twice(&mut disks)?;
-    exchanged_disks(alloc, &mut disks)
+    exchanged_disks(alloc, &mut disks)?;
+    for disk in &mut disks {
+        forget_owner(disk)?;
+    }
+    exchanged_without_owners(alloc, &mut disks)
 }
 
-// Where disks have changed places a restart gives the same rows, or names the first node that has those of another
-// group.
+// Where disks have changed places a restart names the first node that has another's.
 fn exchanged_disks(alloc: Global, disks: &mut [MemDisk]) -> Result<(), Trouble> {
+    exchange(disks, 0, 1)?;
+    is_anothers(alloc, disks, 1, 2)?;
+    exchange(disks, 0, 1)?;
+    exchange(disks, 2, 5)?;
+    is_anothers(alloc, disks, 3, 6)?;
+    exchange(disks, 2, 5)
+}
+
+// A restart is refused since this node's disk is another's.
+fn is_anothers(alloc: Global, disks: &mut [MemDisk], node: u8, owner: u8) -> Result<(), Trouble> {
+    let wanted = RestartFault::Damaged {
+        node,
+        file: CONTROL_FILE,
+        at: 8_193,
+        byte: owner,
+    };
+    is_refused_so(alloc, disks, wanted)
+}
+
+// A disk doesn't tell whose it is, as those of before.
+fn forget_owner(disk: &mut MemDisk) -> Result<(), Trouble> {
+    if disk
+        .write(CONTROL_FILE, place_of(OWNER), &[CLOSED])
+        .is_err()
+        || disk.sync(CONTROL_FILE).is_err()
+    {
+        return Err(Trouble::Layout);
+    }
+    Ok(())
+}
+
+// Where they don't tell whose they are a restart gives the same rows, or names the first node that has those of another
+// group.
+fn exchanged_without_owners(alloc: Global, disks: &mut [MemDisk]) -> Result<(), Trouble> {
     let wanted = letters(alloc, 2)?;
     exchange(disks, 0, 1)?;
     is_as(alloc, &restore_six(alloc, disks)?, &wanted)?;
     exchange(disks, 1, 3)?;
-    is_as(alloc, &restore_six(alloc, disks)?, &wanted)?;
+    is_refused(alloc, disks, 2)?;
+    exchange(disks, 1, 3)?;
     exchange(disks, 2, 4)?;
     is_refused(alloc, disks, 3)?;
     exchange(disks, 0, 5)?;
@@ -58,6 +96,14 @@ fn is_refused(alloc: Global, disks: &mut [MemDisk], node: u8) -> Result<(), Trou
         at: 0,
         byte: OPEN,
     };
+    is_refused_so(alloc, disks, wanted)
+}
+
+fn is_refused_so(
+    alloc: Global,
+    disks: &mut [MemDisk],
+    wanted: RestartFault,
+) -> Result<(), Trouble> {
     match restore_six(alloc, disks) {
         Ok(_) => Err(Trouble::NotRefused),
         Err(Trouble::Fault(found)) if found == wanted => Ok(()),

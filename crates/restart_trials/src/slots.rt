@@ -87,6 +87,23 @@ pub fn the_later_slots(alloc: Global, earlier: u64, later: u64) -> Result<(), Tr
     expect(alloc, &mut disks_of(&layout, &layout)?, &wanted)
 }
 
+/// All nodes of a group that count have the same rows, or the second is named.
+pub fn other_rows(alloc: Global) -> Result<(), Trouble> {
+    let one = layout_with(alloc, &[FIRST])?;
+    let changed = Life {
+        row: (b'a', b'2'),
+        ..FIRST
+    };
+    let other = layout_with(alloc, &[changed])?;
+    let fault = RestartFault::Damaged {
+        node: 2,
+        file: CONTROL_FILE,
+        at: 0,
+        byte: OPEN,
+    };
+    expect_fault(alloc, &mut disks_of(&one, &other)?, fault)
+}
+
 /// A node whose control file lost the later of its slots has no rows of the epoch: the next one has them, or the group
 /// has none.
 pub fn a_lost_slot(alloc: Global) -> Result<(), Trouble> {
@@ -135,8 +152,8 @@ pub fn a_lost_system_slot(alloc: Global) -> Result<(), Trouble> {
     expect_fault(alloc, &mut disks_of(&lost, &lost)?, fault)
 }
 
-/// So has one whose system file lost its later slot behind a local checkpoint, of which each row is older: the control
-/// slots tell that the later epoch was durable, so a row that was deleted before isn't given back as deleted.
+/// A node whose system file lost its later slot behind a local checkpoint, of which each row is older, is named too: its
+/// control slots tell that the later epoch was durable, so a row that was deleted before isn't given back as deleted.
 pub fn a_slot_lost_behind_a_checkpoint(alloc: Global) -> Result<(), Trouble> {
     a_slot_lost_behind(alloc, 10)?;
     a_slot_lost_behind(alloc, 11)

@@ -1,26 +1,28 @@
 -- Disks that a restart can't tell apart.
-use Rattle.std.proofs.Common.{◌≡◌, ◌∙◌, ℕ, zero, suc, ◌+◌, ◌*◌, Bool, true, false, nat_le, List, [], ◌∷◌, ◌++◌, refl, ap, sym, subst, if◌then◌else◌}
+use Rattle.std.proofs.Common.{◌≡◌, ◌∙◌, ℕ, zero, suc, ◌+◌, ◌*◌, Bool, true, false, List, [], ◌∷◌, ◌++◌, refl, ap, sym, subst, if◌then◌else◌}
 use Rattle.std.specs.Prelude.{Option, None, Some, Result, Ok, Err}
 use Rattle.frag_map.specs.Shape.{groups}
 use Rattle.sig_core.specs.Table.{Rows}
-use Rattle.sig_core.specs.declared.fault.ReadFault.{ReadFault}
 use Rattle.sig_core.specs.declared.fault.RestartFault.{RestartFault}
 use Rattle.sig_core.specs.declared.slots.ControlSlot.{ControlSlot}
 use Rattle.sig_core.specs.declared.slots.SystemSlot.{SystemSlot}
 use Rattle.sig_core.specs.declared.view.Shape.{Shape}
 use Rattle.sysfile_core.specs.declared.place.TheConstants.{CONTROL_FILE}
+use Rattle.sysfile_core.specs.Owner.{owner_of}
 use Rattle.sysfile_core.specs.Reading.{control_of_file}
-use Rattle.sys_restart.specs.declared.groups.Source.{Source}
 use Rattle.sys_restart.specs.declared.restored.Restored.{Restored}
 use Rattle.sys_restart.specs.Answers.{on_node}
 use Rattle.sys_restart.specs.Files.{Disks, Files}
-use Rattle.sys_restart.specs.Groups.{and_rows, control_on, first_listed, if_saved, is_listed, rows_by, rows_from, rows_of_group, rows_of_groups, source_of, source_or}
+use Rattle.sys_restart.specs.Groups.{also_on, and_rows, control_on, go_on, joined, rows_among, rows_from, rows_of_group, rows_of_groups, rows_on}
+use Rattle.sys_restart.specs.Lack.{lacking}
 use Rattle.sys_restart.specs.Latest.{later, latest_from, latest_of, latest_on}
 use Rattle.sys_restart.specs.Outdated.{is_outdated}
+use Rattle.sys_restart.specs.Owner.{is_owned}
 use Rattle.sys_restart.specs.Restored.{nothing_by, restored_by, restored_of, with_rows}
+use Rattle.sys_restart.specs.Same.{are_same}
 use Rattle.sys_restart.specs.SlotRows.{rows_of_slot}
-use Rattle.sys_restart.proofs.GroupsLemmas.{rows_fail}
-use Rattle.sys_restart.proofs.HeldLemmas.{held_alike, rows_are, rows_current}
+use Rattle.sys_restart.proofs.GroupsLemmas.{control_alike, control_there, group_among, group_found, rows_fail}
+use Rattle.sys_restart.proofs.HeldLemmas.{held_alike, rows_are, rows_current, rows_owned}
 use Rattle.sys_restart.proofs.LostLemmas.{StayUnsaved, lost_alike, nothing_only}
 
 pub same_answer : {A E : Type 0} (a b : A) (r : Result A E) → r ≡ Ok a → r ≡ Ok b → a ≡ b
@@ -36,7 +38,8 @@ pub not_none : {A : Type 0} (a : A) (x : Option A) → x ≡ None → x ≡ Some
 not_none a x one other = cc
 
 -- A restart of a generation reads the same of two disks of a node: the latest system slot; the control slot in use,
--- where it can be read; the rows of that slot; and that control slots tell of no later epoch.
+-- where it can be read; the rows of that slot; that control slots tell of no later epoch; and that the control file is
+-- the node's own, or no other's.
 pub record AreAlike (shape : Shape) (node generation : ℕ) (one two : Files) : Type 0 where
   pub system : latest_on shape node two ≡ latest_on shape node one
   pub slots :
@@ -48,10 +51,18 @@ pub record AreAlike (shape : Shape) (node generation : ℕ) (one two : Files) : 
   pub ahead :
       (epoch : ℕ) → is_outdated generation epoch (one CONTROL_FILE) ≡ false
       → is_outdated generation epoch (two CONTROL_FILE) ≡ false
+  pub owned :
+      is_owned node (owner_of (one CONTROL_FILE)) ≡ true → is_owned node (owner_of (two CONTROL_FILE)) ≡ true
 
 pub alike_itself : (shape : Shape) (node generation : ℕ) (files : Files) → AreAlike shape node generation files files
 alike_itself shape node generation files =
-    record { system = refl; slots = λ slot is. is; rows = λ slot epoch is. refl; ahead = λ epoch is. is }
+    record {
+      system = refl;
+      slots = λ slot is. is;
+      rows = λ slot epoch is. refl;
+      ahead = λ epoch is. is;
+      owned = λ is. is;
+    }
 
 abbrev pub AllAlike : Shape → ℕ → Disks → Disks → Type 0
 AllAlike shape generation one two = (node : ℕ) → AreAlike shape node generation (one node) (two node)
@@ -65,116 +76,92 @@ latest_alike shape generation one two alike node (suc more) found =
     ap (λ slot. latest_from shape two (node + 1) more (later found slot)) (alike node).system
     ∙ latest_alike shape generation one two alike (node + 1) more (later found (latest_on shape node (one node)))
 
--- what is read of a control slot, where it is known whether the node is listed and what the file has
-pub control_as : (system : SystemSlot) (node : ℕ) (files : Files) (listed : Bool)
-    (found : Result (Option ControlSlot) ReadFault) → is_listed system.mask node ≡ listed
-    → control_of_file system.generation (files CONTROL_FILE) ≡ found
-    → control_on system node files ≡ (if listed then if_saved system.epoch (on_node node found) else Ok None)
-control_as system node files listed found is so =
-    ap
-    (λ (b : Bool).
-    if b
-    then if_saved system.epoch (on_node node (control_of_file system.generation (files CONTROL_FILE))) else Ok None)
-    is
-    ∙ ap (λ read. if listed then if_saved system.epoch (on_node node read) else Ok None) so
-
--- the source is found on the disk of its node
-abbrev pub IsThere : SystemSlot → Disks → Source → Type 0
-IsThere system disks source =
-    control_of_file system.generation (disks source.node CONTROL_FILE) ≡ Ok (Some source.slot)
+-- what is joined depends on the rows of a disk alone
+joined_alike : (node : ℕ) (one two : Files) (found after : Option Rows) (part : Result Rows RestartFault)
+    → joined node one found part ≡ Ok after → joined node two found part ≡ Ok after
+joined_alike node one two found after (Err fault) is = is
+joined_alike node one two None after (Ok rows) is = is
+joined_alike node one two (Some rows) after (Ok other) is = by (are_same rows other) is
+  where
+    by : (b : Bool) → (if b then Ok (Some rows) else Err (lacking node CONTROL_FILE one)) ≡ Ok after
+        → (if b then Ok (Some rows) else Err (lacking node CONTROL_FILE two)) ≡ Ok after
+    by true is = is
+    by false is = absurd (no_answer (lacking node CONTROL_FILE one) after _ refl is)
 
 module _ (shape : Shape) (system : SystemSlot) (one two : Disks)
     (alike : AllAlike shape system.generation one two) where
-  unlisted : (node more : ℕ) (disks : Disks) (found : Result (Option ControlSlot) ReadFault) (listed : Bool)
-      → is_listed system.mask node ≡ listed → control_of_file system.generation (disks node CONTROL_FILE) ≡ found
-      → source_of disks system node (suc more)
-      ≡ source_or (source_of disks system (node + 1) more) node
-      (if listed then if_saved system.epoch (on_node node found) else Ok None)
-  unfolding source_of
-  unlisted node more disks found listed is so =
-      ap (source_or (source_of disks system (node + 1) more) node)
-      (control_as system node (disks node) listed found is so)
+  -- the rows of a slot on a node's disk
+  rows_alike : (node : ℕ) (slot : ControlSlot) (part : Rows)
+      → control_of_file system.generation (one node CONTROL_FILE) ≡ Ok (Some slot)
+      → rows_on shape system node (one node) slot ≡ Ok part → rows_on shape system node (two node) slot ≡ Ok part
+  rows_alike node slot part there is =
+      let was = rows_are shape system node (one node) slot part is in
+      rows_current shape system node (two node) slot
+      ((alike node).owned (rows_owned shape system node (one node) slot part is))
+      ((alike node).ahead system.epoch was.0)
+      ∙ held_alike shape node (one node) (two node) (on_node node (rows_of_slot system.epoch (one node) slot))
+      (on_node node (rows_of_slot system.epoch (two node) slot)) part
+      (ap (on_node node) ((alike node).rows slot system.epoch there)) was.1
 
-  -- the same of a slot, where it is known whether it was saved at the epoch
-  with_slot : (node more : ℕ) (disks : Disks) (slot : ControlSlot) (saved : Bool) → is_listed system.mask node ≡ true
-      → control_of_file system.generation (disks node CONTROL_FILE) ≡ Ok (Some slot)
-      → nat_le system.epoch slot.saved ≡ saved
-      → source_of disks system node (suc more)
-      ≡ source_or (source_of disks system (node + 1) more) node (Ok (if saved then Some slot else None))
-  with_slot node more disks slot saved is so so_saved =
-      unlisted node more disks (Ok (Some slot)) true is so
-      ∙ ap
-      (λ (b : Bool). source_or (source_of disks system (node + 1) more) node (Ok (if b then Some slot else None)))
-      so_saved
+  -- what is found on a node's disk beside what was found before
+  also_alike : (node : ℕ) (found after : Option Rows)
+      → also_on shape system node (one node) found (control_on system node (one node)) ≡ Ok after
+      → also_on shape system node (two node) found (control_on system node (two node)) ≡ Ok after
+  also_alike node found after is = by (control_on system node (one node)) refl
+    where
+      with_rows_of : (slot : ControlSlot) (part : Result Rows RestartFault)
+          → control_on system node (one node) ≡ Ok (Some slot)
+          → rows_on shape system node (one node) slot ≡ part
+          → also_on shape system node (two node) found (control_on system node (two node)) ≡ Ok after
+      with_rows_of slot (Err fault) e f =
+          absurd (no_answer fault after _ (ap (joined node (one node) found) f)
+          (sym (ap (also_on shape system node (one node) found) e) ∙ is))
+      with_rows_of slot (Ok rows) e f =
+          ap (also_on shape system node (two node) found)
+          (control_alike system node (one node) (two node) (Some slot) (alike node).slots e)
+          ∙ ap (joined node (two node) found)
+          (rows_alike node slot rows (control_there system node (one node) slot e) f)
+          ∙ joined_alike node (one node) (two node) found after (Ok rows)
+          (sym (ap (joined node (one node) found) f)
+          ∙ sym (ap (also_on shape system node (one node) found) e)
+          ∙ is)
 
-  pub sources_alike : (node more : ℕ) (source : Source) → source_of one system node more ≡ Ok (Some source)
-      → (source_of two system node more ≡ Ok (Some source)) × IsThere system one source
-  unfolding source_of
-  sources_alike node zero source is = absurd (none_there source is)
+      by : (slot : Result (Option ControlSlot) RestartFault) → control_on system node (one node) ≡ slot
+          → also_on shape system node (two node) found (control_on system node (two node)) ≡ Ok after
+      by (Err fault) e =
+          absurd (no_answer fault after _ (ap (also_on shape system node (one node) found) e) is)
+      by (Ok None) e =
+          ap (also_on shape system node (two node) found)
+          (control_alike system node (one node) (two node) None (alike node).slots e)
+          ∙ sym (ap (also_on shape system node (one node) found) e)
+          ∙ is
+      by (Ok (Some slot)) e = with_rows_of slot (rows_on shape system node (one node) slot) e refl
+
+  among_alike : (node more : ℕ) (found after : Option Rows)
+      → rows_among shape one system node more found ≡ Ok after
+      → rows_among shape two system node more found ≡ Ok after
+  unfolding rows_among
+  among_alike node zero found after is = is
+  among_alike node (suc more) found after is =
+      by (also_on shape system node (one node) found (control_on system node (one node)))
+      (λ next. among_alike (node + 1) more next after) refl
     where
-      none_there : (source : Source) → ◌≡◌ {A = Result (Option Source) RestartFault} (Ok None) (Ok (Some source)) → ⊥
-      none_there source is = cc
-  sources_alike node (suc more) source is =
-      by (is_listed system.mask node) (control_of_file system.generation (one node CONTROL_FILE))
-      (sources_alike (node + 1) more source) refl refl
-    where
-      by : (listed : Bool) (found : Result (Option ControlSlot) ReadFault)
-          → (source_of one system (node + 1) more ≡ Ok (Some source)
-          → (source_of two system (node + 1) more ≡ Ok (Some source)) × IsThere system one source)
-          → is_listed system.mask node ≡ listed
-          → control_of_file system.generation (one node CONTROL_FILE) ≡ found
-          → (source_of two system node (suc more) ≡ Ok (Some source)) × IsThere system one source
-      by false found again e f =
-          let first = sym (unlisted node more one found false e f) ∙ is in
-          let behind = again first in
-          (unlisted node more two _ false e refl ∙ behind.0, behind.1)
-      by true (Ok None) again e f =
-          let first = sym (unlisted node more one (Ok None) true e f) ∙ is in
-          let behind = again first in
-          (unlisted node more two (Ok None) true e ((alike node).slots None f) ∙ behind.0, behind.1)
-      by true (Ok (Some slot)) again e f = kept (nat_le system.epoch slot.saved) refl
-        where
-          kept : (saved : Bool) → nat_le system.epoch slot.saved ≡ saved
-              → (source_of two system node (suc more) ≡ Ok (Some source)) × IsThere system one source
-          kept false low =
-              let first = sym (with_slot node more one slot false e f low) ∙ is in
-              let behind = again first in
-              (with_slot node more two slot false e ((alike node).slots (Some slot) f) low ∙ behind.0, behind.1)
-          kept true up =
-              let it : Source = record { node = node; slot = slot } in
-              let first : ◌≡◌ {A = Result (Option Source) RestartFault} (Ok (Some it)) (Ok (Some source)) =
-              sym (with_slot node more one slot true e f up) ∙ is in
-              let same : it ≡ source = cc in (
-                with_slot node more two slot true e ((alike node).slots (Some slot) f) up ∙ first,
-                subst (IsThere system one) same f,
-              )
-      by true (Err fault) again e f =
-          absurd (no_answer _ (Some source) _ (unlisted node more one (Err fault) true e f) is)
+      by : (here : Result (Option Rows) RestartFault)
+          → ((next : Option Rows) → rows_among shape one system (node + 1) more next ≡ Ok after
+          → rows_among shape two system (node + 1) more next ≡ Ok after)
+          → also_on shape system node (one node) found (control_on system node (one node)) ≡ here
+          → rows_among shape two system node (suc more) found ≡ Ok after
+      by (Err fault) again e =
+          absurd (no_answer fault after _ (ap (go_on (rows_among shape one system (node + 1) more)) e) is)
+      by (Ok next) again e =
+          ap (go_on (rows_among shape two system (node + 1) more)) (also_alike node found next e)
+          ∙ again next (sym (ap (go_on (rows_among shape one system (node + 1) more)) e) ∙ is)
 
   pub group_alike : (first : ℕ) (part : Rows) → rows_of_group shape one system first ≡ Ok part
       → rows_of_group shape two system first ≡ Ok part
-  group_alike first part is = by (source_of one system first shape.replicas) refl
-    where
-      node : ℕ
-      node = first_listed system.mask first first shape.replicas
-
-      by : (found : Result (Option Source) RestartFault) → source_of one system first shape.replicas ≡ found
-          → rows_of_group shape two system first ≡ Ok part
-      by (Err fault) e = absurd (no_answer fault part _ (ap (rows_by shape one system node) e) is)
-      by (Ok None) e = absurd (no_answer _ part _ (ap (rows_by shape one system node) e) is)
-      by (Ok (Some source)) e =
-          let both = sources_alike first shape.replicas source e in
-          let was =
-          rows_are shape system source.node (one source.node) source.slot part
-          (sym (ap (rows_by shape one system node) e) ∙ is) in
-          ap (rows_by shape two system node) both.0
-          ∙ rows_current shape system source.node (two source.node) source.slot
-          ((alike source.node).ahead system.epoch was.0)
-          ∙ held_alike shape source.node (one source.node) (two source.node)
-          (on_node source.node (rows_of_slot system.epoch (one source.node) source.slot))
-          (on_node source.node (rows_of_slot system.epoch (two source.node) source.slot)) part
-          (ap (on_node source.node) ((alike source.node).rows source.slot system.epoch both.1))
-          was.1
+  group_alike first part is =
+      group_found shape two system first part
+      (among_alike first shape.replicas None (Some part) (group_among shape one system first part is))
 
   pub groups_alike : (group more : ℕ) (before all : List Rows)
       → rows_from shape one system group more (Ok before) ≡ Ok all

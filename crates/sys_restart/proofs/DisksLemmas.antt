@@ -6,7 +6,7 @@ use Rattle.host_io.specs.Call.{Call}
 use Rattle.host_io.specs.Fault.{Rose}
 use Rattle.sig_core.specs.declared.fault.RestartFault.{RestartFault}
 use Rattle.sig_core.specs.declared.fault.RestartFault.TheVariants.{Damaged, DiskFault, NoMemory, OtherShape, UsedUp}
-use Rattle.sys_restart.specs.Answers.{AreSteady, HasCauseAmong, HasCauseOf, IsCauseAmong, IsCauseOf}
+use Rattle.sys_restart.specs.Answers.{AreSteady, HasCauseAmong, IsCauseAmong, IsCauseOf}
 
 -- what is told of an element that stands at a place
 map_at : {A B : Type 0} (T : A → B) (xs : List A) (k : ℕ) (x : A) (none : B) → k < length xs
@@ -117,15 +117,6 @@ pub node_cause : {A : Type 0} (F : A → ℕ) (first xs : List A) (node k : ℕ)
 node_cause F first xs node k x new fault is below long steady cause =
     one_cause F first xs k x new fault below long steady
     (subst (λ (n : ℕ). IsCauseOf n (F (get_or xs k x)) (F new) fault) is cause)
-
--- the same of an answer
-pub node_answered : {A B : Type 0} (F : A → ℕ) (first xs : List A) (node k : ℕ) (x new : A)
-    (result : Result B RestartFault)
-    → node ≡ k + 1 → k < length xs → length first ≡ length xs → AreSteady (map F first) (map F xs)
-    → HasCauseOf node (F (get_or xs k x)) (F new) result → HasCauseAmong (map F first) (map F (set xs k new)) result
-node_answered F first xs node k x new (Ok done) is below long steady cause = tt
-node_answered F first xs node k x new (Err fault) is below long steady cause =
-    node_cause F first xs node k x new fault is below long steady cause
 
 -- as many elements tell as many things, whatever they tell
 pub same_size : {A B : Type 0} (T : A → B) (xs ys : List A) → map T xs ≡ map T ys → length xs ≡ length ys

@@ -1,5 +1,5 @@
 -- What is restored of each group is held by its nodes.
-use Rattle.std.proofs.Common.{◌≡◌, ◌∙◌, ℕ, zero, suc, ◌+◌, ◌*◌, ◌==◌, ◌≤◌, ◌<◌, true, List, [], ◌∷◌, ◌++◌, length, replicate, get_or, refl, ap, sym, subst, arith}
+use Rattle.std.proofs.Common.{◌≡◌, ◌∙◌, ℕ, zero, suc, ◌+◌, ◌*◌, ◌==◌, true, List, [], ◌∷◌, ◌++◌, length, replicate, get_or, refl, ap, sym, subst, arith}
 use Rattle.std.specs.Prelude.{Option, None, Some, Result, Ok, Err}
 use Rattle.std.specs.FinMap as finmap
 use Rattle.std.specs.List.{list_all}
@@ -8,20 +8,18 @@ use Rattle.frag_map.specs.Fragment.{group_of_key}
 use Rattle.frag_map.specs.Shape.{IsShape, groups}
 use Rattle.sig_core.specs.Table.{Rows}
 use Rattle.sig_core.specs.declared.fault.RestartFault.{RestartFault}
-use Rattle.sig_core.specs.declared.slots.ControlSlot.{ControlSlot}
 use Rattle.sig_core.specs.declared.slots.SystemSlot.{SystemSlot}
 use Rattle.sig_core.specs.declared.view.Shape.{Shape}
-use Rattle.sys_restart.specs.declared.groups.Source.{Source}
 use Rattle.sys_restart.specs.declared.restored.Restored.{Restored}
 use Rattle.sys_restart.specs.Answers.{on_node}
 use Rattle.sys_restart.specs.Files.{Disks}
-use Rattle.sys_restart.specs.Groups.{and_rows, control_on, first_listed, rows_by, rows_from, rows_of_group, rows_of_groups, source_of, source_or}
+use Rattle.sys_restart.specs.Groups.{and_rows, rows_from, rows_of_group, rows_of_groups}
 use Rattle.sys_restart.specs.Held.{are_held}
 use Rattle.sys_restart.specs.Latest.{latest_of}
 use Rattle.sys_restart.specs.Restored.{restored_by, restored_of, with_rows}
 use Rattle.sys_restart.specs.SlotRows.{rows_of_slot}
 use Rattle.sys_restart.proofs.AlikeLemmas.{no_answer, same_answer}
-use Rattle.sys_restart.proofs.GroupsLemmas.{rows_fail}
+use Rattle.sys_restart.proofs.GroupsLemmas.{group_is, rows_fail}
 use Rattle.sys_restart.proofs.HeldLemmas.{held_is, none_held, rows_are}
 use Rattle.sys_restart.proofs.LostLemmas.{nothing_only}
 use Rattle.sys_restart.proofs.SeatLemmas.{first_of_group, node_of_group}
@@ -70,62 +68,22 @@ nothing_held shape zero from = tt
 nothing_held shape (suc count) from =
     (none_held shape (from * shape.replicas + 1), nothing_held shape count (from + 1))
 
-no_source : (source : Source) → ◌≡◌ {A = Result (Option Source) RestartFault} (Ok None) (Ok (Some source)) → ⊥
-no_source source is = cc
-
-same_source : (one other : Source) → ◌≡◌ {A = Result (Option Source) RestartFault} (Ok (Some one)) (Ok (Some other))
-    → one ≡ other
-same_source one other is = cc
-
--- a source is one of the nodes that are gone through
-source_within : (disks : Disks) (system : SystemSlot) (node more : ℕ) (source : Source)
-    → source_of disks system node more ≡ Ok (Some source) → (node ≤ source.node) × (source.node < node + more)
-unfolding source_of
-source_within disks system node zero source is = absurd (no_source source is)
-source_within disks system node (suc more) source is =
-    by (control_on system node (disks node)) (source_within disks system (node + 1) more source) is
-  where
-    by : (found : Result (Option ControlSlot) RestartFault)
-        → (source_of disks system (node + 1) more ≡ Ok (Some source)
-        → (node + 1 ≤ source.node) × (source.node < node + 1 + more))
-        → source_or (source_of disks system (node + 1) more) node found ≡ Ok (Some source)
-        → (node ≤ source.node) × (source.node < node + suc more)
-    by (Err fault) again is = absurd (no_answer fault (Some source) _ refl is)
-    by (Ok None) again is =
-        let low = (again is).0 in
-        let high = (again is).1 in
-        (omega (arith, low), omega (arith, high))
-    by (Ok (Some slot)) again is =
-        let same : node ≡ source.node =
-        ap (λ (s : Source). s.node) (same_source (record { node = node; slot = slot }) source is) in
-        (omega (arith, same), omega (arith, same))
-
 module _ (shape : Shape) (is_shape : IsShape shape) (disks : Disks) where
   group_held : (system : SystemSlot) (group : ℕ) (part : Rows)
       → rows_of_group shape disks system (group * shape.replicas + 1) ≡ Ok part
       → are_held shape (group * shape.replicas + 1) part ≡ true
-  group_held system group part is = by (source_of disks system first shape.replicas) refl is
-    where
-      first : ℕ
-      first = group * shape.replicas + 1
-
-      by : (found : Result (Option Source) RestartFault) → source_of disks system first shape.replicas ≡ found
-          → rows_by shape disks system (first_listed system.mask first first shape.replicas) found ≡ Ok part
-          → are_held shape first part ≡ true
-      by (Err fault) e is = absurd (no_answer fault part _ refl is)
-      by (Ok None) e is = absurd (no_answer _ part _ refl is)
-      by (Ok (Some source)) e is =
-          let within = source_within disks system first shape.replicas source e in
-          let kept =
-          held_is shape source.node (disks source.node)
-          (on_node source.node (rows_of_slot system.epoch (disks source.node) source.slot)) part
-          (rows_are shape system source.node (disks source.node) source.slot part is).1 in
-          ap
-          (λ (of : ℕ). list_all (λ (row : List ℕ × List ℕ). of == group_of_key shape row.0) (finmap.entries part))
-          (first_of_group shape.replicas group is_shape.replicas_some is_shape.replicas_few
-          ∙ sym (node_of_group shape.replicas group source.node is_shape.replicas_some is_shape.replicas_few within.0
-          within.1))
-          ∙ kept.1
+  group_held system group part is =
+      let found = group_is shape disks system (group * shape.replicas + 1) part is in
+      let kept =
+      held_is shape found.node (disks found.node)
+      (on_node found.node (rows_of_slot system.epoch (disks found.node) found.slot)) part
+      (rows_are shape system found.node (disks found.node) found.slot part found.is).1 in
+      ap
+      (λ (of : ℕ). list_all (λ (row : List ℕ × List ℕ). of == group_of_key shape row.0) (finmap.entries part))
+      (first_of_group shape.replicas group is_shape.replicas_some is_shape.replicas_few
+      ∙ sym (node_of_group shape.replicas group found.node is_shape.replicas_some is_shape.replicas_few found.low
+      found.high))
+      ∙ kept.1
 
   groups_held : (system : SystemSlot) (group more : ℕ) (before all : List Rows) → length before ≡ group
       → AreHeldFrom shape 0 before → rows_from shape disks system group more (Ok before) ≡ Ok all

@@ -1,6 +1,6 @@
 -- Rows that are of the group of the node on whose disk they are.
-use Rattle.std.proofs.Common.{◌≡◌, ◌∙◌, ℕ, ◌-◌, ◌/◌, ◌%◌, ◌≤◌, ◌<◌, Bool, true, false, List, [], ◌∷◌, refl, ap, sym, subst, arith, if◌then◌else◌}
-use Rattle.std.specs.Prelude.{Result, Ok, Err}
+use Rattle.std.proofs.Common.{◌≡◌, ◌∙◌, ℕ, ◌+◌, ◌-◌, ◌==◌, ◌/◌, ◌%◌, ◌≤◌, ◌<◌, Bool, true, false, List, [], ◌∷◌, refl, ap, sym, subst, arith, if◌then◌else◌}
+use Rattle.std.specs.Prelude.{Option, None, Some, Result, Ok, Err}
 use Rattle.std.specs.FinMap as finmap
 use Rattle.std.specs.List.{list_all}
 use Rattle.std.proofs.Math.Nat.{div_self}
@@ -10,16 +10,21 @@ use Rattle.frag_map.specs.Fragment.{frag_of, group_of_key}
 use Rattle.frag_map.specs.Shape.{IsShape, group_of, groups}
 use Rattle.sig_core.specs.Table.{Rows}
 use Rattle.sig_core.specs.declared.fault.RestartFault.{RestartFault}
+use Rattle.sig_core.specs.declared.fault.RestartFault.TheVariants.{Damaged}
 use Rattle.sig_core.specs.declared.slots.ControlSlot.{ControlSlot}
 use Rattle.sig_core.specs.declared.slots.SystemSlot.{SystemSlot}
 use Rattle.sig_core.specs.declared.view.Shape.{Shape}
+use Rattle.sysfile_core.specs.declared.owner.TheConstants.{OWNER}
 use Rattle.sysfile_core.specs.declared.place.TheConstants.{CONTROL_FILE, SYSTEM_FILE}
+use Rattle.sysfile_core.specs.Owner.{owner_of}
+use Rattle.sysfile_core.specs.Places.{place_of}
 use Rattle.sys_restart.specs.Answers.{on_node}
 use Rattle.sys_restart.specs.Files.{Files}
-use Rattle.sys_restart.specs.Groups.{if_held, rows_on, unless_outdated}
+use Rattle.sys_restart.specs.Groups.{current_on, if_held, rows_on, unless_outdated}
 use Rattle.sys_restart.specs.Held.{are_held, is_held}
 use Rattle.sys_restart.specs.Lack.{lacking}
 use Rattle.sys_restart.specs.Outdated.{is_outdated}
+use Rattle.sys_restart.specs.Owner.{if_owned, is_owned}
 use Rattle.sys_restart.specs.SlotRows.{rows_of_slot}
 use Rattle.sys_restart.proofs.TableLemmas.{nothing_listed}
 
@@ -53,23 +58,48 @@ held_alike shape node one two found other part same is =
     let kept = held_is shape node one found part is in
     ap (if_held shape node two) (same ∙ kept.0) ∙ held_kept shape node two part kept.1
 
--- the rows of a disk whose control slots tell of no later epoch, and of one that gave rows
+-- rows that are read under a control file of the node's own, and what such a file is
+owned_kept : (node : ℕ) (owner : Option ℕ) (rows : Result Rows RestartFault) → is_owned node owner ≡ true
+    → if_owned node owner rows ≡ rows
+owned_kept node None rows own = refl
+owned_kept node (Some owner) rows own =
+    ap (λ (b : Bool). if b then rows else Err (Damaged node CONTROL_FILE (place_of OWNER + 1) owner)) own
+
+owned_is : (node : ℕ) (owner : Option ℕ) (rows : Result Rows RestartFault) (part : Rows)
+    → if_owned node owner rows ≡ Ok part → (is_owned node owner ≡ true) × (rows ≡ Ok part)
+owned_is node None rows part is = (refl, is)
+owned_is node (Some owner) rows part is = by (owner == node) is
+  where
+    by : (b : Bool) → (if b then rows else Err (Damaged node CONTROL_FILE (place_of OWNER + 1) owner)) ≡ Ok part
+        → (b ≡ true) × (rows ≡ Ok part)
+    by true is = (refl, is)
+    by false is = absurd (no_rows (Damaged node CONTROL_FILE (place_of OWNER + 1) owner) part is)
+
+-- the rows of a disk that is the node's own and whose control slots tell of no later epoch, and of one that gave rows
 pub rows_current : (shape : Shape) (system : SystemSlot) (node : ℕ) (files : Files) (slot : ControlSlot)
+    → is_owned node (owner_of (files CONTROL_FILE)) ≡ true
     → is_outdated system.generation system.epoch (files CONTROL_FILE) ≡ false
     → rows_on shape system node files slot
     ≡ if_held shape node files (on_node node (rows_of_slot system.epoch files slot))
-rows_current shape system node files slot is =
-    ap
+rows_current shape system node files slot own is =
+    owned_kept node (owner_of (files CONTROL_FILE)) (current_on shape system node files slot) own
+    ∙ ap
     (λ (b : Bool). unless_outdated node files b
     (if_held shape node files (on_node node (rows_of_slot system.epoch files slot))))
     is
+
+pub rows_owned : (shape : Shape) (system : SystemSlot) (node : ℕ) (files : Files) (slot : ControlSlot) (part : Rows)
+    → rows_on shape system node files slot ≡ Ok part → is_owned node (owner_of (files CONTROL_FILE)) ≡ true
+rows_owned shape system node files slot part is =
+    (owned_is node (owner_of (files CONTROL_FILE)) (current_on shape system node files slot) part is).0
 
 pub rows_are : (shape : Shape) (system : SystemSlot) (node : ℕ) (files : Files) (slot : ControlSlot) (part : Rows)
     → rows_on shape system node files slot ≡ Ok part
     → (is_outdated system.generation system.epoch (files CONTROL_FILE) ≡ false)
     × (if_held shape node files (on_node node (rows_of_slot system.epoch files slot)) ≡ Ok part)
 rows_are shape system node files slot part is =
-    by (is_outdated system.generation system.epoch (files CONTROL_FILE)) is
+    by (is_outdated system.generation system.epoch (files CONTROL_FILE))
+    (owned_is node (owner_of (files CONTROL_FILE)) (current_on shape system node files slot) part is).1
   where
     by : (b : Bool)
         → unless_outdated node files b (if_held shape node files (on_node node (rows_of_slot system.epoch files slot)))

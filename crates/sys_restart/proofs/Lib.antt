@@ -1,5 +1,6 @@
 pub mod AlikeLemmas
 pub mod AnswerLemmas
+pub mod AreSame
 pub mod ControlLemmas
 pub mod DisksLemmas
 pub mod FaultLemmas
@@ -19,6 +20,8 @@ pub mod NamingLemmas
 pub mod NextLemmas
 pub mod OutdatedLemmas
 pub mod OwnLemmas
+pub mod OwnerLemmas
+pub mod OwnerWrite
 pub mod PieceLemmas
 pub mod PlacesLemmas
 pub mod PrepareLemmas

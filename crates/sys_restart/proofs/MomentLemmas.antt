@@ -1,5 +1,5 @@
 -- What calls on one file of a disk leave, and what holds at each moment of calls of which some come behind others.
-use Rattle.std.proofs.Common.{◌≡◌, ◌∙◌, ◌⊎◌, ℕ, ◌+◌, ◌≤◌, ◌<◌, ◌==◌, Bool, true, false, List, [], ◌∷◌, ◌++◌, length, refl, ap, sym, subst, arith, inl, inr, if◌then◌else◌}
+use Rattle.std.proofs.Common.{◌≡◌, ◌∙◌, ◌⊎◌, ℕ, ◌+◌, ◌≤◌, ◌<◌, ◌==◌, Bool, true, false, List, [], ◌∷◌, ◌++◌, drop, length, length-append, suc, refl, ap, sym, subst, arith, inl, inr, if◌then◌else◌}
 use Rattle.std.specs.Prelude.{Option, Some}
 use Rattle.std.proofs.lemmas.Bool.{cases_lt, true≢false}
 use Rattle.host_io.specs.Call.{Call, Lost, Synced, Tore, Wrote}
@@ -8,7 +8,7 @@ use Rattle.host_io.specs.Image.{IsRecord}
 use Rattle.host_io.proofs.FileLemmas.{laid_ends}
 use Rattle.host_io.proofs.StateLemmas.{same_number}
 use Rattle.sysfile_core.specs.Runs.{Runs}
-use Rattle.sysfile_core.proofs.RunLemmas.{HoldsThrough, done, moments}
+use Rattle.sysfile_core.proofs.RunLemmas.{HoldsThrough, done, moments, run_longer}
 
 -- calls that come behind others: either one of the others failed, or they were all made
 pub runs_split : (asks more calls : List Call) (told : Option (List Call)) (ok : Bool)
@@ -55,6 +55,15 @@ AreOn file end (Wrote to at bytes ∷ asks) = (to ≡ file) × ((at + length byt
 AreOn file end (Synced to ∷ asks) = (to ≡ file) × AreOn file end asks
 AreOn file end (Tore to at asked piece ∷ asks) = ⊥
 AreOn file end (Lost files ∷ asks) = ⊥
+
+pub on_then : (file end : ℕ) (asks more : List Call) → AreOn file end asks → AreOn file end more
+    → AreOn file end (asks ++ more)
+on_then file end [] more are behind = behind
+on_then file end (Wrote to at bytes ∷ asks) more are behind =
+    (are.0, (are.1.0, on_then file end asks more are.1.1 behind))
+on_then file end (Synced to ∷ asks) more are behind = (are.0, on_then file end asks more are.1 behind)
+on_then file end (Tore to at asked piece ∷ asks) more are behind = absurd are
+on_then file end (Lost files ∷ asks) more are behind = absurd are
 
 -- it holds through such calls where it holds of a record, and each of them keeps it
 pub record IsKeptBy (file end : ℕ) (Holds : List Call → Type 0) : Type 0 where
@@ -206,3 +215,63 @@ moments_then Holds file end asks more calls after newer older ok first are behin
 
     below : length older < bound → Holds older
     below = moments (HoldsBelow Holds bound) (asks ++ more) calls after newer older ok all runs split long
+
+-- a moment of calls: they end at it or go on behind it
+pub record IsAmong (asks calls older : List Call) : Type 0 where
+  pub after : List Call
+  pub ok : Bool
+  pub newer : List Call
+  pub runs : Runs asks calls (Some after) ok
+  pub split : after ≡ newer ++ older
+
+-- a record that came in front of another
+abbrev GrewFrom : List Call → List Call → Type 0
+GrewFrom first moment = (more : List Call) × (moment ≡ more ++ first)
+
+grew_kept : (file end : ℕ) (first : List Call) → IsKeptBy file end (GrewFrom first)
+grew_kept file end first = record {
+  by_write = λ calls at bytes fits holds.
+      (Wrote file at bytes ∷ holds.0, ap (λ rest. Wrote file at bytes ∷ rest) holds.1);
+  by_tear = λ calls at asked piece few fits holds.
+      (Tore file at asked piece ∷ holds.0, ap (λ rest. Tore file at asked piece ∷ rest) holds.1);
+  by_sync = λ calls holds. (Synced file ∷ holds.0, ap (λ rest. Synced file ∷ rest) holds.1);
+}
+
+-- an end of a record that is no longer than another end is an end of that
+shorter_end : (newer more older first : List Call) → newer ++ older ≡ more ++ first → length older ≤ length first
+    → (rest : List Call) × (first ≡ rest ++ older)
+shorter_end newer [] older first same few = (newer, sym same)
+shorter_end [] (call ∷ more) older first same few =
+    let size : length older ≡ suc (length (more ++ first)) = ap length same in
+    absurd (omega (arith, size, length-append more first, few))
+shorter_end (one ∷ newer) (call ∷ more) older first same few =
+    shorter_end newer more older first (ap (drop 1) same) few
+
+-- A moment of calls of which some come behind others is one of the first ones, or of the others once the first are
+-- made.
+pub split_moment : (file end : ℕ) (asks more calls after newer older : List Call) (ok : Bool) → AreOn file end more
+    → Runs (asks ++ more) calls (Some after) ok → after ≡ newer ++ older
+    → IsAmong asks calls older
+    ⊎ (Runs asks calls (Some (done asks calls)) true × Runs more (done asks calls) (Some after) ok
+    × (length (done asks calls) ≤ length older))
+split_moment file end asks more calls after newer older ok are runs split =
+    elim (runs_split asks more calls (Some after) ok runs) [
+      | inl stopped ↦
+          inl (record { after = after; ok = false; newer = newer; runs = stopped.0; split = split })
+      | inr both ↦
+          elim (cases_lt (length (done asks calls)) (length older)) [
+            | inl later ↦ inr (both.0, both.1, omega (arith, later))
+            | inr early ↦ inl (early_one both.0 both.1 early)
+          ]
+    ]
+  where
+    early_one : Runs asks calls (Some (done asks calls)) true → Runs more (done asks calls) (Some after) ok
+        → length older ≤ length (done asks calls) → IsAmong asks calls older
+    early_one made behind early =
+        let (grew, is) =
+        moments (GrewFrom (done asks calls)) more (done asks calls) after [] after ok
+        (kept_through file end (GrewFrom (done asks calls)) more (done asks calls)
+        (grew_kept file end (done asks calls)) are ([], refl))
+        behind refl (run_longer more (done asks calls) after ok behind) in
+        let (rest, ends) = shorter_end newer grew older (done asks calls) (sym split ∙ is) early in
+        record { after = done asks calls; ok = true; newer = rest; runs = made; split = ends }

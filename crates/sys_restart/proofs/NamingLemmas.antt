@@ -18,6 +18,7 @@ use Rattle.sig_core.specs.declared.slots.SystemSlot.{SystemSlot}
 use Rattle.sig_core.specs.declared.view.Shape.{Shape}
 use Rattle.sysfile_core.specs.declared.place.TheConstants.{CONTROL_FILE, SYSTEM_FILE}
 use Rattle.sysfile_core.specs.declared.system.TheConstants.{SYSTEM_BYTES}
+use Rattle.sysfile_core.specs.Owner.{owner_of}
 use Rattle.sysfile_core.specs.Places.{place_of, slot_at}
 use Rattle.sysfile_core.specs.Reading.{control_of_file, is_earlier, later_system, system_at, system_by}
 use Rattle.sysfile_core.specs.Runs.{Runs}
@@ -32,6 +33,7 @@ use Rattle.sys_restart.specs.Latest.{later, latest_on, of_shape, same_shape}
 use Rattle.sys_restart.specs.Places.{free_of, free_system, usable}
 use Rattle.sys_restart.specs.Lost.{has_saved}
 use Rattle.sys_restart.specs.Outdated.{is_outdated}
+use Rattle.sys_restart.specs.Owner.{is_owned}
 use Rattle.sys_restart.specs.Prepared.{AreToBeNamed, HasSlot, IsBelow, IsNamedOrBelow, IsSettled, KeepsOrNames, RestartsAs, with_files}
 use Rattle.sys_restart.specs.SlotRows.{rows_of_slot}
 use Rattle.sys_restart.proofs.AlikeLemmas.{AreAlike, no_answer, not_none, restored_alike, same_answer}
@@ -344,6 +346,7 @@ system_alike before shape node generation image latest same = record {
   slots = λ slot is. ap (control_of_file generation) (same CONTROL_FILE (omega arith) refl) ∙ is;
   rows = rows_alike before generation image same;
   ahead = λ epoch is. ap (is_outdated generation epoch) (same CONTROL_FILE (omega arith) refl) ∙ is;
+  owned = λ is. ap (λ bytes. is_owned node (owner_of bytes)) (same CONTROL_FILE (omega arith) refl) ∙ is;
 }
 
 -- and a node that is prepared still is
@@ -357,6 +360,7 @@ still_prepared before shape node r image same slot has = record {
   start = has.start;
   end = has.end;
   has_rows = rows_alike before (r.generation + 1) image same slot r.epoch has.in_use ∙ has.has_rows;
+  owner = ap owner_of (same CONTROL_FILE (omega arith) refl) ∙ has.owner;
 }
 
 -- an image of which the life isn't named restarts as before

@@ -1,5 +1,5 @@
 -- Once a node's disk was prepared it has what it should.
-use Rattle.std.proofs.Common.{◌≡◌, ◌∙◌, ℕ, ◌+◌, ◌^◌, ◌<◌, ◌==◌, Bool, true, false, List, [], ◌∷◌, length, drop, take, refl, ap, sym, subst, arith, inl, inr, if◌then◌else◌}
+use Rattle.std.proofs.Common.{◌≡◌, ◌∙◌, ℕ, ◌+◌, ◌^◌, ◌<◌, ◌==◌, Bool, true, false, List, [], ◌∷◌, ◌++◌, length, drop, take, refl, ap, sym, subst, arith, inl, inr, if◌then◌else◌}
 use Rattle.std.specs.Prelude.{Option, None, Some, Ok}
 use Rattle.std.proofs.lemmas.Bool.{eqb-true, ne_eqb, true≢false}
 use Rattle.host_io.specs.Call.{Call, Synced, Wrote}
@@ -12,14 +12,13 @@ use Rattle.redo_log.specs.Stored.{files_of}
 use Rattle.sig_core.specs.Table.{Rows}
 use Rattle.sig_core.specs.declared.slots.ControlSlot.{ControlSlot}
 use Rattle.sig_core.specs.declared.view.Shape.{Shape}
-use Rattle.sysfile_core.specs.declared.control.TheConstants.{CONTROL_BYTES}
 use Rattle.sysfile_core.specs.declared.place.TheConstants.{CONTROL_FILE, OPEN, SYSTEM_FILE}
 use Rattle.sysfile_core.specs.Places.{place_of, slot_at}
 use Rattle.sysfile_core.specs.Reading.{control_at, control_by, control_of_file, later_control, of_generation}
 use Rattle.sysfile_core.specs.Runs.{Runs}
 use Rattle.sysfile_core.specs.Slots.{IsControlSlot, control_bytes}
-use Rattle.sysfile_core.specs.Writing.{closing_by, opening, stands_closed}
-use Rattle.sysfile_core.proofs.RunLemmas.{all_done, done}
+use Rattle.sysfile_core.specs.Writing.{closing_by, opening}
+use Rattle.sysfile_core.proofs.RunLemmas.{all_done, done, run_longer}
 use Rattle.sysfile_core.proofs.WriteLemmas.{written_stays}
 use Rattle.sys_restart.specs.declared.restored.Restored.{Restored}
 use Rattle.sys_restart.specs.Calls.{checkpoint_for, node_calls, piece_calls, rows_of_node}
@@ -30,11 +29,12 @@ use Rattle.sys_restart.specs.Redone.{log_of, records_in, redone}
 use Rattle.sys_restart.specs.SlotRows.{rows_of_slot, with_redo}
 use Rattle.sys_restart.proofs.ControlLemmas.{both_are, free_either, second_free}
 use Rattle.sys_restart.proofs.FaultLemmas.{rows_whole}
-use Rattle.sys_restart.proofs.KeepsLemmas.{HasNumbers, apart, bytes, control, file, first, mid, mid_leaves, places_now, readable, reaches, same_slot, second, slot, slot_write}
-use Rattle.sys_restart.proofs.MomentLemmas.{done_then, kept_in_the_end, longer, runs_record, runs_split}
-use Rattle.sys_restart.proofs.NextLemmas.{control_long, control_size, control_split, next_file_is, read_back, slot_on}
+use Rattle.sys_restart.proofs.KeepsLemmas.{HasNumbers, apart, bytes, control, file, first, mid, mid_leaves, own_write, placed, places_now, readable, reaches, rest_leaves, same_slot, second, slot, slot_write, third}
+use Rattle.sys_restart.proofs.MomentLemmas.{done_then, longer, runs_record, runs_split}
+use Rattle.sys_restart.proofs.NextLemmas.{control_long, control_size, control_split, next_file_is, read_back}
+use Rattle.sys_restart.proofs.OwnerWrite.{HasSlotsOf, IsOwnWrite, in_use_same, own_ends, slots_stay}
 use Rattle.sys_restart.proofs.SlotWrite.{IsMoment, IsSlotWrite, behind_has, is_write, other_has}
-use Rattle.sys_restart.proofs.StandsLemmas.{LeavesOthers, others_kept}
+use Rattle.sys_restart.proofs.StandsLemmas.{LeavesOthers}
 use Rattle.sys_restart.proofs.StoredLemmas.{after_synced, pieces_front, read_again}
 
 -- right after a sync nothing of a file is dirty
@@ -87,35 +87,63 @@ module _ (before : List Call) (shape : Shape) (node : ℕ) (r : Restored) (numbe
   abbrev the_second : List Call
   the_second = second before shape node r
 
+  abbrev the_placed : List Call
+  the_placed = placed before shape node r
+
+  abbrev the_third : List Call
+  the_third = third before shape node r
+
   abbrev free : ℕ
   free = (places_now before shape node r).free
 
-  both_runs : Runs (first before shape node r) before (Some the_mid) true × Runs the_second the_mid (Some after) true
-  both_runs =
-      elim (runs_split (first before shape node r) the_second before (Some after) true runs) [
+  first_runs : Runs (first before shape node r) before (Some the_mid) true
+      × Runs (the_second ++ the_third) the_mid (Some after) true
+  first_runs =
+      elim (runs_split (first before shape node r) (the_second ++ the_third) before (Some after) true runs) [
         | inl stopped ↦ absurd (true≢false stopped.1)
         | inr made ↦ made
       ]
 
-  is_after : after ≡ done the_second the_mid
-  is_after = all_done the_second the_mid after both_runs.1
+  both_runs : Runs the_second the_mid (Some the_placed) true × Runs the_third the_placed (Some after) true
+  both_runs =
+      elim (runs_split the_second the_third the_mid (Some after) true first_runs.1) [
+        | inl stopped ↦ absurd (true≢false stopped.1)
+        | inr made ↦ made
+      ]
 
-  write : IsSlotWrite the_mid after true CONTROL_FILE (control before shape node r) (place_of free)
+  write : IsSlotWrite the_mid the_placed true CONTROL_FILE (control before shape node r) (place_of free)
       (control_bytes the_slot)
-  write = slot_write before shape node r after true may.kept may.settled both_runs.0 both_runs.1
+  write = slot_write before shape node r the_placed true may.kept may.settled first_runs.0 both_runs.0
+
+  placed_kept : IsRecord the_placed
+  placed_kept = runs_record the_second the_mid (Some the_placed) both_runs.0 write.kept
+
+  -- then the control file is made the node's own
+  own : IsOwnWrite node the_placed after true
+  own = own_write before shape node r after true placed_kept both_runs.1
+
+  kept_now : IsRecord after
+  kept_now =
+      subst IsRecord (sym (all_done the_third the_placed after both_runs.1))
+      (runs_record the_third the_placed (Some after) both_runs.1 placed_kept)
+
+  -- and has the slots that it had
+  same_slots : HasSlotsOf node (files_of the_placed CONTROL_FILE) (files_of after CONTROL_FILE)
+  same_slots =
+      slots_stay node the_placed after after true (files_of after) own
+      (record {
+        newer = [];
+        split = refl;
+        long = run_longer the_third the_placed after true both_runs.1;
+        left = reads_as_an_image after kept_now;
+      })
 
   fits : IsControlSlot the_slot
-  fits = readable before shape node r numbers both_runs.0
+  fits = readable before shape node r numbers first_runs.0
 
-  -- the slot's write leaves the other files
+  -- the calls on the control file leave the other files
   slot_leaves : LeavesOthers CONTROL_FILE (state_of the_mid) after
-  slot_leaves =
-      subst (LeavesOthers CONTROL_FILE (state_of the_mid)) (sym is_after)
-      (kept_in_the_end CONTROL_FILE (place_of free + CONTROL_BYTES) (LeavesOthers CONTROL_FILE (state_of the_mid))
-      the_second the_mid (others_kept CONTROL_FILE (place_of free + CONTROL_BYTES) (state_of the_mid))
-      (slot_on (stands_closed (place_of free) (control before shape node r)) CONTROL_FILE (place_of free)
-      (place_of free + CONTROL_BYTES) (drop 1 (control_bytes the_slot)) (omega (arith, control_size the_slot)))
-      (λ other away. refl))
+  slot_leaves = rest_leaves before shape node r after runs
 
   pieces : List Call
   pieces = done (piece_calls (length (bytes before shape node r)) the_file 0 (bytes before shape node r)) before
@@ -138,10 +166,7 @@ module _ (before : List Call) (shape : Shape) (node : ℕ) (r : Restored) (numbe
       by true b e f =
           let here : CONTROL_FILE ≡ other = eqb-true CONTROL_FILE other e in
           subst (λ (n : ℕ). state_of after n ≡ settled (files_of after n)) here
-          (subst (λ (calls : List Call). state_of calls CONTROL_FILE ≡ settled (files_of calls CONTROL_FILE))
-          (sym is_after)
-          (slot_settles (stands_closed (place_of free) (control before shape node r)) CONTROL_FILE (place_of free)
-          (drop 1 (control_bytes the_slot)) the_mid))
+          (own_ends node the_placed after own).1
       by false true e f =
           let here : the_file ≡ other = eqb-true the_file other f in
           same (slot_leaves other e)
@@ -162,39 +187,36 @@ module _ (before : List Call) (shape : Shape) (node : ℕ) (r : Restored) (numbe
       (ne_eqb the_file SYSTEM_FILE
       (λ same. absurd (omega (arith, same, (next_file_is (places_now before shape node r).in_use).0)))))
 
-  -- the disk as it reads is what a crash leaves in the end
-  moment_now : IsMoment the_mid after after (files_of after)
+  -- the disk as it reads behind the slot's write is what a crash leaves then
+  moment_now : IsMoment the_mid the_placed the_placed (files_of the_placed)
   moment_now = record {
     newer = [];
     split = refl;
-    long = omega (arith, longer the_second the_mid, ap length is_after);
-    left = reads_as_an_image after kept_now;
+    long = longer the_second the_mid;
+    left = reads_as_an_image the_placed placed_kept;
   }
-    where
-      kept_now : IsRecord after
-      kept_now =
-          subst IsRecord (sym is_after)
-          (runs_record the_second the_mid (Some after) both_runs.1 write.kept)
 
   -- the slot stands at its place
-  at_free : control_at free (files_of after CONTROL_FILE) ≡ Ok (Some the_slot)
+  at_free : control_at free (files_of the_placed CONTROL_FILE) ≡ Ok (Some the_slot)
   at_free =
       let place = place_of free in
       let body = drop 1 (control_bytes the_slot) in
-      let stands : slot_at place (1 + length body) (files_of after CONTROL_FILE) ≡ Some (OPEN ∷ body) =
-      (written_stays the_mid after CONTROL_FILE place body
-      (is_write the_mid after after true CONTROL_FILE (control before shape node r) place (control_bytes the_slot)
-      (files_of after) write moment_now)).1 in
-      ap (λ (n : ℕ). control_by place (slot_at place n (files_of after CONTROL_FILE))) (sym (control_size the_slot))
+      let stands : slot_at place (1 + length body) (files_of the_placed CONTROL_FILE) ≡ Some (OPEN ∷ body) =
+      (written_stays the_mid the_placed CONTROL_FILE place body
+      (is_write the_mid the_placed the_placed true CONTROL_FILE (control before shape node r) place
+      (control_bytes the_slot)
+      (files_of the_placed) write moment_now)).1 in
+      ap (λ (n : ℕ). control_by place (slot_at place n (files_of the_placed CONTROL_FILE)))
+      (sym (control_size the_slot))
       ∙ ap (control_by place) (stands ∙ ap Some (control_split the_slot))
       ∙ read_back place the_slot fits
 
   -- and the other one as before
-  in_use : control_of_file (r.generation + 1) (files_of after CONTROL_FILE) ≡ Ok (Some the_slot)
-  in_use = by may.control
+  placed_in_use : control_of_file (r.generation + 1) (files_of the_placed CONTROL_FILE) ≡ Ok (Some the_slot)
+  placed_in_use = by may.control
     where
       now : List ℕ
-      now = files_of after CONTROL_FILE
+      now = files_of the_placed CONTROL_FILE
 
       it : of_generation (r.generation + 1) (Some the_slot) ≡ Some the_slot
       it = of_itself (r.generation + 1) the_slot refl
@@ -206,11 +228,11 @@ module _ (before : List Call) (shape : Shape) (node : ℕ) (r : Restored) (numbe
           subst (λ (w : ℕ). control_at w now ≡ Ok (Some the_slot)) is at_free in
           let other : control_at 1 now ≡ Ok kept =
           same_slot 1 (length (control_bytes the_slot)) (control before shape node r) now (control_long the_slot)
-          (behind_has the_mid after after true CONTROL_FILE (control before shape node r) (place_of 0)
+          (behind_has the_mid the_placed the_placed true CONTROL_FILE (control before shape node r) (place_of 0)
           (control_bytes the_slot)
-          (files_of after)
+          (files_of the_placed)
           (subst
-          (λ (w : ℕ). IsSlotWrite the_mid after true CONTROL_FILE (control before shape node r) (place_of w)
+          (λ (w : ℕ). IsSlotWrite the_mid the_placed true CONTROL_FILE (control before shape node r) (place_of w)
           (control_bytes the_slot))
           is write)
           moment_now (place_of 1) (omega (arith, control_long the_slot)))
@@ -227,11 +249,11 @@ module _ (before : List Call) (shape : Shape) (node : ℕ) (r : Restored) (numbe
           let there = second_free r.generation (control before shape node r) is in
           let one : control_at 0 now ≡ Ok kept =
           same_slot 0 (length (control_bytes the_slot)) (control before shape node r) now (control_long the_slot)
-          (other_has the_mid after after true CONTROL_FILE (control before shape node r) (place_of 1)
+          (other_has the_mid the_placed the_placed true CONTROL_FILE (control before shape node r) (place_of 1)
           (control_bytes the_slot)
-          (files_of after)
+          (files_of the_placed)
           (subst
-          (λ (w : ℕ). IsSlotWrite the_mid after true CONTROL_FILE (control before shape node r) (place_of w)
+          (λ (w : ℕ). IsSlotWrite the_mid the_placed true CONTROL_FILE (control before shape node r) (place_of w)
           (control_bytes the_slot))
           is write)
           moment_now (place_of 0) (inl (omega (arith, control_long the_slot)))
@@ -260,6 +282,11 @@ module _ (before : List Call) (shape : Shape) (node : ℕ) (r : Restored) (numbe
                 ∙ reads)
                 none
           ]
+
+  in_use : control_of_file (r.generation + 1) (files_of after CONTROL_FILE) ≡ Ok (Some the_slot)
+  in_use =
+      in_use_same node (files_of the_placed CONTROL_FILE) (files_of after CONTROL_FILE) same_slots (r.generation + 1)
+      ∙ placed_in_use
 
   -- the file has the checkpoint in front
   file_front : take (length (bytes before shape node r)) (files_of after the_file) ≡ bytes before shape node r
@@ -295,6 +322,7 @@ module _ (before : List Call) (shape : Shape) (node : ℕ) (r : Restored) (numbe
         start = refl;
         end = refl;
         has_rows = has_rows;
+        owner = (own_ends node the_placed after own).0;
       },
     ),
   )

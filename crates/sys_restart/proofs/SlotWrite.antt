@@ -85,27 +85,26 @@ module _ (mid after older : List Call) (ok : Bool) (file : ℕ) (old : List ℕ)
       by (inr (inr (before, is, same))) =
           inr (inr (sym same ∙ ap (slot_at place (length whole)) (settled_is_kept old before is)))
 
-  -- another place keeps its slot, where the file reaches so far
-  pub other_has : (other : ℕ) → (other + length whole ≤ place) ⊎ (place + length whole ≤ other)
-      → other + length whole ≤ length old
-      → slot_at other (length whole) (image file) ≡ slot_at other (length whole) old
-  other_has other apart within =
-      let kept : IsKept (state_of mid file) other (other + length whole) =
-      subst (λ (s : FileState). IsKept s other (other + length whole)) (sym write.settled_so)
+  -- another place keeps what stands there, where the file reaches so far
+  pub part_has : (other size : ℕ) → 0 < size → (other + size ≤ place) ⊎ (place + length whole ≤ other)
+      → other + size ≤ length old → slot_at other size (image file) ≡ slot_at other size old
+  part_has other size some apart within =
+      let kept : IsKept (state_of mid file) other (other + size) =
+      subst (λ (s : FileState). IsKept s other (other + size)) (sym write.settled_so)
       (record { synced = within; clean = λ at low high. refl }) in
-      other_stays mid after ok file place (drop 1 whole) other (length whole) is_write
-      (subst (λ (n : ℕ). (other + length whole ≤ place) ⊎ (place + n ≤ other)) (sym size_is) apart)
-      (omega (arith, write.some)) kept moment.newer older moment.split moment.long image moment.left
-      ∙ ap (λ (s : FileState). slot_at other (length whole) s.bytes) write.settled_so
+      other_stays mid after ok file place (drop 1 whole) other size is_write
+      (subst (λ (n : ℕ). (other + size ≤ place) ⊎ (place + n ≤ other)) (sym size_is) apart) some kept moment.newer older
+      moment.split moment.long image moment.left
+      ∙ ap (λ (s : FileState). slot_at other size s.bytes) write.settled_so
 
-  -- and where it doesn't, it has none before and after
-  pub none_beyond : (other : ℕ) → place + length whole ≤ other → length old < other + length whole
-      → slot_at other (length whole) (image file) ≡ slot_at other (length whole) old
-  none_beyond other apart short =
-      let last = other + length whole - 1 in
+  -- and where it doesn't, none stands there before and after
+  part_beyond : (other size : ℕ) → 0 < size → place + length whole ≤ other → length old < other + size
+      → slot_at other size (image file) ≡ slot_at other size old
+  part_beyond other size some apart short =
+      let last = other + size - 1 in
       let calls = slot_calls old file place (drop 1 whole) in
       let are : AreOn file last calls =
-      slot_on (stands_closed place old) file place last (drop 1 whole) (omega (arith, size_is, apart, write.some)) in
+      slot_on (stands_closed place old) file place last (drop 1 whole) (omega (arith, size_is, apart, some)) in
       let first : EndsWithin file last mid =
       subst (λ (s : FileState). length s.bytes ≤ last) (sym write.settled_so) (omega (arith, short)) in
       let through : HoldsThrough (EndsWithin file last) calls mid =
@@ -114,14 +113,23 @@ module _ (mid after older : List Call) (ok : Bool) (file : ℕ) (old : List ℕ)
       moments (EndsWithin file last) calls mid after moment.newer older ok through write.runs moment.split moment.long
       in
       let ends = (moment.left file write.there).to_end in
-      short_slot other (length whole) (image file) (omega (arith, here, ends, write.some))
-      ∙ sym (short_slot other (length whole) old short)
+      short_slot other size (image file) (omega (arith, here, ends, some)) ∙ sym (short_slot other size old short)
 
   -- so a place behind it is as it was, however long the file is
+  pub part_behind : (other size : ℕ) → 0 < size → place + length whole ≤ other
+      → slot_at other size (image file) ≡ slot_at other size old
+  part_behind other size some apart =
+      elim (cases_lt (length old) (other + size)) [
+        | inl short ↦ part_beyond other size some apart short
+        | inr within ↦ part_has other size some (inr apart) within
+      ]
+
+  -- the same of a slot of the same size
+  pub other_has : (other : ℕ) → (other + length whole ≤ place) ⊎ (place + length whole ≤ other)
+      → other + length whole ≤ length old
+      → slot_at other (length whole) (image file) ≡ slot_at other (length whole) old
+  other_has other apart within = part_has other (length whole) (omega (arith, write.some)) apart within
+
   pub behind_has : (other : ℕ) → place + length whole ≤ other
       → slot_at other (length whole) (image file) ≡ slot_at other (length whole) old
-  behind_has other apart =
-      elim (cases_lt (length old) (other + length whole)) [
-        | inl short ↦ none_beyond other apart short
-        | inr within ↦ other_has other (inr apart) within
-      ]
+  behind_has other apart = part_behind other (length whole) (omega (arith, write.some)) apart

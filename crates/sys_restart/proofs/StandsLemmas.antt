@@ -12,11 +12,13 @@ use Rattle.sig_core.specs.Ring.{file_of}
 use Rattle.sig_core.specs.declared.slots.ControlSlot.{ControlSlot}
 use Rattle.sig_core.specs.declared.view.Shape.{Shape}
 use Rattle.sysfile_core.specs.declared.place.TheConstants.{CONTROL_FILE, SYSTEM_FILE}
+use Rattle.sysfile_core.specs.Owner.{owner_of}
 use Rattle.sysfile_core.specs.Reading.{control_of_file, system_at}
 use Rattle.sys_restart.specs.Files.{Disks, Files}
 use Rattle.sys_restart.specs.Latest.{later, of_shape}
 use Rattle.sys_restart.specs.Lost.{has_saved}
 use Rattle.sys_restart.specs.Outdated.{is_outdated}
+use Rattle.sys_restart.specs.Owner.{is_owned}
 use Rattle.sys_restart.specs.Prepared.{IsSettled, with_files}
 use Rattle.sys_restart.proofs.AlikeLemmas.{AllAlike, AreAlike, alike_itself}
 use Rattle.sys_restart.proofs.ControlLemmas.{in_use_names}
@@ -45,8 +47,8 @@ others_kept file end states = record {
 
 -- An image is near to what a disk reads as: it is the same but for one file and the control slots. Of these the one in
 -- use still is, they tell of no later epoch where they didn't, and no rows were saved under them where none were and
--- none are saved at the epoch.
-pub record IsNear (before : List Call) (file generation epoch : ℕ) (image : Files) : Type 0 where
+-- none are saved at the epoch. The control file is the node's own, or no other's, where it was.
+pub record IsNear (before : List Call) (node file generation epoch : ℕ) (image : Files) : Type 0 where
   pub others :
       (other : ℕ) → other < FILES → (file == other) ≡ false → (CONTROL_FILE == other) ≡ false
       → image other ≡ files_of before other
@@ -58,16 +60,20 @@ pub record IsNear (before : List Call) (file generation epoch : ℕ) (image : Fi
       → is_outdated generation bound (image CONTROL_FILE) ≡ false
   pub unsaved :
       epoch ≡ 0 → has_saved (files_of before CONTROL_FILE) ≡ false → has_saved (image CONTROL_FILE) ≡ false
+  pub owned :
+      is_owned node (owner_of (files_of before CONTROL_FILE)) ≡ true
+      → is_owned node (owner_of (image CONTROL_FILE)) ≡ true
 
 -- while the file is written
-pub near_file : (before moment : List Call) (file generation epoch : ℕ) (image : Files) → IsSettled before
+pub near_file : (before moment : List Call) (node file generation epoch : ℕ) (image : Files) → IsSettled before
     → LeavesOthers file (state_of before) moment → (file == CONTROL_FILE) ≡ false → IsLeft moment image
-    → IsNear before file generation epoch image
-near_file before moment file generation epoch image settles leaves apart left = record {
+    → IsNear before node file generation epoch image
+near_file before moment node file generation epoch image settles leaves apart left = record {
   others = λ other there not_file not_control. same other there not_file;
   slots = λ slot is. ap (control_of_file generation) (same CONTROL_FILE (omega arith) apart) ∙ is;
   ahead = λ bound is. ap (is_outdated generation bound) (same CONTROL_FILE (omega arith) apart) ∙ is;
   unsaved = λ zero is. ap has_saved (same CONTROL_FILE (omega arith) apart) ∙ is;
+  owned = λ own. ap (λ bytes. is_owned node (owner_of bytes)) (same CONTROL_FILE (omega arith) apart) ∙ own;
 }
   where
     same : (other : ℕ) → other < FILES → (file == other) ≡ false → image other ≡ files_of before other
@@ -76,7 +82,7 @@ near_file before moment file generation epoch image settles leaves apart left = 
 
 -- a near image is as good as the disk
 pub near_alike : (before : List Call) (shape : Shape) (node file generation epoch : ℕ) (image : Files)
-    → IsNear before file generation epoch image → 2 ≤ file → file ≤ 3
+    → IsNear before node file generation epoch image → 2 ≤ file → file ≤ 3
     → ((slot : ControlSlot) → control_of_file generation (files_of before CONTROL_FILE) ≡ Ok (Some slot)
     → (file == slot.ckpt_file) ≡ false)
     → AreAlike shape node generation (files_of before) image
@@ -97,6 +103,7 @@ near_alike before shape node file generation epoch image near least most apart =
       (ne_eqb file (file_of slot.parity position) (λ same. absurd (omega (arith, same, at.0, most))))
       (ne_eqb CONTROL_FILE (file_of slot.parity position) (λ same. absurd (omega (arith, same, at.0)))));
   ahead = near.ahead;
+  owned = near.owned;
 }
 
 -- files that are the same are as good
@@ -113,6 +120,7 @@ settled_alike before shape node generation image same = record {
       rows_same epoch (files_of before) image slot (same slot.ckpt_file (omega (arith, names.most)))
       (λ position. same (file_of slot.parity position) (redo_file slot.parity position names.parity).1);
   ahead = λ epoch is. ap (is_outdated generation epoch) (same CONTROL_FILE (omega arith)) ∙ is;
+  owned = λ own. ap (λ bytes. is_owned node (owner_of bytes)) (same CONTROL_FILE (omega arith)) ∙ own;
 }
 
 -- all disks are alike where those of one node are

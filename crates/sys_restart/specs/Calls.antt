@@ -1,5 +1,5 @@
 -- The calls by which the disk of a node is made ready for the next life of its cluster.
-use Rattle.std.specs.Prelude.{◌≡◌, ℕ, zero, suc, ◌+◌, ◌-◌, ◌/◌, ◌^◌, ◌==◌, ◌||◌, Bool, true, false, List, [], ◌∷◌, ◌++◌, map, take, drop, length, get_or, Option, None, Some, Result, Ok, Err, if◌then◌else◌}
+use Rattle.std.specs.Prelude.{◌≡◌, ℕ, zero, suc, ◌+◌, ◌-◌, ◌/◌, ◌^◌, ◌==◌, ◌||◌, max, nat_lt, Bool, true, false, List, [], ◌∷◌, ◌++◌, map, take, drop, length, get_or, Option, None, Some, Result, Ok, Err, if◌then◌else◌}
 use Rattle.std.specs.FinMap as finmap
 use Rattle.std.specs.List.{flat_map}
 use Rattle.frag_map.specs.Shape.{group_of}
@@ -14,7 +14,9 @@ use Rattle.sig_core.specs.declared.slots.ControlSlot.{ControlSlot}
 use Rattle.sig_core.specs.declared.slots.SystemSlot.{SystemSlot}
 use Rattle.sig_core.specs.declared.stored_row.StoredRow.{StoredRow}
 use Rattle.sig_core.specs.declared.view.Shape.{Shape}
-use Rattle.sysfile_core.specs.declared.place.TheConstants.{CONTROL_FILE, SYSTEM_FILE}
+use Rattle.sysfile_core.specs.declared.control.TheConstants.{CONTROL_BYTES}
+use Rattle.sysfile_core.specs.declared.place.TheConstants.{CLOSED, CONTROL_FILE, SYSTEM_FILE}
+use Rattle.sysfile_core.specs.Owner.{owner_calls}
 use Rattle.sysfile_core.specs.Places.{place_of}
 use Rattle.sysfile_core.specs.Runs.{Runs}
 use Rattle.sysfile_core.specs.Slots.{control_bytes, system_bytes}
@@ -81,20 +83,37 @@ piece_calls (suc more) file at (byte ∷ bytes) =
 abbrev pub file_calls : ℕ → List ℕ → List Call
 file_calls file bytes = piece_calls (length bytes) file 0 bytes ++ Synced file ∷ []
 
--- those that write a checkpoint, and behind it a control slot at a place of a control file of these bytes
-abbrev pub write_calls : List ℕ → ℕ → ControlSlot → List ℕ → List Call
-write_calls control which slot bytes =
-    file_calls slot.ckpt_file bytes
-    ++ slot_calls control CONTROL_FILE (place_of which) (drop 1 (control_bytes slot))
+-- The calls that close the gate at the second place of a control file that ends before a slot there would. What a crash
+-- leaves beyond the synced end of a file may be any bytes: of a file that grows over the place it might leave an open
+-- slot there, were its gate not closed before.
+abbrev pub closing_second : ℕ → List Call
+closing_second size =
+    if nat_lt size (place_of 1 + CONTROL_BYTES)
+    then Wrote CONTROL_FILE (place_of 1) (CLOSED ∷ []) ∷ Synced CONTROL_FILE ∷ [] else []
 
-abbrev pub node_calls_at : List ℕ → Places → Restored → List ℕ → List Call
-node_calls_at control places r bytes =
-    write_calls control places.free (next_slot r places.in_use (length bytes)) bytes
+-- those by which a control file of this size, which had these bytes before the slot was written, is made a node's own
+abbrev pub own_calls : ℕ → ℕ → List ℕ → List Call
+own_calls node size control = closing_second size ++ owner_calls node control
+
+-- Those that write a control slot at a place of a control file of these bytes, which is then made the node's own.
+abbrev pub control_calls : ℕ → List ℕ → ℕ → ControlSlot → List Call
+control_calls node control which slot =
+    slot_calls control CONTROL_FILE (place_of which) (drop 1 (control_bytes slot))
+    ++ own_calls node (max (length control) (place_of which + CONTROL_BYTES)) control
+
+-- those that write a checkpoint, and these behind it
+abbrev pub write_calls : ℕ → List ℕ → ℕ → ControlSlot → List ℕ → List Call
+write_calls node control which slot bytes =
+    file_calls slot.ckpt_file bytes ++ control_calls node control which slot
+
+abbrev pub node_calls_at : ℕ → List ℕ → Places → Restored → List ℕ → List Call
+node_calls_at node control places r bytes =
+    write_calls node control places.free (next_slot r places.in_use (length bytes)) bytes
 
 -- the calls that prepare a node, whose disk has this record
 abbrev pub node_calls : List Call → Shape → ℕ → Restored → List Call
 node_calls calls shape node r =
-    node_calls_at (files_of calls CONTROL_FILE) (control_places r.generation (files_of calls CONTROL_FILE)) r
+    node_calls_at node (files_of calls CONTROL_FILE) (control_places r.generation (files_of calls CONTROL_FILE)) r
     (checkpoint_for shape node r)
 
 -- the calls that name the next life on a node's disk

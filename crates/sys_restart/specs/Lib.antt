@@ -10,10 +10,12 @@ pub mod LifeCalls
 pub mod Lost
 pub mod Outdated
 pub mod Own
+pub mod Owner
 pub mod Places
 pub mod Prepared
 pub mod ReadyDisks
 pub mod Redone
 pub mod Restored
+pub mod Same
 pub mod Settle
 pub mod SlotRows

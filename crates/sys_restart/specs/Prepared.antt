@@ -17,6 +17,7 @@ use Rattle.sig_core.specs.declared.slots.SystemSlot.{SystemSlot}
 use Rattle.sig_core.specs.declared.value.TheConstants.{VALUE_BYTES}
 use Rattle.sig_core.specs.declared.view.Shape.{Shape}
 use Rattle.sysfile_core.specs.declared.place.TheConstants.{CONTROL_FILE, SYSTEM_FILE}
+use Rattle.sysfile_core.specs.Owner.{owner_of}
 use Rattle.sysfile_core.specs.Reading.{control_at, control_of_file, of_generation, system_of_file}
 use Rattle.sys_restart.specs.declared.restored.Restored.{Restored}
 use Rattle.sys_restart.specs.Calls.{next_system, rows_of_node}
@@ -53,7 +54,8 @@ pub record MayPrepare (shape : Shape) (node : ℕ) (r : Restored) (calls : List 
   pub control : HasKept r.generation (files_of calls CONTROL_FILE)
   pub rows : AreStorable (rows_of_node shape node r)
 
--- files have the control slot with which a node begins the life behind what was restored, and under it its rows
+-- files have the control slot with which a node begins the life behind what was restored, and under it its rows; its
+-- control file is its own
 pub record HasSlot (shape : Shape) (node : ℕ) (r : Restored) (files : Files) (slot : ControlSlot) : Type 0 where
   pub in_use : control_of_file (r.generation + 1) (files CONTROL_FILE) ≡ Ok (Some slot)
   pub serial : slot.serial ≡ 1
@@ -61,6 +63,7 @@ pub record HasSlot (shape : Shape) (node : ℕ) (r : Restored) (files : Files) (
   pub start : slot.redo_start ≡ 0
   pub end : slot.redo_end ≡ 0
   pub has_rows : rows_of_slot r.epoch files slot ≡ Ok (rows_of_node shape node r)
+  pub owner : owner_of (files CONTROL_FILE) ≡ Some node
 
 -- a node's disk is prepared for that life
 abbrev pub HasPrepared : Shape → ℕ → Restored → List Call → Type 0

@@ -1,5 +1,5 @@
 //! The rows of each group of nodes.
-ghost use Rattle.std.specs.Prelude.{◌≡◌, ◌≤◌, ◌<◌, ◌+◌, ◌*◌, false, List, Some, IfOk, IfSome, length, map};
+ghost use Rattle.std.specs.Prelude.{◌≡◌, ◌≤◌, ◌<◌, ◌+◌, ◌*◌, false, List, None, Ok, Some, IfOk, IfSome, length, map};
 ghost use Rattle.frag_map.specs.Shape.{IsShape, groups};
 ghost use Rattle.host_io.specs.Call.{Call};
 ghost use Rattle.redo_log.specs.Stored.{files_of};
@@ -7,7 +7,7 @@ ghost use Rattle.sysfile_core.specs.declared.place.TheConstants.{CONTROL_FILE};
 ghost use Rattle.sysfile_core.specs.Found.{HasRedo};
 ghost use Rattle.sys_restart.specs.Answers.{AreSteady, HasCauseAmong, HasCauseOf, IsCauseAmong, ReadsAll, is_outside, on_node};
 ghost use Rattle.sys_restart.specs.Files.{disks_of};
-ghost use Rattle.sys_restart.specs.Groups.{IsSource, control_on, first_listed, if_held, is_listed, rows_of_group, rows_of_groups, rows_on, source_of, that_saved};
+ghost use Rattle.sys_restart.specs.Groups.{also_on, control_on, current_on, first_listed, if_held, is_listed, joined, rows_among, rows_of_group, rows_of_groups, rows_on, that_saved};
 ghost use Rattle.sys_restart.specs.Lack.{lacking};
 ghost use Rattle.sys_restart.specs.SlotRows.{rows_of_slot};
 
@@ -15,28 +15,23 @@ use crate::held::are_held;
 use crate::lack::lacking;
 use crate::on_node::of_node;
 use crate::outdated::is_outdated;
+use crate::same::are_same;
 use crate::slot_rows::rows_of_slot;
-use host_io::Disk;
+use host_io::{Disk, Failed};
 use row_map::RowMap;
 use sig_core::{ControlSlot, NoMemory, RestartFault, Seq, Shape, SystemSlot};
 use std::alloc::Global;
-use sysfile_core::{CONTROL_FILE, SYSTEM_FILE, read_control};
+use sysfile_core::{CONTROL_FILE, OWNER, SYSTEM_FILE, place_of, read_control, read_owner};
 
-/// The node whose disk has the rows of a group, and the control slot there that names them.
-#[derive(Clone, Copy)]
-pub(crate) struct Source {
-    pub node: u8,
-    pub slot: ControlSlot,
-}
-
-/// The rows of each group, the first group first: those of its first node that the system slot lists and that
-/// has a control slot of its generation that was saved at its epoch, up to the epoch of the system slot. What
-/// other nodes have isn't read.
+/// The rows of each group, the first group first: those of its nodes that the system slot lists and that have a
+/// control slot of its generation that was saved at its epoch, up to the epoch of the system slot. All of them have to
+/// have the same. What other nodes have isn't read.
 ///
 /// # Errors
-/// `Damaged` where a group has no such node, at its first node that is listed, or else at its first, at
-/// the first byte of the control file; there too, at that node, where it has rows of another group; where its
-/// control slots tell that a later epoch was durable, at the first byte of its system file, which has lost a slot;
+/// `Damaged` where a group has no such node, at its first node that is listed, or else at its first, at the first byte
+/// of the control file; at such a node where its control file names another node, at the byte that does; at the first
+/// byte of that file where it has rows of another group, or other rows than such a node of its group before it; where
+/// its control slots tell that a later epoch was durable, at the first byte of its system file, which has lost a slot;
 /// and where a control slot, a checkpoint or redo is damaged. The first of them by group and node. `DiskFault`,
 /// `NoMemory`.
 pub(crate) fn rows_of_groups<D: Disk>(
@@ -94,8 +89,8 @@ fn rows_of_group<D: Disk>(
     ensures cause { HasCauseAmong (map D.faults disks.old) (map D.faults disks.new) result }
     ensures steady { AreSteady (map D.faults disks.old) (map D.faults disks.new) }
 {
-    match source_of(disks, first, shape.replicas, system) {
-        Ok(Some(source)) => rows_of_source(alloc, disks, &source, system, shape),
+    match rows_among(alloc, disks, first, shape, system) {
+        Ok(Some(rows)) => Ok(rows),
         Ok(None) => {
             let node = first_listed(system.mask, first, shape.replicas);
             Err(lacking_at(disks, node))
@@ -104,73 +99,164 @@ fn rows_of_group<D: Disk>(
     }
 }
 
-// The rows that a source names.
-fn rows_of_source<D: Disk>(
+// The rows that the nodes of the group have that are listed and have a control slot of the generation and the epoch.
+fn rows_among<D: Disk>(
     alloc: Global,
     disks: &mut [D],
-    source: &Source,
-    system: &SystemSlot,
+    first: u8,
     shape: &Shape,
-) -> Result<RowMap, RestartFault>
+    system: &SystemSlot,
+) -> Result<Option<RowMap>, RestartFault>
     requires shape { IsShape shape.now }
     requires nodes { length disks.old ≡ shape.now.nodes }
-    requires first { 1 ≤ source.now.node }
-    requires last { source.now.node ≤ length disks.old }
-    requires redo { HasRedo source.now.slot }
-    ensures read { (records : List (List Call)) → map D.told disks.old ≡ map Some records → ReadsAll (rows_on shape.now system.now source.now.node (disks_of records source.now.node) source.now.slot) result }
+    requires first { 1 ≤ first }
+    requires last { first + shape.now.replicas ≤ shape.now.nodes + 1 }
+    ensures read { (records : List (List Call)) → map D.told disks.old ≡ map Some records → ReadsAll (rows_among shape.now (disks_of records) system.now first shape.now.replicas None) result }
     ensures unrecorded { map D.told disks.new ≡ map D.told disks.old }
     ensures cause { HasCauseAmong (map D.faults disks.old) (map D.faults disks.new) result }
     ensures steady { AreSteady (map D.faults disks.old) (map D.faults disks.new) }
 {
-    let index = source.node as usize - 1;
-    rows_on(alloc, &mut disks[index], source, system, shape)
+    let mut found = None;
+    for more in 0..shape.replicas {
+        let node = first + more;
+        let index = node as usize - 1;
+        match also_on(alloc, &mut disks[index], node, shape, system, found) {
+            Ok(rows) => found = rows,
+            Err(fault) => return Err(fault),
+        }
+    }
+    Ok(found)
 }
 
-// The same, of the disk of its node: unless that tells that the system slot isn't the last.
+// Rows that were found on disks of a group, if there were any, and those on the disk of one more node.
+fn also_on<D: Disk>(
+    alloc: Global,
+    disk: &mut D,
+    node: u8,
+    shape: &Shape,
+    system: &SystemSlot,
+    found: Option<RowMap>,
+) -> Result<Option<RowMap>, RestartFault>
+    requires shape { IsShape shape.now }
+    requires first { 1 ≤ node }
+    requires last { node ≤ shape.now.nodes }
+    ensures read { (calls : List Call) → D.told disk.old ≡ Some calls → ReadsAll (also_on shape.now system.now node (files_of calls) found (control_on system.now node (files_of calls))) result }
+    ensures unrecorded { D.told disk.new ≡ D.told disk.old }
+    ensures cause { HasCauseOf node (D.faults disk.old) (D.faults disk.new) result }
+    ensures steady { D.faults disk.old ≤ D.faults disk.new }
+{
+    match control_on(disk, node, system) {
+        Ok(None) => Ok(found),
+        Ok(Some(slot)) => match rows_on(alloc, disk, node, &slot, shape, system) {
+            Ok(rows) => joined(alloc, disk, node, found, rows),
+            Err(fault) => Err(fault),
+        },
+        Err(fault) => Err(fault),
+    }
+}
+
+// The same, of which that disk has these rows: they have to be those that were found.
+fn joined<D: Disk>(
+    alloc: Global,
+    disk: &mut D,
+    node: u8,
+    found: Option<RowMap>,
+    rows: RowMap,
+) -> Result<Option<RowMap>, RestartFault>
+    ensures read { (calls : List Call) → D.told disk.old ≡ Some calls → ReadsAll (joined node (files_of calls) found (Ok rows)) result }
+    ensures unrecorded { D.told disk.new ≡ D.told disk.old }
+    ensures cause { HasCauseOf node (D.faults disk.old) (D.faults disk.new) result }
+    ensures steady { D.faults disk.old ≤ D.faults disk.new }
+{
+    let Some(one) = found else {
+        return Ok(Some(rows));
+    };
+    match are_same(alloc, &one, &rows) {
+        Ok(true) => Ok(Some(one)),
+        Ok(false) => Err(lacking(disk, node, CONTROL_FILE)),
+        Err(NoMemory) => Err(RestartFault::NoMemory),
+    }
+}
+
+// The rows of a control slot on a node's disk: unless the control file names another node.
 fn rows_on<D: Disk>(
     alloc: Global,
     disk: &mut D,
-    source: &Source,
-    system: &SystemSlot,
+    node: u8,
+    slot: &ControlSlot,
     shape: &Shape,
+    system: &SystemSlot,
 ) -> Result<RowMap, RestartFault>
     requires shape { IsShape shape.now }
-    requires first { 1 ≤ source.now.node }
-    requires last { source.now.node ≤ shape.now.nodes }
-    requires redo { HasRedo source.now.slot }
-    ensures read { (calls : List Call) → D.told disk.old ≡ Some calls → ReadsAll (rows_on shape.now system.now source.now.node (files_of calls) source.now.slot) result }
+    requires first { 1 ≤ node }
+    requires last { node ≤ shape.now.nodes }
+    requires redo { HasRedo slot.now }
+    ensures read { (calls : List Call) → D.told disk.old ≡ Some calls → ReadsAll (rows_on shape.now system.now node (files_of calls) slot.now) result }
     ensures unrecorded { D.told disk.new ≡ D.told disk.old }
-    ensures cause { HasCauseOf source.now.node (D.faults disk.old) (D.faults disk.new) result }
+    ensures cause { HasCauseOf node (D.faults disk.old) (D.faults disk.new) result }
     ensures steady { D.faults disk.old ≤ D.faults disk.new }
 {
-    let node = source.node;
+    match read_owner(disk) {
+        Ok(Some(owner)) if owner != node => Err(RestartFault::Damaged {
+            node,
+            file: CONTROL_FILE,
+            at: place_of(OWNER) + 1,
+            byte: owner,
+        }),
+        Ok(_) => current_on(alloc, disk, node, slot, shape, system),
+        Err(Failed) => Err(RestartFault::DiskFault {
+            node,
+            count: disk.faults(),
+        }),
+    }
+}
+
+// The same: unless the disk tells that the system slot isn't the last.
+fn current_on<D: Disk>(
+    alloc: Global,
+    disk: &mut D,
+    node: u8,
+    slot: &ControlSlot,
+    shape: &Shape,
+    system: &SystemSlot,
+) -> Result<RowMap, RestartFault>
+    requires shape { IsShape shape.now }
+    requires first { 1 ≤ node }
+    requires last { node ≤ shape.now.nodes }
+    requires redo { HasRedo slot.now }
+    ensures read { (calls : List Call) → D.told disk.old ≡ Some calls → ReadsAll (current_on shape.now system.now node (files_of calls) slot.now) result }
+    ensures unrecorded { D.told disk.new ≡ D.told disk.old }
+    ensures cause { HasCauseOf node (D.faults disk.old) (D.faults disk.new) result }
+    ensures steady { D.faults disk.old ≤ D.faults disk.new }
+{
     match is_outdated(disk, system) {
         Ok(true) => Err(lacking(disk, node, SYSTEM_FILE)),
-        Ok(false) => held_on(alloc, disk, source, system.epoch, shape),
+        Ok(false) => held_on(alloc, disk, node, slot, system.epoch, shape),
         Err(count) => Err(RestartFault::DiskFault { node, count }),
     }
 }
 
-// The rows that it names, if its node holds them.
+// The rows that the slot names, if its node holds them.
 fn held_on<D: Disk>(
     alloc: Global,
     disk: &mut D,
-    source: &Source,
+    node: u8,
+    slot: &ControlSlot,
     epoch: u64,
     shape: &Shape,
 ) -> Result<RowMap, RestartFault>
     requires shape { IsShape shape.now }
-    requires first { 1 ≤ source.now.node }
-    requires last { source.now.node ≤ shape.now.nodes }
-    requires redo { HasRedo source.now.slot }
-    ensures read { (calls : List Call) → D.told disk.old ≡ Some calls → ReadsAll (if_held shape.now source.now.node (files_of calls) (on_node source.now.node (rows_of_slot epoch (files_of calls) source.now.slot))) result }
+    requires first { 1 ≤ node }
+    requires last { node ≤ shape.now.nodes }
+    requires redo { HasRedo slot.now }
+    ensures read { (calls : List Call) → D.told disk.old ≡ Some calls → ReadsAll (if_held shape.now node (files_of calls) (on_node node (rows_of_slot epoch (files_of calls) slot.now))) result }
     ensures unrecorded { D.told disk.new ≡ D.told disk.old }
-    ensures cause { HasCauseOf source.now.node (D.faults disk.old) (D.faults disk.new) result }
+    ensures cause { HasCauseOf node (D.faults disk.old) (D.faults disk.new) result }
     ensures steady { D.faults disk.old ≤ D.faults disk.new }
 {
-    match rows_of_slot(alloc, disk, &source.slot, epoch) {
-        Ok(rows) => if_held(alloc, disk, source.node, rows, shape),
-        Err(fault) => Err(of_node(source.node, fault)),
+    match rows_of_slot(alloc, disk, slot, epoch) {
+        Ok(rows) => if_held(alloc, disk, node, rows, shape),
+        Err(fault) => Err(of_node(node, fault)),
     }
 }
 
@@ -195,34 +281,6 @@ fn if_held<D: Disk>(
         Ok(false) => Err(lacking(disk, node, CONTROL_FILE)),
         Err(NoMemory) => Err(RestartFault::NoMemory),
     }
-}
-
-// The first of so many nodes that is listed and has a control slot of the generation and the epoch.
-fn source_of<D: Disk>(
-    disks: &mut [D],
-    first: u8,
-    count: u8,
-    system: &SystemSlot,
-) -> Result<Option<Source>, RestartFault>
-    requires first { 1 ≤ first }
-    requires last { first + count ≤ length disks.old + 1 }
-    requires few { length disks.old ≤ 8 }
-    ensures read { (records : List (List Call)) → map D.told disks.old ≡ map Some records → ReadsAll (source_of (disks_of records) system.now first count) result }
-    ensures source { IfOk result (λ found. IfSome found (IsSource (length disks.old))) }
-    ensures unrecorded { map D.told disks.new ≡ map D.told disks.old }
-    ensures cause { HasCauseAmong (map D.faults disks.old) (map D.faults disks.new) result }
-    ensures steady { AreSteady (map D.faults disks.old) (map D.faults disks.new) }
-{
-    for more in 0..count {
-        let node = first + more;
-        let index = node as usize - 1;
-        match control_on(&mut disks[index], node, system) {
-            Ok(None) => {}
-            Ok(Some(slot)) => return Ok(Some(Source { node, slot })),
-            Err(fault) => return Err(fault),
-        }
-    }
-    Ok(None)
 }
 
 // The control slot in use on a node's disk, if the node is listed and the slot was saved at the epoch.

@@ -17,6 +17,7 @@ mod prepare;
 mod restored;
 mod restoring;
 mod rows;
+mod same;
 mod settle;
 mod slot_rows;
 mod table;

@@ -1,19 +1,20 @@
 //! What one node's disk is given for the next life: a checkpoint, and a control slot that names it.
-ghost use Rattle.std.specs.Prelude.{◌≡◌, ◌≤◌, ◌<◌, ◌+◌, ◌-◌, ◌++◌, List, Some, false, is_ok, IfOk, OnErr, OnOk, length, map, min, take, drop};
+ghost use Rattle.std.specs.Prelude.{◌≡◌, ◌≤◌, ◌<◌, ◌+◌, ◌-◌, ◌++◌, List, [], ◌∷◌, Some, false, is_ok, IfOk, OnErr, OnOk, length, map, min, take, drop};
 ghost use Rattle.std.specs.FinMap as finmap;
 ghost use Rattle.std.specs.List.{flat_map};
 ghost use Rattle.std.specs.Map.Iter.{deref_pair};
 ghost use Rattle.sig_core.specs.Checkpoint.{row_bytes};
 ghost use Rattle.frag_map.specs.Shape.{IsShape};
-ghost use Rattle.host_io.specs.Call.{Call};
+ghost use Rattle.host_io.specs.Call.{Call, Synced, Wrote};
 ghost use Rattle.host_io.specs.Disk.{IsWritten};
 ghost use Rattle.host_io.specs.Fault.{Rose};
 ghost use Rattle.redo_log.specs.Stored.{files_of};
 ghost use Rattle.sig_core.specs.declared.piece.TheConstants.{PIECE_BYTES};
-ghost use Rattle.sysfile_core.specs.declared.place.TheConstants.{CONTROL_FILE};
+ghost use Rattle.sysfile_core.specs.declared.place.TheConstants.{CLOSED, CONTROL_FILE};
+ghost use Rattle.sysfile_core.specs.Places.{place_of};
 ghost use Rattle.sysfile_core.specs.Runs.{Runs};
 ghost use Rattle.sys_restart.specs.Answers.{HasCauseOf};
-ghost use Rattle.sys_restart.specs.Calls.{RunsOrWants, checkpoint_for, file_calls, is_used_up, next_file, next_parity, next_slot, node_calls, node_calls_at, piece_calls, row_at, rows_of_node, write_calls};
+ghost use Rattle.sys_restart.specs.Calls.{RunsOrWants, checkpoint_for, control_calls, file_calls, is_used_up, next_file, next_parity, next_slot, node_calls, node_calls_at, own_calls, piece_calls, row_at, rows_of_node, write_calls};
 ghost use Rattle.sys_restart.specs.LifeCalls.{IsUsedUp};
 ghost use Rattle.sys_restart.specs.Places.{control_places};
 ghost use Rattle.sys_restart.specs.Prepared.{HasPrepared, KeepsRestart, MayPrepare};
@@ -25,10 +26,12 @@ use host_io::{Disk, Failed};
 use lcp_store::{checkpoints_are_read, put_head, put_row2};
 use sig_core::{ControlSlot, Key, NoMemory, PIECE_BYTES, RestartFault, Shape, Value};
 use std::alloc::Global;
-use sysfile_core::{CONTROL_FILE, control_bytes, write_slot};
+use sysfile_core::{
+    CLOSED, CONTROL_BYTES, CONTROL_FILE, control_bytes, place_of, write_owner, write_slot,
+};
 
 /// Writes what a node begins the next life with, beside what is in use: a checkpoint of the rows of its
-/// group, an empty log, and a control slot of the next generation.
+/// group, an empty log, and a control slot of the next generation. Then the control file tells whose it is.
 ///
 /// # Errors
 /// `NoMemory`, and then the disk is as it was; `DiskFault`: a call on the disk failed, and none was made
@@ -111,13 +114,13 @@ fn write_next<D: Disk>(
 ) -> Result<(), RestartFault>
     requires unused { is_used_up restored.now ≡ false }
     requires which { places.now.free ≤ 1 }
-    ensures runs { (calls : List Call) → D.told disk.old ≡ Some calls → RunsOrWants (node_calls_at (files_of calls CONTROL_FILE) places.now restored.now bytes.now) calls (D.told disk.new) result }
+    ensures runs { (calls : List Call) → D.told disk.old ≡ Some calls → RunsOrWants (node_calls_at node (files_of calls CONTROL_FILE) places.now restored.now bytes.now) calls (D.told disk.new) result }
     ensures unused { IsUsedUp result → ⊥ }
     ensures cause { HasCauseOf node (D.faults disk.old) (D.faults disk.new) result }
     ensures steady { D.faults disk.old ≤ D.faults disk.new }
 {
     let slot = next_slot(restored, places, bytes.len() as u64);
-    match write_node(disk, places.free, &slot, bytes) {
+    match write_node(disk, node, places.free, &slot, bytes) {
         Ok(()) => Ok(()),
         Err(Failed) => Err(RestartFault::DiskFault {
             node,
@@ -212,21 +215,80 @@ fn put_rows(bytes: &mut Vec<u8>, epoch: u64, rows: &[(&Key, &Value)]) -> Result<
     Ok(())
 }
 
-// Writes the checkpoint, and the slot behind it.
+// Writes the checkpoint, and the slot behind it, and makes the control file the node's own.
 fn write_node<D: Disk>(
     disk: &mut D,
+    node: u8,
     which: u8,
     slot: &ControlSlot,
     bytes: &[u8],
 ) -> Result<(), Failed>
     requires which { which ≤ 1 }
     requires file { 2 ≤ slot.now.ckpt_file }
-    ensures runs { (calls : List Call) → D.told disk.old ≡ Some calls → Runs (write_calls (files_of calls CONTROL_FILE) which slot.now bytes.now) calls (D.told disk.new) (is_ok result) }
+    ensures runs { (calls : List Call) → D.told disk.old ≡ Some calls → Runs (write_calls node (files_of calls CONTROL_FILE) which slot.now bytes.now) calls (D.told disk.new) (is_ok result) }
     ensures cause { OnErr result (Rose (D.faults disk.old) (D.faults disk.new)) }
     ensures steady { D.faults disk.old ≤ D.faults disk.new }
 {
     match write_file(disk, slot.ckpt_file, bytes) {
-        Ok(()) => write_slot(disk, CONTROL_FILE, which, &control_bytes(slot)),
+        Ok(()) => write_control(disk, node, which, slot),
+        Err(Failed) => Err(Failed),
+    }
+}
+
+// Writes the slot, and makes the control file the node's own.
+fn write_control<D: Disk>(
+    disk: &mut D,
+    node: u8,
+    which: u8,
+    slot: &ControlSlot,
+) -> Result<(), Failed>
+    requires which { which ≤ 1 }
+    ensures runs { (calls : List Call) → D.told disk.old ≡ Some calls → Runs (control_calls node (files_of calls CONTROL_FILE) which slot.now) calls (D.told disk.new) (is_ok result) }
+    ensures cause { OnErr result (Rose (D.faults disk.old) (D.faults disk.new)) }
+    ensures steady { D.faults disk.old ≤ D.faults disk.new }
+{
+    match write_slot(disk, CONTROL_FILE, which, &control_bytes(slot)) {
+        Ok(()) => make_own(disk, node),
+        Err(Failed) => Err(Failed),
+    }
+}
+
+// Makes the control file the node's own.
+fn make_own<D: Disk>(disk: &mut D, node: u8) -> Result<(), Failed>
+    ensures runs { (calls : List Call) → D.told disk.old ≡ Some calls → Runs (own_calls node (length (files_of calls CONTROL_FILE)) (files_of calls CONTROL_FILE)) calls (D.told disk.new) (is_ok result) }
+    ensures cause { OnErr result (Rose (D.faults disk.old) (D.faults disk.new)) }
+    ensures steady { D.faults disk.old ≤ D.faults disk.new }
+{
+    match disk.size(CONTROL_FILE) {
+        Ok(size) => make_own_of(disk, node, size),
+        Err(Failed) => Err(Failed),
+    }
+}
+
+// The same of a control file of this size: it doesn't grow over the second place of a slot while the gate there isn't
+// closed.
+fn make_own_of<D: Disk>(disk: &mut D, node: u8, size: u64) -> Result<(), Failed>
+    ensures runs { (calls : List Call) → D.told disk.old ≡ Some calls → Runs (own_calls node size (files_of calls CONTROL_FILE)) calls (D.told disk.new) (is_ok result) }
+    ensures cause { OnErr result (Rose (D.faults disk.old) (D.faults disk.new)) }
+    ensures steady { D.faults disk.old ≤ D.faults disk.new }
+{
+    if size >= place_of(1) + CONTROL_BYTES as u64 {
+        return write_owner(disk, node);
+    }
+    match close_second(disk) {
+        Ok(()) => write_owner(disk, node),
+        Err(Failed) => Err(Failed),
+    }
+}
+
+// Closes the gate at the second place of a control slot.
+fn close_second<D: Disk>(disk: &mut D) -> Result<(), Failed>
+    ensures runs { (calls : List Call) → D.told disk.old ≡ Some calls → Runs (Wrote CONTROL_FILE (place_of 1) (CLOSED ∷ []) ∷ Synced CONTROL_FILE ∷ []) calls (D.told disk.new) (is_ok result) }
+    ensures cause { OnErr result (Rose (D.faults disk.old) (D.faults disk.new)) }
+    ensures steady { D.faults disk.old ≤ D.faults disk.new }
+{
+    match disk.write(CONTROL_FILE, place_of(1), &[CLOSED]) {
+        Ok(()) => disk.sync(CONTROL_FILE),
         Err(Failed) => Err(Failed),
     }
 }

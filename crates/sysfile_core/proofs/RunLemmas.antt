@@ -64,6 +64,14 @@ grown (Lost files ∷ asks) calls after ok (inr (may, runs)) =
     let rest = grown asks (Lost files ∷ calls) after ok runs in
     (rest.0 ++ Lost files ∷ [], rest.1 ∙ sym (append_assoc rest.0 (Lost files ∷ []) calls))
 
+-- so it gets no shorter
+pub run_longer : (asks calls after : List Call) (ok : Bool) → Runs asks calls (Some after) ok
+    → length calls ≤ length after
+run_longer asks calls after ok runs =
+    let (more, is) = grown asks calls after ok runs in
+    let size : length after ≡ length (more ++ calls) = ap length is in
+    omega (arith, size, length-append more calls)
+
 -- a moment of a run is its beginning, or comes behind its first call
 next_moment : (call : Call) (calls asks after newer older : List Call) (ok : Bool)
     → Runs asks (call ∷ calls) (Some after) ok

@@ -1,6 +1,6 @@
 -- What stands on a disk while a slot is written.
 use Rattle.std.proofs.Common.{◌≡◌, ◌≢◌, ◌∙◌, ◌⊎◌, ℕ, ◌+◌, ◌≤◌, ◌<◌, Bool, true, false, ◌==◌, nat_lt, not, List, [], ◌∷◌}
-use Rattle.std.proofs.Common.{length, get_or, if◌then◌else◌, refl, ap, sym, subst, arith, inl, inr}
+use Rattle.std.proofs.Common.{◌++◌, length, get_or, if◌then◌else◌, refl, ap, sym, subst, arith, inl, inr}
 use Rattle.std.proofs.lemmas.Bool.{and_cases, and_parts, cases_lt, eqb-false, eqb-true, ltb-false, ltb-true, not-false}
 use Rattle.std.proofs.lemmas.Bool.{not-true}
 use Rattle.host_io.specs.declared.limits.TheConstants.{FILES}
@@ -11,12 +11,12 @@ use Rattle.host_io.proofs.FileLemmas.{laid_ends}
 use Rattle.host_io.proofs.LaidLemmas.{laid_elsewhere, laid_here, laid_reaches}
 use Rattle.host_io.proofs.StateLemmas.{laid_grows, reads_as_an_image, same_number, sound_of}
 use Rattle.sysfile_core.specs.declared.place.TheConstants.{CLOSED, OPEN}
-use Rattle.sysfile_core.specs.Laws.{IsOldOrNew, MayBegin, OpenSlotIsWhole, OtherSlotStays, WrittenSlotStays}
+use Rattle.sysfile_core.specs.Laws.{AreApart, IsOldOrNew, IsWrite, MayBegin, OpenSlotIsWhole, OtherSlotIsKept, OtherSlotStays, WrittenSlotStays}
 use Rattle.sysfile_core.specs.Places.{IsKept, slot_at}
 use Rattle.sysfile_core.specs.Writing.{closing_by, opening, slot_calls, stands_closed}
 use Rattle.sysfile_core.proofs.FileLemmas.{Keeps, clean_written, keeps_image, keeps_settled, keeps_written}
 use Rattle.sysfile_core.proofs.FileLemmas.{settled_keeps}
-use Rattle.sysfile_core.proofs.RunLemmas.{HoldsThrough, all_done, moments}
+use Rattle.sysfile_core.proofs.RunLemmas.{HoldsThrough, all_done, moments, run_longer}
 use Rattle.sysfile_core.proofs.SlotLemmas.{IsOpenAt, closed_slot, open_or_none, short_slot, slot_is_same, whole_slot}
 
 -- a file after a call on it
@@ -118,22 +118,44 @@ closing_keeps false file place body old from to calls apart k =
       ),
     )
 
-pub other_stays : OtherSlotStays
-other_stays before after ok file place body other size write apart some kept newer older split long image left =
+-- at each moment of the write of a slot another one keeps its bytes
+kept_through : (before after : List Call) (ok : Bool) (file place : ℕ) (body : List ℕ) (other size : ℕ)
+    → IsWrite before after ok file place body → AreApart place (1 + length body) other size
+    → IsKept (state_of before file) other (other + size) → (newer older : List Call) → after ≡ newer ++ older
+    → length before ≤ length older → KeepsIn file (state_of before file).bytes other (other + size) older
+kept_through before after ok file place body other size write apart kept newer older split long =
     let s = state_of before file in
     let sound = sound_of before file write.kept write.there in
     let first : Keeps s.bytes other (other + size) s =
     record { synced = kept.synced; ends = sound.to_synced; clean = kept.clean; same = λ p low high. refl } in
-    let through =
-    closing_keeps (stands_closed place s.bytes) file place body s.bytes other (other + size) before apart first in
-    let k =
-    moments (KeepsIn file s.bytes other (other + size))
-    (slot_calls s.bytes file place body) before after newer older ok through write.runs split long in
+    moments (KeepsIn file s.bytes other (other + size)) (slot_calls s.bytes file place body) before after newer older ok
+    (closing_keeps (stands_closed place s.bytes) file place body s.bytes other (other + size) before apart first)
+    write.runs split long
+
+pub other_stays : OtherSlotStays
+other_stays before after ok file place body other size write apart some kept newer older split long image left =
+    let s = state_of before file in
+    let sound = sound_of before file write.kept write.there in
+    let k = kept_through before after ok file place body other size write apart kept newer older split long in
     let one = left file write.there in
     slot_is_same other size (image file) s.bytes some
     (omega (arith, k.synced, one.from_synced))
     (omega (arith, kept.synced, sound.to_synced))
     (keeps_image s.bytes other (other + size) (state_of older file) (image file) k one)
+
+pub other_is_kept : OtherSlotIsKept
+other_is_kept before after ok file place body other size write apart some kept =
+    let s = state_of before file in
+    let sound = sound_of before file write.kept write.there in
+    let k =
+    kept_through before after ok file place body other size write apart kept [] after refl
+    (run_longer (slot_calls s.bytes file place body) before after ok write.runs) in (
+      record { synced = k.synced; clean = k.clean },
+      slot_is_same other size (state_of after file).bytes s.bytes some
+          (omega (arith, k.synced, k.ends))
+          (omega (arith, kept.synced, sound.to_synced))
+          k.same,
+    )
 
 -- What may be left at the place of a slot, of which this follows the gate, after the calls of a record. It is the new
 -- slot, or what was open there in an image of the first file.

@@ -31,6 +31,15 @@ OtherSlotStays =
     → LeavesOnly after (length before)
     (λ image. slot_at other size (image file) ≡ slot_at other size (state_of before file).bytes)
 
+-- And then it stands so after the write too, as far as that went.
+abbrev pub OtherSlotIsKept : Type 0
+OtherSlotIsKept =
+    (before after : List Call) (ok : Bool) (file place : ℕ) (body : List ℕ) (other size : ℕ)
+    → IsWrite before after ok file place body → AreApart place (1 + length body) other size → 0 < size
+    → IsKept (state_of before file) other (other + size)
+    → IsKept (state_of after file) other (other + size)
+    × (slot_at other size (state_of after file).bytes ≡ slot_at other size (state_of before file).bytes)
+
 -- a slot may be written at the place: no crash opens the gate that stands there, or none changes what follows it
 abbrev pub MayBegin : FileState → ℕ → ℕ → Type 0
 MayBegin s place size =

@@ -1,5 +1,6 @@
 pub mod Found
 pub mod Laws
+pub mod Owner
 pub mod Places
 pub mod Reading
 pub mod Runs

@@ -1,5 +1,5 @@
 //! What a crash may leave while a slot is written, and what its steps are.
-ghost use Rattle.sysfile_core.specs.Laws.{OpenSlotIsWhole, OtherSlotStays, WrittenSlotStays};
+ghost use Rattle.sysfile_core.specs.Laws.{OpenSlotIsWhole, OtherSlotIsKept, OtherSlotStays, WrittenSlotStays};
 ghost use Rattle.sysfile_core.specs.SlotLaws.{ControlSlotsAreRead, SystemSlotsAreRead};
 ghost use Rattle.sysfile_core.specs.Steps.{StepsAreTheCalls};
 
@@ -7,6 +7,11 @@ ghost use Rattle.sysfile_core.specs.Steps.{StepsAreTheCalls};
 /// moment.
 pub fn the_other_slot_stays()
     ensures { OtherSlotStays }
+{}
+
+/// It stands so after the write too, as far as that went.
+pub fn the_other_slot_is_kept()
+    ensures { OtherSlotIsKept }
 {}
 
 /// While a slot is written, what is open at its place is whole in every image of every moment: it is

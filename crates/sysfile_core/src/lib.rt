@@ -5,6 +5,7 @@
 mod control;
 mod laws;
 mod number;
+mod owner;
 mod place;
 mod read;
 mod system;
@@ -13,8 +14,9 @@ mod write;
 pub use control::{CONTROL_BYTES, REDO_BYTES, control_bytes};
 pub use laws::{
     a_written_slot_stays, an_open_slot_is_whole, control_slots_are_read, system_slots_are_read,
-    the_other_slot_stays, the_steps_are_the_calls,
+    the_other_slot_is_kept, the_other_slot_stays, the_steps_are_the_calls,
 };
+pub use owner::{OWNER, OWNER_BYTES, read_owner, write_owner};
 pub use place::{CLOSED, CONTROL_FILE, OPEN, SLOT_SPACE, SYSTEM_FILE, VERSION, place_of};
 pub use read::{
     control_at, is_earlier, later_system, of_generation, read_control, read_system, system_at,

@@ -1,5 +1,5 @@
 //! Reading the slots in use.
-ghost use Rattle.std.specs.Prelude.{◌≡◌, ◌≤◌, ℕ, List, Option, None, Some, IfOk, IfSome, OnErr, length, if◌then◌else◌};
+ghost use Rattle.std.specs.Prelude.{◌≡◌, ◌≤◌, ◌*◌, ℕ, List, Option, None, Some, IfOk, IfSome, OnErr, length, if◌then◌else◌};
 ghost use Rattle.host_io.specs.Call.{Call};
 ghost use Rattle.host_io.specs.DiskState.{state_of};
 ghost use Rattle.host_io.specs.Fault.{Rose};
@@ -96,8 +96,16 @@ pub fn control_at<D: Disk>(disk: &mut D, which: u8) -> Result<Option<ControlSlot
     }
 }
 
-// Reads the bytes of a slot, and tells whether it is open.
-fn read_slot<D: Disk>(disk: &mut D, file: u8, at: u64, bytes: &mut [u8]) -> Result<bool, Failed>
+/// Reads the bytes of a slot, and tells whether it is open.
+///
+/// # Errors
+/// `Failed`: a call of the disk failed.
+pub(crate) fn read_slot<D: Disk>(
+    disk: &mut D,
+    file: u8,
+    at: u64,
+    bytes: &mut [u8],
+) -> Result<bool, Failed>
     requires { 1 ≤ length bytes.old }
     ensures slot { (calls : List Call) → D.told disk.old ≡ Some calls → IfOk result (λ opened. slot_at at (length bytes.old) (state_of calls file).bytes ≡ (if opened then Some bytes.new else None)) }
     ensures unrecorded { D.told disk.new ≡ D.told disk.old }
@@ -111,7 +119,7 @@ fn read_slot<D: Disk>(disk: &mut D, file: u8, at: u64, bytes: &mut [u8]) -> Resu
 #[tactic(auto, unfolding(crate::specs::Reading::system_in))]
 fn system_in(at: u64, bytes: &[u8]) -> Result<Option<SystemSlot>, ReadFault>
     requires size { length bytes.now ≡ SYSTEM_BYTES }
-    requires place { at ≤ SLOT_SPACE }
+    requires place { at ≤ 2 * SLOT_SPACE }
     ensures told { result ≡ system_in at bytes.now }
     ensures cause { (before now : ℕ) → HasCause before now result }
 {
@@ -128,7 +136,7 @@ fn system_in(at: u64, bytes: &[u8]) -> Result<Option<SystemSlot>, ReadFault>
 #[tactic(auto, unfolding(crate::specs::Reading::control_in))]
 fn control_in(at: u64, bytes: &[u8]) -> Result<Option<ControlSlot>, ReadFault>
     requires size { length bytes.now ≡ CONTROL_BYTES }
-    requires place { at ≤ SLOT_SPACE }
+    requires place { at ≤ 2 * SLOT_SPACE }
     ensures told { result ≡ control_in at bytes.now }
     ensures redo { IfOk result (λ slot. IfSome slot HasRedo) }
     ensures cause { (before now : ℕ) → HasCause before now result }

@@ -47,7 +47,7 @@ pub fn write_step(slot: &[u8], which: u8, k: u8) -> SlotStep
 /// # Errors
 /// `Failed`: a call of the disk failed, and none was made behind it.
 pub fn write_slot<D: Disk>(disk: &mut D, file: u8, which: u8, slot: &[u8]) -> Result<(), Failed>
-    requires which { which ≤ 1 }
+    requires which { which ≤ 2 }
     requires some { 1 ≤ length slot.now }
     ensures runs { (calls : List Call) → D.told disk.old ≡ Some calls → Runs (slot_calls (state_of calls file).bytes file (place_of which) (drop 1 slot.now)) calls (D.told disk.new) (is_ok result) }
     ensures cause { OnErr result (Rose (D.faults disk.old) (D.faults disk.new)) }

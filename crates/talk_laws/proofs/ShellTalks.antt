@@ -35,6 +35,7 @@ use Rattle.node_views.specs.Row.{blocks_row, closed_if, counted_row, cut_if, ent
 use Rattle.node_views.specs.Row.{headed_row, host_row, host_table, in_view, is_barred, is_cut, is_excluded, is_stop}
 use Rattle.node_views.specs.Row.{kill_row, killed_after, passed_if, passed_row, taken_if, unless_stopped}
 use Rattle.node_views.specs.WellFormed.{is_first, is_well_formed}
+use Rattle.node_views.proofs.StopWalk.{counted_stops}
 use Rattle.outcome_laws.proofs.knowledge.TellsNothing.{untold_uncounted}
 use Rattle.outcome_laws.proofs.knowledge.Parts.{arbiter_tells_nothing}
 use Rattle.outcome_laws.proofs.once.Counted.{IsUncounted, is_counted}
@@ -204,8 +205,16 @@ module _ (x : Signal) (R : Talk) where
       unfolding host_row
       row_does standing = by (is_well_formed standing.shape x)
         where
-          by : (b : Bool) → Done (taken_if (record { standing = standing; parts = Shell p }) x b)
-          by true = counted_comes standing standing.left
+          s : hosts.HostBody
+          s = record { standing = standing; parts = Shell p }
+
+          by : (b : Bool) → Done (taken_if s x b)
+          by true =
+              let t = counted_row s x standing.left in
+              subst
+              (λ b.
+              R (opened_in t.state.parts) (unless_stopped t.effects.sends b) t.effects.marks (replies_in t.state.parts))
+              (counted_stops s x standing.left) (counted_comes standing standing.left)
           by false = quiet p forms beside standing [] refl
 
       -- whatever signal it is

@@ -1,6 +1,6 @@
 -- What becomes of a signal in the hand of a host.
-use Rattle.std.proofs.Common.{◌≡◌, inl, inr, ℕ, zero, suc, ◌<◌, ◌≤◌, List, ◌++◌, length, Bool, true, false, refl, ap}
-use Rattle.std.proofs.Common.{sym, ◌∙◌, subst}
+use Rattle.std.proofs.Common.{◌≡◌, inl, inr, ℕ, zero, suc, ◌<◌, ◌≤◌, List, [], ◌∷◌, ◌++◌, length, Bool, true, false}
+use Rattle.std.proofs.Common.{refl, ap, sym, ◌∙◌, subst}
 use Rattle.std.specs.Prelude.{Err, get_or, IfSome, is_some, MatchOption, nat_lt, None, Ok, OnOk, Option, Result}
 use Rattle.std.specs.Prelude.{slice_set, Some, ◌^◌}
 use Rattle.std.proofs.lemmas.Bool.{lt-ltb, true≢false}
@@ -8,15 +8,20 @@ use Rattle.std.proofs.lemmas.List.{get_or-set_same, get_or_read, length-set, set
 use Rattle.frag_map.specs.Layout.{first_layout}
 use Rattle.sig_core.specs.declared.log.HostLog.{HostLog}
 use Rattle.sig_core.specs.declared.mark.Mark.{Mark}
+use Rattle.sig_core.specs.declared.mark.Mark.TheVariants.{Stopped}
 use Rattle.sig_core.specs.declared.no_memory.NoMemory.{NoMemory}
 use Rattle.sig_core.specs.declared.outcome.StopCause.{StopCause}
 use Rattle.sig_core.specs.declared.outcome.StopCause.TheVariants.{Memory}
 use Rattle.sig_core.specs.declared.reply.ApiReply.{ApiReply}
+use Rattle.sig_core.specs.declared.signal.Signal.{Signal}
 use Rattle.sig_core.specs.declared.view.View.{View}
 use Rattle.sig_core.specs.Step.{Effects, IsTaken, Step, nothing, stay}
 use Rattle.node_views.specs.declared.host_body.HostBody.{HostBody}
 use Rattle.node_views.specs.Fresh.{fresh_shell}
-use Rattle.node_views.specs.Row.{host_row}
+use Rattle.node_views.specs.Row.{host_row, host_stop}
+use Rattle.node_views.specs.Stop.{stop_in}
+use Rattle.node_views.proofs.StopMarks.{stops_by_cause}
+use Rattle.node_views.proofs.StopWalk.{marks_tell_of_stops}
 use Rattle.world_core.specs.Steps.{Addressed}
 use Rattle.world_core.specs.World.{next_stamp, with_step}
 use Rattle.world_views.specs.Machine.{cause_in, own_stop, replies_at, step_by, step_if, stops_by, told}
@@ -197,12 +202,23 @@ has_told w x t host replies is told_all =
     ∙ ap (λ rs. record w { bodies = slice_set w.bodies x.to (told x.to t); replies = rs })
     (told_all ∙ ap (λ rs. w.replies ++ rs) (replies_by_state x.to t))
 
+-- what its marks tell of a stop is why the host stops
+pub stop_told : (s : HostBody) (x : Signal) (now : HostBody) (out : Effects) (cause : Option StopCause)
+    → IsTaken (host_row s x) now nothing out → cause ≡ host_stop s x → stop_in out.marks ≡ cause
+stop_told s x now out cause taken is =
+    ap (λ (e : Effects). stop_in e.marks) taken.effects ∙ marks_tell_of_stops s x ∙ sym is
+
+cause_told : (marks : List Mark) → IfSome (stop_in marks) (λ c. c ≡ cause_in marks)
+cause_told [] = tt
+cause_told (Stopped cause ∷ marks) = refl
+cause_told (mark ∷ marks) = cause_told marks
+
 -- The world where the step is logged.
 pub enters_ok : (result : Result (Unit {0}) NoMemory) (w s v : Whole) (x : Addressed) (t : Step HostBody)
     (stamp lost : ℕ)
     (cause : Option StopCause) (b : Bool) (marks : List Mark) (logs : List HostLog)
-    → stamp ≡ next_stamp w.stamps x.to x.signal.stamp → marks ≡ t.effects.marks → is_some cause ≡ stops_by marks
-    → IfSome cause (λ c. c ≡ cause_in marks) → b ≡ is_some cause
+    → stamp ≡ next_stamp w.stamps x.to x.signal.stamp → marks ≡ t.effects.marks → stop_in t.effects.marks ≡ cause
+    → b ≡ is_some cause
     → s ≡ sending (telling w x t) x.to stamp t.effects.sends
     → MatchOption cause (v ≡ s) (λ c. v ≡ closing s x.to stamp x.signal.view c lost)
     → OnOk result (logs ≡ with_step v.logs x.to (record { stamp = stamp; taken = x.signal; marks = marks }))
@@ -212,15 +228,17 @@ pub enters_ok : (result : Result (Unit {0}) NoMemory) (w s v : Whole) (x : Addre
       logs = logs;
     }
     ≡ entered w lost x t)
-enters_ok (Err fault) w s v x t stamp lost cause b marks logs at same stops is named sent closed added = tt
-enters_ok (Ok done) w s v x t stamp lost cause b marks logs at same stops is named sent closed added =
+enters_ok (Err fault) w s v x t stamp lost cause b marks logs at same told named sent closed added = tt
+enters_ok (Ok done) w s v x t stamp lost cause b marks logs at same told named sent closed added =
+    let stops : is_some cause ≡ stops_by t.effects.marks =
+    ap (λ (o : Option StopCause). is_some o) (sym told) ∙ sym (stops_by_cause t.effects.marks) in
     has_entered w v (record v {
       stopped = slice_set v.stopped x.to b;
       stamps = slice_set v.stamps x.to stamp;
       logs =
           logs;
     }) x t stamp
-    lost cause at (stops ∙ ap stops_by same) (subst (λ ms. IfSome cause (λ c. c ≡ cause_in ms)) same is)
+    lost cause at stops (subst (λ o. IfSome o (λ c. c ≡ cause_in t.effects.marks)) told (cause_told t.effects.marks))
     (subst (λ (a : Whole). MatchOption cause (v ≡ a) (λ c. v ≡ closing a x.to stamp x.signal.view c lost)) sent closed)
     (ap (λ ls. record v { stopped = slice_set v.stopped x.to b; stamps = slice_set v.stamps x.to stamp; logs = ls })
     added
@@ -228,7 +246,7 @@ enters_ok (Ok done) w s v x t stamp lost cause b marks logs at same stops is nam
       stopped = slice_set v.stopped x.to f;
       stamps = slice_set v.stamps x.to stamp;
       logs = with_step v.logs x.to (record { stamp = stamp; taken = x.signal; marks = marks });
-    }) (named ∙ stops ∙ ap stops_by same)
+    }) (named ∙ stops)
     ∙ ap (λ ms. record v {
       stopped = slice_set v.stopped x.to (stops_by t.effects.marks);
       stamps = slice_set v.stamps x.to stamp;

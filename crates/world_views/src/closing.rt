@@ -1,11 +1,10 @@
 //! How a host closes its links.
-ghost use Rattle.std.specs.Prelude.{◌≡◌, ◌*◌, ◌+◌, OnOk, IfOk, IfSome, is_some, length};
+ghost use Rattle.std.specs.Prelude.{◌≡◌, ◌*◌, ◌+◌, OnOk, IfOk, length};
 ghost use Rattle.api_views.specs.Members.{greater_view};
 ghost use Rattle.sig_core.specs.declared.signal.Body.TheVariants as bodies;
 ghost use Rattle.sig_core.specs.declared.signal.host.HostSignal.TheVariants.{Closed};
 ghost use Rattle.world_views.specs.Hosts.{front_of};
 ghost use Rattle.world_views.specs.Links.{close_below};
-ghost use Rattle.world_views.specs.Machine.{cause_in, stops_by};
 ghost use Rattle.world_views.specs.Sending.{headed};
 ghost use Rattle.world_views.specs.World.{is_unclosed};
 
@@ -14,22 +13,9 @@ use crate::network::Network;
 use crate::sender::{Sender, refuse};
 use node_views::HostBody;
 use sig_core::{
-    Body, Boxed, Held, HostId, HostSignal, Mark, NoMemory, Outgoing, Signal, StopCause, View,
+    Body, Boxed, Held, HostId, HostSignal, NoMemory, Outgoing, Signal, StopCause, View,
 };
 use std::alloc::Global;
-
-/// Why a step stops its host, where it does.
-pub fn stop_of(marks: &[Mark]) -> Option<StopCause>
-    ensures stops { is_some result ≡ stops_by marks.now }
-    ensures cause { IfSome result (λ cause. cause ≡ cause_in marks.now) }
-{
-    for mark in marks {
-        if let Mark::Stopped { cause } = mark {
-            return Some(*cause);
-        }
-    }
-    None
-}
 
 /// The view of the closings of a host that stands in one and took a signal of the other: the greater
 /// one, which may be what stopped it.

@@ -3,10 +3,11 @@ ghost use Rattle.std.specs.Prelude.{◌≡◌, ◌≤◌, ◌||◌, ◌++◌, []
 ghost use Rattle.std.specs.Prelude.{is_some, slice_index_or};
 ghost use Rattle.frag_map.specs.Shape.{IsShape};
 ghost use Rattle.node_views.specs.Row.{is_cut};
+ghost use Rattle.node_views.specs.Stop.{stop_in};
 ghost use Rattle.world_views.specs.Machine.{own_stop};
 ghost use Rattle.world_views.specs.World.{body_at};
 
-use crate::closing::{close_all, first_signal, last_view, stop_of};
+use crate::closing::{close_all, first_signal, last_view};
 use crate::failing::{put_back, view_to_keep};
 use crate::fresh::fresh_bodies;
 use crate::hosts::Made;
@@ -251,7 +252,7 @@ impl World {
         }
         self.outs.clear();
         match self.bodies[at].step(alloc, signal.get(), &mut self.outs) {
-            Ok(()) => self.enter(alloc, host, before + 1, signal, 0),
+            Ok(cause) => self.enter(alloc, host, before + 1, signal, cause, 0),
             Err(_) => {
                 put_back(&mut self.bodies[at], view);
                 self.fail(alloc, host, StopCause::Memory)
@@ -296,7 +297,7 @@ impl World {
         let signal = self.own_signal(alloc, host, view, body)?;
         self.outs.clear();
         self.outs.mark(Mark::Stopped { cause });
-        self.enter(alloc, host, stamp, signal, lost)
+        self.enter(alloc, host, stamp, signal, Some(cause), lost)
     }
 
     /// A host cuts off the hosts of a node's latest start, in a step of its own.
@@ -331,16 +332,19 @@ impl World {
     }
 
     // The step of a host is made: what it sends goes on its way, its replies are told, and it stands in
-    // the log. One that stops the host closes its links, of which it loses so many signals first.
+    // the log. One that stops the host for a cause closes its links, of which it loses so many signals
+    // first.
     fn enter(
         &mut self,
         alloc: Global,
         host: u32,
         stamp: u64,
         taken: Boxed<Signal>,
+        cause: Option<StopCause>,
         lost: u32,
     ) -> Result<(), NoMemory>
         requires there { IsThere (whole_of self.old) host }
+        requires told { stop_in self.old.outs.marks ≡ cause }
         requires stamp { stamp ≡ next_stamp self.old.stamps.items host taken.stamp }
         ensures ok { OnOk result (whole_of self.new ≡ entered (whole_of self.old) lost (record { to = host; signal = taken }) (record { state = body_at self.old.bodies.items host; effects = self.old.outs })) }
         ensures err { OnErr result (self.new.logs ≡ self.old.logs) }
@@ -348,7 +352,6 @@ impl World {
         let at = host as usize;
         tell(host, &mut self.bodies[at], &mut self.replies)?;
         let marks = self.outs.take_marks(alloc)?;
-        let cause = stop_of(marks.as_slice());
         self.send(alloc, host, stamp)?;
         self.close_for(alloc, host, stamp, &taken, cause, lost)?;
         self.stopped[at] = cause.is_some();

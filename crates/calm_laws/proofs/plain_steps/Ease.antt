@@ -1,17 +1,18 @@
 -- In calm nothing stands between a signal and the blocks of a host: it takes it as they do.
 use Rattle.std.proofs.Common.{◌≡◌, ◌==◌, ◌&&◌, ℕ, Bool, true, false, List, if◌then◌else◌, nat_lt, Option, None, refl}
 use Rattle.std.proofs.Common.{sym, ap, ◌∙◌}
+use Rattle.std.specs.Prelude.{is_some}
 use Rattle.std.specs.List.{list_any}
 use Rattle.std.proofs.lemmas.Bool.{and_parts, and_right, false≢true, true≢false}
 use Rattle.frag_map.specs.Layout.{first_number}
 use Rattle.node_core.specs.declared.host.Host as plain
-use Rattle.node_views.specs.Blocks.{fence_at, parts_row, settled_at}
+use Rattle.node_views.specs.Blocks.{fence_at, parts_row, settled_at, stop_at}
 use Rattle.node_views.specs.Fence.{is_fenced}
 use Rattle.node_views.specs.Laws.{is_own}
 use Rattle.node_views.specs.Parts.{main_settled}
 use Rattle.qmgr_block.proofs.Settles.{unsettled}
 use Rattle.qmgr_block.specs.Settle.{may_settle}
-use Rattle.node_views.specs.Row.{blocks_row, hushed, is_stop, settle, unless_stopped, with_parts}
+use Rattle.node_views.specs.Row.{blocks_row, hushed, is_stop, settle, with_parts}
 use Rattle.node_views.specs.WellFormed.{is_well_formed}
 use Rattle.node_views.specs.declared.host_body.HostBody as host
 use Rattle.node_views.specs.declared.ldm_part.LdmPart.{LdmPart}
@@ -19,6 +20,7 @@ use Rattle.node_views.specs.declared.parts.Parts.{Parts}
 use Rattle.node_views.specs.declared.parts.Parts.TheVariants.{Main, Tc, Ldm}
 use Rattle.node_views.specs.declared.tc_part.TcPart.{TcPart}
 use Rattle.node_views.proofs.LawLemmas.{calm_hosts_leave_it_to_blocks}
+use Rattle.node_views.proofs.StopWalk.{parts_stop}
 use Rattle.sig_core.specs.declared.outcome.StopCause.{StopCause}
 use Rattle.sig_core.specs.declared.place.BlockId.{BlockId}
 use Rattle.sig_core.specs.declared.place.BlockId.TheVariants as block
@@ -126,7 +128,8 @@ not_barred x own view is =
     (ap (λ n. nat_lt n own) view ∙ ap (λ n. nat_lt first_number n) is)
 
 pub ease_row : (start : Start) (h : ℕ) (given : List ApiReply) (s : host.HostBody) (other : plain.Host) (x : Signal)
-    → AreAlike start given s other → ComesCalmly start h x → step_by h s x ≡ hushed (blocks_row s x)
+    → AreAlike start given s other → ComesCalmly start h x
+    → step_by h s x ≡ hushed (is_some (stop_at s.parts x)) (blocks_row s x)
 ease_row start h given s other x alike calm =
     ap (step_if s x) (stops_none h x calm.calm) ∙ calm_hosts_leave_it_to_blocks s x (record {
       fine = ap (λ shape. is_well_formed shape x) alike.standing.shape ∙ calm.fine;
@@ -159,12 +162,8 @@ blocks_alone h s x calm =
     ap (settle (with_parts s (parts_row s.parts x))) (settles_none s.parts x (none_settling h x calm))
 
 -- where they don't stop the host it sends all that they send
-pub goes_on : (step : Step host.HostBody) → list_any is_stop step.effects.marks ≡ false → hushed step ≡ step
-goes_on step is =
-    ap (λ b. record {
-      state = step.state;
-      effects = record { sends = unless_stopped step.effects.sends b; marks = step.effects.marks };
-    }) is
+pub goes_on : (stops : Bool) (step : Step host.HostBody) → stops ≡ false → hushed stops step ≡ step
+goes_on stops step is = ap (λ b. hushed b step) is
 
 pub ease_parts : (start : Start) (h : ℕ) (given : List ApiReply) (s : host.HostBody) (other : plain.Host) (x : Signal)
     → AreAlike start given s other → ComesCalmly start h x
@@ -172,5 +171,5 @@ pub ease_parts : (start : Start) (h : ℕ) (given : List ApiReply) (s : host.Hos
     → step_by h s x ≡ with_parts s (parts_row s.parts x)
 ease_parts start h given s other x alike calm is =
     ease_row start h given s other x alike calm
-    ∙ ap hushed (blocks_alone h s x calm.calm)
-    ∙ goes_on (with_parts s (parts_row s.parts x)) is
+    ∙ ap (hushed (is_some (stop_at s.parts x))) (blocks_alone h s x calm.calm)
+    ∙ goes_on (is_some (stop_at s.parts x)) (with_parts s (parts_row s.parts x)) (sym (parts_stop s.parts x) ∙ is)

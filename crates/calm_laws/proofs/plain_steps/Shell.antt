@@ -1,6 +1,6 @@
 -- In calm the shell's host does at a signal what its plain one does, but that a round of time goes to the membership
 -- besides.
-use Rattle.std.proofs.Common.{◌≡◌, Bool, true, false, List, [], ◌++◌, refl, sym, ap, ◌∙◌, subst, subst₂}
+use Rattle.std.proofs.Common.{◌≡◌, true, List, [], ◌++◌, refl, sym, ap, ◌∙◌, subst, subst₂}
 use Rattle.std.specs.Prelude.{◌&&◌, None}
 use Rattle.run_theory.specs.Lists.{Each}
 use Rattle.sig_core.specs.declared.place.BlockId.{BlockId}
@@ -28,7 +28,7 @@ use Rattle.node_views.specs.declared.shell_part.ShellPart.{ShellPart}
 use Rattle.node_views.specs.declared.standing.Standing.{Standing}
 use Rattle.node_views.specs.Blocks.{in_shell}
 use Rattle.node_views.specs.Parts.{in_client, shell_row}
-use Rattle.node_views.specs.Row.{blocks_row, hushed, unless_stopped, with_parts}
+use Rattle.node_views.specs.Row.{blocks_row, with_parts}
 use Rattle.world_core.specs.Start.{Start}
 use Rattle.world_views.specs.Machine.{replies_at, step_by, stops_by, told}
 use Rattle.calm_laws.specs.Alike.{AreAlike, first}
@@ -56,7 +56,7 @@ module _ (start : Start) (given : List ApiReply) (standing : Standing) (p : Shel
   t = client_row p.client x
 
   abbrev mine : Step host.HostBody
-  mine = hushed (with_parts s (in_shell (in_client p t)))
+  mine = with_parts s (in_shell (in_client p t))
 
   abbrev theirs : Step plain.Host
   theirs = plain_row.in_shell (step_in_given given (api_row a x))
@@ -70,7 +70,7 @@ module _ (start : Start) (given : List ApiReply) (standing : Standing) (p : Shel
     unfolding blocks_row shell_row
     mine_is =
         ease_row start 0 given s (plain_host.Shell other) x alike comes
-        ∙ ap (λ (block : BlockId). hushed (with_parts s (in_shell (shell_row p block x)))) taken.0
+        ∙ ap (λ (block : BlockId). with_parts s (in_shell (shell_row p block x))) taken.0
 
     theirs_is : row (plain_host.Shell other) x ≡ theirs
     unfolding row plain_row.shell_row
@@ -84,9 +84,6 @@ module _ (start : Start) (given : List ApiReply) (standing : Standing) (p : Shel
     client =
         subst (λ (c : ClientState). ClientAlike start given x.body (client_row c x) (api_row a x)) (sym alike.parts.0)
         (client_alike start given a x shape alike.parts.1.0 alike.parts.1.1.0 comes taken.1)
-
-    goes_on : stops_by t.effects.marks ≡ false
-    goes_on = ap stops_by client.marks ∙ client.goes_on
 
     -- the replies are told, and both are alike behind that
     abbrev IsTold : ClientState → Type 0
@@ -110,9 +107,8 @@ module _ (start : Start) (given : List ApiReply) (standing : Standing) (p : Shel
           ∙ (client.marks ∙ sym (ap (λ (step : Step plain.Host). step.effects.marks) theirs_is));
       sends =
           ap (λ (step : Step host.HostBody). step.effects.sends) mine_is
-          ∙ (ap (λ (stops : Bool). unless_stopped t.effects.sends stops) goes_on
           ∙ (client.sends
-          ∙ sym (ap (λ (step : Step plain.Host). step.effects.sends ++ besides start 0 x.body) theirs_is)));
+          ∙ sym (ap (λ (step : Step plain.Host). step.effects.sends ++ besides start 0 x.body) theirs_is));
       plain =
           subst (λ (step : Step plain.Host). Each (IsPlainSend 0) step.effects.sends) (sym theirs_is) client.plain;
       goes_on = ap (λ (step : Step plain.Host). stops_by step.effects.marks) theirs_is ∙ client.goes_on;

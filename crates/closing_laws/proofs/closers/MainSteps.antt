@@ -3,7 +3,7 @@
 use Rattle.std.proofs.Common.{◌≡◌, ◌≤◌, ◌<◌, ◌||◌, ◌++◌, ◌∙◌, ℕ, zero, suc, Bool, true, false, nat_lt, List, [], ◌∷◌}
 use Rattle.std.proofs.Common.{refl, sym, ap, subst, arith}
 use Rattle.std.proofs.lemmas.Bool.{ltb-false, ltb-true}
-use Rattle.std.specs.Prelude.{not, Option, None, Some}
+use Rattle.std.specs.Prelude.{is_some, not, Option, None, Some}
 use Rattle.run_theory.specs.Lists.{Each}
 use Rattle.run_theory.proofs.Pasts.{each_append}
 use Rattle.sig_core.specs.declared.mark.Mark.{Mark}
@@ -29,9 +29,10 @@ use Rattle.node_views.specs.declared.main_part.MainPart.{MainPart}
 use Rattle.node_views.specs.declared.parts.Parts.TheVariants as part
 use Rattle.node_views.specs.declared.standing.Standing.{Standing}
 use Rattle.node_views.specs.Parts.{main_entered, main_row, main_settled}
-use Rattle.node_views.specs.Row.{blocks_row, closed_if, counted_row, cut_if, entered, entering_if, headed_if}
-use Rattle.node_views.specs.Row.{headed_row, host_row, host_table, hushed, in_view, is_barred, is_cut, is_excluded}
-use Rattle.node_views.specs.Row.{kill_row, killed_after, passed_if, passed_row, settle, taken_if, with_parts}
+use Rattle.node_views.specs.Row.{blocks_row, closed_if, counted_row, counted_stop, cut_if, entered, entering_if}
+use Rattle.node_views.specs.Row.{headed_if, headed_row, host_row, host_table, hushed, in_view, is_barred, is_cut}
+use Rattle.node_views.specs.Row.{is_excluded, kill_row, killed_after, passed_if, passed_row, settle, taken_if}
+use Rattle.node_views.specs.Row.{with_parts}
 use Rattle.node_views.specs.WellFormed.{is_first, is_well_formed}
 use Rattle.qmgr_block.specs.Qmgr.{qmgr_installed, qmgr_row}
 use Rattle.world_core.specs.Start.{Start}
@@ -208,10 +209,10 @@ module _ (x : Signal) where
     counted_goes standing p (Some (suc (suc left))) = headed_goes (killed_after standing (Some (suc left))) p
 
     -- a host that stops marks the same
-    hushed_goes : (p : MainPart) (view : View) (step : Step hosts.HostBody) → Goes shape p view x step
-        → Goes shape p view x (hushed step)
-    hushed_goes p view step (leaves now parts left marks) = leaves now parts left marks
-    hushed_goes p view step (takes between seen entering passed to parts stood front none marks) =
+    hushed_goes : (stops : Bool) (p : MainPart) (view : View) (step : Step hosts.HostBody) → Goes shape p view x step
+        → Goes shape p view x (hushed stops step)
+    hushed_goes stops p view step (leaves now parts left marks) = leaves now parts left marks
+    hushed_goes stops p view step (takes between seen entering passed to parts stood front none marks) =
         takes between seen entering passed to parts stood front none marks
 
   step_goes : (h : ℕ) (standing : Standing) (p : MainPart)
@@ -222,7 +223,8 @@ module _ (x : Signal) where
       by : (b : Bool) → is_well_formed standing.shape x ≡ b
           → Goes standing.shape p standing.view x (taken_if (host_of standing p) x b)
       by true sound =
-          hushed_goes standing.shape sound p standing.view (counted_row (host_of standing p) x standing.left)
+          hushed_goes standing.shape sound (is_some (counted_stop (host_of standing p) x standing.left)) p
+          standing.view (counted_row (host_of standing p) x standing.left)
           (counted_goes standing.shape sound standing p standing.left)
       by false off = leaves p refl (stays refl) tt
 

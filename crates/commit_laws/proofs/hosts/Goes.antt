@@ -6,7 +6,7 @@ use Rattle.std.proofs.lemmas.Bool.{and_parts, ltb-true, true≢false}
 use Rattle.std.proofs.lemmas.Bool.Decides.{nat_tests}
 use Rattle.std.proofs.lemmas.List.{append-nil}
 use Rattle.std.specs.List.{list_any}
-use Rattle.std.specs.Prelude.{not, Option, None, Some}
+use Rattle.std.specs.Prelude.{is_some, not, Option, None, Some}
 use Rattle.sig_core.specs.declared.mark.Mark.{Mark}
 use Rattle.sig_core.specs.declared.mark.Mark.TheVariants.{Installed}
 use Rattle.sig_core.specs.declared.member.HostId.{HostId}
@@ -24,11 +24,12 @@ use Rattle.node_views.specs.Blocks.{fence_at, parts_entered, parts_row, settled_
 use Rattle.node_views.specs.declared.host_body.HostBody as hosts
 use Rattle.node_views.specs.declared.parts.Parts.{Parts}
 use Rattle.node_views.specs.Fence.{is_fenced}
-use Rattle.node_views.specs.Row.{behind, blocks_row, closed_if, counted_row, cut_if, entered, entering_if, headed_if}
-use Rattle.node_views.specs.Row.{headed_row, host_row, host_table, hushed, is_barred, is_cut, is_excluded, is_stop}
-use Rattle.node_views.specs.Row.{kill_row, killed_after, marks_only, passed_if, passed_row, settle, standing_at}
-use Rattle.node_views.specs.Row.{taken_if, unless_stopped, with_parts}
+use Rattle.node_views.specs.Row.{behind, blocks_row, closed_if, counted_row, counted_stop, cut_if, entered}
+use Rattle.node_views.specs.Row.{entering_if, headed_if, headed_row, host_row, host_table, hushed, is_barred, is_cut}
+use Rattle.node_views.specs.Row.{is_excluded, is_stop, kill_row, killed_after, marks_only, passed_if, passed_row}
+use Rattle.node_views.specs.Row.{settle, standing_at, taken_if, with_parts}
 use Rattle.node_views.specs.WellFormed.{is_first, is_well_formed}
+use Rattle.node_views.proofs.StopWalk.{counted_stops}
 use Rattle.world_core.specs.Start.{Start}
 use Rattle.world_core.specs.Steps.{HostStep}
 use Rattle.world_views.specs.Machine.{after, own_stop, step_after, step_by, step_if}
@@ -194,19 +195,11 @@ module _ (x : Signal) where
     counted_goes s unsettled then_unsettled (Some (suc (suc left))) =
         headed_goes (standing_at s (killed_after s.standing (Some (suc left)))) unsettled then_unsettled
 
-  hushed_goes : (shape : Shape) (parts : Parts) (view : View) (step : Step hosts.HostBody)
-      → HostGoes shape parts view x step → HostGoes shape parts view x (hushed step)
-  hushed_goes shape parts view step goes = by (list_any is_stop step.effects.marks) refl
-    where
-      as_hushed : Bool → Step hosts.HostBody
-      as_hushed b = record {
-        state = step.state;
-        effects = record { sends = unless_stopped step.effects.sends b; marks = step.effects.marks };
-      }
-
-      by : (b : Bool) → list_any is_stop step.effects.marks ≡ b → HostGoes shape parts view x (as_hushed b)
-      by true is = halts is
-      by false is = goes
+  hushed_goes : (shape : Shape) (parts : Parts) (view : View) (stops : Bool) (step : Step hosts.HostBody)
+      → list_any is_stop step.effects.marks ≡ stops → HostGoes shape parts view x step
+      → HostGoes shape parts view x (hushed stops step)
+  hushed_goes shape parts view true step is goes = halts is
+  hushed_goes shape parts view false step is goes = goes
 
   step_goes : (h : ℕ) (s : hosts.HostBody) → settled_at s.parts x ≡ None
       → settled_at (parts_entered s.parts x.view).state x ≡ None
@@ -217,7 +210,8 @@ module _ (x : Signal) where
       by : (b : Bool) → is_well_formed s.standing.shape x ≡ b
           → HostGoes s.standing.shape s.parts s.standing.view x (taken_if s x b)
       by true sound =
-          hushed_goes s.standing.shape s.parts s.standing.view (counted_row s x s.standing.left)
+          hushed_goes s.standing.shape s.parts s.standing.view (is_some (counted_stop s x s.standing.left))
+          (counted_row s x s.standing.left) (counted_stops s x s.standing.left)
           (counted_goes s.standing.shape sound s unsettled then_unsettled s.standing.left)
       by false off = leaves (inl off) s.parts s.standing.view [] (stays refl refl refl) refl refl refl
 

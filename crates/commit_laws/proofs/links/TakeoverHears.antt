@@ -3,7 +3,7 @@
 use Rattle.std.proofs.Common.{◌≡◌, ◌≤◌, ℕ, zero, suc, Bool, true, false, nat_lt, List, [], refl, sym, ap, subst, arith}
 use Rattle.std.proofs.lemmas.Bool.{and_parts, ltb-true}
 use Rattle.std.specs.List.{list_any}
-use Rattle.std.specs.Prelude.{Option, None, Some}
+use Rattle.std.specs.Prelude.{is_some, Option, None, Some}
 use Rattle.sig_core.specs.declared.outcome.StopCause.{StopCause}
 use Rattle.sig_core.specs.declared.outs.Outgoing.{Outgoing}
 use Rattle.sig_core.specs.declared.place.BlockId.{BlockId}
@@ -22,9 +22,9 @@ use Rattle.node_views.specs.declared.tc_part.TcPart.{TcPart}
 use Rattle.node_views.specs.Blocks.{fence_at}
 use Rattle.node_views.specs.Fence.{is_fenced}
 use Rattle.node_views.specs.Parts.{tc_entered, tc_row}
-use Rattle.node_views.specs.Row.{blocks_row, counted_row, entered, entering_if, headed_if, headed_row, host_row}
-use Rattle.node_views.specs.Row.{host_table, in_view, is_barred, is_excluded, is_stop, hushed, killed_after, passed_if}
-use Rattle.node_views.specs.Row.{passed_row, taken_if}
+use Rattle.node_views.specs.Row.{blocks_row, counted_row, counted_stop, entered, entering_if, headed_if, headed_row}
+use Rattle.node_views.specs.Row.{host_row, host_table, in_view, is_barred, is_excluded, is_stop, hushed, killed_after}
+use Rattle.node_views.specs.Row.{passed_if, passed_row, taken_if}
 use Rattle.node_views.specs.WellFormed.{is_well_formed}
 use Rattle.world_core.specs.Start.{Start}
 use Rattle.world_core.specs.Steps.{HostStep}
@@ -110,15 +110,16 @@ module _ (x : Signal) (signal : TakeoverSignal) (body_is : x.body ≡ Takeover s
       unfolding host_row
       step_hears h standing high sound = stopped (own_stop h x)
         where
-          hushed_hears : (step : Step hosts.HostBody) → Hears p standing.view x step
-              → Hears p standing.view x (hushed step)
-          hushed_hears step (stops is) = stops is
-          hushed_hears step (heard between seen front entering parts stood) =
+          hushed_hears : (hush : Bool) (step : Step hosts.HostBody) → Hears p standing.view x step
+              → Hears p standing.view x (hushed hush step)
+          hushed_hears hush step (stops is) = stops is
+          hushed_hears hush step (heard between seen front entering parts stood) =
               heard between seen front entering parts stood
 
           well : Hears p standing.view x (taken_if (host_of standing p) x true)
           well =
-              hushed_hears (counted_row (host_of standing p) x standing.left)
+              hushed_hears (is_some (counted_stop (host_of standing p) x standing.left))
+              (counted_row (host_of standing p) x standing.left)
               (counted_hears standing high standing.left)
 
           stopped : (o : Option StopCause) → Hears p standing.view x (step_if (host_of standing p) x o)

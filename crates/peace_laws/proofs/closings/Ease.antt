@@ -1,12 +1,13 @@
 -- Nothing stands between what is told of a closing and the blocks of a host in the first view.
 use Rattle.std.proofs.Common.{◌≡◌, ◌==◌, ℕ, true, false, List, nat_lt, refl}
 use Rattle.std.proofs.Common.{sym, ap, ◌∙◌}
+use Rattle.std.specs.Prelude.{is_some}
 use Rattle.std.specs.List.{list_any}
 use Rattle.std.proofs.lemmas.Bool.{and_parts, false≢true}
 use Rattle.frag_map.specs.Layout.{first_number}
 use Rattle.node_core.specs.declared.host.Host as plain
 use Rattle.node_core.specs.declared.host.Host.TheVariants as plain_host
-use Rattle.node_views.specs.Blocks.{fence_at, parts_row}
+use Rattle.node_views.specs.Blocks.{fence_at, parts_row, stop_at}
 use Rattle.node_views.specs.Laws.{is_own}
 use Rattle.qmgr_block.specs.Settle.{may_settle}
 use Rattle.node_views.specs.Row.{blocks_row, hushed, is_stop, settle, with_parts}
@@ -15,6 +16,7 @@ use Rattle.node_views.specs.declared.host_body.HostBody as host
 use Rattle.node_views.specs.declared.parts.Parts.{Parts}
 use Rattle.node_views.specs.declared.parts.Parts.TheVariants.{Shell, Main, Tc, Ldm}
 use Rattle.node_views.proofs.LawLemmas.{calm_hosts_leave_it_to_blocks}
+use Rattle.node_views.proofs.StopWalk.{parts_stop}
 use Rattle.sig_core.specs.declared.place.BlockId.{BlockId}
 use Rattle.sig_core.specs.declared.place.BlockId.TheVariants as block
 use Rattle.sig_core.specs.declared.reply.ApiReply.{ApiReply}
@@ -111,7 +113,7 @@ module _ (start : Start) (h : ℕ) (given : List ApiReply) (s : host.HostBody) (
   comes = ap (λ (view : View). view.number) view
 
   -- the host takes it as its blocks do,
-  pub near_row : step_by h s x ≡ hushed (with_parts s (parts_row s.parts x))
+  pub near_row : step_by h s x ≡ hushed (is_some (stop_at s.parts x)) (with_parts s (parts_row s.parts x))
   unfolding blocks_row
   near_row =
       ap (step_if s x) (if_none (x.from.0 == h) (closes x.body) (closes_none x.body for_blocks.theirs))
@@ -123,17 +125,20 @@ module _ (start : Start) (h : ℕ) (given : List ApiReply) (s : host.HostBody) (
             (fence_first s.standing.view.number stands start given x.to.block s.parts other near.parts);
         theirs = for_blocks.theirs;
       })
-      ∙ ap (λ view. hushed (settle (with_parts s (parts_row s.parts x)) view))
+      ∙ ap (λ view. hushed (is_some (stop_at s.parts x)) (settle (with_parts s (parts_row s.parts x)) view))
       (settles_none s.parts x for_blocks.settles)
 
   -- and where it goes on sends all that they send
   pub near_parts : stops_by (step_by h s x).effects.marks ≡ false → step_by h s x ≡ with_parts s (parts_row s.parts x)
   near_parts goes =
       near_row
-      ∙ goes_on (with_parts s (parts_row s.parts x))
-      (sym (ap (λ (step : Step host.HostBody). list_any is_stop step.effects.marks) near_row) ∙ goes)
+      ∙ goes_on (is_some (stop_at s.parts x)) (with_parts s (parts_row s.parts x))
+      (sym (parts_stop s.parts x)
+      ∙ (sym (ap (λ (step : Step host.HostBody). list_any is_stop step.effects.marks) near_row) ∙ goes))
 
   -- so where they don't stop it
   pub near_parts_by : list_any is_stop (parts_row s.parts x).effects.marks ≡ false
       → step_by h s x ≡ with_parts s (parts_row s.parts x)
-  near_parts_by goes = near_row ∙ goes_on (with_parts s (parts_row s.parts x)) goes
+  near_parts_by goes =
+      near_row
+      ∙ goes_on (is_some (stop_at s.parts x)) (with_parts s (parts_row s.parts x)) (sym (parts_stop s.parts x) ∙ goes)

@@ -3,7 +3,7 @@
 -- it alone.
 use Rattle.std.proofs.Common.{◌≡◌, ◌⊎◌, ◌||◌, ◌∙◌, ℕ, zero, suc, Bool, true, false, nat_lt, List, [], ◌∷◌, refl, sym}
 use Rattle.std.proofs.Common.{ap, subst, inl, inr}
-use Rattle.std.specs.Prelude.{not, Option, None, Some}
+use Rattle.std.specs.Prelude.{is_some, not, Option, None, Some}
 use Rattle.std.specs.List.{list_any}
 use Rattle.run_theory.specs.Lists.{Each}
 use Rattle.run_theory.proofs.Pasts.{each_append}
@@ -33,11 +33,12 @@ use Rattle.node_views.specs.declared.parts.Parts.TheVariants as part
 use Rattle.node_views.specs.declared.standing.Standing.{Standing}
 use Rattle.node_views.specs.declared.tc_part.TcPart.{TcPart}
 use Rattle.node_views.specs.Parts.{tc_entered, tc_row}
-use Rattle.node_views.specs.Row.{behind, blocks_row, closed_if, counted_row, cut_if, entered, entering_if, headed_if}
-use Rattle.node_views.specs.Row.{headed_row, host_row, host_table, hushed, in_view, is_barred, is_cut, is_excluded}
-use Rattle.node_views.specs.Row.{is_stop, kill_row, killed_after, marks_only, passed_if, passed_row, taken_if}
-use Rattle.node_views.specs.Row.{unless_stopped}
+use Rattle.node_views.specs.Row.{behind, blocks_row, closed_if, counted_row, counted_stop, cut_if, entered}
+use Rattle.node_views.specs.Row.{entering_if, headed_if, headed_row, host_row, host_table, hushed, in_view, is_barred}
+use Rattle.node_views.specs.Row.{is_cut, is_excluded, is_stop, kill_row, killed_after, marks_only, passed_if}
+use Rattle.node_views.specs.Row.{passed_row, taken_if, unless_stopped}
 use Rattle.node_views.specs.WellFormed.{is_first, is_well_formed}
+use Rattle.node_views.proofs.StopWalk.{counted_stops}
 use Rattle.world_core.specs.Start.{Start}
 use Rattle.world_core.specs.Steps.{HostStep}
 use Rattle.world_views.specs.Machine.{after, own_stop, step_after, step_by, step_if}
@@ -200,14 +201,15 @@ module _ (x : Signal) where
     none_stops [] all = refl
     none_stops (mark ∷ marks) all = ap (λ b. b || list_any is_stop marks) all.0 ∙ none_stops marks all.1
 
-    hushed_goes : (p : TcPart) (step : Step hosts.HostBody) → Goes shape p x step → Goes shape p x (hushed step)
-    hushed_goes p step (leaves between entered parts words marks) =
-        leaves between entered parts (by (list_any is_stop step.effects.marks)) marks
+    hushed_goes : (p : TcPart) (stops : Bool) (step : Step hosts.HostBody) → list_any is_stop step.effects.marks ≡ stops
+        → Goes shape p x step → Goes shape p x (hushed stops step)
+    hushed_goes p stops step is (leaves between entered parts words marks) =
+        leaves between entered parts (by stops) marks
       where
         by : (b : Bool) → AreWordless (unless_stopped step.effects.sends b)
         by true = tt
         by false = words
-    hushed_goes p step (takes between entered well front words none going parts effects) =
+    hushed_goes p stops step is (takes between entered well front words none going parts effects) =
         takes between entered well front words none going parts (on ∙ effects)
       where
         marks : AreGoing step.effects.marks
@@ -216,10 +218,10 @@ module _ (x : Signal) where
             (each_append (λ mark. is_stop mark ≡ false) front.marks (tc_row between x.to.block x).effects.marks going
             (tc_going between x.to.block x))
 
-        on : (hushed step).effects ≡ step.effects
+        on : (hushed stops step).effects ≡ step.effects
         on =
             ap (λ b. record { sends = unless_stopped step.effects.sends b; marks = step.effects.marks })
-            (none_stops step.effects.marks marks)
+            (sym is ∙ none_stops step.effects.marks marks)
 
   step_goes : (h : ℕ) (standing : Standing) (p : TcPart) → Goes standing.shape p x (step_by h (host_of standing p) x)
   unfolding host_row
@@ -228,7 +230,8 @@ module _ (x : Signal) where
       by : (b : Bool) → is_well_formed standing.shape x ≡ b
           → Goes standing.shape p x (taken_if (host_of standing p) x b)
       by true sound =
-          hushed_goes standing.shape sound p (counted_row (host_of standing p) x standing.left)
+          hushed_goes standing.shape sound p (is_some (counted_stop (host_of standing p) x standing.left))
+          (counted_row (host_of standing p) x standing.left) (counted_stops (host_of standing p) x standing.left)
           (counted_goes standing.shape sound standing p standing.left)
       by false off = leaves p (inl refl) refl tt tt
 

@@ -1,9 +1,10 @@
 -- What is restored of the disks of a life is its history up to the epoch of the latest system slot.
-use Rattle.std.proofs.Common.{◌≡◌, ◌≤◌, ◌<◌, ◌+◌, ◌*◌, ◌==◌, ◌∙◌, ℕ, true, false, nat_lt, List, [], refl, sym, ap}
+use Rattle.std.proofs.Common.{◌≡◌, ◌≤◌, ◌<◌, ◌+◌, ◌*◌, ◌==◌, ◌∙◌, ℕ, Bool, true, false, nat_lt, List, [], refl, sym, ap}
 use Rattle.std.proofs.Common.{subst, inl, inr, arith, get_or}
+use Rattle.std.specs.Cmp.Lexicographic.{nat_list_cmp_total}
 use Rattle.std.specs.FinMap as map
 use Rattle.std.specs.Prelude.{None, Option, Some, Ok}
-use Rattle.std.proofs.lemmas.Bool.{and_left, and_right, le-ltb}
+use Rattle.std.proofs.lemmas.Bool.{and_left, and_right, eq-eqb, le-ltb}
 use Rattle.frag_map.specs.Fragment.{group_of_key}
 use Rattle.frag_map.specs.Layout.{holds}
 use Rattle.frag_map.specs.Replicas.{first_start}
@@ -24,6 +25,7 @@ use Rattle.sys_restart.specs.Calls.{rows_of_node}
 use Rattle.sys_restart.specs.Files.{Disks}
 use Rattle.sys_restart.specs.Groups.{is_listed}
 use Rattle.sys_restart.specs.Outdated.{are_ahead, is_outdated}
+use Rattle.sys_restart.specs.Owner.{is_owned}
 use Rattle.sys_restart.specs.Restored.{restored_of}
 use Rattle.world_core.proofs.MadeFirst.{begins_made}
 use Rattle.world_core.specs.Hosts.{hosts}
@@ -139,12 +141,27 @@ module _ (copied : CopiedWereSaved) (durable : DurableWereNoted) (done : DoneWer
       ((key : List ℕ) → holds start.shape node key ≡ true → map.get rows key ≡ row_up_to start logs system.epoch key)
       × ((key : List ℕ) → holds start.shape node key ≡ false → map.get rows key ≡ None)
 
+  -- those of two nodes of a group are the same
+  same_rows : (n m : ℕ) (one other : Rows) → group_of start.shape n ≡ group_of start.shape m → AreHistory n one
+      → AreHistory m other → one ≡ other
+  same_rows n m one other group own their =
+      map.same_map nat_list_cmp_total (map.slice_cmp-IsAntisymmetric map.nat_cmp-IsAntisymmetric) one other
+      (λ key. by key (holds start.shape n key) refl)
+    where
+      also : (key : List ℕ) → holds start.shape m key ≡ holds start.shape n key
+      also key = ap (λ (g : ℕ). g == group_of_key start.shape key) (sym group)
+
+      by : (key : List ℕ) (b : Bool) → holds start.shape n key ≡ b → map.get one key ≡ map.get other key
+      by key true holding = own.0 key holding ∙ sym (their.0 key (also key ∙ holding))
+      by key false apart = own.1 key apart ∙ sym (their.1 key (also key ∙ apart))
+
   -- the disk of each node that it lists has such
   own_rows : (node : ℕ) → 1 ≤ node → node ≤ start.shape.nodes → is_listed system.mask node ≡ true
       → HasOwnRows start.shape images system AreHistory node
   own_rows node some low listed = record {
     slot = has.slot;
     rows = replayed system.epoch before (records_behind (first_rows start member) has.events);
+    owner = ap (is_owned node) (left.each member there).owner ∙ eq-eqb node node refl;
     control =
         ap (λ generation. control_of_file generation (images node CONTROL_FILE))
         (system_generation start r logs images left ∙ sym has.generation_is)
@@ -155,7 +172,7 @@ module _ (copied : CopiedWereSaved) (durable : DurableWereNoted) (done : DoneWer
     last =
         ap (λ generation. is_outdated generation system.epoch (images node CONTROL_FILE))
         (system_generation start r logs images left)
-        ∙ none_ahead member _ _ (left.each member there).ahead;
+        ∙ none_ahead member _ _ (left.each member there).told_slots;
     so = (own, others);
   }
     where
@@ -202,6 +219,9 @@ module _ (copied : CopiedWereSaved) (durable : DurableWereNoted) (done : DoneWer
       let whole = group_low start.shape left.cluster.shape group below in
       group_is start.shape images system AreHistory (group * start.shape.replicas + 1)
       (λ node from under. own_rows node (omega (arith, from)) (omega (arith, under, whole)))
+      (λ n m one other from under from_m under_m.
+      same_rows n m one other
+      (node_group start.shape group n from under ∙ sym (node_group start.shape group m from_m under_m)))
       (manned start r logs images left copied group below)
 
   all : AreGroups start.shape images system AreHistory 0 (groups start.shape) []

@@ -65,7 +65,8 @@ lives_ask start r request w t disks asked well lived =
                 w t disks lived.sound there asked was.up;
             tells = requests_tell_what_is_kept start request w t lived.sound asked member there was.tells;
             shape = was.shape;
-            ahead = told_longer start member (r.generation + 1) w t disks asked.more was.ahead;
+            told_slots = told_longer start member (r.generation + 1) w t disks asked.more was.told_slots;
+            owner = was.owner;
             storable = was.storable;
           };
     }
@@ -118,11 +119,12 @@ lives_hear start r w t disks sound logs links lived =
                       was.tells.durable);
                 };
             shape = was.shape;
-            ahead =
+            told_slots =
                 told_longer start member (r.generation + 1) w t disks
                 (λ h.
                 subst (λ (ls : List HostLog). IsPast (logs_at w.logs h) (logs_at ls h)) (sym logs)
-                (past_self (logs_at w.logs h))) was.ahead;
+                (past_self (logs_at w.logs h))) was.told_slots;
+            owner = was.owner;
             storable = was.storable;
           };
     }

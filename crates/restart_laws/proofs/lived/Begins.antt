@@ -22,6 +22,7 @@ use Rattle.world_views.specs.World.{Whole, new_world}
 use Rattle.view_laws.proofs.runs.FirstMembers.{node_low, node_some}
 use Rattle.moment_laws.specs.Places.{ldm_of, tc_of}
 use Rattle.disk_world.specs.Disks.{Disks}
+use Rattle.disk_laws.proofs.owner_of.Found.{settled_named}
 use Rattle.disk_laws.proofs.ReadyLaw.{ready_keep_up}
 use Rattle.disk_laws.proofs.told_slots.Begun.{told_slots_begin}
 use Rattle.disk_laws.specs.OnDisk.{IsOnDisk}
@@ -95,7 +96,7 @@ module _ (shape : Shape) (r : Restored) (disks : Disks) (may : MayBegin shape r)
                 (subst (λ s. IsImage s bytes) (own.ready.0.0 SYSTEM_FILE (omega arith)) image)))
                 own.shapes;
           };
-          ahead = record {
+          told_slots = record {
             calls = own.calls;
             told = own.told;
             leaves = λ bytes image.
@@ -103,6 +104,13 @@ module _ (shape : Shape) (r : Restored) (disks : Disks) (may : MayBegin shape r)
                 (sym (settled_is_kept (files_of own.calls CONTROL_FILE) bytes
                 (subst (λ s. IsImage s bytes) (own.ready.0.0 CONTROL_FILE (omega arith)) image)))
                 prepared_told;
+          };
+          owner = record {
+            calls = own.calls;
+            told = own.told;
+            named =
+                settled_named member.node own.calls (own.ready.0.0 CONTROL_FILE (omega arith))
+                own.ready.0.1.1.owner;
           };
           storable = own.storable;
         }

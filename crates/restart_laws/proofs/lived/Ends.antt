@@ -19,6 +19,7 @@ use Rattle.disk_world.specs.Disks.{Disks}
 use Rattle.disk_laws.specs.Found.{HasLatest}
 use Rattle.disk_laws.specs.OnDisk.{KeepsUp}
 use Rattle.disk_laws.proofs.KeptLaw.{kept_is_found}
+use Rattle.disk_laws.proofs.owner_of.Found.{owners_found}
 use Rattle.disk_laws.proofs.shapes_of.Read.{shapes_read}
 use Rattle.restart_laws.specs.Lived.{IsLived, IsLivedAt, LivesRestart}
 use Rattle.restart_laws.specs.Restart.{AreLeft, IsLeftOf}
@@ -63,10 +64,15 @@ module _ (start : Start) (r : Restored) (w : Whole) (disks : Disks) (images : fi
               (same_calls (get_or disks.told (member.node - 1) None) up.calls at.shape.calls up.told at.shape.told)
               (image SYSTEM_FILE (omega arith))))
               noted.in_use;
-          ahead =
-              at.ahead.leaves (images member.node CONTROL_FILE)
+          told_slots =
+              at.told_slots.leaves (images member.node CONTROL_FILE)
               (subst (λ calls. IsImage (state_of calls CONTROL_FILE) (images member.node CONTROL_FILE))
-              (same_calls (get_or disks.told (member.node - 1) None) up.calls at.ahead.calls up.told at.ahead.told)
+              (same_calls (get_or disks.told (member.node - 1) None) up.calls at.told_slots.calls up.told at.told_slots.told)
+              (image CONTROL_FILE (omega arith)));
+          owner =
+              owners_found member.node at.owner.calls (images member.node CONTROL_FILE) at.owner.named
+              (subst (λ calls. IsImage (state_of calls CONTROL_FILE) (images member.node CONTROL_FILE))
+              (same_calls (get_or disks.told (member.node - 1) None) up.calls at.owner.calls up.told at.owner.told)
               (image CONTROL_FILE (omega arith)));
           told_saved = at.tells.saved.taken;
           told_durable = at.tells.durable.taken;

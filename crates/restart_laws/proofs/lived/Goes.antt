@@ -30,9 +30,11 @@ use Rattle.saved_laws.specs.Behind.{SavedBeforeIsDurable}
 use Rattle.saved_laws.specs.Checkpoints.{WalkedCheckpointsStand}
 use Rattle.disk_laws.specs.Laws.{AreSavable}
 use Rattle.disk_laws.specs.OnDisk.{KeepsUp}
+use Rattle.disk_laws.specs.Owners.{KeepsOwner}
 use Rattle.disk_laws.specs.Shapes.{KeepsShape}
 use Rattle.disk_laws.specs.ToldSlots.{KeepsTold}
 use Rattle.disk_laws.proofs.StepLaw.{steps_kept}
+use Rattle.disk_laws.proofs.owner_of.Kept.{owners_kept}
 use Rattle.disk_laws.proofs.shapes_of.Kept.{shapes_kept}
 use Rattle.disk_laws.proofs.told_slots.Kept.{told_slots_kept}
 use Rattle.restart_laws.specs.Lived.{IsLived, LivesGoOn}
@@ -168,13 +170,18 @@ module _ (start : Start) (r : Restored) where
         lived.sound there lived.told lived.slots gone (same_itself start.shape) (lived.each member there).up
         (lived.each member there).shape
 
-    aheads : (member : Member) → IsIn member (made start) → KeepsTold start member (r.generation + 1) t new
-    aheads member there =
+    told_slots_are : (member : Member) → IsIn member (made start) → KeepsTold start member (r.generation + 1) t new
+    told_slots_are member there =
         told_slots_kept start member (rows_of_node start.shape member.node r) (next_system start.shape r) w t old new
         counts lived.sound there lived.told lived.slots gone (first_high start r lived.is_start lived.may)
         (all_savable member there)
         (before_durable behind start (logs_at t.logs) are (below_first start r lived.is_start lived.may) member there)
-        (lived.each member there).up (lived.each member there).ahead
+        (lived.each member there).up (lived.each member there).told_slots
+
+    owners : (member : Member) → IsIn member (made start) → KeepsOwner member.node new
+    owners member there =
+        owners_kept start member (rows_of_node start.shape member.node r) (next_system start.shape r) w t old new counts
+        lived.sound there lived.told lived.slots gone (lived.each member there).up (lived.each member there).owner
 
     pub one_step : IsLived r t new start
     one_step =
@@ -190,7 +197,8 @@ module _ (start : Start) (r : Restored) where
                 up = ups member there;
                 tells = tells member there;
                 shape = shapes member there;
-                ahead = aheads member there;
+                told_slots = told_slots_are member there;
+                owner = owners member there;
                 storable = (lived.each member there).storable;
               };
         }

@@ -1,7 +1,6 @@
 -- What is said of all that a host sends in a step, as a list, along with what happens to some of its blocks.
 use Rattle.std.proofs.Common.{◌≡◌, ◌||◌, ◌++◌, ℕ, zero, suc, Bool, true, false, List, [], ◌∷◌, refl, ap}
-use Rattle.std.specs.Prelude.{if◌then◌else◌, not, Option, None, Some}
-use Rattle.std.specs.List.{list_any}
+use Rattle.std.specs.Prelude.{if◌then◌else◌, is_some, not, Option, None, Some}
 use Rattle.sig_core.specs.declared.member.HostId.{HostId}
 use Rattle.sig_core.specs.declared.outcome.StopCause.{StopCause}
 use Rattle.sig_core.specs.declared.outs.Outgoing.{Outgoing}
@@ -15,8 +14,8 @@ use Rattle.api_views.specs.Members.{same_member}
 use Rattle.node_views.specs.Blocks.{parts_entered, parts_row, settled_at}
 use Rattle.node_views.specs.declared.host_body.HostBody as hosts
 use Rattle.node_views.specs.declared.parts.Parts.{Parts}
-use Rattle.node_views.specs.Row.{blocks_row, closed_if, counted_row, cut_if, entered, entering_if, headed_if}
-use Rattle.node_views.specs.Row.{headed_row, host_row, host_table, is_barred, is_excluded, is_stop, kill_row}
+use Rattle.node_views.specs.Row.{blocks_row, closed_if, counted_row, counted_stop, cut_if, entered, entering_if}
+use Rattle.node_views.specs.Row.{headed_if, headed_row, host_row, host_table, is_barred, is_excluded, kill_row}
 use Rattle.node_views.specs.Row.{killed_after, passed_if, passed_row, settle, standing_at, taken_if, unless_stopped}
 use Rattle.node_views.specs.Row.{with_parts}
 use Rattle.node_views.specs.WellFormed.{is_well_formed}
@@ -138,7 +137,7 @@ module _ (mine : BlockId → Bool) (x : Signal) where
           by true =
               let step = counted_row s x s.standing.left in
               hushed_said (counted_events mine s x s.standing.left) step.effects.sends
-              (list_any is_stop step.effects.marks) (counted_said s.standing.left)
+              (is_some (counted_stop s x s.standing.left)) (counted_said s.standing.left)
           by false = said.opens.none []
 
       pub all_said : (h : ℕ) → P (events_at mine h s x) (step_by h s x).effects.sends

@@ -12,7 +12,7 @@ use Rattle.sys_restart.proofs.groups.held_on.Goals as goal
 -- the rows were read
 pub returns-in-Ok-clause-read : goal.returns-in-Ok-clause-read
 returns-in-Ok-clause-read g c =
-    let node = c.args.source.now.node in
+    let node = c.args.node in
     λ calls told.
     subst
     (λ (found : Result Rows RestartFault). ReadsAll (if_held c.args.shape.now node (files_of calls) found)
@@ -23,13 +23,13 @@ returns-in-Ok-clause-read g c =
 -- they weren't
 pub returns-in-Err-clause-read : goal.returns-in-Err-clause-read
 returns-in-Err-clause-read g c =
-    let node = c.args.source.now.node in
+    let node = c.args.node in
     λ calls told inside.
     ap (if_held c.args.shape.now node (files_of calls))
-    (node_answer (rows_of_slot c.args.epoch (files_of calls) c.args.source.now.slot) node c.in-Err.fault
+    (node_answer (rows_of_slot c.args.epoch (files_of calls) c.args.slot.now) node c.in-Err.fault
     c.of_node.result c.of_node.ensures (c.in-Err.ensures.read calls told) inside)
 
 pub returns-in-Err-clause-cause : goal.returns-in-Err-clause-cause
 returns-in-Err-clause-cause g c =
-    node_reason c.args.source.now.node (g.D.Disk.faults c.args.disk.now) (g.D.Disk.faults c.rows_of_slot.new.disk)
+    node_reason c.args.node (g.D.Disk.faults c.args.disk.now) (g.D.Disk.faults c.rows_of_slot.new.disk)
     c.in-Err.fault c.of_node.result c.of_node.ensures c.in-Err.ensures.cause

@@ -89,4 +89,5 @@ pub returns-clause-read : goal.returns-clause-read
 returns-clause-read g c = λ records told.
     sym (c.loop-group.invariant.read records told)
     ∙ rows_end c.args.shape (disks_of records) c.args.system.now c.loop-group.group
-    (groups c.args.shape - c.loop-group.group) (Ok c.loop-group.rows) (none_left (groups c.args.shape) c.loop-group.group c.loop-group-test.false)
+    (groups c.args.shape - c.loop-group.group) (Ok c.loop-group.rows)
+    (none_left (groups c.args.shape) c.loop-group.group c.loop-group-test.false)

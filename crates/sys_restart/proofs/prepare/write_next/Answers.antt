@@ -9,14 +9,14 @@ use Rattle.sys_restart.proofs.prepare.write_next.Goals as goal
 pub returns-in-Ok-clause-runs : goal.returns-in-Ok-clause-runs
 returns-in-Ok-clause-runs g c = λ calls told.
     subst
-    (λ (slot : ControlSlot). Runs (write_calls (files_of calls CONTROL_FILE) c.args.places.now.free slot
+    (λ (slot : ControlSlot). Runs (write_calls c.args.node (files_of calls CONTROL_FILE) c.args.places.now.free slot
     c.args.bytes.now) calls (g.D.Disk.told c.write_node.new.disk) true)
     c.next_slot-slot.ensures.value (c.in-Ok.ensures.runs calls told)
 
 pub returns-in-Err-clause-runs : goal.returns-in-Err-clause-runs
 returns-in-Err-clause-runs g c = λ calls told.
     subst
-    (λ (slot : ControlSlot). Runs (write_calls (files_of calls CONTROL_FILE) c.args.places.now.free slot
+    (λ (slot : ControlSlot). Runs (write_calls c.args.node (files_of calls CONTROL_FILE) c.args.places.now.free slot
     c.args.bytes.now) calls (g.D.Disk.told c.write_node.new.disk) false)
     c.next_slot-slot.ensures.value (c.in-Err.ensures.runs calls told)
 

@@ -1,4 +1,4 @@
-use Rattle.std.proofs.Common.{rules, ◌∙◌, ap, length}
+use Rattle.std.proofs.Common.{rules, ◌∙◌, ap}
 use Rattle.host_io.specs.DiskState.{state_of}
 use Rattle.sysfile_core.specs.declared.place.TheConstants.{SYSTEM_FILE}
 use Rattle.sysfile_core.specs.Reading.{system_in}

@@ -1,8 +1,8 @@
-use Rattle.std.proofs.Common.{◌≡◌, ◌++◌, ap, ◌∙◌, subst, IfSome, slice_set}
+use Rattle.std.proofs.Common.{◌++◌, ap, ◌∙◌, slice_set}
 use Rattle.sig_core.specs.Step.{Step, stay}
 use Rattle.node_views.specs.declared.host_body.HostBody.{HostBody}
 use Rattle.world_core.specs.Right.{arriving}
-use Rattle.world_views.specs.Machine.{cause_in, replies_at, stops_by, told}
+use Rattle.world_views.specs.Machine.{replies_at, told}
 use Rattle.world_views.specs.World.{Whole, body_at, sending}
 use Rattle.world_views.specs.WorldOf.{whole_of}
 use Rattle.world_views.proofs.HandleLemmas.{body_read, enters_ok, has_told}
@@ -24,10 +24,6 @@ returns-clause-ok c =
     ∙ ap (λ os. sending spoken h c.args.stamp os) c.in_ok-marks.ensures.sends
     ∙ ap (λ (a : Whole). sending a h c.args.stamp t.effects.sends) telling in
     enters_ok c.add.result w (whole_of c.send.new.self) (whole_of c.close_for.new.self) x t c.args.stamp c.args.lost
-    c.stop_of-cause.result c.is_some.result c.in_ok-marks.marks c.add.new.self c.requires.stamp
-    c.in_ok-marks.ensures.taken
-    (c.stop_of-cause.ensures.stops ∙ ap stops_by c.as_slice.ensures)
-    (subst (λ ms. IfSome c.stop_of-cause.result (λ cause. cause ≡ cause_in ms)) c.as_slice.ensures
-    c.stop_of-cause.ensures.cause)
-    c.is_some.ensures sent c.in_ok-close_for.ensures.ok
+    c.args.cause c.is_some.result c.in_ok-marks.marks c.add.new.self c.requires.stamp
+    c.in_ok-marks.ensures.taken c.requires.told c.is_some.ensures sent c.in_ok-close_for.ensures.ok
     c.add.ensures.ok

@@ -10,7 +10,11 @@ use Rattle.world_core.specs.Right.{arriving}
 use Rattle.world_views.specs.World.{body_at}
 use Rattle.world_views.specs.WorldOf.{whole_of}
 use Rattle.world_views.proofs.HandleLemmas.{body_read, has_moved, has_no_memory, read_back, stamp_is, stands_before}
+use Rattle.world_views.proofs.HandleLemmas.{stop_told}
 use Rattle.world_views.proofs.world.World.handle.Goals as goal
+
+pub enter-requires-clause-told : goal.enter-requires-clause-told
+enter-requires-clause-told c = stop_told _ _ _ _ _ c.in-Ok.ensures.taken c.in-Ok.ensures.stops
 
 pub returns-in-Ok-clause-ok : goal.returns-in-Ok-clause-ok
 returns-in-Ok-clause-ok c =

@@ -1,5 +1,5 @@
 use Rattle.std.proofs.Common.{◌≡◌, length}
-use Rattle.node_views.proofs.host_body.hush.Given as goal
+use Rattle.node_views.proofs.host_body.hush_if.Given as goal
 
 -- the marks stay, whatever is taken back
 abbrev pub invariant-loop : goal.invariant-loop
