@@ -4,10 +4,12 @@
 #![tactic(auto)]
 
 mod bearing;
+mod checks;
 mod kinds;
 mod life;
 
 use bearing::{bears_changes, bears_cuts, fault_of, is_written_again};
+use checks::try_checks;
 use kinds::bear_kinds;
 use life::{SHAPE, STEP, STEP_END, TRACE, a_life, a_step, found_slots};
 use sig_core::{NoMemory, Own, Table};
@@ -165,5 +167,6 @@ fn main(rt: HostRuntime) -> Result<ExitCode, Fail> {
     let mut failed = false;
     try_life(&rt, &mut failed)?;
     try_kinds(&rt, &mut failed)?;
+    try_checks(&rt, &rt, &mut failed)?;
     Ok(ExitCode::from(if failed { 1 } else { 0 }))
 }
