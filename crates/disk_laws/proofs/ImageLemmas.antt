@@ -1,6 +1,7 @@
 -- What a crash leaves of the file of system slots, and of all others, put together.
 use Rattle.std.proofs.Common.{◌≡◌, ◌≢◌, ◌∙◌, ℕ, ◌<◌, ◌==◌, Bool, true, false, List, refl, ap, sym, subst, arith}
 use Rattle.std.proofs.Common.{if◌then◌else◌}
+use Rattle.std.specs.List.{list_all}
 use Rattle.std.proofs.lemmas.Bool.{eqb-true, ne_eqb, true≢false, eq-eqb}
 use Rattle.host_io.specs.Call.{Call}
 use Rattle.host_io.specs.DiskState.{FileState, state_of}
@@ -15,7 +16,7 @@ use Rattle.sig_core.specs.declared.slots.ControlSlot.{ControlSlot}
 use Rattle.sysfile_core.specs.declared.place.TheConstants.{CONTROL_FILE, SYSTEM_FILE}
 use Rattle.sys_restart.specs.Files.{Files}
 use Rattle.sys_restart.proofs.ControlLemmas.{NamesFiles, in_use_names}
-use Rattle.sys_restart.proofs.SameRows.{redo_file, rows_same}
+use Rattle.sys_restart.proofs.SameRows.{records_same, redo_file, rows_same}
 use Rattle.node_restart.specs.Rows.{RestoresRows}
 
 -- the file of system slots as in some files, the others as in others
@@ -58,10 +59,11 @@ others_restore least system image slot before redo restores = (
   λ epoch up.
       sym (rows_same epoch image (joined system image) slot
       (apart slot.ckpt_file (λ is. omega (arith, is, names.least)))
-      (λ position.
-      apart (file_of slot.parity position)
-      (λ is. omega (arith, is, (redo_file slot.parity position names.parity).0))))
+      in_log)
       ∙ restores.1 epoch up,
+  λ test so.
+      subst (λ found. list_all test found ≡ true) (records_same image (joined system image) slot in_log)
+      (restores.2 test so),
 )
   where
     names : NamesFiles slot
@@ -70,6 +72,12 @@ others_restore least system image slot before redo restores = (
     apart : (file : ℕ) → file ≢ SYSTEM_FILE → joined system image file ≡ image file
     apart file not_system =
         ap (λ (same : Bool). if same then system file else image file) (ne_eqb file SYSTEM_FILE not_system)
+
+    in_log : (position : ℕ)
+        → joined system image (file_of slot.parity position) ≡ image (file_of slot.parity position)
+    in_log position =
+        apart (file_of slot.parity position)
+        (λ is. omega (arith, is, (redo_file slot.parity position names.parity).0))
 
 -- so it is as long as no file but that of system slots was written
 pub others_same : (calls after : List Call) (image : Files)

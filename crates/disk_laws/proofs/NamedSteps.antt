@@ -1,6 +1,8 @@
 -- What becomes of the rows of a disk where a local checkpoint is named.
 use Rattle.std.proofs.Common.{◌≡◌, ◌∙◌, ◌⊎◌, ◌≤◌, ◌<◌, ℕ, ◌+◌, ◌-◌, ◌^◌, ◌&&◌, Bool, true, false, nat_le, nat_lt}
-use Rattle.std.proofs.Common.{List, [], ◌∷◌, ◌++◌, length, drop, take, get_or, refl, ap, sym, subst, inl, inr, arith}
+use Rattle.std.proofs.Common.{List, [], ◌∷◌, ◌++◌, length, drop, take, get_or, append_assoc, refl, ap, sym, subst, inl}
+use Rattle.std.proofs.Common.{inr, arith}
+use Rattle.std.proofs.Math.Seq.{drop-append_seam}
 use Rattle.std.specs.Prelude.{Ok, Some, slice_index}
 use Rattle.std.proofs.lemmas.Bool.{and_from, and_parts, le-leb, le-ltb, leb-true, ltb-true}
 use Rattle.std.proofs.lemmas.List.{drop-append-le, get_or-drop, length-drop}
@@ -59,7 +61,7 @@ use Rattle.journal_laws.proofs.follow.Oldest.{bytes_append}
 use Rattle.journal_laws.proofs.follow.GivenUp.{newer_records}
 use Rattle.disk_laws.proofs.RowsSaved.{goes_nowhere, last_found, left_size, told_longer}
 use Rattle.disk_laws.proofs.SlotNumbers.{HasNumbers, control_numbers}
-use Rattle.disk_laws.proofs.StandLemmas.{stand_same}
+use Rattle.disk_laws.proofs.StandLemmas.{all_kept, stand_restores, stand_same}
 
 -- what holds of an epoch that was told to be durable holds of those before it
 tells_below : (low high : ℕ) (body : Body) → low ≤ high → TellsDone high body → TellsDone low body
@@ -201,6 +203,20 @@ module _ (start : Start) (member : Member) (there : IsIn member (made start)) (b
         (subst (StandFor start member before checkpoint.rows finished.epoch finished.from now) same_now now_stand.1);
   }
 
+  -- the records before its position are given up
+  old_all : records has.events ≡ kept ++ records new.followed.given_up.gone
+  unfolding behind_it
+  old_all =
+      sym (drop-append_seam newer (records has.events))
+      ∙ ap (drop (length newer))
+      (sym behind_it.is
+      ∙ all_kept start member there (e ∷ log) new.events new.records new.followed.given_up (newer ++ kept)
+      behind_it.stand.are
+      (behind_it.stand.bytes
+      ∙ ap (λ (o : OutletState). drop o.flushed (log_bytes (records new.events))) (sym switch.outlet))
+      ∙ append_assoc newer kept (records new.followed.given_up.gone))
+      ∙ drop-append_seam newer (kept ++ records new.followed.given_up.gone)
+
   names : NamesFiles s.control
   names = in_use_names s.control.generation (files_of calls CONTROL_FILE) s.control has.rows.control.in_use
 
@@ -328,7 +344,9 @@ module _ (start : Start) (member : Member) (there : IsIn member (made start)) (b
     events_of = has.events_of;
     least = finished.epoch;
     told = its_epoch longer behind;
-    restores = (restores.0, λ at from. restores.1 at from ∙ ap Ok (old_stand.1.same at from));
+    restores =
+        stand_restores start member before checkpoint.rows finished.epoch finished.from has.events kept
+        (records new.followed.given_up.gone) image (named_control s finished) old_stand.1 old_all restores;
     latest = least;
   }
 
@@ -388,6 +406,8 @@ module _ (start : Start) (member : Member) (there : IsIn member (made start)) (b
         redo = kept;
         least = finished.epoch;
         stands = old_stand.1;
+        gone = records new.followed.given_up.gone;
+        all = old_all;
         until_now = behind_it;
         told = its_epoch (e ∷ log) (past_more e (past_self log));
         rows = law.1 so;

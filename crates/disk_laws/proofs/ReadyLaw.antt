@@ -139,6 +139,8 @@ ready_keep_up start member r calls s kept from there ready is = record {
       redo = [];
       least = start.start_epoch;
       stands = stands;
+      gone = [];
+      all = refl;
       until_now = record { now = []; events_of = refl; are = tt; newer = []; is = refl; stand = stands };
       told = omega arith;
       rows =

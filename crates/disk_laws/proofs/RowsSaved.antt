@@ -1,8 +1,8 @@
 -- What becomes of the rows of a disk where their host noted a later epoch as saved.
 use Rattle.std.proofs.Common.{◌≡◌, ◌∙◌, ◌⊎◌, ◌≤◌, ◌<◌, ℕ, ◌+◌, ◌-◌, ◌^◌, Bool, true, false, nat_le, List}
 use Rattle.std.proofs.Common.{[], ◌∷◌, ◌++◌, length, drop, refl, ap, sym, subst, inl, inr, arith, if◌then◌else◌}
-use Rattle.std.proofs.Common.{drop_at, length-append}
-use Rattle.std.specs.Prelude.{Ok, Some}
+use Rattle.std.proofs.Common.{append_assoc, drop_at, length-append}
+use Rattle.std.specs.Prelude.{Some}
 use Rattle.std.proofs.lemmas.Bool.{and_from, le-leb, le-ltb, leb-false, leb-true, lt-leb, true≢false}
 use Rattle.host_io.specs.Call.{Call}
 use Rattle.host_io.specs.Image.{IsLeft, LeavesOnly}
@@ -47,7 +47,7 @@ use Rattle.journal_laws.proofs.follow.GivenUp.{newer_records}
 use Rattle.disk_laws.proofs.KeptParts.{kept_is_past}
 use Rattle.disk_laws.proofs.SavedLemmas.{first_saved, saved_along}
 use Rattle.disk_laws.proofs.SlotNumbers.{HasNumbers, control_numbers}
-use Rattle.disk_laws.proofs.StandLemmas.{left_is}
+use Rattle.disk_laws.proofs.StandLemmas.{left_is, stand_restores}
 
 -- what was told to be durable stays so
 pub told_longer : (start : Start) (member : Member) (older log : List HostStep) (epoch : ℕ) → IsPast older log
@@ -83,6 +83,8 @@ last_with start member before first log s calls after system at has rows = recor
   redo = has.redo;
   least = has.least;
   stands = has.stands;
+  gone = has.gone;
+  all = has.all;
   until_now = has.until_now;
   told = has.told;
   rows = rows;
@@ -105,7 +107,9 @@ last_found start member before first log s calls has longer behind least image r
   events_of = has.events_of;
   least = has.least;
   told = told_longer start member log longer has.least behind has.told;
-  restores = (restores.0, λ at from. restores.1 at from ∙ ap Ok (has.stands.same at from));
+  restores =
+      stand_restores start member before has.base has.least s.control.redo_start has.events has.redo has.gone image
+      s.control has.stands has.all restores;
   latest = least;
 }
 
@@ -162,6 +166,8 @@ module _ (start : Start) (member : Member) (there : IsIn member (made start)) (b
     redo = has.redo;
     least = has.least;
     stands = has.stands;
+    gone = has.gone;
+    all = has.all;
     until_now = on.until_now;
     told = told_longer start member log new has.least on.past has.told;
     rows = has.rows;
@@ -178,6 +184,11 @@ module _ (start : Start) (member : Member) (there : IsIn member (made start)) (b
 
     abbrev both : List Redo
     both = newer ++ has.redo
+
+    -- behind what is gone
+    all_now : records_behind (first_rows start member) on.until_now.now ≡ both ++ has.gone
+    all_now =
+        on.until_now.is ∙ ap (λ older. newer ++ older) has.all ∙ sym (append_assoc newer has.redo has.gone)
 
     -- the journal has what is saved, and what is still to be saved
     left_both : outlet.left ≡ log_bytes has.redo ++ log_bytes newer
@@ -343,6 +354,8 @@ module _ (start : Start) (member : Member) (there : IsIn member (made start)) (b
         redo = both;
         least = has.least;
         stands = on.until_now.stand;
+        gone = has.gone;
+        all = all_now;
         until_now = record {
           now = on.until_now.now;
           events_of = on.until_now.events_of;
@@ -426,7 +439,9 @@ module _ (start : Start) (member : Member) (there : IsIn member (made start)) (b
       least = has.least;
       told =
           told_longer start member log longer has.least (past_trans on.past behind) has.told;
-      restores = (restores.0, λ at from. restores.1 at from ∙ ap Ok (on.until_now.stand.same at from));
+      restores =
+          stand_restores start member before has.base has.least s.control.redo_start on.until_now.now both has.gone
+          image next on.until_now.stand all_now restores;
       latest = omega (arith, least, up);
     }
 

@@ -1,17 +1,23 @@
 -- What stands for all that was until now stands for it one step later, with the records of the step.
 use Rattle.std.proofs.Common.{◌≡◌, ◌∙◌, ◌≤◌, ℕ, ◌+◌, ◌-◌, List, ◌∷◌, ◌++◌, length, drop, ap, sym, subst}
 use Rattle.std.proofs.Common.{arith, append_assoc, drop_at, length-append, option_to_list}
-use Rattle.std.specs.Prelude.{Option, None, Some}
+use Rattle.std.specs.List.{list_all}
+use Rattle.std.specs.Prelude.{Option, None, Some, Ok}
+use Rattle.std.proofs.lemmas.Bool.{and_parts}
 use Rattle.std.proofs.lemmas.List.{drop-append-le}
+use Rattle.std.proofs.lemmas.List.Folds.{list_all-append}
 use Rattle.redo_log.specs.Replaying.{AreRecords, log_bytes, replayed}
 use Rattle.redo_log.proofs.OrderLemmas.{one_newest}
 use Rattle.run_theory.specs.Lists.{IsIn}
 use Rattle.sig_core.specs.declared.member.Member.{Member}
 use Rattle.sig_core.specs.declared.redo.Redo.{Redo}
+use Rattle.sig_core.specs.declared.slots.ControlSlot.{ControlSlot}
 use Rattle.sig_core.specs.declared.slots.SystemSlot.{SystemSlot}
 use Rattle.sig_core.specs.Journal.{OutletState}
 use Rattle.sig_core.specs.Rows.{RowsState}
 use Rattle.sig_core.specs.Table.{Rows}
+use Rattle.sys_restart.specs.Files.{Files}
+use Rattle.node_restart.specs.Rows.{RestoresRows}
 use Rattle.local_ckpt.specs.Events.{Event, left_by}
 use Rattle.local_ckpt.specs.Laws.{HasPrepares}
 use Rattle.lqh_block.specs.State.{LqhState}
@@ -44,6 +50,21 @@ stand_same start member before base least position events others kept same stand
   same = subst (λ records. ComeToTheSame least base kept before records) same stand.same;
 }
 
+-- and what restores that restores all of them, where it has the newest
+pub stand_restores : (start : Start) (member : Member) (before base : Rows) (least position : ℕ) (events : List Event)
+    (redo gone : List Redo) (image : Files) (slot : ControlSlot)
+    → StandFor start member before base least position events redo
+    → records_behind (first_rows start member) events ≡ redo ++ gone → RestoresRows least image slot base redo
+    → RestoresRows least image slot before (records_behind (first_rows start member) events)
+stand_restores start member before base least position events redo gone image slot stand all restores = (
+  restores.0,
+  λ epoch up. restores.1 epoch up ∙ ap Ok (stand.same epoch up),
+  λ test so.
+      restores.2 test
+      (and_parts (list_all test redo) (list_all test gone)
+      (sym (list_all-append test redo gone) ∙ ap (list_all test) (sym all) ∙ so)).0,
+)
+
 module _ (start : Start) (member : Member) (there : IsIn member (made start)) where
   abbrev lqh : List HostStep → LqhState
   lqh = lqh_after start member
@@ -54,31 +75,35 @@ module _ (start : Start) (member : Member) (there : IsIn member (made start)) wh
   abbrev records : List Event → List Redo
   records = records_behind first
 
-  -- Records with the bytes that the journal had from where it begins now have whatever is prepared.
-  pub prepared : (log : List HostStep) (events : List Event) → HasRecords start member log events
-      → HasGivenUp start member log events → (kept : List Redo) → AreRecords kept
-      → log_bytes kept ≡ drop (lqh log).outlet.flushed (log_bytes (records events))
-      → HasPrepares (lqh log).rows kept
-  prepared log events has given kept are bytes =
-      subst (HasPrepares (lqh log).rows) (sym same) given.prepares
-    where
-      since : List Redo
-      since = records_behind (rows_behind first given.gone) given.since
+  -- Records with the bytes that the journal had from where it begins now.
+  module _ (log : List HostStep) (events : List Event) (has : HasRecords start member log events)
+      (given : HasGivenUp start member log events) (kept : List Redo) (are : AreRecords kept)
+      (bytes : log_bytes kept ≡ drop (lqh log).outlet.flushed (log_bytes (records events))) where
+    abbrev since : List Redo
+    since = records_behind (rows_behind first given.gone) given.since
 
-      whole : records events ≡ since ++ records given.gone
-      whole = ap records given.split ∙ records_append first given.since given.gone
+    whole : records events ≡ since ++ records given.gone
+    whole = ap records given.split ∙ records_append first given.since given.gone
 
-      its_bytes : log_bytes kept ≡ log_bytes since
-      its_bytes =
-          bytes ∙ ap (λ all. drop (lqh log).outlet.flushed (log_bytes all)) whole
-          ∙ ap (drop (lqh log).outlet.flushed) (bytes_append since (records given.gone))
-          ∙ drop_at (log_bytes (records given.gone)) (log_bytes since) (lqh log).outlet.flushed
-          (sym given.position)
+    its_bytes : log_bytes kept ≡ log_bytes since
+    its_bytes =
+        bytes ∙ ap (λ all. drop (lqh log).outlet.flushed (log_bytes all)) whole
+        ∙ ap (drop (lqh log).outlet.flushed) (bytes_append since (records given.gone))
+        ∙ drop_at (log_bytes (records given.gone)) (log_bytes since) (lqh log).outlet.flushed
+        (sym given.position)
 
-      same : kept ≡ since
-      same =
-          one_newest kept since are (newer_records since (records given.gone) (subst AreRecords whole has.records))
-          its_bytes
+    are_since : kept ≡ since
+    are_since =
+        one_newest kept since are (newer_records since (records given.gone) (subst AreRecords whole has.records))
+        its_bytes
+
+    -- they have whatever is prepared
+    pub prepared : HasPrepares (lqh log).rows kept
+    prepared = subst (HasPrepares (lqh log).rows) (sym are_since) given.prepares
+
+    -- and the others are those that it gave up
+    pub all_kept : records events ≡ kept ++ records given.gone
+    all_kept = whole ∙ ap (λ newest. newest ++ records given.gone) (sym are_since)
 
   -- the journal has what stands from a position on, if it begins there
   pub left_is : (log : List HostStep) (events : List Event) → HasRecords start member log events

@@ -91,6 +91,9 @@ module _ (start : Start) (member : Member) (before : Rows) (first : SystemSlot) 
     pub redo : List Redo
     pub least : ℕ
     pub stands : StandFor start member before base least s.control.redo_start events redo
+    -- they are the newest of all
+    pub gone : List Redo
+    pub all : records_behind (first_rows start member) events ≡ redo ++ gone
     pub until_now : StandUntilNow log base least s.control.redo_start events redo
     pub told : IsToldDone start member log least
     pub rows : HasRows s least base redo calls

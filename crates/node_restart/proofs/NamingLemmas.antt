@@ -29,7 +29,7 @@ use Rattle.node_disk.proofs.ControlLaw.{naming_stays}
 use Rattle.node_disk.proofs.LawLemmas.{slot_elsewhere}
 use Rattle.node_restart.specs.Naming.{HasRowsThroughout, NamesKeepRows, WalksKeepRows}
 use Rattle.node_restart.specs.Rows.{HasRows, NamesRows, RestoresRows}
-use Rattle.node_restart.proofs.NamedLemmas.{kept_same, named_rows, named_still}
+use Rattle.node_restart.proofs.NamedLemmas.{kept_same, named_restored, named_still}
 use Rattle.node_restart.proofs.SystemLaw.{GoesOn, control_still, goes_on, older_kept}
 
 -- the checkpoint in use isn't in the file that isn't
@@ -134,17 +134,10 @@ names_keep s finished least start own redo kept before after ok has may named ru
     leaves newer older split late image left =
         let names_old = names s least start redo before has in
         elim (stays.0 newer older split late image left) [
-          | inl one ↦ inl (
-            one,
-            named_rows s.control least start redo older image names_old
-                (still s.control least start redo names_old has.named newer older split late) left,
-          )
-          | inr other ↦ inr (
-            other,
-            named_rows next finished.epoch own kept older image names_next
-                (still next finished.epoch own kept names_next named newer older split late)
-                left,
-          )
+          | inl one ↦ inl (named_restored s.control least start redo older image names_old
+              (still s.control least start redo names_old has.named newer older split late) left one)
+          | inr other ↦ inr (named_restored next finished.epoch own kept older image names_next
+              (still next finished.epoch own kept names_next named newer older split late) left other)
         ]
 
     behind : ok ≡ true → HasRows (walk_named s finished) finished.epoch own kept after

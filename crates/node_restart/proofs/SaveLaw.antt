@@ -42,7 +42,7 @@ use Rattle.node_disk.proofs.SyncedLemmas.{synced_first}
 use Rattle.node_restart.specs.Laws.{SavesKeepRows}
 use Rattle.node_restart.specs.Rows.{HasRows, NamesRows, RestoresRows}
 use Rattle.node_restart.proofs.MomentLemmas.{through_redo}
-use Rattle.node_restart.proofs.NamedLemmas.{kept_same, named_rows, named_still}
+use Rattle.node_restart.proofs.NamedLemmas.{kept_same, named_restored, named_still}
 use Rattle.node_restart.proofs.RestoredLaw.{restored}
 
 second_true : (a b : Bool) → (a && b) ≡ true → b ≡ true
@@ -129,11 +129,10 @@ module _ (s : SlotsInUse) (epoch least : ℕ) (start : Rows) (newer redo : List 
   early : (older : List Call) (image : Files)
       → ((Holds : List Call → Type 0) → HoldsThrough Holds redo_asks before → Holds older) → IsLeft older image
       → RestoresRows least image s.control start redo
-  early older image holds left = (
-    ap (control_of_file s.control.generation) (left_as older image CONTROL_FILE control left (omega arith) clean)
-        ∙ has.control.in_use,
-    named_rows s.control least start redo older image names (early_names older holds) left,
-  )
+  early older image holds left =
+      named_restored s.control least start redo older image names (early_names older holds) left
+      (ap (control_of_file s.control.generation) (left_as older image CONTROL_FILE control left (omega arith) clean)
+      ∙ has.control.in_use)
     where
       clean : state_of older CONTROL_FILE ≡ settled control
       clean =
@@ -241,16 +240,10 @@ module _ (s : SlotsInUse) (epoch least : ℕ) (start : Rows) (newer redo : List 
             → length mid ≤ length older → Restores image
         behind first second late =
             elim (finds newer_calls older split long image left) [
-              | inl one ↦ inl (
-                one,
-                named_rows s.control least start redo older image names
-                    (late_names after newer_calls older ok first second split late) left,
-              )
-              | inr other ↦ inr (
-                other,
-                named_rows next least start (newer ++ redo) older image names_next
-                    (next_names after newer_calls older ok first second split late) left,
-              )
+              | inl one ↦ inl (named_restored s.control least start redo older image names
+                  (late_names after newer_calls older ok first second split late) left one)
+              | inr other ↦ inr (named_restored next least start (newer ++ redo) older image names_next
+                  (next_names after newer_calls older ok first second split late) left other)
             ]
 
     saved : ok ≡ true → NamesRows next least start (newer ++ redo) after

@@ -54,8 +54,8 @@ module _ (disks : Disks) (are : (node file : ℕ) → AreBytes (disks node file)
   rows_have shape system node slot all is =
       on (rows_of_slot system.epoch (disks node) slot)
       (λ found found-is. slot_has system.epoch (disks node) slot found (are node) found-is)
-      (held_is shape node (disks node) (on_node node (rows_of_slot system.epoch (disks node) slot)) all
-      (rows_are shape system node (disks node) slot all is).1).0
+      (held_is shape node (disks node) slot (on_node node (rows_of_slot system.epoch (disks node) slot)) all
+      (rows_are shape system node (disks node) slot all is).1).found_so
     where
       on : (rows : Result Rows ReadFault) → ((found : Rows) → rows ≡ Ok found → HaveWords found)
           → on_node node rows ≡ Ok all → HaveWords all

@@ -1,6 +1,7 @@
 -- The rows of a node that its disk has.
-use Rattle.std.specs.Prelude.{◌≡◌, ◌≤◌, ◌<◌, ℕ, ◌+◌, List, [], ◌∷◌, ◌++◌, length, nat_le, slice_index, Some, Ok}
-use Rattle.std.specs.Prelude.{if◌then◌else◌}
+use Rattle.std.specs.List.{list_all}
+use Rattle.std.specs.Prelude.{◌≡◌, ◌≤◌, ◌<◌, ℕ, ◌+◌, Bool, true, List, [], ◌∷◌, ◌++◌, length, nat_le, slice_index}
+use Rattle.std.specs.Prelude.{Some, Ok, if◌then◌else◌}
 use Rattle.host_io.specs.Call.{Call}
 use Rattle.redo_log.specs.Replaying.{AreRecords, log_bytes, replayed}
 use Rattle.redo_log.specs.Stored.{files_of}
@@ -12,6 +13,7 @@ use Rattle.sysfile_core.specs.declared.place.TheConstants.{CONTROL_FILE}
 use Rattle.sysfile_core.specs.Reading.{control_of_file}
 use Rattle.sys_restart.specs.Checkpoint.{rows_of_file}
 use Rattle.sys_restart.specs.Files.{Files}
+use Rattle.sys_restart.specs.Held.{records_of}
 use Rattle.sys_restart.specs.SlotRows.{rows_of_slot}
 use Rattle.node_disk.specs.Laws.{HasControl, IsSettledAt}
 use Rattle.node_disk.specs.RedoLaws.{IsKept}
@@ -36,11 +38,13 @@ pub record HasRows (s : SlotsInUse) (least : ℕ) (start : Rows) (redo : List Re
   pub named : NamesRows s.control least start redo calls
 
 -- In these files a control slot is in use for its generation, and up to any epoch from this one on its rows are those
--- that these records make of the rows with which the life began.
+-- that these records make of the rows with which the life began. What is so of each of the records is so of each that
+-- the files have of its redo.
 abbrev pub RestoresRows : ℕ → Files → ControlSlot → Rows → List Redo → Type 0
 RestoresRows least files slot start redo =
     (control_of_file slot.generation (files CONTROL_FILE) ≡ Ok (Some slot))
     × ((epoch : ℕ) → least ≤ epoch → rows_of_slot epoch files slot ≡ Ok (replayed epoch start redo))
+    × ((test : Redo → Bool) → list_all test redo ≡ true → list_all test (records_of files slot) ≡ true)
 
 -- the records that are saved by a save up to an epoch: none more where the epoch is saved
 abbrev pub records_saved : SlotsInUse → ℕ → List Redo → List Redo → List Redo

@@ -1,16 +1,17 @@
 //! What a host is made of.
-ghost use Rattle.std.specs.Prelude.{◌≡◌, ◌≤◌, ◌+◌, ◌<◌, ◌++◌, IfOk, None, OnErr, OnOk, [], length, option_to_list};
-ghost use Rattle.std.specs.Prelude.{Some, true};
-ghost use Rattle.sig_core.specs.declared.mark.Mark.TheVariants.{CutOff, Stopped};
+ghost use Rattle.std.specs.Prelude.{◌≡◌, ◌≤◌, ◌+◌, ◌<◌, ◌++◌, IfOk, None, OnErr, OnOk, [], ◌∷◌, length, not};
+ghost use Rattle.std.specs.Prelude.{Some, false, option_to_list, true};
+ghost use Rattle.sig_core.specs.declared.mark.Mark.TheVariants.{CutOff, Installed, Stopped};
+ghost use Rattle.sig_core.specs.declared.outcome.StopCause.TheVariants.{Excluded};
 ghost use Rattle.sig_core.specs.Step.{HasRoom, IsTaken, and_mark, nothing};
 ghost use Rattle.api_views.specs.Members.{same_member};
 ghost use Rattle.node_views.specs.Blocks.{HasRoomFor, is_shell, stop_at};
 ghost use Rattle.node_views.specs.Fresh.{fresh_ldm, fresh_main, fresh_shell, fresh_tc};
 ghost use Rattle.node_views.specs.Replies.{is_down, is_left_open, replies_of, with_replies};
-ghost use Rattle.node_views.specs.Row.{blocks_row, closed_if, closed_stop, counted_row, counted_stop, cut_row, entered};
+ghost use Rattle.node_views.specs.Row.{behind, blocks_row, closed_if, closed_stop, counted_row, counted_stop, cut_row};
 ghost use Rattle.node_views.specs.Row.{headed_row, headed_stop, host_row, host_stop, host_table, is_barred, is_cut};
 ghost use Rattle.node_views.specs.Row.{is_excluded, is_one_of, kill_row, kill_stop, passed_row, passed_stop, table_stop};
-ghost use Rattle.node_views.specs.Row.{entering_if, entering_stop, unless_stopped};
+ghost use Rattle.node_views.specs.Row.{entered, marks_only, stopping, unless_stopped};
 
 use crate::fence::is_fenced;
 use crate::ldm_part::LdmPart;
@@ -23,7 +24,6 @@ use crate::well_formed::is_well_formed;
 use api_views::is_member;
 use frag_map::Layout;
 use frag_store::Store;
-use qmgr_block::Handled;
 use sig_core::{
     ApiReply, Body, Held, HostId, HostSignal, Mark, Member, NoMemory, Outs, Signal, StopCause, View,
 };
@@ -117,7 +117,7 @@ impl HostBody {
     /// killed counts it; a view of a greater number in its header is installed, or stops a host whose
     /// member it leaves out; a fence stops it; the host or the block that it is for handles it, and a
     /// view that the membership settles on is installed. A step that stops the host sends nothing.
-    /// Answers why it stops, if it does: then it takes no more.
+    /// Tells why it stops, if it does: then it takes no more.
     ///
     /// # Errors
     /// `NoMemory`, and then the host is of no more use, but still tells which hosts it has cut off, and
@@ -128,19 +128,21 @@ impl HostBody {
         alloc: Global,
         signal: &Signal,
         out: &mut Outs,
-    ) -> Result<Option<StopCause>, NoMemory>
-        requires { out.old ≡ nothing }
+        stops: &mut Option<StopCause>,
+    ) -> Result<(), NoMemory>
+        requires fresh { out.old ≡ nothing }
+        requires told { stops.old ≡ None }
         ensures taken { OnOk result (IsTaken (host_row self.old signal.now) self.new nothing out.new) }
-        ensures stops { IfOk result (λ cause. cause ≡ host_stop self.old signal.now) }
+        ensures stops { OnOk result (stops.new ≡ host_stop self.old signal.now) }
         ensures kept { OnErr result (self.new.standing.cut ≡ self.old.standing.cut) }
         ensures seen { OnErr result (signal.now.view.number ≤ self.old.standing.view.number → self.new.standing.view ≡ self.old.standing.view) }
     {
         if !is_well_formed(&self.standing.shape, signal) {
-            return Ok(None);
+            return Ok(());
         }
-        let stops = self.count(alloc, signal, out)?;
+        self.count(alloc, signal, out, stops)?;
         hush_if(stops.is_some(), out);
-        Ok(stops)
+        Ok(())
     }
 
     // A host that is to be killed takes so many more signals.
@@ -149,66 +151,81 @@ impl HostBody {
         alloc: Global,
         signal: &Signal,
         out: &mut Outs,
-    ) -> Result<Option<StopCause>, NoMemory>
-        requires { out.old ≡ nothing }
+        stops: &mut Option<StopCause>,
+    ) -> Result<(), NoMemory>
+        requires fresh { out.old ≡ nothing }
+        requires told { stops.old ≡ None }
         ensures taken { OnOk result (IsTaken (counted_row self.old signal.now self.old.standing.left) self.new nothing out.new) }
-        ensures stops { IfOk result (λ cause. cause ≡ counted_stop self.old signal.now self.old.standing.left) }
+        ensures stops { OnOk result (stops.new ≡ counted_stop self.old signal.now self.old.standing.left) }
         ensures kept { OnErr result (self.new.standing.cut ≡ self.old.standing.cut) }
         ensures seen { OnErr result (signal.now.view.number ≤ self.old.standing.view.number → self.new.standing.view ≡ self.old.standing.view) }
     {
         match self.standing.left {
-            None => self.head(alloc, signal, out),
-            Some(left) if left <= 1 => Ok(stop(StopCause::Killed, out)),
+            None => self.head(alloc, signal, out, stops),
+            Some(left) if left <= 1 => {
+                stop(StopCause::Killed, out, stops);
+                Ok(())
+            }
             Some(left) => {
                 self.standing.left = Some(left - 1);
-                self.head(alloc, signal, out)
+                self.head(alloc, signal, out, stops)
             }
         }
     }
 
     // A view of a greater number is installed first.
     #[inline(always)]
-    #[tactic(auto, unfolding(crate::specs::Row::headed_row, crate::specs::Row::headed_stop))]
+    #[tactic(auto, using(crate::proofs::RoomLemmas::all_room), unfolding(crate::specs::Row::headed_row, crate::specs::Row::headed_stop))]
     fn head(
         &mut self,
         alloc: Global,
         signal: &Signal,
         out: &mut Outs,
-    ) -> Result<Option<StopCause>, NoMemory>
-        requires { out.old ≡ nothing }
+        stops: &mut Option<StopCause>,
+    ) -> Result<(), NoMemory>
+        requires fresh { out.old ≡ nothing }
+        requires told { stops.old ≡ None }
         ensures taken { OnOk result (IsTaken (headed_row self.old signal.now) self.new nothing out.new) }
-        ensures stops { IfOk result (λ cause. cause ≡ headed_stop self.old signal.now) }
+        ensures stops { OnOk result (stops.new ≡ headed_stop self.old signal.now) }
         ensures kept { OnErr result (self.new.standing.cut ≡ self.old.standing.cut) }
         ensures seen { OnErr result (signal.now.view.number ≤ self.old.standing.view.number → self.new.standing.view ≡ self.old.standing.view) }
     {
-        if self.standing.view.get().number < signal.view.get().number {
-            self.enter_first(alloc, signal, out)
-        } else {
-            self.pass(alloc, signal, out)
+        if self.standing.view.get().number < signal.view.get().number
+            && !self.enter_first(signal, out, stops)?
+        {
+            return Ok(());
         }
+        self.pass(alloc, signal, out, stops)
     }
 
     // The view of a signal is installed, unless it stops the host, before the signal is looked at.
-    #[tactic(auto, using(crate::proofs::RoomLemmas::all_room, crate::proofs::RoomLemmas::installed_room))]
+    // Answers whether the host goes on.
+    #[tactic(auto, using(crate::proofs::RoomLemmas::installed_room))]
     fn enter_first(
         &mut self,
-        alloc: Global,
         signal: &Signal,
         out: &mut Outs,
-    ) -> Result<Option<StopCause>, NoMemory>
-        requires { out.old ≡ nothing }
-        ensures taken { OnOk result (IsTaken (entering_if self.old signal.now (is_excluded self.old.standing signal.now.view)) self.new nothing out.new) }
-        ensures stops { IfOk result (λ cause. cause ≡ entering_stop self.old signal.now (is_excluded self.old.standing signal.now.view)) }
-        ensures kept { OnErr result (self.new.standing.cut ≡ self.old.standing.cut) }
+        stops: &mut Option<StopCause>,
+    ) -> Result<bool, NoMemory>
+        requires fresh { out.old ≡ nothing }
+        requires told { stops.old ≡ None }
+        ensures goes { IfOk result (λ goes. goes ≡ not (is_excluded self.old.standing signal.now.view)) }
+        ensures excluded { IfOk result (λ goes. goes ≡ false → IsTaken (stopping self.old (Excluded signal.now.view.number)) self.new nothing out.new) }
+        ensures cause { IfOk result (λ goes. goes ≡ false → stops.new ≡ Some (Excluded signal.now.view.number)) }
+        ensures installed { IfOk result (λ goes. goes ≡ true → IsTaken (behind (marks_only (Installed signal.now.view ∷ [])) (entered self.old signal.now.view)) self.new nothing out.new) }
+        ensures stays { IfOk result (λ goes. goes ≡ true → stops.new ≡ None) }
+        ensures room { IfOk result (λ goes. goes ≡ true → HasRoomFor self.new.parts out.new) }
+        ensures kept { self.new.standing.cut ≡ self.old.standing.cut }
     {
         if self.is_excluded(signal.view.get()) {
             let view = signal.view.get().number;
-            return Ok(stop(StopCause::Excluded { view }, out));
+            stop(StopCause::Excluded { view }, out, stops);
+            return Ok(false);
         }
         let installed = signal.view.share()?;
         out.mark(Mark::Installed { view: installed });
         self.enter(signal.view.share()?, out);
-        self.pass(alloc, signal, out)
+        Ok(true)
     }
 
     /// The next reply for the shell, in order, each once; none where all were given. A part of a node
@@ -275,17 +292,19 @@ impl HostBody {
         alloc: Global,
         signal: &Signal,
         out: &mut Outs,
-    ) -> Result<Option<StopCause>, NoMemory>
-        requires { HasRoomFor self.old.parts out.old }
+        stops: &mut Option<StopCause>,
+    ) -> Result<(), NoMemory>
+        requires room { HasRoomFor self.old.parts out.old }
+        requires told { stops.old ≡ None }
         ensures taken { OnOk result (IsTaken (passed_row self.old signal.now) self.new out.old out.new) }
-        ensures stops { IfOk result (λ cause. cause ≡ passed_stop self.old signal.now) }
+        ensures stops { OnOk result (stops.new ≡ passed_stop self.old signal.now) }
         ensures kept { OnErr result (self.new.standing.cut ≡ self.old.standing.cut) }
         ensures seen { OnErr result (self.new.standing.view ≡ self.old.standing.view) }
     {
         if self.is_barred(signal) {
-            Ok(None)
+            Ok(())
         } else {
-            self.take(alloc, signal, out)
+            self.take(alloc, signal, out, stops)
         }
     }
 
@@ -304,21 +323,23 @@ impl HostBody {
         alloc: Global,
         signal: &Signal,
         out: &mut Outs,
-    ) -> Result<Option<StopCause>, NoMemory>
-        requires { HasRoomFor self.old.parts out.old }
+        stops: &mut Option<StopCause>,
+    ) -> Result<(), NoMemory>
+        requires room { HasRoomFor self.old.parts out.old }
+        requires told { stops.old ≡ None }
         ensures taken { OnOk result (IsTaken (host_table self.old signal.now signal.now.body) self.new out.old out.new) }
-        ensures stops { IfOk result (λ cause. cause ≡ table_stop self.old signal.now signal.now.body) }
+        ensures stops { OnOk result (stops.new ≡ table_stop self.old signal.now signal.now.body) }
         ensures kept { OnErr result (self.new.standing.cut ≡ self.old.standing.cut) }
         ensures seen { OnErr result (self.new.standing.view ≡ self.old.standing.view) }
     {
         match &signal.body {
-            Body::Host(HostSignal::Kill { after }) => Ok(self.kill(*after, out)),
-            Body::Host(HostSignal::Cut { node: _, first }) => {
-                self.cut(*first, out)?;
-                Ok(None)
+            Body::Host(HostSignal::Kill { after }) => {
+                self.kill(*after, out, stops);
+                Ok(())
             }
-            Body::Host(HostSignal::Closed { cause: _ }) => self.closed(alloc, signal, out),
-            _ => self.handle(alloc, signal, out),
+            Body::Host(HostSignal::Cut { node: _, first }) => self.cut(*first, out),
+            Body::Host(HostSignal::Closed { cause: _ }) => self.closed(alloc, signal, out, stops),
+            _ => self.handle(alloc, signal, out, stops),
         }
     }
 
@@ -329,17 +350,20 @@ impl HostBody {
         alloc: Global,
         signal: &Signal,
         out: &mut Outs,
-    ) -> Result<Option<StopCause>, NoMemory>
-        requires { HasRoomFor self.old.parts out.old }
+        stops: &mut Option<StopCause>,
+    ) -> Result<(), NoMemory>
+        requires room { HasRoomFor self.old.parts out.old }
+        requires told { stops.old ≡ None }
         ensures taken { OnOk result (IsTaken (closed_if self.old signal.now (same_member self.old.standing.member signal.now.member)) self.new out.old out.new) }
-        ensures stops { IfOk result (λ cause. cause ≡ closed_stop self.old signal.now (same_member self.old.standing.member signal.now.member)) }
+        ensures stops { OnOk result (stops.new ≡ closed_stop self.old signal.now (same_member self.old.standing.member signal.now.member)) }
         ensures kept { OnErr result (self.new.standing.cut ≡ self.old.standing.cut) }
         ensures seen { OnErr result (self.new.standing.view ≡ self.old.standing.view) }
     {
         if self.standing.member == signal.member {
-            Ok(stop(StopCause::Sibling { host: signal.from }, out))
+            stop(StopCause::Sibling { host: signal.from }, out, stops);
+            Ok(())
         } else {
-            self.handle(alloc, signal, out)
+            self.handle(alloc, signal, out, stops)
         }
     }
 
@@ -350,31 +374,32 @@ impl HostBody {
         alloc: Global,
         signal: &Signal,
         out: &mut Outs,
-    ) -> Result<Option<StopCause>, NoMemory>
-        requires { HasRoomFor self.old.parts out.old }
+        stops: &mut Option<StopCause>,
+    ) -> Result<(), NoMemory>
+        requires room { HasRoomFor self.old.parts out.old }
+        requires told { stops.old ≡ None }
         ensures taken { OnOk result (IsTaken (blocks_row self.old signal.now) self.new out.old out.new) }
-        ensures stops { IfOk result (λ cause. cause ≡ stop_at self.old.parts signal.now) }
+        ensures stops { OnOk result (stops.new ≡ stop_at self.old.parts signal.now) }
         ensures kept { OnErr result (self.new.standing.cut ≡ self.old.standing.cut) }
         ensures seen { OnErr result (self.new.standing.view ≡ self.old.standing.view) }
     {
-        let Handled { settled, stops } = self.parts.handle(alloc, signal, out)?;
-        if let Some(view) = settled {
+        if let Some(view) = self.parts.handle(alloc, signal, out, stops)? {
             self.enter(view, out);
         }
-        Ok(stops)
+        Ok(())
     }
 
     // An order to stop: at once, or once so many more signals are taken.
-    fn kill(&mut self, after: u32, out: &mut Outs) -> Option<StopCause>
-        requires { HasRoom out.old }
+    fn kill(&mut self, after: u32, out: &mut Outs, stops: &mut Option<StopCause>)
+        requires room { HasRoom out.old }
+        requires told { stops.old ≡ None }
         ensures taken { IsTaken (kill_row self.old after) self.new out.old out.new }
-        ensures stops { result ≡ kill_stop after }
+        ensures stops { stops.new ≡ kill_stop after }
     {
         if after == 0 {
-            stop(StopCause::Killed, out)
+            stop(StopCause::Killed, out, stops);
         } else {
             self.standing.left = Some(after);
-            None
         }
     }
 
@@ -418,14 +443,14 @@ fn is_one_of(host: HostId, first: HostId) -> bool
     host.0 >= first.0 && host.0 - first.0 < 3
 }
 
-// The host stops for this cause, which is answered.
-fn stop(cause: StopCause, out: &mut Outs) -> Option<StopCause>
+// The host stops for this cause.
+fn stop(cause: StopCause, out: &mut Outs, stops: &mut Option<StopCause>)
     requires { length out.old.marks < 16 }
     ensures marked { out.new ≡ and_mark out.old (Stopped cause) }
-    ensures stops { result ≡ Some cause }
+    ensures stops { stops.new ≡ Some cause }
 {
     out.mark(Mark::Stopped { cause });
-    Some(cause)
+    *stops = Some(cause);
 }
 
 // A step that stops the host sends nothing.

@@ -1,5 +1,5 @@
 //! The blocks of a node's main part.
-ghost use Rattle.std.specs.Prelude.{◌≡◌, ◌≤◌, ◌+◌, IfOk, IfSome, OnOk, length};
+ghost use Rattle.std.specs.Prelude.{◌≡◌, ◌≤◌, ◌+◌, IfOk, IfSome, None, OnOk, length};
 ghost use Rattle.sig_core.specs.Step.{HasRoom, IsTaken};
 ghost use Rattle.gcp_master.specs.Master.{fresh_master};
 ghost use Rattle.qmgr_block.specs.Qmgr.{qmgr_row};
@@ -10,8 +10,8 @@ ghost use Rattle.node_views.specs.Parts.{in_qmgr, main_entered, main_row, main_s
 
 use frag_map::Layout;
 use gcp_master::GcpMaster;
-use qmgr_block::{Handled, Qmgr};
-use sig_core::{Actor, BlockId, Member, NoMemory, Outs, Signal, View};
+use qmgr_block::Qmgr;
+use sig_core::{Actor, BlockId, Held, Member, NoMemory, Outs, Signal, StopCause, View};
 use std::alloc::Global;
 
 /// The membership of a node, and the master of checkpoints.
@@ -40,8 +40,8 @@ impl MainPart {
         Ok(MainPart { qmgr, master })
     }
 
-    /// The block that a signal is for handles it. Answers what is left to the host: to install the view
-    /// that the membership settles on, in the same event, or to stop.
+    /// The block that a signal is for handles it. Answers the view that the membership settles on, which
+    /// the host is to install in the same event, and tells why the host is to stop, where it is.
     ///
     /// # Errors
     /// `NoMemory`.
@@ -51,17 +51,22 @@ impl MainPart {
         alloc: Global,
         signal: &Signal,
         out: &mut Outs,
-    ) -> Result<Handled, NoMemory>
-        requires { HasRoom out.old }
+        stops: &mut Option<StopCause>,
+    ) -> Result<Option<Held<View>>, NoMemory>
+        requires room { HasRoom out.old }
+        requires told { stops.old ≡ None }
         ensures taken { OnOk result (IsTaken (main_row self.old signal.now.to.block signal.now) self.new out.old out.new) }
-        ensures settled { IfOk result (λ handled. handled.settled ≡ main_settled self.old signal.now.to.block signal.now) }
-        ensures stops { IfOk result (λ handled. handled.stops ≡ main_stops self.old signal.now.to.block signal.now) }
-        ensures few { IfOk result (λ handled. IfSome handled.settled (λ v. length out.new.sends ≤ length out.old.sends + 1)) }
+        ensures settled { IfOk result (λ settled. settled ≡ main_settled self.old signal.now.to.block signal.now) }
+        ensures stops { OnOk result (stops.new ≡ main_stops self.old signal.now.to.block signal.now) }
+        ensures few { IfOk result (λ settled. IfSome settled (λ v. length out.new.sends ≤ length out.old.sends + 1)) }
     {
         match signal.to.block {
-            BlockId::Qmgr => self.decide(alloc, signal, out),
-            BlockId::GcpMaster => Ok(Handled::stopping(self.master.drive(signal, out))),
-            _ => Ok(Handled::nothing()),
+            BlockId::Qmgr => self.decide(alloc, signal, out, stops),
+            BlockId::GcpMaster => {
+                *stops = self.master.drive(signal, out);
+                Ok(None)
+            }
+            _ => Ok(None),
         }
     }
 
@@ -72,14 +77,16 @@ impl MainPart {
         alloc: Global,
         signal: &Signal,
         out: &mut Outs,
-    ) -> Result<Handled, NoMemory>
-        requires { HasRoom out.old }
+        stops: &mut Option<StopCause>,
+    ) -> Result<Option<Held<View>>, NoMemory>
+        requires room { HasRoom out.old }
+        requires told { stops.old ≡ None }
         ensures taken { OnOk result (IsTaken (in_qmgr self.old (qmgr_row self.old.qmgr signal.now)) self.new out.old out.new) }
-        ensures settled { IfOk result (λ handled. handled.settled ≡ qmgr_settles self.old.qmgr signal.now) }
-        ensures stops { IfOk result (λ handled. handled.stops ≡ qmgr_stops signal.now) }
-        ensures few { IfOk result (λ handled. IfSome handled.settled (λ v. length out.new.sends ≤ length out.old.sends + 1)) }
+        ensures settled { IfOk result (λ settled. settled ≡ qmgr_settles self.old.qmgr signal.now) }
+        ensures stops { OnOk result (stops.new ≡ qmgr_stops signal.now) }
+        ensures few { IfOk result (λ settled. IfSome settled (λ v. length out.new.sends ≤ length out.old.sends + 1)) }
     {
-        self.qmgr.decide(alloc, signal, out)
+        self.qmgr.decide(alloc, signal, out, stops)
     }
 
     /// A view is installed in each block.

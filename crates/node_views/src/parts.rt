@@ -1,5 +1,5 @@
 //! The blocks of a host.
-ghost use Rattle.std.specs.Prelude.{◌≡◌, ◌≤◌, ◌+◌, IfOk, IfSome, OnOk, length, true};
+ghost use Rattle.std.specs.Prelude.{◌≡◌, ◌≤◌, ◌+◌, IfOk, IfSome, None, OnOk, length, true};
 ghost use Rattle.sig_core.specs.Step.{IsTaken};
 ghost use Rattle.node_views.specs.Blocks.{HasRoomFor, fence_at, is_shell, parts_entered, parts_row, settled_at};
 ghost use Rattle.node_views.specs.Blocks.{stop_at};
@@ -8,8 +8,7 @@ use crate::ldm_part::LdmPart;
 use crate::main_part::MainPart;
 use crate::shell_part::ShellPart;
 use crate::tc_part::TcPart;
-use qmgr_block::Handled;
-use sig_core::{BlockId, NoMemory, Outs, Signal, View};
+use sig_core::{BlockId, Held, NoMemory, Outs, Signal, StopCause, View};
 use std::alloc::Global;
 
 /// The blocks of a host: those of the shell's, or of a part of a node.
@@ -22,8 +21,8 @@ pub enum Parts {
 }
 
 impl Parts {
-    /// The block that a signal is for handles it. Answers what is left to the host: to install the view
-    /// that the membership settles on, in the same event, or to stop.
+    /// The block that a signal is for handles it. Answers the view that the membership settles on, which
+    /// the host is to install in the same event, and tells why the host is to stop, where it is.
     ///
     /// # Errors
     /// `NoMemory`.
@@ -34,20 +33,22 @@ impl Parts {
         alloc: Global,
         signal: &Signal,
         out: &mut Outs,
-    ) -> Result<Handled, NoMemory>
-        requires { HasRoomFor self.old out.old }
+        stops: &mut Option<StopCause>,
+    ) -> Result<Option<Held<View>>, NoMemory>
+        requires room { HasRoomFor self.old out.old }
+        requires told { stops.old ≡ None }
         ensures taken { OnOk result (IsTaken (parts_row self.old signal.now) self.new out.old out.new) }
-        ensures settled { IfOk result (λ handled. handled.settled ≡ settled_at self.old signal.now) }
-        ensures stops { IfOk result (λ handled. handled.stops ≡ stop_at self.old signal.now) }
-        ensures few { IfOk result (λ handled. IfSome handled.settled (λ v. length out.new.sends ≤ length out.old.sends + 1)) }
+        ensures settled { IfOk result (λ settled. settled ≡ settled_at self.old signal.now) }
+        ensures stops { OnOk result (stops.new ≡ stop_at self.old signal.now) }
+        ensures few { IfOk result (λ settled. IfSome settled (λ v. length out.new.sends ≤ length out.old.sends + 1)) }
     {
         match self {
             Parts::Shell(part) => part.handle(alloc, signal, out)?,
-            Parts::Main(part) => return part.handle(alloc, signal, out),
+            Parts::Main(part) => return part.handle(alloc, signal, out, stops),
             Parts::Tc(part) => part.handle(alloc, signal, out)?,
             Parts::Ldm(part) => part.handle(alloc, signal, out)?,
         }
-        Ok(Handled::nothing())
+        Ok(None)
     }
 
     /// A view is installed in each block. That adds three signals at most.

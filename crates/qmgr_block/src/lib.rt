@@ -2,7 +2,6 @@
 #![tactic(auto)]
 
 mod decide;
-mod handled;
 mod install;
 mod join;
 mod known;
@@ -16,7 +15,6 @@ mod sets;
 mod starts;
 mod suspects;
 
-pub use handled::Handled;
 pub use laws::{
     keeps_to_its_words, last_promise_is_not_below_the_view, numbers_never_fall, proposals_are_new,
     starts_are_not_forgotten,

@@ -1,5 +1,5 @@
 //! The membership of a node.
-ghost use Rattle.std.specs.Prelude.{◌≡◌, ◌<◌, ◌≤◌, false, true, IfOk, OnOk, OnErr, length, slice_get};
+ghost use Rattle.std.specs.Prelude.{◌≡◌, ◌<◌, ◌≤◌, false, true, IfOk, None, OnOk, OnErr, length, slice_get};
 ghost use Rattle.sig_core.specs.Step.{HasRoom, IsTaken, IsUntouched};
 ghost use Rattle.qmgr_block.specs.Promise.{confirmed_at, confirmed_if, fence_row, is_fenced, promise_by, promise_row};
 ghost use Rattle.qmgr_block.specs.Promise.{with_promise};
@@ -10,7 +10,6 @@ ghost use Rattle.qmgr_block.specs.Settle.{membership_settles, qmgr_settles};
 ghost use Rattle.qmgr_block.specs.State.{beside, fresh_qmgr, sending_all};
 ghost use Rattle.qmgr_block.specs.Stop.{membership_stops, qmgr_stops};
 
-use crate::handled::Handled;
 use crate::known::Known;
 use crate::promise::{Promise, fences, first_waiting, is_ldm};
 use crate::sends::{send_all, send_stops};
@@ -261,8 +260,8 @@ impl Qmgr {
         }
     }
 
-    // Handles a signal of membership, by the host and the member that it comes from. Answers what is
-    // left to the host.
+    // Handles a signal of membership, by the host and the member that it comes from. Answers the view
+    // that it settles on, and tells why the host is to stop, where it is.
     fn handle_membership(
         &mut self,
         alloc: Global,
@@ -270,52 +269,45 @@ impl Qmgr {
         member: &Member,
         signal: &MembershipSignal,
         out: &mut Outs,
-    ) -> Result<Handled, NoMemory>
-        requires { HasRoom out.old }
-        ensures settles { IfOk result (λ handled. handled.settled ≡ membership_settles self.old.known member.now signal.now) }
-        ensures stops { IfOk result (λ handled. handled.stops ≡ membership_stops signal.now) }
+        stops: &mut Option<StopCause>,
+    ) -> Result<Option<Held<View>>, NoMemory>
+        requires room { HasRoom out.old }
+        requires told { stops.old ≡ None }
+        ensures settles { IfOk result (λ settled. settled ≡ membership_settles self.old.known member.now signal.now) }
+        ensures stops { OnOk result (stops.new ≡ membership_stops signal.now) }
         ensures ok { OnOk result (IsTaken (membership_table self.old host.0 member.now signal.now) self.new out.old out.new) }
         ensures err { OnErr result (IsUntouched self.old self.new out.old out.new) }
     {
         match signal {
-            MembershipSignal::Heartbeat => {
-                self.known.hear(member);
-                Ok(Handled::nothing())
-            }
+            MembershipSignal::Heartbeat => self.known.hear(member),
             MembershipSignal::FailRep { suspects } => {
                 let mut next = self.known;
                 let sends = next.report(alloc, suspects)?;
                 self.settle(&next, sends, out);
-                Ok(Handled::nothing())
             }
             MembershipSignal::PrepFailReq { proposal } => {
                 self.promise(alloc, member.node, proposal, out)?;
-                Ok(Handled::nothing())
             }
-            MembershipSignal::FenceConf => {
-                self.fence(host, out);
-                Ok(Handled::nothing())
-            }
+            MembershipSignal::FenceConf => self.fence(host, out),
             MembershipSignal::PrepFailConf { number } => {
-                Ok(Handled::settling(self.known.confirm(alloc, *number, member, out)?))
+                return self.known.confirm(alloc, *number, member, out);
             }
             MembershipSignal::PrepFailRef { promised } => {
                 self.unpromised(alloc, promised.get(), out)?;
-                Ok(Handled::nothing())
             }
             MembershipSignal::ArbitConf { number } => {
-                Ok(Handled::settling(self.known.grant(alloc, *number, out)?))
+                return self.known.grant(alloc, *number, out);
             }
             MembershipSignal::ArbitRef { number, members } => {
                 self.known.refused(*number, members, out);
-                Ok(Handled::nothing())
             }
             MembershipSignal::StopSet { cause } => {
                 self.known.stop(*cause, out);
-                Ok(Handled::stopping(Some(*cause)))
+                *stops = Some(*cause);
             }
-            _ => Ok(Handled::nothing()),
+            _ => {}
         }
+        Ok(None)
     }
 
     // Handles a signal of a join.
@@ -352,8 +344,8 @@ impl Qmgr {
         }
     }
 
-    /// Handles a signal, as `handle`, and answers what is left to the host: to install the view that it
-    /// settles on, in the same event, or to stop.
+    /// Handles a signal, as `handle`, and says what is left to the host: answers the view that it settles
+    /// on, which is to be installed in the same event, and tells why the host is to stop, where it is.
     ///
     /// # Errors
     /// `NoMemory`, and then nothing has happened.
@@ -362,10 +354,12 @@ impl Qmgr {
         alloc: Global,
         signal: &Signal,
         out: &mut Outs,
-    ) -> Result<Handled, NoMemory>
-        requires { HasRoom out.old }
-        ensures settles { IfOk result (λ handled. handled.settled ≡ qmgr_settles self.old signal.now) }
-        ensures stops { IfOk result (λ handled. handled.stops ≡ qmgr_stops signal.now) }
+        stops: &mut Option<StopCause>,
+    ) -> Result<Option<Held<View>>, NoMemory>
+        requires room { HasRoom out.old }
+        requires told { stops.old ≡ None }
+        ensures settles { IfOk result (λ settled. settled ≡ qmgr_settles self.old signal.now) }
+        ensures stops { OnOk result (stops.new ≡ qmgr_stops signal.now) }
         ensures ok { OnOk result (IsTaken (qmgr_row self.old signal.now) self.new out.old out.new) }
         ensures err { OnErr result (IsUntouched self.old self.new out.old out.new) }
     {
@@ -373,16 +367,16 @@ impl Qmgr {
             Body::Host(body) => {
                 let number = signal.view.get().number;
                 self.handle_host(alloc, &signal.member, number, body, out)?;
-                Ok(Handled::nothing())
+                Ok(None)
             }
             Body::Membership(body) => {
-                self.handle_membership(alloc, signal.from, &signal.member, body, out)
+                self.handle_membership(alloc, signal.from, &signal.member, body, out, stops)
             }
             Body::Joining(body) => {
                 self.handle_joining(alloc, body, out)?;
-                Ok(Handled::nothing())
+                Ok(None)
             }
-            _ => Ok(Handled::nothing()),
+            _ => Ok(None),
         }
     }
 }
@@ -393,7 +387,8 @@ impl Actor for Qmgr {
     ghost installed = { qmgr_installed };
 
     fn handle(&mut self, alloc: Global, signal: &Signal, out: &mut Outs) -> Result<(), NoMemory> {
-        self.decide(alloc, signal, out)?;
+        let mut stops = None;
+        self.decide(alloc, signal, out, &mut stops)?;
         Ok(())
     }
 

@@ -14,3 +14,4 @@ pub use laws::{
 };
 pub use log::Log;
 pub use replaying::{replay, replay_bytes};
+pub use stored::read_log;

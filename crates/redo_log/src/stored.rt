@@ -13,7 +13,7 @@ use std::alloc::Global;
 ///
 /// # Errors
 /// `DiskFault`, `NoMemory`.
-pub(crate) fn read_log<D: Disk>(
+pub fn read_log<D: Disk>(
     alloc: Global,
     disk: &mut D,
     parity: u8,

@@ -5,7 +5,6 @@
 -- (Over, Alone).
 pub mod All
 pub mod Alone
-pub mod ButLast
 pub mod Epochs
 pub mod Facts
 pub mod Last

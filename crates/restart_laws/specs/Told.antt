@@ -17,15 +17,11 @@ use Rattle.world_views.specs.Right.{IsOpen}
 use Rattle.world_views.specs.World.{Whole}
 use Rattle.moment_laws.specs.Places.{ldm_of, tc_of}
 use Rattle.disk_world.specs.Disks.{Disks, HasGoneOn}
-use Rattle.saved_laws.specs.Copied.{TellsDurable, TellsSaved}
+use Rattle.saved_laws.specs.Copied.{TellsDurable, TellsUpTo}
 use Rattle.disk_laws.specs.Noted.{WasNoted, kept_part}
 
--- a signal tells of no later epoch than this as saved
-abbrev pub TellsUpTo : ℕ → Body → Type 0
-TellsUpTo most body = (epoch : ℕ) → TellsSaved epoch body → epoch ≤ most
-
 module _ (start : Start) (member : Member) where
-  -- nor of any later one than the rows have noted in a log
+  -- a signal tells of no later epoch as saved than the rows have noted in a log
   abbrev pub TellsNotedRows : List HostStep → Body → Type 0
   TellsNotedRows log = TellsUpTo (rows_after start member log).saved
 

@@ -4,6 +4,7 @@
 -- Resumption, Phases, Masters) knows that what was saved before its epoch is durable, and rows save what it saves alone
 -- (Rows, Saves, Orders). What members and masters know as durable is durable (Tells, Durable).
 pub mod All
+pub mod ButLast
 pub mod Durable
 pub mod MasterSteps
 pub mod Masters

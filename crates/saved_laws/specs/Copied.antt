@@ -25,6 +25,10 @@ TellsSaved epoch (Epoch (GcpSaveConf saved)) = epoch ≤ saved
 TellsSaved epoch (Epoch (GcpStateConf now prepared next closed saved durable)) = epoch ≤ saved
 TellsSaved epoch body = ⊥
 
+-- it tells no later epoch than this
+abbrev pub TellsUpTo : ℕ → Body → Type 0
+TellsUpTo most body = (epoch : ℕ) → TellsSaved epoch body → epoch ≤ most
+
 -- a block of epochs tells that the system slot of an epoch was written, or of a later one
 abbrev pub TellsDurable : ℕ → Body → Type 0
 TellsDurable epoch (Epoch (CopyGciConf durable)) = epoch ≤ durable

@@ -14,5 +14,5 @@ pub use closings::{
 };
 pub use copied::{copied_were_saved, done_were_marked, durable_were_noted};
 pub use history::saved_rows_are_history;
-pub use keys::{other_keys_stay, saved_are_below_the_last};
+pub use keys::{other_keys_are_unlogged, other_keys_stay, saved_are_below_the_last};
 pub use locks::{members_keep_locks, prepared_stand_alone};

@@ -14,6 +14,7 @@ use Rattle.sys_restart.specs.declared.restored.Restored.{Restored}
 use Rattle.sys_restart.specs.Answers.{on_node}
 use Rattle.sys_restart.specs.Files.{Disks, Files}
 use Rattle.sys_restart.specs.Groups.{also_on, and_rows, control_on, go_on, joined, rows_among, rows_from, rows_of_group, rows_of_groups, rows_on}
+use Rattle.sys_restart.specs.Held.{records_of}
 use Rattle.sys_restart.specs.Lack.{lacking}
 use Rattle.sys_restart.specs.Latest.{later, latest_from, latest_of, latest_on}
 use Rattle.sys_restart.specs.Outdated.{is_outdated}
@@ -38,8 +39,8 @@ pub not_none : {A : Type 0} (a : A) (x : Option A) → x ≡ None → x ≡ Some
 not_none a x one other = cc
 
 -- A restart of a generation reads the same of two disks of a node: the latest system slot; the control slot in use,
--- where it can be read; the rows of that slot; that control slots tell of no later epoch; and that the control file is
--- the node's own, or no other's.
+-- where it can be read; the rows of that slot and the records of its redo; that control slots tell of no later epoch;
+-- and that the control file is the node's own, or no other's.
 pub record AreAlike (shape : Shape) (node generation : ℕ) (one two : Files) : Type 0 where
   pub system : latest_on shape node two ≡ latest_on shape node one
   pub slots :
@@ -48,6 +49,9 @@ pub record AreAlike (shape : Shape) (node generation : ℕ) (one two : Files) : 
   pub rows :
       (slot : ControlSlot) (epoch : ℕ) → control_of_file generation (one CONTROL_FILE) ≡ Ok (Some slot)
       → rows_of_slot epoch two slot ≡ rows_of_slot epoch one slot
+  pub redo :
+      (slot : ControlSlot) → control_of_file generation (one CONTROL_FILE) ≡ Ok (Some slot)
+      → records_of two slot ≡ records_of one slot
   pub ahead :
       (epoch : ℕ) → is_outdated generation epoch (one CONTROL_FILE) ≡ false
       → is_outdated generation epoch (two CONTROL_FILE) ≡ false
@@ -60,6 +64,7 @@ alike_itself shape node generation files =
       system = refl;
       slots = λ slot is. is;
       rows = λ slot epoch is. refl;
+      redo = λ slot is. refl;
       ahead = λ epoch is. is;
       owned = λ is. is;
     }
@@ -99,9 +104,9 @@ module _ (shape : Shape) (system : SystemSlot) (one two : Disks)
       rows_current shape system node (two node) slot
       ((alike node).owned (rows_owned shape system node (one node) slot part is))
       ((alike node).ahead system.epoch was.0)
-      ∙ held_alike shape node (one node) (two node) (on_node node (rows_of_slot system.epoch (one node) slot))
+      ∙ held_alike shape node (one node) (two node) slot (on_node node (rows_of_slot system.epoch (one node) slot))
       (on_node node (rows_of_slot system.epoch (two node) slot)) part
-      (ap (on_node node) ((alike node).rows slot system.epoch there)) was.1
+      (ap (on_node node) ((alike node).rows slot system.epoch there)) ((alike node).redo slot there) was.1
 
   -- what is found on a node's disk beside what was found before
   also_alike : (node : ℕ) (found after : Option Rows)

@@ -75,7 +75,7 @@ module _ (shape : Shape) (is_shape : IsShape shape) (disks : Disks) where
   group_held system group part is =
       let found = group_is shape disks system (group * shape.replicas + 1) part is in
       let kept =
-      held_is shape found.node (disks found.node)
+      held_is shape found.node (disks found.node) found.slot
       (on_node found.node (rows_of_slot system.epoch (disks found.node) found.slot)) part
       (rows_are shape system found.node (disks found.node) found.slot part found.is).1 in
       ap
@@ -83,7 +83,7 @@ module _ (shape : Shape) (is_shape : IsShape shape) (disks : Disks) where
       (first_of_group shape.replicas group is_shape.replicas_some is_shape.replicas_few
       ∙ sym (node_of_group shape.replicas group found.node is_shape.replicas_some is_shape.replicas_few found.low
       found.high))
-      ∙ kept.1
+      ∙ kept.rows
 
   groups_held : (system : SystemSlot) (group more : ℕ) (before all : List Rows) → length before ≡ group
       → AreHeldFrom shape 0 before → rows_from shape disks system group more (Ok before) ≡ Ok all

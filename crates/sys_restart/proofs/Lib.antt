@@ -12,6 +12,7 @@ pub mod KeepsLemmas
 pub mod LatestLemmas
 pub mod LifeLemmas
 pub mod ListedLemmas
+pub mod LogHeld
 pub mod LostLemmas
 pub mod MomentLemmas
 pub mod NameLemmas

@@ -26,7 +26,7 @@ use Rattle.sys_restart.specs.Restored.{restored_by, restored_of, with_rows}
 use Rattle.sys_restart.proofs.AlikeLemmas.{same_answer}
 use Rattle.sys_restart.proofs.GroupsHeld.{AreHeldFrom, group_held_in}
 use Rattle.sys_restart.proofs.GroupsLemmas.{among_next, control_saved, group_found, joined_same}
-use Rattle.sys_restart.proofs.HeldLemmas.{held_kept, rows_current}
+use Rattle.sys_restart.proofs.HeldLemmas.{held_kept, no_records, rows_current}
 use Rattle.sys_restart.proofs.ListedLemmas.{listed_all}
 use Rattle.sys_restart.proofs.NameLemmas.{first_named, later_either, second_named}
 use Rattle.sys_restart.proofs.OutdatedLemmas.{in_use_last}
@@ -106,14 +106,15 @@ module _ (shape : Shape) (r : Restored) (disks : Disks) (is : IsShape shape) (ea
       (ap (is_owned node) has.1.owner ∙ same_number node)
       (in_use_last (r.generation + 1) r.epoch (disks node CONTROL_FILE) has.0 has.1.in_use
       (let low : has.0.saved ≤ r.epoch = omega (arith, has.1.saved) in low))
-      ∙ ap (if_held shape node (disks node))
+      ∙ ap (if_held shape node (disks node) has.0)
       (ap (on_node node) has.1.has_rows ∙ ap (λ (g : ℕ). Ok (get_or r.groups g finmap.empty)) of)
-      ∙ held_kept shape node (disks node) (get_or r.groups group finmap.empty)
+      ∙ held_kept shape node (disks node) has.0 (get_or r.groups group finmap.empty)
       (ap
       (λ (g : ℕ). list_all (λ (row : List ℕ × List ℕ). g == group_of_key shape row.0)
       (finmap.entries (get_or r.groups group finmap.empty)))
       (of ∙ sym (first_of_group shape.replicas group is.replicas_some is.replicas_few))
-      ∙ group_held_in shape r.groups group held))
+      ∙ group_held_in shape r.groups group held)
+      (no_records shape node (disks node) has.0 (omega (arith, has.1.start, has.1.end))))
 
   -- so those of further nodes are those that were found
   rest_named : (group node more : ℕ) → group < groups shape → group * shape.replicas + 1 ≤ node

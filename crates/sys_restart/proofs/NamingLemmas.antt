@@ -44,7 +44,7 @@ use Rattle.sys_restart.proofs.NameLemmas.{both_below, first_named, next_is_syste
 use Rattle.sys_restart.proofs.GroupsHeld.{AreHeldFrom, restored_held}
 use Rattle.sys_restart.proofs.NamedLemmas.{latest_named, restored_named}
 use Rattle.sys_restart.proofs.NextLemmas.{slot_on}
-use Rattle.sys_restart.proofs.SameRows.{redo_file, rows_same}
+use Rattle.sys_restart.proofs.SameRows.{records_same, redo_file, rows_same}
 use Rattle.sys_restart.proofs.SlotWrite.{HasPlace, IsMoment, IsSlotWrite, behind_has, other_has, place_has}
 use Rattle.sys_restart.proofs.StandsLemmas.{LeavesOthers, disks_alike, disks_unsaved, left_as, others_kept}
 
@@ -322,6 +322,16 @@ module _ (before after older : List Call) (ok : Bool) (shape : Shape) (node : �
           (at_free 1 read.other at read.second read.second_fits)
 
 -- the rows of a slot that is in use don't depend on the system slots
+log_alike : (before : List Call) (generation : ℕ) (image : Files)
+    → ((file : ℕ) → file < FILES → (SYSTEM_FILE == file) ≡ false → image file ≡ files_of before file)
+    → (slot : ControlSlot) → control_of_file generation (files_of before CONTROL_FILE) ≡ Ok (Some slot)
+    → (position : ℕ) → image (file_of slot.parity position) ≡ files_of before (file_of slot.parity position)
+log_alike before generation image same slot is position =
+    let names = in_use_names generation (files_of before CONTROL_FILE) slot is in
+    let at = redo_file slot.parity position names.parity in
+    same (file_of slot.parity position) at.1
+    (ne_eqb SYSTEM_FILE (file_of slot.parity position) (λ zero. absurd (omega (arith, zero, at.0))))
+
 rows_alike : (before : List Call) (generation : ℕ) (image : Files)
     → ((file : ℕ) → file < FILES → (SYSTEM_FILE == file) ≡ false → image file ≡ files_of before file)
     → (slot : ControlSlot) (epoch : ℕ) → control_of_file generation (files_of before CONTROL_FILE) ≡ Ok (Some slot)
@@ -331,10 +341,7 @@ rows_alike before generation image same slot epoch is =
     rows_same epoch (files_of before) image slot
     (same slot.ckpt_file (omega (arith, names.most))
     (ne_eqb SYSTEM_FILE slot.ckpt_file (λ zero. absurd (omega (arith, zero, names.least)))))
-    (λ position.
-    let at = redo_file slot.parity position names.parity in
-    same (file_of slot.parity position) at.1
-    (ne_eqb SYSTEM_FILE (file_of slot.parity position) (λ zero. absurd (omega (arith, zero, at.0)))))
+    (log_alike before generation image same slot is)
 
 -- a node's disk is as good for a restart as one whose system slots alone are others
 system_alike : (before : List Call) (shape : Shape) (node generation : ℕ) (image : Files)
@@ -345,6 +352,8 @@ system_alike before shape node generation image latest same = record {
   system = latest;
   slots = λ slot is. ap (control_of_file generation) (same CONTROL_FILE (omega arith) refl) ∙ is;
   rows = rows_alike before generation image same;
+  redo = λ slot is.
+      records_same (files_of before) image slot (log_alike before generation image same slot is);
   ahead = λ epoch is. ap (is_outdated generation epoch) (same CONTROL_FILE (omega arith) refl) ∙ is;
   owned = λ is. ap (λ bytes. is_owned node (owner_of bytes)) (same CONTROL_FILE (omega arith) refl) ∙ is;
 }

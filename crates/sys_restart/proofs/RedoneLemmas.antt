@@ -86,18 +86,19 @@ few_records (redo ∷ older) =
     omega (arith, few_records older, length-append (log_bytes older) (bytes_of redo), some_bytes redo)
 
 -- where no record follows the reading ends
-ends : (more : ℕ) (newest : List Redo) (rest : List ℕ) (fault : FormatFault) → decoded rest ≡ Err fault
+pub ends : (more : ℕ) (newest : List Redo) (rest : List ℕ) (fault : FormatFault) → decoded rest ≡ Err fault
     → records_in more newest rest ≡ record { newest = newest; rest = rest }
 unfolding records_in
 ends zero newest rest fault none = refl
 ends (suc more) newest rest fault none = ap (decode_on (records_in more) newest rest) none
 
-none_in_none : decoded [] ≡ Err (NotRecord 0)
+pub none_in_none : decoded [] ≡ Err (NotRecord 0)
 unfolding record_at
 none_in_none = refl
 
 -- what bytes are read as, of which some records are in front
-read_as : (epoch : ℕ) (before rows : Rows) (bytes : List ℕ) (newest : List Redo) (rest : List ℕ) (fault : FormatFault)
+pub read_as : (epoch : ℕ) (before rows : Rows) (bytes : List ℕ) (newest : List Redo)
+    (rest : List ℕ) (fault : FormatFault)
     → IsReplayed epoch before bytes rows newest rest → decoded rest ≡ Err fault
     → records_in (length bytes) [] bytes ≡ record { newest = newest; rest = rest }
 read_as epoch before rows bytes newest rest fault is none =

@@ -1,4 +1,4 @@
--- The rows of a control slot depend on the files that it names alone.
+-- The rows of a control slot, and the records of its redo, depend on the files that it names alone.
 use Rattle.std.proofs.Common.{◌≡◌, ◌∙◌, ℕ, zero, suc, ◌+◌, ◌-◌, ◌≤◌, ◌<◌, nat_lt, length, refl, ap, arith}
 use Rattle.std.specs.Prelude.{Result, Ok, Err, slice_index}
 use Rattle.sig_core.specs.Ring.{file_of, place_of}
@@ -7,6 +7,7 @@ use Rattle.sig_core.specs.declared.fault.ReadFault.{ReadFault}
 use Rattle.sig_core.specs.declared.slots.ControlSlot.{ControlSlot}
 use Rattle.sys_restart.specs.Checkpoint.{rows_of_file}
 use Rattle.sys_restart.specs.Files.{Files}
+use Rattle.sys_restart.specs.Held.{newest_in, records_of}
 use Rattle.sys_restart.specs.Redone.{byte_if, log_of, redone, redone_in}
 use Rattle.sys_restart.specs.SlotRows.{rows_of_slot, with_redo}
 
@@ -45,3 +46,9 @@ rows_same epoch one two slot file redo =
     by (Err fault) = refl
     by (Ok rows) =
         redone_same one two slot.parity redo epoch rows slot.redo_start (slot.redo_end - slot.redo_start)
+
+pub records_same : (one two : Files) (slot : ControlSlot)
+    → ((position : ℕ) → two (file_of slot.parity position) ≡ one (file_of slot.parity position))
+    → records_of two slot ≡ records_of one slot
+records_same one two slot redo =
+    ap newest_in (log_same one two slot.parity redo slot.redo_start (slot.redo_end - slot.redo_start))

@@ -24,7 +24,7 @@ use Rattle.sys_restart.proofs.AlikeLemmas.{AllAlike, AreAlike, alike_itself}
 use Rattle.sys_restart.proofs.ControlLemmas.{in_use_names}
 use Rattle.sys_restart.proofs.LostLemmas.{StayUnsaved}
 use Rattle.sys_restart.proofs.MomentLemmas.{IsKeptBy, LeavesElse, else_kept}
-use Rattle.sys_restart.proofs.SameRows.{redo_file, rows_same}
+use Rattle.sys_restart.proofs.SameRows.{records_same, redo_file, rows_same}
 
 -- a file of which nothing is dirty is left as it reads
 pub left_as : (calls : List Call) (image : Files) (file : ℕ) (bytes : List ℕ) → IsLeft calls image → file < FILES
@@ -97,14 +97,21 @@ near_alike before shape node file generation epoch image near least most apart =
       rows_same epoch (files_of before) image slot
       (near.others slot.ckpt_file (omega (arith, names.most)) (apart slot is)
       (ne_eqb CONTROL_FILE slot.ckpt_file (λ same. absurd (omega (arith, same, names.least)))))
-      (λ position.
-      let at = redo_file slot.parity position names.parity in
-      near.others (file_of slot.parity position) at.1
-      (ne_eqb file (file_of slot.parity position) (λ same. absurd (omega (arith, same, at.0, most))))
-      (ne_eqb CONTROL_FILE (file_of slot.parity position) (λ same. absurd (omega (arith, same, at.0)))));
+      (log_near slot is);
+  redo = λ slot is. records_same (files_of before) image slot (log_near slot is);
   ahead = near.ahead;
   owned = near.owned;
 }
+  where
+    -- the redo is in none of the files that were written
+    log_near : (slot : ControlSlot) → control_of_file generation (files_of before CONTROL_FILE) ≡ Ok (Some slot)
+        → (position : ℕ) → image (file_of slot.parity position) ≡ files_of before (file_of slot.parity position)
+    log_near slot is position =
+        let names = in_use_names generation (files_of before CONTROL_FILE) slot is in
+        let at = redo_file slot.parity position names.parity in
+        near.others (file_of slot.parity position) at.1
+        (ne_eqb file (file_of slot.parity position) (λ same. absurd (omega (arith, same, at.0, most))))
+        (ne_eqb CONTROL_FILE (file_of slot.parity position) (λ same. absurd (omega (arith, same, at.0))))
 
 -- files that are the same are as good
 pub settled_alike : (before : List Call) (shape : Shape) (node generation : ℕ) (image : Files)
@@ -118,6 +125,10 @@ settled_alike before shape node generation image same = record {
   rows = λ slot epoch is.
       let names = in_use_names generation (files_of before CONTROL_FILE) slot is in
       rows_same epoch (files_of before) image slot (same slot.ckpt_file (omega (arith, names.most)))
+      (λ position. same (file_of slot.parity position) (redo_file slot.parity position names.parity).1);
+  redo = λ slot is.
+      let names = in_use_names generation (files_of before CONTROL_FILE) slot is in
+      records_same (files_of before) image slot
       (λ position. same (file_of slot.parity position) (redo_file slot.parity position names.parity).1);
   ahead = λ epoch is. ap (is_outdated generation epoch) (same CONTROL_FILE (omega arith)) ∙ is;
   owned = λ own. ap (λ bytes. is_owned node (owner_of bytes)) (same CONTROL_FILE (omega arith)) ∙ own;

@@ -1,5 +1,5 @@
 -- The rows of the groups of a cluster.
-use Rattle.std.specs.Prelude.{ℕ, zero, suc, ◌+◌, ◌-◌, ◌*◌, ◌/◌, ◌%◌, ◌^◌, ◌==◌, nat_le, Bool, true, false, List, [], ◌∷◌, ◌++◌, Option, None, Some, Result, Ok, Err, if◌then◌else◌}
+use Rattle.std.specs.Prelude.{ℕ, zero, suc, ◌+◌, ◌-◌, ◌*◌, ◌/◌, ◌%◌, ◌^◌, ◌==◌, ◌&&◌, nat_le, Bool, true, false, List, [], ◌∷◌, ◌++◌, Option, None, Some, Result, Ok, Err, if◌then◌else◌}
 use Rattle.frag_map.specs.Shape.{groups}
 use Rattle.sig_core.specs.Table.{Rows}
 use Rattle.sig_core.specs.declared.fault.RestartFault.{RestartFault}
@@ -11,7 +11,7 @@ use Rattle.sysfile_core.specs.Owner.{owner_of}
 use Rattle.sysfile_core.specs.Reading.{control_of_file}
 use Rattle.sys_restart.specs.Answers.{on_node}
 use Rattle.sys_restart.specs.Files.{Disks, Files}
-use Rattle.sys_restart.specs.Held.{are_held}
+use Rattle.sys_restart.specs.Held.{are_held, are_records_held, records_of}
 use Rattle.sys_restart.specs.Lack.{lacking}
 use Rattle.sys_restart.specs.Outdated.{is_outdated}
 use Rattle.sys_restart.specs.Owner.{if_owned}
@@ -43,10 +43,13 @@ first_listed mask other node zero = other
 first_listed mask other node (suc more) =
     if is_listed mask node then node else first_listed mask other (node + 1) more
 
--- rows of a node's disk, if the node holds them: those of another group aren't its own
-abbrev pub if_held : Shape → ℕ → Files → Result Rows RestartFault → Result Rows RestartFault
-if_held shape node files (Err fault) = Err fault
-if_held shape node files (Ok rows) = if are_held shape node rows then Ok rows else Err (lacking node CONTROL_FILE files)
+-- rows of a control slot on a node's disk, if the node holds them and the records of the slot's redo: those of another
+-- group aren't its own
+abbrev pub if_held : Shape → ℕ → Files → ControlSlot → Result Rows RestartFault → Result Rows RestartFault
+if_held shape node files slot (Err fault) = Err fault
+if_held shape node files slot (Ok rows) =
+    if are_held shape node rows && are_records_held shape node (records_of files slot)
+    then Ok rows else Err (lacking node CONTROL_FILE files)
 
 -- rows of a node's disk, unless a later system slot than the latest was lost
 abbrev pub unless_outdated : ℕ → Files → Bool → Result Rows RestartFault → Result Rows RestartFault
@@ -57,7 +60,7 @@ unless_outdated node files false rows = rows
 abbrev pub current_on : Shape → SystemSlot → ℕ → Files → ControlSlot → Result Rows RestartFault
 current_on shape system node files slot =
     unless_outdated node files (is_outdated system.generation system.epoch (files CONTROL_FILE))
-    (if_held shape node files (on_node node (rows_of_slot system.epoch files slot)))
+    (if_held shape node files slot (on_node node (rows_of_slot system.epoch files slot)))
 
 -- the same, of a control file that is the node's own
 abbrev pub rows_on : Shape → SystemSlot → ℕ → Files → ControlSlot → Result Rows RestartFault

@@ -11,7 +11,7 @@ ghost use Rattle.sys_restart.specs.Groups.{also_on, control_on, current_on, firs
 ghost use Rattle.sys_restart.specs.Lack.{lacking};
 ghost use Rattle.sys_restart.specs.SlotRows.{rows_of_slot};
 
-use crate::held::are_held;
+use crate::held::are_both_held;
 use crate::lack::lacking;
 use crate::on_node::of_node;
 use crate::outdated::is_outdated;
@@ -30,9 +30,9 @@ use sysfile_core::{CONTROL_FILE, OWNER, SYSTEM_FILE, place_of, read_control, rea
 /// # Errors
 /// `Damaged` where a group has no such node, at its first node that is listed, or else at its first, at the first byte
 /// of the control file; at such a node where its control file names another node, at the byte that does; at the first
-/// byte of that file where it has rows of another group, or other rows than such a node of its group before it; where
-/// its control slots tell that a later epoch was durable, at the first byte of its system file, which has lost a slot;
-/// and where a control slot, a checkpoint or redo is damaged. The first of them by group and node. `DiskFault`,
+/// byte of that file where it has rows or redo of another group, or other rows than such a node of its group before it;
+/// where its control slots tell that a later epoch was durable, at the first byte of its system file, which has lost a
+/// slot; and where a control slot, a checkpoint or redo is damaged. The first of them by group and node. `DiskFault`,
 /// `NoMemory`.
 pub(crate) fn rows_of_groups<D: Disk>(
     alloc: Global,
@@ -236,7 +236,7 @@ fn current_on<D: Disk>(
     }
 }
 
-// The rows that the slot names, if its node holds them.
+// The rows that the slot names, if its node holds them and its redo.
 fn held_on<D: Disk>(
     alloc: Global,
     disk: &mut D,
@@ -249,37 +249,39 @@ fn held_on<D: Disk>(
     requires first { 1 ≤ node }
     requires last { node ≤ shape.now.nodes }
     requires redo { HasRedo slot.now }
-    ensures read { (calls : List Call) → D.told disk.old ≡ Some calls → ReadsAll (if_held shape.now node (files_of calls) (on_node node (rows_of_slot epoch (files_of calls) slot.now))) result }
+    ensures read { (calls : List Call) → D.told disk.old ≡ Some calls → ReadsAll (if_held shape.now node (files_of calls) slot.now (on_node node (rows_of_slot epoch (files_of calls) slot.now))) result }
     ensures unrecorded { D.told disk.new ≡ D.told disk.old }
     ensures cause { HasCauseOf node (D.faults disk.old) (D.faults disk.new) result }
     ensures steady { D.faults disk.old ≤ D.faults disk.new }
 {
     match rows_of_slot(alloc, disk, slot, epoch) {
-        Ok(rows) => if_held(alloc, disk, node, rows, shape),
+        Ok(rows) => if_held(alloc, disk, node, slot, rows, shape),
         Err(fault) => Err(of_node(node, fault)),
     }
 }
 
-// Rows that were read on a node's disk, if the node holds them.
+// Rows of a slot that were read on a node's disk, if the node holds them and the slot's redo.
 fn if_held<D: Disk>(
     alloc: Global,
     disk: &mut D,
     node: u8,
+    slot: &ControlSlot,
     rows: RowMap,
     shape: &Shape,
 ) -> Result<RowMap, RestartFault>
     requires shape { IsShape shape.now }
     requires first { 1 ≤ node }
     requires last { node ≤ shape.now.nodes }
-    ensures read { (calls : List Call) → D.told disk.old ≡ Some calls → ReadsAll (if_held shape.now node (files_of calls) (Ok rows)) result }
+    requires redo { HasRedo slot.now }
+    ensures read { (calls : List Call) → D.told disk.old ≡ Some calls → ReadsAll (if_held shape.now node (files_of calls) slot.now (Ok rows)) result }
     ensures unrecorded { D.told disk.new ≡ D.told disk.old }
     ensures cause { HasCauseOf node (D.faults disk.old) (D.faults disk.new) result }
     ensures steady { D.faults disk.old ≤ D.faults disk.new }
 {
-    match are_held(alloc, node, &rows, shape) {
+    match are_both_held(alloc, disk, node, slot, &rows, shape) {
         Ok(true) => Ok(rows),
         Ok(false) => Err(lacking(disk, node, CONTROL_FILE)),
-        Err(NoMemory) => Err(RestartFault::NoMemory),
+        Err(fault) => Err(of_node(node, fault)),
     }
 }
 

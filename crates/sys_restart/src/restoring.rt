@@ -22,9 +22,9 @@ use std::alloc::Global;
 /// # Errors
 /// `OtherShape` exactly where an open system slot is of another shape; `Damaged` exactly where what is read
 /// isn't in its grammar, no node of a group that is listed has saved the epoch, the control slots of one tell
-/// of a later epoch that was durable, its rows are of another group, a row of its checkpoint is of a later
-/// epoch, or no disk has a system slot though one has a control slot of saved rows, the first of them by node
-/// and place, system slots first; `DiskFault` only where the count of that node's disk rose; `NoMemory`.
+/// of a later epoch that was durable, its rows or its redo are of another group, a row of its checkpoint is of a
+/// later epoch, or no disk has a system slot though one has a control slot of saved rows, the first of them by
+/// node and place, system slots first; `DiskFault` only where the count of that node's disk rose; `NoMemory`.
 pub fn restore<D: Disk>(
     alloc: Global,
     disks: &mut [D],

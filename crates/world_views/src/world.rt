@@ -251,8 +251,9 @@ impl World {
             return self.fail(alloc, host, StopCause::Clock);
         }
         self.outs.clear();
-        match self.bodies[at].step(alloc, signal.get(), &mut self.outs) {
-            Ok(cause) => self.enter(alloc, host, before + 1, signal, cause, 0),
+        let mut stops = None;
+        match self.bodies[at].step(alloc, signal.get(), &mut self.outs, &mut stops) {
+            Ok(()) => self.enter(alloc, host, before + 1, signal, stops, 0),
             Err(_) => {
                 put_back(&mut self.bodies[at], view);
                 self.fail(alloc, host, StopCause::Memory)

@@ -24,6 +24,7 @@ use Rattle.sys_restart.specs.declared.restored.Restored.{Restored}
 use Rattle.sys_restart.specs.Calls.{rows_of_node}
 use Rattle.sys_restart.specs.Files.{Disks}
 use Rattle.sys_restart.specs.Groups.{is_listed}
+use Rattle.sys_restart.specs.Held.{holds_record}
 use Rattle.sys_restart.specs.Outdated.{are_ahead, is_outdated}
 use Rattle.sys_restart.specs.Owner.{is_owned}
 use Rattle.sys_restart.specs.Restored.{restored_of}
@@ -47,7 +48,7 @@ use Rattle.saved_laws.specs.Behind.{IsDurable}
 use Rattle.saved_laws.specs.Copied.{CopiedWereSaved, DoneWereMarked, DurableWereNoted, IsOfDurable, TellsDurable}
 use Rattle.saved_laws.specs.Copied.{WasTold}
 use Rattle.saved_laws.specs.History.{SavedRowsAreHistory, row_up_to}
-use Rattle.saved_laws.specs.Keys.{OtherKeysStay}
+use Rattle.saved_laws.specs.Keys.{OtherKeysAreUnlogged, OtherKeysStay}
 use Rattle.journal_laws.specs.Saver.{IsToldDone}
 use Rattle.disk_laws.specs.Found.{HasSavedRows}
 use Rattle.disk_laws.specs.ToldSlots.{AreTold, IsKnownDurable}
@@ -60,9 +61,8 @@ use Rattle.restart_laws.proofs.groups.Sources.{AreGroups, AreOfOne, HasOwnRows, 
 use Rattle.restart_laws.proofs.groups.System.{latest, listed_saved, manned, system_generation, system_least, system_up}
 
 module _ (copied : CopiedWereSaved) (durable : DurableWereNoted) (done : DoneWereMarked) (saved : SavedRowsAreHistory)
-    (replays : ReplaysGiveOwnRows) (stay : OtherKeysStay) (start : Start) (r : Restored) (logs : ℕ → List HostStep)
-    (images : Disks)
-    (left : AreLeft start r logs images) where
+    (replays : ReplaysGiveOwnRows) (stay : OtherKeysStay) (unlogged : OtherKeysAreUnlogged) (start : Start)
+    (r : Restored) (logs : ℕ → List HostStep) (images : Disks) (left : AreLeft start r logs images) where
   abbrev system : SystemSlot
   system = (latest start r logs images left).slot
 
@@ -169,6 +169,9 @@ module _ (copied : CopiedWereSaved) (durable : DurableWereNoted) (done : DoneWer
     saved = saved_up;
     rows_are = has.restores.1 system.epoch (least_low member there);
     held = rows_held start.shape node _ others;
+    logged =
+        has.restores.2 (holds_record start.shape node)
+        (unlogged start logs left.cluster member there has.older has.past has.events has.events_of);
     last =
         ap (λ generation. is_outdated generation system.epoch (images node CONTROL_FILE))
         (system_generation start r logs images left)
@@ -275,11 +278,11 @@ module _ (copied : CopiedWereSaved) (durable : DurableWereNoted) (done : DoneWer
 
 -- what the laws of members and their journals say leads to it
 pub restarts_history : CopiedWereSaved → DurableWereNoted → DoneWereMarked → SavedRowsAreHistory → ReplaysGiveOwnRows
-    → OtherKeysStay → RestartsAreHistory
-restarts_history copied durable done saved replays stay start r logs images left = (
-  restored copied durable done saved replays stay start r logs images left,
+    → OtherKeysStay → OtherKeysAreUnlogged → RestartsAreHistory
+restarts_history copied durable done saved replays stay unlogged start r logs images left = (
+  restored copied durable done saved replays stay unlogged start r logs images left,
   (
-    is_restored copied durable done saved replays stay start r logs images left,
-    of_life copied durable done saved replays stay start r logs images left,
+    is_restored copied durable done saved replays stay unlogged start r logs images left,
+    of_life copied durable done saved replays stay unlogged start r logs images left,
   ),
 )

@@ -21,7 +21,7 @@ use Rattle.sys_restart.specs.Answers.{on_node}
 use Rattle.sys_restart.specs.Files.{Disks}
 use Rattle.sys_restart.specs.Groups.{also_on, control_on, first_listed, go_on, if_held, is_listed, joined, rows_among}
 use Rattle.sys_restart.specs.Groups.{rows_from, rows_of_group, rows_or_at}
-use Rattle.sys_restart.specs.Held.{are_held}
+use Rattle.sys_restart.specs.Held.{are_held, are_records_held, records_of}
 use Rattle.sys_restart.specs.Outdated.{is_outdated}
 use Rattle.sys_restart.specs.Owner.{is_owned}
 use Rattle.sys_restart.specs.SlotRows.{rows_of_slot}
@@ -35,7 +35,7 @@ pub record IsManned (system : SystemSlot) (first count : ℕ) : Type 0 where
 
 -- what is so of a node's rows
 module _ (shape : Shape) (disks : Disks) (system : SystemSlot) (Q : ℕ → Rows → Type 0) where
-  -- the disk of a node is its own and has rows of its group as of the system slot, and they are so
+  -- the disk of a node is its own and has rows and redo of its group as of the system slot, and the rows are so
   pub record HasOwnRows (node : ℕ) : Type 0 where
     pub slot : ControlSlot
     pub rows : Rows
@@ -44,6 +44,7 @@ module _ (shape : Shape) (disks : Disks) (system : SystemSlot) (Q : ℕ → Rows
     pub saved : system.epoch ≤ slot.saved
     pub rows_are : rows_of_slot system.epoch (disks node) slot ≡ Ok rows
     pub held : are_held shape node rows ≡ true
+    pub logged : are_records_held shape node (records_of (disks node) slot) ≡ true
     pub last : is_outdated system.generation system.epoch (disks node CONTROL_FILE) ≡ false
     pub so : Q node rows
 
@@ -80,8 +81,8 @@ module _ (shape : Shape) (disks : Disks) (system : SystemSlot) (Q : ℕ → Rows
         (control_saved system node (disks node) own.has.slot listed own.has.control own.has.saved)
         ∙ ap (joined node (disks node) found)
         (rows_current shape system node (disks node) own.has.slot own.has.owner own.has.last
-        ∙ ap (if_held shape node (disks node)) (ap (on_node node) own.has.rows_are)
-        ∙ held_kept shape node (disks node) own.has.rows own.has.held
+        ∙ ap (if_held shape node (disks node) own.has.slot) (ap (on_node node) own.has.rows_are)
+        ∙ held_kept shape node (disks node) own.has.slot own.has.rows own.has.held own.has.logged
         ∙ ap Ok own.same)
         ∙ put
 

@@ -28,7 +28,7 @@ use Rattle.tc_views.specs.Views as coordinator
 use Rattle.tc_views.specs.Words.{is_coordinator_mark, is_coordinator_word}
 use Rattle.tc_views.proofs.Walk.{coordinator_words}
 use Rattle.saved_laws.specs.Copied.{TellsDurable}
-use Rattle.restart_laws.proofs.telling.ButLast.{EachButLast, but_last_of_each}
+use Rattle.saved_laws.proofs.behind.ButLast.{EachButLast, but_last_of_each}
 use Rattle.restart_laws.proofs.telling.Facts.{SaysSo}
 
 -- of no system slot is told

@@ -22,7 +22,7 @@ use Rattle.world_views.specs.Hosts.{reached}
 use Rattle.world_views.specs.Machine.{after, machine, routed_after, sender, sent_count, signals_of, step_after}
 use Rattle.world_views.specs.Machine.{stops_by}
 use Rattle.world_views.specs.Sending.{Routed, all_addressed, is_kept_back, routed, routed_all, routed_if}
-use Rattle.restart_laws.proofs.telling.ButLast.{EachButLast, put_but_newest}
+use Rattle.saved_laws.proofs.behind.ButLast.{EachButLast, put_but_newest}
 use Rattle.restart_laws.proofs.telling.Marks.{StopsNone}
 
 -- What is so of what a step sends is so of the signals that it puts on links.

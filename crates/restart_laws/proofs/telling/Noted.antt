@@ -40,7 +40,7 @@ use Rattle.disk_world.specs.Keeping.{DurableAt, durable_by, durable_if, kept_bes
 use Rattle.saved_laws.specs.Copied.{TellsDurable}
 use Rattle.disk_laws.specs.Noted.{NotesNow}
 use Rattle.restart_laws.specs.Told.{IsNotedDurable, TellsNotedDurable}
-use Rattle.restart_laws.proofs.telling.ButLast.{EachButLast, but_last_behind, but_last_map}
+use Rattle.saved_laws.proofs.behind.ButLast.{EachButLast, but_last_behind, but_last_map}
 use Rattle.restart_laws.proofs.telling.Epochs.{Orders, TellOrders, TellsNone, TellsOrdered, none_ordered, none_told}
 use Rattle.restart_laws.proofs.telling.Epochs.{tc_entered_none, tc_orders, tc_tells}
 use Rattle.restart_laws.proofs.telling.Facts.{SaysSo, TellsByLog}

@@ -1,5 +1,5 @@
 -- What a step of the host of a member's rows makes of what they have saved: it never falls, and what the host tells is
--- no more than that.
+-- no more than that, all but the last that it sends no more than what was saved before.
 use Rattle.std.proofs.Common.{◌++◌, ◌∙◌, ◌∷◌, ◌≡◌, ◌≤◌, ◌⊎◌, Bool, List, [], ap, arith, false, inl, inr, refl, subst}
 use Rattle.std.proofs.Common.{sym, true, ℕ}
 use Rattle.std.proofs.lemmas.Bool.{ltb-false, ltb-true, true≢false}
@@ -41,12 +41,10 @@ use Rattle.moment_laws.specs.PartSteps.{LdmDoes, PartEnters, PartTakes, handles,
 use Rattle.moment_laws.specs.Places.{ldm_of}
 use Rattle.request_laws.proofs.routes.PartSteps.{own_ldm, rows_are}
 use Rattle.request_laws.specs.Blocks.{rows_after}
-use Rattle.saved_laws.specs.Copied.{TellsSaved}
+use Rattle.saved_laws.specs.Copied.{TellsSaved, TellsUpTo}
+use Rattle.saved_laws.proofs.behind.ButLast.{EachButLast, but_last_of_each}
 
 -- no later epoch is told
-abbrev pub TellsUpTo : ℕ → Body → Type 0
-TellsUpTo most body = (epoch : ℕ) → TellsSaved epoch body → epoch ≤ most
-
 abbrev pub AreUpTo : ℕ → List Outgoing → Type 0
 AreUpTo most sends = Each (λ (sent : Outgoing). TellsUpTo most sent.body) sends
 
@@ -60,19 +58,23 @@ words_tell_none (Epoch (GcpStateConf now prepared next closed saved durable)) is
 words_tell_none (Epoch signal) is epoch tells = true≢false (sym is)
 words_tell_none body is epoch tells = tells
 
--- what is saved rises, and what is sent tells no more
+-- what is saved rises, what is sent tells no more, and all but the last no more than before
 pub record Rises (before now : ℕ) (sends : List Outgoing) : Type 0 where
   pub rises : before ≤ now
   pub told : AreUpTo now sends
+  pub but_last : EachButLast (λ (sent : Outgoing). TellsUpTo before sent.body) sends
 
 none_rise : (saved : ℕ) (sends : List Outgoing) → Each (λ (sent : Outgoing). TellsNone sent.body) sends
     → Rises saved saved sends
-none_rise saved sends none = record {
-  rises = omega arith;
-  told =
-      each_map (λ (sent : Outgoing). TellsNone sent.body) (λ (sent : Outgoing). TellsUpTo saved sent.body) sends
-      (λ sent is epoch tells. absurd (is epoch tells)) none;
-}
+none_rise saved sends none =
+    let told : AreUpTo saved sends =
+    each_map (λ (sent : Outgoing). TellsNone sent.body) (λ (sent : Outgoing). TellsUpTo saved sent.body) sends
+    (λ sent is epoch tells. absurd (is epoch tells)) none in
+    record {
+      rises = omega arith;
+      told = told;
+      but_last = but_last_of_each (λ (sent : Outgoing). TellsUpTo saved sent.body) sends told;
+    }
 
 greater_both : (one other : ℕ) → (one ≤ greater one other) × (other ≤ greater one other)
 greater_both one other = by (nat_lt one other) refl
@@ -100,8 +102,13 @@ replica_rises s x =
       saves = λ epoch is. record {
         rises = (greater_both s.saved epoch).0;
         told = (λ less tells. let most = (greater_both s.saved epoch).1 in omega (arith, tells, most), tt);
+        but_last = (inr refl, tt);
       };
-      states = λ is. record { rises = omega arith; told = (λ less tells. tells, tt) };
+      states = λ is. record {
+        rises = omega arith;
+        told = (λ less tells. tells, tt);
+        but_last = (inr refl, tt);
+      };
       tells_record = λ r under_way at one last there.
           none_rise s.saved _ (record_none r.to one one.committed, (λ epoch tells. tells, tt));
       tells_marker = λ r under_way at m none last there.
@@ -170,7 +177,7 @@ module _ (shape : Shape) (p : LdmPart) (view : View) (x : Signal) (now : Parts) 
             rest
         by (inr nothing) =
             subst (Rises (saved_in p) (saved_in did.own)) (sym nothing)
-            (record { rises = rest.rises; told = tt })
+            (record { rises = rest.rises; told = tt; but_last = tt })
 
 -- along the log of the host of rows
 module _ (start : Start) (member : Member) (there : IsIn member (made start)) where

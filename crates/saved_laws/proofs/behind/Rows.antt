@@ -49,9 +49,9 @@ use Rattle.moment_laws.specs.Places.{ldm_of}
 use Rattle.epoch_laws.proofs.StandKinds.{RunsRows, runs_rows}
 use Rattle.request_laws.specs.Blocks.{no_replica, rows_after, rows_in}
 use Rattle.commit_laws.specs.Traces.{rows_at}
-use Rattle.saved_laws.proofs.behind.RowSteps.{AreUpTo, TellsUpTo, host_rises}
+use Rattle.saved_laws.proofs.behind.RowSteps.{AreUpTo, host_rises}
 use Rattle.saved_laws.proofs.masters.Closed.{rows_keep}
-use Rattle.saved_laws.specs.Copied.{TellsSaved, WasTold}
+use Rattle.saved_laws.specs.Copied.{TellsSaved, WasTold, TellsUpTo}
 
 unfaulty : (one other : Bool) → (one || not other) ≡ false → other ≡ true
 unfaulty false true is = refl

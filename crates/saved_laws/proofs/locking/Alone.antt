@@ -89,7 +89,8 @@ module _ (start : Start) (all : ℕ → List HostStep) (member : Member) (there 
       sym (ap (λ pending. prepared_in (first (is_of tx key) pending)) none) ∙ here in cc)
 
   -- a host that stands in the current view is one of its members
-  among_now : (e : HostStep) (es : List HostStep) (moment : IsMoment start all (e ∷ es)) → e.host ≡ ldm_of start member
+  pub among_now : (e : HostStep) (es : List HostStep) (moment : IsMoment start all (e ∷ es))
+      → e.host ≡ ldm_of start member
       → view_after start e.host (e ∷ logs_of start es e.host) ≡ current start (logs_of start (e ∷ es))
       → IsIn member (members_now start (logs_of start (e ∷ es)))
   among_now e es moment at stands =

@@ -113,7 +113,7 @@ module _ (start : Start) (member : Member) (there : IsIn member (made start)) wh
   abbrev first_places : List (Option Slot)
   first_places = (first_rows start member).places
 
-  none_prepared : (tx : TxId) (key : List ℕ) (image : Option (List ℕ))
+  pub none_prepared : (tx : TxId) (key : List ℕ) (image : Option (List ℕ))
       → image_in (first_rows start member) tx key ≡ Some image → ⊥
   none_prepared tx key image is =
       let both : None ≡ Some image =

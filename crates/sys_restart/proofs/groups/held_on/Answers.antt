@@ -13,9 +13,10 @@ use Rattle.sys_restart.proofs.groups.held_on.Goals as goal
 pub returns-in-Ok-clause-read : goal.returns-in-Ok-clause-read
 returns-in-Ok-clause-read g c =
     let node = c.args.node in
+    let slot = c.args.slot.now in
     λ calls told.
     subst
-    (λ (found : Result Rows RestartFault). ReadsAll (if_held c.args.shape.now node (files_of calls) found)
+    (λ (found : Result Rows RestartFault). ReadsAll (if_held c.args.shape.now node (files_of calls) slot found)
     c.if_held.result)
     (sym (ap (on_node node) (c.in-Ok.ensures.read calls told)))
     (c.if_held.ensures.read calls (c.in-Ok.ensures.unrecorded ∙ told))
@@ -25,7 +26,7 @@ pub returns-in-Err-clause-read : goal.returns-in-Err-clause-read
 returns-in-Err-clause-read g c =
     let node = c.args.node in
     λ calls told inside.
-    ap (if_held c.args.shape.now node (files_of calls))
+    ap (if_held c.args.shape.now node (files_of calls) c.args.slot.now)
     (node_answer (rows_of_slot c.args.epoch (files_of calls) c.args.slot.now) node c.in-Err.fault
     c.of_node.result c.of_node.ensures (c.in-Err.ensures.read calls told) inside)
 
