@@ -20,7 +20,7 @@ use Rattle.node_views.specs.declared.parts.Parts.{Parts}
 use Rattle.node_views.specs.declared.parts.Parts.TheVariants as part
 use Rattle.node_views.specs.Saving.{outlet_of}
 use Rattle.node_views.proofs.HostWalk.{Saying}
-use Rattle.view_laws.proofs.follow.Hosts.{started_behind}
+use Rattle.world_views.proofs.AllBegin.{started_behind}
 use Rattle.world_core.proofs.MadeFirst.{hosts_first, nobody_starts}
 use Rattle.world_core.proofs.HostNumbers.{made_at}
 use Rattle.world_core.specs.Hosts.{hosts, member_at, part_by}

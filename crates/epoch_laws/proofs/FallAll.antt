@@ -13,7 +13,6 @@ use Rattle.sig_core.specs.declared.place.Part.TheVariants.{Tc}
 use Rattle.sig_core.specs.declared.view.View.{View}
 use Rattle.dih_node.specs.Dih.{fresh_dih}
 use Rattle.dih_node.specs.State.{DihState}
-use Rattle.node_views.specs.declared.host_body.HostBody as node
 use Rattle.world_core.specs.Entries.{entries, entries_in, entry_of}
 use Rattle.world_core.specs.Hosts.{hosts, member_at}
 use Rattle.world_core.specs.SerialLaw.{AreEpochsOrdered}

@@ -1,5 +1,5 @@
 -- No decision of an event gives a later epoch than its member does; so the members of the current view stay alike.
-use Rattle.std.proofs.Common.{◌≡◌, ◌≤◌, ℕ, List, [], ◌∷◌, sym, ap, subst, inl, inr, arith}
+use Rattle.std.proofs.Common.{◌≡◌, ◌≤◌, ℕ, List, ◌∷◌, sym, ap, subst, inl, inr, arith}
 use Rattle.run_theory.proofs.Orders.{each_next}
 use Rattle.run_theory.proofs.Pasts.{each_from, each_in, each_map}
 use Rattle.run_theory.specs.Lists.{Each, IsIn}
@@ -11,7 +11,6 @@ use Rattle.sig_core.specs.declared.view.View.{View}
 use Rattle.dih_node.specs.Dih.{fresh_dih}
 use Rattle.dih_node.specs.State.{DihState}
 use Rattle.node_views.specs.declared.host_body.HostBody as hosts
-use Rattle.node_views.specs.declared.parts.Parts.TheVariants as part
 use Rattle.world_core.specs.Start.{Start, made}
 use Rattle.world_core.specs.Steps.{HostStep}
 use Rattle.world_views.specs.Machine.{after, machine, step_after}

@@ -1,5 +1,5 @@
 -- What an event sends is true behind it.
-use Rattle.std.proofs.Common.{◌≡◌, ◌≤◌, ◌<◌, ◌⊎◌, ◌==◌, ◌++◌, ℕ, Bool, true, false, cond, filter, List, [], ◌∷◌, refl}
+use Rattle.std.proofs.Common.{◌≡◌, ◌≤◌, ◌<◌, ◌⊎◌, ◌==◌, ◌++◌, ℕ, Bool, true, false, cond, filter, List, [], ◌∷◌, refl, suc, ◌-◌, ◌+◌, ◌*◌}
 use Rattle.std.proofs.Common.{sym, ap, subst, ◌∙◌, inl, inr, arith, eq-eqb}
 use Rattle.std.proofs.lemmas.Bool.{cases_Bool, eqb-true, ltb-false, true≢false}
 use Rattle.std.specs.Prelude.{if◌then◌else◌, slice_get, Option, None, Some}
@@ -38,7 +38,7 @@ use Rattle.qmgr_block.specs.State.{QmgrState}
 use Rattle.world_core.specs.Hosts.{host_by, member_at, member_of}
 use Rattle.world_core.specs.Start.{Start, made}
 use Rattle.world_core.specs.Steps.{Addressed, HostStep}
-use Rattle.world_views.specs.Hosts.{reached}
+use Rattle.world_views.specs.Hosts.{or_itself, reached}
 use Rattle.world_views.specs.Machine.{after, own_stop, signals_of, step_after, step_by, step_if, stops_by}
 use Rattle.view_laws.specs.HostEvents.{events_of, is_membership}
 use Rattle.view_laws.specs.Order.{is_sound}
@@ -193,10 +193,16 @@ reached_own start me there view first =
     subst (λ h. reached (made start) h view (checkpoints me.node) ≡ main_of start me) (sym (main_number start me there))
     (by (me.node == 0) refl)
   where
+    own : Member
+    own = member_at (made start) (suc ((me.node - 1) * 3 + 0))
+
     by : (b : Bool) → (me.node == 0) ≡ b
-        → (if b then 0 else host_by (made start) Main (member_of view me.node)) ≡ main_of start me
+        → (if b then 0 else host_by (made start) Main (or_itself own me.node (member_of view me.node)))
+        ≡ main_of start me
     by true e = let some = node_some start me there in absurd (omega (arith, eqb-true me.node 0 e, some))
-    by false e = ap (host_by (made start) Main) (first_known me view.full view.starting first)
+    by false e =
+        ap (λ found. host_by (made start) Main (or_itself own me.node found))
+        (first_known me view.full view.starting first)
 
 module _ (start : Start) (all : ℕ → List HostStep) (e : HostStep) (es : List HostStep)
     (moment : IsMoment start all (e ∷ es)) (stand : AllStand start (logs_of start es))

@@ -1,5 +1,5 @@
 -- What a step of a main host does of its master of checkpoints, and what orders of epochs it sends.
-use Rattle.std.proofs.Common.{◌≡◌, ◌⊎◌, ◌++◌, ℕ, Bool, true, false, List, [], refl, sym, subst, inl, inr}
+use Rattle.std.proofs.Common.{◌≡◌, ◌⊎◌, ◌++◌, ℕ, List, [], refl, sym, subst, inl, inr}
 use Rattle.std.specs.Prelude.{Some}
 use Rattle.run_theory.specs.Lists.{Each, IsIn}
 use Rattle.run_theory.proofs.Pasts.{each_append, each_from, each_map}

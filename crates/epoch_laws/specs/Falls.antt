@@ -1,5 +1,5 @@
 -- Epochs never fall along the history, whatever stops and is cut off.
-use Rattle.std.specs.Prelude.{◌<◌, ◌≤◌, ℕ, List}
+use Rattle.std.specs.Prelude.{◌<◌, ℕ, List}
 use Rattle.world_core.specs.History.{history}
 use Rattle.world_core.specs.Hosts.{hosts}
 use Rattle.world_core.specs.SerialLaw.{AreEpochsOrdered}

@@ -1,5 +1,5 @@
 -- All that stands of epochs at each moment of a run in the order of views.
-use Rattle.std.specs.Prelude.{◌<◌, ◌≡◌, ◌≤◌, ℕ, List}
+use Rattle.std.specs.Prelude.{◌<◌, ◌≡◌, ℕ, List}
 use Rattle.run_theory.specs.Lists.{Each, IsIn}
 use Rattle.run_theory.specs.Links.{sent}
 use Rattle.sig_core.specs.declared.member.Member.{Member}

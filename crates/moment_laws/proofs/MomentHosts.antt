@@ -24,7 +24,8 @@ use Rattle.view_laws.specs.Votes.{main_of}
 use Rattle.view_laws.proofs.eras.Deciders.{still}
 use Rattle.view_laws.proofs.eras.Parts.{has_coordinator}
 use Rattle.view_laws.proofs.fences.Hosts.{any_found, block_host, number_some}
-use Rattle.view_laws.proofs.follow.Hosts.{first_of, started_behind}
+use Rattle.view_laws.proofs.follow.Hosts.{first_of}
+use Rattle.world_views.proofs.AllBegin.{started_behind}
 use Rattle.view_laws.proofs.runs.FirstMembers.{first_in, made_tested, node_low, node_some}
 use Rattle.moment_laws.specs.Places.{ldm_of, tc_of}
 
@@ -138,19 +139,23 @@ unfolding started
 tc_host_is start zero low = of_none tt
 tc_host_is start (suc k) low = by (k % 3) refl
   where
+    without : (left : ℕ) → k % 3 ≡ left
+        → HasNoTc (part_started start (part_by left) (member_at (made start) (suc k))).parts → TcHost start (suc k)
+    without left e none =
+        of_none (subst (λ s. HasNoTc s.parts) (sym (started_behind start k))
+        (subst (λ (left : ℕ). HasNoTc (part_started start (part_by left) (member_at (made start) (suc k))).parts)
+        (sym e)
+        none))
+
     by : (left : ℕ) → k % 3 ≡ left → TcHost start (suc k)
-    by zero e =
-        of_none (subst (λ (left : ℕ). HasNoTc (part_started start (part_by left)
-        (member_at (made start) (suc k))).parts) (sym e) tt)
+    by zero e = without 0 e tt
     by (suc zero) e =
         let enough : 1 ≤ k / 3 + 1 = omega arith in
         let few : k / 3 + 1 ≤ start.shape.nodes = omega (arith, low, hosts_first start (nobody_starts start)) in
         let there = begins_made start _ (first_in start.shape.nodes (k / 3 + 1) enough few) in
         let is = tc_number start (first_start (k / 3 + 1)) there in
         of_tc (first_start (k / 3 + 1)) there (omega (arith, e, is))
-    by (suc (suc left)) e =
-        of_none (subst (λ (left : ℕ). HasNoTc (part_started start (part_by left)
-        (member_at (made start) (suc k))).parts) (sym e) tt)
+    by (suc (suc left)) e = without (suc (suc left)) e tt
 
 -- the part that runs its rows
 pub ldm_started : (start : Start) (me : Member) → IsIn me (made start)

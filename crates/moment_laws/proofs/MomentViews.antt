@@ -1,5 +1,5 @@
 -- The current view of logs: no host stands in a greater one, and a host stands in it, or it is the first.
-use Rattle.std.proofs.Common.{◌≡◌, ◌≤◌, ◌<◌, ◌⊎◌, ℕ, zero, suc, List, [], ◌∷◌, refl, sym, subst, inl, inr, arith}
+use Rattle.std.proofs.Common.{◌≡◌, ◌≤◌, ◌<◌, ◌⊎◌, ℕ, zero, suc, List, [], ◌∷◌, refl, ap, sym, subst, inl, inr, arith}
 use Rattle.std.proofs.Common.{eq-or-lt_of_le, le_of_suc-le-suc}
 use Rattle.frag_map.specs.Layout.{first_layout}
 use Rattle.frag_map.specs.Shape.{IsShape}
@@ -9,6 +9,8 @@ use Rattle.run_theory.proofs.Runs.{log_of-past}
 use Rattle.run_theory.specs.Cuts.{IsCut}
 use Rattle.run_theory.specs.Runs.{IsWithin}
 use Rattle.sig_core.specs.declared.view.View.{View}
+use Rattle.api_views.specs.Members.{greater_view}
+use Rattle.world_core.proofs.MadeFirst.{all_made}
 use Rattle.world_core.specs.Hosts.{hosts}
 use Rattle.world_core.specs.Start.{Start}
 use Rattle.world_core.specs.Steps.{HostStep}
@@ -17,9 +19,10 @@ use Rattle.world_views.specs.Machine.{machine}
 use Rattle.view_laws.specs.Runs.{WasInstalled, view_after}
 use Rattle.view_laws.proofs.eras.Causal.{greater_own, greater_taken}
 use Rattle.view_laws.proofs.runs.AllSound.{have_orderly}
+use Rattle.view_laws.proofs.runs.Headers.{installed_at}
 use Rattle.view_laws.proofs.runs.Step.{started_view}
 use Rattle.view_laws.proofs.runs.ChosenViews.{of_greater, one_view}
-use Rattle.moment_laws.specs.Moments.{IsMoment, current, greatest_of, logs_of}
+use Rattle.moment_laws.specs.Moments.{IsMoment, current, greater_if, greatest_of, logs_of}
 
 module _ (start : Start) where
   -- the number of the view in which a host stands
@@ -33,6 +36,16 @@ module _ (start : Start) where
     abbrev greatest : ℕ → View
     greatest n = greatest_of start n logs
 
+    -- each host is there
+    pub greatest_next : (n : ℕ) → greatest (suc n) ≡ greater_view (greatest n) (view_after start n (logs n))
+    greatest_next n =
+        ap (λ made. greater_if made (greatest n) (view_after start n (logs n))) (all_made start n (logs 0))
+
+    grown : (n : ℕ) → (greatest n).number ≤ (greatest (suc n)).number
+    grown n =
+        subst (λ (v : View). (greatest n).number ≤ v.number) (sym (greatest_next n))
+        (greater_own (greatest n) (view_after start n (logs n)))
+
     greatest_above : (n h : ℕ) → h < n → number_in logs h ≤ (greatest n).number
     greatest_above zero h below = absurd (omega (arith, below))
     greatest_above (suc n) h below = by (greatest_above n h) (eq-or-lt_of_le (le_of_suc-le-suc below))
@@ -41,16 +54,17 @@ module _ (start : Start) where
             → number_in logs h ≤ (greatest (suc n)).number
         by before (inl at) =
             subst (λ (k : ℕ). number_in logs k ≤ (greatest (suc n)).number) (sym at)
-            (greater_taken (greatest n) (view_after start n (logs n)))
+            (subst (λ (v : View). number_in logs n ≤ v.number) (sym (greatest_next n))
+            (greater_taken (greatest n) (view_after start n (logs n))))
         by before (inr less) =
-            let up = greater_own (greatest n) (view_after start n (logs n)) in
+            let up = grown n in
             let old = before less in
             omega (arith, up, old)
 
     greatest_first : (n : ℕ) → (first_layout start.shape).view.number ≤ (greatest n).number
     greatest_first zero = omega arith
     greatest_first (suc n) =
-        let up = greater_own (greatest n) (view_after start n (logs n)) in
+        let up = grown n in
         let old = greatest_first n in
         omega (arith, up, old)
 
@@ -72,9 +86,10 @@ module _ (start : Start) where
     greatest_is : (n : ℕ) → IsSome n (greatest n)
     greatest_is zero = inl refl
     greatest_is (suc n) =
-        of_greater (IsSome (suc n)) (greatest n) (view_after start n (logs n))
+        subst (IsSome (suc n)) (sym (greatest_next n))
+        (of_greater (IsSome (suc n)) (greatest n) (view_after start n (logs n))
         (some_more n (greatest n) (greatest_is n))
-        (inr (record { host = n; below = omega arith; is = refl }))
+        (inr (record { host = n; below = omega arith; is = refl })))
 
     pub current_above : (h : ℕ) → h < hosts start → number_in logs h ≤ current_number logs
     current_above h low = greatest_above (hosts start) h low
@@ -88,12 +103,13 @@ module _ (start : Start) where
     -- it was installed in all logs of which these are a part
     module _ (shape : IsShape start.shape) (all : ℕ → List HostStep) (inside : IsCut logs all) where
       pub view_installed : (h : ℕ) → h < hosts start → WasInstalled start all (view_after start h (logs h))
-      view_installed h low = record { host = h; there = low; log = logs h; past = inside h; is = refl }
+      view_installed h low = installed_at start all h low (logs h) (inside h)
 
       first_installed : WasInstalled start all (first_layout start.shape).view
       first_installed = record {
         host = 0;
         there = omega arith;
+        made = all_made start 0 (all 0);
         log = [];
         past = past_nil (all 0);
         is = sym (started_view start 0);

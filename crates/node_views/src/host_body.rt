@@ -199,7 +199,8 @@ impl HostBody {
     }
 
     // The view of a signal is installed, unless it stops the host, before the signal is looked at.
-    // Answers whether the host goes on.
+    // Answers whether the host goes on. Not inlined, nor is `closed`, since both are seldom.
+    #[inline(never)]
     #[tactic(auto, using(crate::proofs::RoomLemmas::installed_room))]
     fn enter_first(
         &mut self,
@@ -286,6 +287,7 @@ impl HostBody {
     }
 
     // A fence stops the signal, or it is handled.
+    #[inline(always)]
     #[tactic(auto, using(crate::proofs::RoomLemmas::some_room), unfolding(crate::specs::Row::passed_row, crate::specs::Row::passed_stop))]
     fn pass(
         &mut self,
@@ -309,6 +311,7 @@ impl HostBody {
     }
 
     // Whether a fence stops the signal.
+    #[inline(always)]
     pub(crate) fn is_barred(&self, signal: &Signal) -> bool
         ensures { result ≡ is_barred self.now signal.now }
     {
@@ -317,6 +320,7 @@ impl HostBody {
     }
 
     // What the host does itself, and what it leaves to its blocks.
+    #[inline(always)]
     #[tactic(auto, using(crate::proofs::RoomLemmas::some_room))]
     fn take(
         &mut self,
@@ -344,6 +348,7 @@ impl HostBody {
     }
 
     // A host has closed its links: one of the same member takes this host with it.
+    #[inline(never)]
     #[tactic(auto, using(crate::proofs::RoomLemmas::some_room))]
     fn closed(
         &mut self,
@@ -368,6 +373,7 @@ impl HostBody {
     }
 
     // The blocks handle a signal, and install a view that the membership settles on.
+    #[inline(always)]
     #[tactic(auto, using(crate::proofs::RoomLemmas::some_room), unfolding(crate::specs::Row::blocks_row))]
     fn handle(
         &mut self,

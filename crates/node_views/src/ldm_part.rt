@@ -54,6 +54,7 @@ impl LdmPart {
     ///
     /// # Errors
     /// `NoMemory`.
+    #[inline(always)]
     #[tactic(auto, unfolding(crate::specs::Parts::ldm_row))]
     pub fn handle(&mut self, alloc: Global, signal: &Signal, out: &mut Outs) -> Result<(), NoMemory>
         requires { HasRoom out.old }

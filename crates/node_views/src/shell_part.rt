@@ -36,6 +36,7 @@ impl ShellPart {
     ///
     /// # Errors
     /// `NoMemory`.
+    #[inline(always)]
     #[tactic(auto, using(crate::proofs::RoomLemmas::all_has), unfolding(crate::specs::Parts::shell_row))]
     pub fn handle(&mut self, alloc: Global, signal: &Signal, out: &mut Outs) -> Result<(), NoMemory>
         requires { HasAllRoom out.old }

@@ -52,6 +52,7 @@ impl TcPart {
     ///
     /// # Errors
     /// `NoMemory`.
+    #[inline(always)]
     #[tactic(auto, unfolding(crate::specs::Parts::tc_row))]
     pub fn handle(&mut self, alloc: Global, signal: &Signal, out: &mut Outs) -> Result<(), NoMemory>
         requires { HasRoom out.old }

@@ -44,6 +44,7 @@ use Rattle.node_views.specs.Parts.{shell_row}
 use Rattle.node_views.specs.Replies as host
 use Rattle.node_views.specs.Replies.{giving}
 use Rattle.node_views.specs.Words.{parts_words}
+use Rattle.world_core.proofs.MadeFirst.{all_made}
 use Rattle.world_core.specs.Hosts.{hosts}
 use Rattle.world_core.specs.Start.{Start}
 use Rattle.world_core.specs.Steps.{Addressed, HostStep}
@@ -386,4 +387,11 @@ module _ (start : Start) (inside : ℕ → List HostStep) (of : AreOfCluster sta
           by (inr out) = ap has_stopped (of.within h out)
 
       seen : WasInstalled start inside (view_after start 0 log)
-      seen = record { host = 0; there = omega arith; log = log; past = past; is = refl }
+      seen = record {
+        host = 0;
+        there = omega arith;
+        made = all_made start 0 (inside 0);
+        log = log;
+        past = past;
+        is = refl;
+      }

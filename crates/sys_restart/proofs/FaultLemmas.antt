@@ -25,18 +25,6 @@ slot_cause S before now (DiskFault count) is = is
 slot_cause S before now (Damaged file at byte) is = tt
 slot_cause S before now NoMemory is = tt
 
--- of a read of bytes: it is none of what they hold
-pub read_fault : (before now : ℕ) (fault : ReadFault) → redo.IsFault before now fault
-    → is_outer fault ≡ false → ⊥
-read_fault before now (DiskFault count) is inside = absurd (true≢false inside)
-read_fault before now (Damaged of at byte) is inside = absurd is
-read_fault before now NoMemory is inside = absurd (true≢false inside)
-
-pub read_cause : (before now : ℕ) (fault : ReadFault) → redo.IsFault before now fault → IsCause before now fault
-read_cause before now (DiskFault count) is = is
-read_cause before now (Damaged of at byte) is = tt
-read_cause before now NoMemory is = tt
-
 -- of a replay
 pub redo_cause : (before now : ℕ) (old new : Rows) (fault : ReadFault) → redo.HasCause before now old new (Err fault)
     → IsCause before now fault

@@ -23,7 +23,8 @@ abbrev pub sync_if : Bool → List Call → List Call
 sync_if true calls = Synced CONTROL_FILE ∷ []
 sync_if false calls = calls
 
--- The calls by which a control file of these bytes is made a node's own. Where it is, a sync alone.
+-- The calls by which a control file of these bytes is made a node's own. Where it is, a sync alone: it stands for the
+-- read that finds this out, so that a read that fails is a call that fails.
 abbrev pub owner_calls : ℕ → List ℕ → List Call
 owner_calls node bytes =
     sync_if (is_of node (owner_of bytes)) (slot_calls bytes CONTROL_FILE (place_of OWNER) (node ∷ []))

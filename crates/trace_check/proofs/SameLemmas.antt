@@ -23,6 +23,8 @@ use Rattle.node_views.specs.declared.host_body.HostBody.{HostBody}
 use Rattle.node_views.specs.Row.{is_cut, stopping}
 use Rattle.world_core.specs.Hosts.{hosts}
 use Rattle.world_core.specs.Machine.{last_stamp}
+use Rattle.world_core.proofs.MadeFirst.{last_first}
+use Rattle.world_core.specs.Made.{last_of}
 use Rattle.world_core.specs.Marks.{has_mark}
 use Rattle.world_core.specs.Requests.{request_in}
 use Rattle.world_core.specs.Right.{arriving}
@@ -345,12 +347,12 @@ module _ (start : Start) (told : List HostLog) (right : AreOfRun start told) (un
         ap (λ ms. own_signal ms h (slice_index_or w.stamps h 0) (body_at w.bodies h).standing.view
         (Host (Cut node (record { 0 = first_of ms node })))) sound.right.made
         ∙ ap (λ n. own_signal (made start) h n (body_at w.bodies h).standing.view
-        (Host (Cut node (record { 0 = first_of (made start) node })))) (sound.right.stamps h low)
-        ∙ ap (λ (s : HostBody). own_signal (made start) h (last_stamp log) s.standing.view
+        (Host (Cut node (record { 0 = first_of (made start) node })))) (sound.right.stamps h low ∙ sym (last_first start h log))
+        ∙ ap (λ (s : HostBody). own_signal (made start) h (last_of start h log) s.standing.view
         (Host (Cut node (record { 0 = first_of (made start) node })))) body_is
-        ∙ ap (λ n. own_signal (made start) h (last_stamp log) body.standing.view (Host (Cut node (record { 0 = n }))))
+        ∙ ap (λ n. own_signal (made start) h (last_of start h log) body.standing.view (Host (Cut node (record { 0 = n }))))
         (sym work.1.is_first)
-        ∙ ap (own_signal (made start) h (last_stamp log) body.standing.view) (sym is_cut)
+        ∙ ap (own_signal (made start) h (last_of start h log) body.standing.view) (sym is_cut)
         ∙ sym rightly.is in
         handled w z refl refl same done
 
@@ -383,7 +385,7 @@ module _ (start : Start) (told : List HostLog) (right : AreOfRun start told) (un
         let e_body : e.step.taken.body ≡ request_body request =
         is_request ∙ ap (λ n. Host (Continue (Request request) n)) work.1 in
         let same : f.step.taken ≡ e.step.taken =
-        so.is ∙ ap (own_signal (made start) h (last_stamp log) body.standing.view) (f_body ∙ sym e_body)
+        so.is ∙ ap (own_signal (made start) h (last_of start h log) body.standing.view) (f_body ∙ sym e_body)
         ∙ sym rightly.is in
         inl (record {
           own = now ∙ ap (λ g. g ∷ log) (made_same f now same);

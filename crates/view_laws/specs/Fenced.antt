@@ -1,5 +1,5 @@
 -- Signals from below a fence.
-use Rattle.std.specs.Prelude.{◌≡◌, Bool, true, false, nat_lt, None}
+use Rattle.std.specs.Prelude.{◌≡◌, true, false, nat_lt, None}
 use Rattle.sig_core.specs.declared.signal.Signal.{Signal}
 use Rattle.sig_core.specs.Step.{stay}
 use Rattle.node_views.specs.Blocks.{fence_at}

@@ -11,6 +11,7 @@ use Rattle.sig_core.specs.declared.member.Member.{Member}
 use Rattle.sig_core.specs.declared.view.View.{View}
 use Rattle.qmgr_block.specs.Laws.{Event}
 use Rattle.world_core.specs.Hosts.{hosts}
+use Rattle.world_core.specs.Made.{is_made}
 use Rattle.world_core.specs.Start.{NobodyStarts, Start, made}
 use Rattle.world_core.specs.Steps.{HostStep}
 use Rattle.world_views.specs.Machine.{after, machine}
@@ -72,10 +73,11 @@ pub record AreOfCluster (start : Start) (logs : ℕ → List HostStep) : Type 0 
   pub right : AreLogs (machine start) logs
   pub within : IsWithin (hosts start) logs
 
--- some host stood in the view, after a part of its log
+-- some host that is there stood in the view, after a part of its log
 pub record WasInstalled (start : Start) (logs : ℕ → List HostStep) (view : View) : Type 0 where
   pub host : ℕ
   pub there : host < hosts start
+  pub made : is_made start host (logs 0) ≡ true
   pub log : List HostStep
   pub past : IsPast log (logs host)
   pub is : view ≡ view_after start host log

@@ -6,7 +6,7 @@ use Rattle.world_core.specs.Right.{IsLabelled}
 use Rattle.world_core.specs.Start.{Start}
 use Rattle.world_core.specs.World.{no_steps}
 
--- one log for each host, in the order of hosts, and each says which host's it is
+-- one log for each host, in the order of hosts, and each says which host's it is, and since when that is there
 pub record AreLabelled (start : Start) (logs : List HostLog) : Type 0 where
   pub one_each : length logs ≡ hosts start
-  pub labels : (h : ℕ) → h < hosts start → IsLabelled h (slice_index_or logs h (no_steps 0))
+  pub labels : (h : ℕ) → h < hosts start → IsLabelled start h (slice_index_or logs h (no_steps 0))

@@ -6,6 +6,7 @@ pub mod Labels
 pub mod Late
 pub mod Lives
 pub mod Machine
+pub mod Made
 pub mod Marks
 pub mod Quiet
 pub mod Requests

@@ -10,7 +10,6 @@ use Rattle.sig_core.specs.declared.member.Member.{Member}
 use Rattle.world_core.specs.At.{row_in}
 use Rattle.world_core.specs.History.{history}
 use Rattle.world_core.specs.Hosts.{first_hosts}
-use Rattle.world_core.specs.Machine.{machine}
 use Rattle.world_core.specs.Rest.{IsAtRest, IsLiveReplica}
 use Rattle.world_core.specs.Start.{Start}
 use Rattle.world_core.specs.Strict.{IsStrictOrder}

@@ -10,6 +10,7 @@ use Rattle.node_views.specs.Fresh.{fresh_shell}
 use Rattle.world_core.specs.Hosts.{member_at, part_by}
 use Rattle.world_core.specs.Start.{Start, made}
 use Rattle.world_views.specs.Hosts.{part_started, started}
+use Rattle.world_views.proofs.AllBegin.{started_behind}
 
 -- the first of all is put behind none
 pub first_put : (none items : List HostBody) (host first : HostBody) → items ≡ none ++ host ∷ [] → none ≡ []
@@ -18,11 +19,6 @@ pub first_put : (none items : List HostBody) (host first : HostBody) → items �
 first_put none items host first put are is = put ∙ ap (λ hosts. hosts ++ host ∷ []) are ∙ ap (λ h. h ∷ []) is
 
 module _ (start : Start) where
-  started_behind : (k : ℕ)
-      → started start (suc k) ≡ part_started start (part_by (k % 3)) (member_at (made start) (suc k))
-  unfolding started
-  started_behind k = refl
-
   -- the shell's host
   pub shell_begins : (layout : Layout) (shell : HostBody) → layout ≡ first_layout start.shape
       → shell ≡ fresh_shell layout
@@ -55,7 +51,7 @@ module _ (start : Start) where
       ∙ ap (λ p. part_started start p member) part_is
       ∙ ap (part_started start (part_by (k % 3)))
       (member_is ∙ ap (λ n. member_at there n) next ∙ ap (λ ms. member_at ms (suc k)) are)
-      ∙ sym (ap (started start) next ∙ started_behind k)
+      ∙ sym (ap (started start) next ∙ started_behind start k)
 
 -- no record is at work on rows that were put
 pub none_pending : (s : RowsState) (rows : List (List ℕ × List ℕ)) (epoch : ℕ)

@@ -19,6 +19,7 @@ use Rattle.world_core.specs.Start.{NobodyStarts, Start, made}
 use Rattle.world_core.specs.Steps.{HostStep}
 use Rattle.world_core.specs.World.{for_each, logs_at, no_steps, of_host}
 use Rattle.world_core.proofs.FreshWorld.{each_at, each_length}
+use Rattle.world_core.proofs.MadeFirst.{made_at_first}
 use Rattle.world_core.specs.Machine.{last_stamp}
 use Rattle.world_views.specs.Driven.{IsSound}
 use Rattle.world_views.specs.Hosts.{started}
@@ -93,9 +94,9 @@ module _ (start : Start) where
         next = λ h. subst HaveNextStamps (sym (no_log h)) tt;
         stamps = λ h low. get_or-replicate (hosts start) h 0 0 low ∙ ap last_stamp (sym (no_log h));
         labels = λ h low.
-            subst (IsLabelled h) (sym (each_at (hosts start) no_steps h (no_steps 0) low)) (record {
+            subst (IsLabelled start h) (sym (each_at (hosts start) no_steps h (no_steps 0) low)) (record {
               host = refl;
-              made = refl;
+              made = sym (made_at_first start h);
             });
         stopped = λ h low. get_or-replicate (hosts start) h false _ low ∙ ap has_stopped (sym (no_log h));
         bodies = λ h low runs.

@@ -1,3 +1,4 @@
+pub mod AllBegin
 pub mod AloneLemmas
 pub mod AloneLinks
 pub mod AloneSteps

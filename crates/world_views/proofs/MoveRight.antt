@@ -121,15 +121,15 @@ module _ (start : Start) (given : List ApiReply) (w : Whole) (lost : ℕ) (x : A
       go false differs =
           get_or-set_other w.stamps x.to k (step_made w x t).stamp 0 (apart x.to k differs) ∙ ready.stamps k low
 
-  labels_behind : (k : ℕ) → k < hosts start → IsLabelled k (slice_index_or behind.logs k (no_steps 0))
+  labels_behind : (k : ℕ) → k < hosts start → IsLabelled start k (slice_index_or behind.logs k (no_steps 0))
   labels_behind k low = go (x.to == k) refl
     where
-      go : (b : Bool) → (x.to == k) ≡ b → IsLabelled k (slice_index_or behind.logs k (no_steps 0))
+      go : (b : Bool) → (x.to == k) ≡ b → IsLabelled start k (slice_index_or behind.logs k (no_steps 0))
       go true same =
-          subst (λ n. IsLabelled n (slice_index_or behind.logs n (no_steps 0))) (eqb-true x.to k same)
-          (label_own w.logs x.to (step_made w x t) (omega (arith, ready.there, ready.sizes.logs))
+          subst (λ n. IsLabelled start n (slice_index_or behind.logs n (no_steps 0))) (eqb-true x.to k same)
+          (label_own start w.logs x.to (step_made w x t) (omega (arith, ready.there, ready.sizes.logs))
           (ready.labels x.to ready.there))
-      go false differs = label_other w.logs x.to k (step_made w x t) (apart x.to k differs) (ready.labels k low)
+      go false differs = label_other start w.logs x.to k (step_made w x t) (apart x.to k differs) (ready.labels k low)
 
   stopped_behind : (k : ℕ) → k < hosts start → slice_index_or behind.stopped k true ≡ has_stopped (log_with w x t k)
   stopped_behind k low = go (x.to == k) refl

@@ -19,6 +19,8 @@ use Rattle.node_views.specs.declared.host_body.HostBody.{HostBody}
 use Rattle.node_views.specs.Row.{stopping}
 use Rattle.world_core.specs.Hosts.{hosts}
 use Rattle.world_core.specs.Start.{Start, made}
+use Rattle.world_core.proofs.MadeFirst.{last_first}
+use Rattle.world_core.specs.Made.{last_of}
 use Rattle.world_core.specs.Steps.{Addressed, HostStep}
 use Rattle.world_core.specs.World.{logs_at}
 use Rattle.world_core.specs.Machine.{last_stamp}
@@ -79,8 +81,9 @@ module _ (start : Start) (given : List ApiReply) (w : Whole) (right : IsRight st
       let view = (body_at w.bodies h).standing.view in
       record {
         is = ap (λ ms. own_signal ms h (slice_index_or w.stamps h 0) view work) right.made
-            ∙ ap (λ n. own_signal (made start) h n view work) (right.stamps h there)
-            ∙ ap (λ (s : HostBody). own_signal (made start) h (last_stamp (logs_at w.logs h)) s.standing.view work)
+            ∙ ap (λ n. own_signal (made start) h n view work)
+            (right.stamps h there ∙ sym (last_first start h (logs_at w.logs h)))
+            ∙ ap (λ (s : HostBody). own_signal (made start) h (last_of start h (logs_at w.logs h)) s.standing.view work)
             body_is;
         work = own;
       }

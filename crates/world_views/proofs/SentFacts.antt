@@ -16,6 +16,7 @@ use Rattle.node_views.specs.Row.{is_cut}
 use Rattle.world_core.specs.Start.{Start, made}
 use Rattle.world_core.specs.Steps.{Addressed, HostStep}
 use Rattle.world_core.specs.Machine.{counted, last_stamp}
+use Rattle.world_core.proofs.MadeFirst.{made_at_first}
 use Rattle.world_views.specs.declared.sender.Sender.{Sender}
 use Rattle.world_views.specs.Hosts.{reached}
 use Rattle.world_views.specs.Machine.{after, closing, has_cut, has_stopped, machine, routed_after, sender, sent_count}
@@ -118,7 +119,7 @@ module _ (start : Start) where
 
   -- the newest stamp, as the theory of runs has it
   pub last_is : (h : ℕ) (log : List HostStep) → last (machine start) h log ≡ last_stamp log
-  last_is h [] = refl
+  last_is h [] = made_at_first start h
   last_is h (e ∷ log) = refl
 
   -- all that a host sent another

@@ -22,6 +22,7 @@ use Rattle.world_views.specs.Driven.{HaveGrown, IsDriven}
 use Rattle.world_views.specs.Links.{Links}
 use Rattle.world_views.specs.Machine.{machine}
 use Rattle.world_views.specs.Requests.{AreAskedAtQuiet, QuietBefore, requests}
+use Rattle.world_core.proofs.MadeFirst.{made_at_first}
 use Rattle.world_views.specs.Right.{IsRight}
 use Rattle.world_views.specs.Sending.{is_asked}
 use Rattle.world_views.specs.World.{Whole, entered}
@@ -35,7 +36,7 @@ module _ (start : Start) where
   right_logs given w right =
       record {
         local = λ h. local (cases_lt h (hosts start));
-        there = λ h has. inl refl;
+        there = λ h has. inl (made_at_first start h);
         linked = λ i j. linked i j (cases_lt i (hosts start)) (cases_lt j (hosts start));
       }
     where

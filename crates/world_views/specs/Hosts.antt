@@ -1,6 +1,6 @@
 -- Hosts: which one runs what, as each sender knows it. Host 0 is the shell's; behind it each member has three, one for
 -- each part, in the order in which members are made.
-use Rattle.std.specs.Prelude.{ℕ, zero, suc, ◌%◌, ◌==◌, if◌then◌else◌, List, [], ◌∷◌, Option, None, Some}
+use Rattle.std.specs.Prelude.{ℕ, zero, suc, ◌/◌, ◌%◌, ◌==◌, if◌then◌else◌, List, [], ◌∷◌, Option, None, Some}
 use Rattle.sig_core.specs.declared.member.Member.{Member}
 use Rattle.sig_core.specs.declared.place.BlockId.{BlockId}
 use Rattle.sig_core.specs.declared.place.BlockId.TheVariants as block
@@ -11,11 +11,13 @@ use Rattle.sig_core.specs.declared.view.View.{View}
 use Rattle.sig_core.specs.Part.{part_of}
 use Rattle.sig_core.specs.Place.{client}
 use Rattle.sig_core.specs.Rows.{no_rows}
-use Rattle.frag_map.specs.Layout.{first_layout}
+use Rattle.frag_map.specs.Layout.{Layout, first_layout}
 use Rattle.node_core.specs.Fresh.{own_rows, with_rows}
 use Rattle.node_views.specs.declared.host_body.HostBody as node
 use Rattle.node_views.specs.Fresh.{fresh_ldm, fresh_main, fresh_shell, fresh_tc}
 use Rattle.world_core.specs.Hosts.{host_by, member_at, member_of, part_by}
+use Rattle.world_core.specs.Late.{Late}
+use Rattle.world_core.specs.Made.{late_at}
 use Rattle.world_core.specs.Start.{Start, made}
 
 -- the last of these members that is the node's, or else the one before them
@@ -23,15 +25,20 @@ abbrev pub last_of : Option Member → List Member → ℕ → Option Member
 last_of before [] node = before
 last_of before (member ∷ made) node = last_of (if member.node == node then Some member else before) made node
 
+-- the member of a node that was found in a view, or this one where none was and the node is its own
+abbrev pub or_itself : Member → ℕ → Option Member → Option Member
+or_itself me node (Some member) = Some member
+or_itself me node None = if me.node == node then Some me else None
+
 -- the latest start of a node
 abbrev pub latest : List Member → ℕ → Option Member
 latest made node = last_of None made node
 
 -- the member that a host sends to for a node: the shell to the latest start, whether or not it has seen a view with it;
--- a part of a node to the one in its view
+-- a part of a node to the one in its view, and of its own node to itself where the view has none
 abbrev pub known : List Member → ℕ → View → ℕ → Option Member
 known made zero view node = latest made node
-known made (suc h) view node = member_of view node
+known made (suc h) view node = or_itself (member_at made (suc h)) node (member_of view node)
 
 -- where host h, in this view, sends what is for a place; to nobody where it knows no member there
 unfoldable pub reached : List Member → ℕ → View → Place → ℕ
@@ -56,7 +63,20 @@ part_started start Ldm member =
     (with_rows no_rows (own_rows start.shape member.node start.rows) start.start_epoch)
     start.start_epoch
 
+-- a part of a later start as it begins: in the view that the shell had seen, in no epoch, and without rows
+abbrev pub late_layout : Start → Late → Layout
+late_layout start late = record { shape = start.shape; view = late.view }
+
+abbrev pub late_started : Start → Late → Part → node.HostBody
+late_started start late Main = fresh_main late.member (late_layout start late) 0
+late_started start late Tc = fresh_tc late.member (late_layout start late) 0 0
+late_started start late Ldm = fresh_ldm late.member (late_layout start late) no_rows 0
+
+abbrev pub begun : Start → Part → Member → Option Late → node.HostBody
+begun start part member None = part_started start part member
+begun start part member (Some late) = late_started start late part
+
 -- a host as it begins
 unfoldable pub started : Start → ℕ → node.HostBody
 started start zero = fresh_shell (first_layout start.shape)
-started start (suc h) = part_started start (part_by (h % 3)) (member_at (made start) (suc h))
+started start (suc h) = begun start (part_by (h % 3)) (member_at (made start) (suc h)) (late_at start (h / 3))

@@ -4,7 +4,7 @@
 -- and a cut, each of which a host asks of itself. A step that stops its host sends the closings of its links and
 -- nothing else, and none follows it. The replies that a step of the shell makes are told with it, so none stays in the
 -- host.
-use Rattle.std.specs.Prelude.{◌≡◌, ◌≤◌, ℕ, zero, suc, ◌==◌, if◌then◌else◌, Bool, true, false, List, [], ◌∷◌, Option}
+use Rattle.std.specs.Prelude.{◌≡◌, ◌≤◌, ℕ, zero, suc, ◌/◌, ◌==◌, if◌then◌else◌, Bool, true, false, List, [], ◌∷◌, Option}
 use Rattle.std.specs.Prelude.{None, Some}
 use Rattle.std.specs.List.{list_any}
 use Rattle.run_theory.specs.Machine.{Machine}
@@ -17,10 +17,11 @@ use Rattle.sig_core.specs.declared.outs.Outgoing.{Outgoing}
 use Rattle.sig_core.specs.declared.reply.ApiReply.{ApiReply}
 use Rattle.sig_core.specs.declared.request.ApiReq.{ApiReq}
 use Rattle.sig_core.specs.declared.signal.Body.{Body}
-use Rattle.sig_core.specs.declared.signal.Body.TheVariants.{Host}
+use Rattle.sig_core.specs.declared.signal.Body.TheVariants.{Host, Joining}
 use Rattle.sig_core.specs.declared.signal.Signal.{Signal}
 use Rattle.sig_core.specs.declared.signal.host.HostSignal.TheVariants.{Closed, Continue, Cut}
 use Rattle.sig_core.specs.declared.signal.host.Work.TheVariants.{Request}
+use Rattle.sig_core.specs.declared.signal.joining.JoiningSignal.TheVariants.{StartReq}
 use Rattle.sig_core.specs.declared.view.View.{View}
 use Rattle.sig_core.specs.Step.{Step}
 use Rattle.api_views.specs.Members.{greater_view}
@@ -29,8 +30,10 @@ use Rattle.node_views.specs.Replies.{with_replies}
 use Rattle.node_views.specs.Replies as host
 use Rattle.node_views.specs.Row.{host_row, is_cut, is_stop, stopping}
 use Rattle.node_views.specs.WellFormed.{is_node}
+use Rattle.frag_map.specs.Replicas.{is_member}
 use Rattle.world_core.specs.Hosts.{host_by, member_at}
-use Rattle.world_core.specs.Machine.{last_stamp}
+use Rattle.world_core.specs.Late.{Late}
+use Rattle.world_core.specs.Made.{last_of, late_at, made_stamp}
 use Rattle.world_core.specs.Start.{Start, made}
 use Rattle.world_core.specs.Steps.{Addressed, HostStep}
 use Rattle.sig_core.specs.declared.place.Part.TheVariants.{Main}
@@ -164,7 +167,7 @@ IsOwnWork start h body = ⊥
 
 -- after its log host h asks itself for this
 pub record IsOwn (start : Start) (h : ℕ) (log : List HostStep) (x : Signal) : Type 0 where
-  pub is : x ≡ own_signal (made start) h (last_stamp log) (after start h log).standing.view x.body
+  pub is : x ≡ own_signal (made start) h (last_of start h log) (after start h log).standing.view x.body
   pub work : IsOwnWork start h x.body
 
 -- a signal comes rightly: the host asks itself for it, or it hasn't cut off its sender
@@ -177,8 +180,29 @@ pub record FitsRow (start : Start) (h : ℕ) (log : List HostStep) (e : HostStep
   pub marks : e.step.marks ≡ (step_after start h log e).effects.marks
   pub comes : comes_rightly (is_asked h e.step.taken) start h log e.step.taken
 
--- The machine, from this start. No host is made later by now. Stamps may be skipped: what is proved of it needs only
--- that they rise.
+-- the body asks the others to take this member in
+abbrev pub is_asked_in : Member → Body → Bool
+is_asked_in member (Joining (StartReq other own)) = is_member member other
+is_asked_in member body = false
+
+abbrev pub asks_for : Member → Outgoing → Bool
+asks_for member sent = is_asked_in member sent.body
+
+-- The shell's step after its log makes host h, of a later start: it asks the others to take the member in, and before it
+-- the shell stood in the view in which the host begins.
+pub record MakesBy (start : Start) (log : List HostStep) (e : HostStep) (late : Late) : Type 0 where
+  pub asks : list_any (asks_for late.member) (step_after start 0 log e).effects.sends ≡ true
+  pub view : (after start 0 log).standing.view ≡ late.view
+
+abbrev pub makes : Start → List HostStep → HostStep → Option Late → Type 0
+makes start log e None = ⊥
+makes start log e (Some late) = MakesBy start log e late
+
+abbrev pub MakesHost : Start → ℕ → List HostStep → HostStep → Type 0
+MakesHost start zero log e = ⊥
+MakesHost start (suc h) log e = makes start log e (late_at start (h / 3))
+
+-- The machine, from this start. Stamps may be skipped: what is proved of it needs only that they rise.
 abbrev pub machine : Start → Machine HostStep Addressed
 machine start =
     record {
@@ -194,6 +218,6 @@ machine start =
       sends = λ h log e. signals_of start h log e;
       stops = λ e. stops_by e.step.marks;
       closing = λ h log e j. closing start h log e j;
-      made = λ h. 0;
-      Makes = λ h log e. ⊥;
+      made = λ h. made_stamp start h;
+      Makes = λ h log e. MakesHost start h log e;
     }

@@ -34,7 +34,7 @@ impl Model for Made {
 
 impl Made {
     ghost use Rattle.world_core.specs.Hosts.{member_at};
-    ghost use Rattle.world_views.specs.Hosts.{front_of, known, latest, reached};
+    ghost use Rattle.world_views.specs.Hosts.{front_of, known, latest, or_itself, reached};
     ghost use Rattle.world_views.specs.Machine.{first_of};
 
     /// As a life of so many nodes begins.
@@ -108,9 +108,23 @@ impl Made {
         ensures { result ≡ known self.now host view.now node }
     {
         if host == 0 {
-            self.latest(node)
+            return self.latest(node);
+        }
+        match member_of(view, node) {
+            Some(member) => Some(member),
+            None => self.itself(host, node),
+        }
+    }
+
+    // The member of a host, if it is of this node.
+    fn itself(&self, host: u32, node: u8) -> Option<Member>
+        ensures { result ≡ or_itself (member_at self.now host) node None }
+    {
+        let member = self.member_at(host);
+        if member.node == node {
+            Some(member)
         } else {
-            member_of(view, node)
+            None
         }
     }
 

@@ -14,6 +14,7 @@ use std::collections::VecDeque;
 ///
 /// # Errors
 /// `NoMemory`.
+#[inline(always)]
 pub fn tell(at: u32, host: &mut HostBody, replies: &mut VecDeque<ApiReply>) -> Result<(), NoMemory>
     ensures host { OnOk result (host.new ≡ told at (stay host.old)) }
     ensures told { OnOk result (replies.new.items ≡ replies.old.items ++ replies_at at (stay host.old)) }
@@ -28,6 +29,7 @@ pub fn tell(at: u32, host: &mut HostBody, replies: &mut VecDeque<ApiReply>) -> R
 }
 
 // All replies go behind these.
+#[inline(never)]
 fn tell_all(client: &mut Client, replies: &mut VecDeque<ApiReply>) -> Result<(), NoMemory>
     ensures client { OnOk result (client.new ≡ with_api client.old (with_replies client.old.api [])) }
     ensures told { OnOk result (replies.new.items ≡ replies.old.items ++ client.old.api.replies) }

@@ -1,6 +1,6 @@
 //! The world: all hosts of a cluster that may fail, driven by one thread.
 ghost use Rattle.std.specs.Prelude.{◌≡◌, ◌≤◌, ◌||◌, ◌++◌, [], IfOk, IfSome, MatchOption, None, OnErr, OnOk, false};
-ghost use Rattle.std.specs.Prelude.{is_some, slice_index_or};
+ghost use Rattle.std.specs.Prelude.{is_some, nat_lt, not, slice_index_or};
 ghost use Rattle.frag_map.specs.Shape.{IsShape};
 ghost use Rattle.node_views.specs.Row.{is_cut};
 ghost use Rattle.node_views.specs.Stop.{stop_in};
@@ -8,7 +8,7 @@ ghost use Rattle.world_views.specs.Machine.{own_stop};
 ghost use Rattle.world_views.specs.World.{body_at};
 
 use crate::closing::{close_all, first_signal, last_view};
-use crate::failing::{put_back, view_to_keep};
+use crate::failing::put_back;
 use crate::fresh::fresh_bodies;
 use crate::hosts::Made;
 use crate::logs::Logs;
@@ -18,8 +18,8 @@ use crate::sender::Sender;
 use crate::telling::tell;
 use node_views::HostBody;
 use sig_core::{
-    ApiReply, ApiReq, Body, Boxed, Held, HostId, HostSignal, Key, Life, LogStep, Mark, NoMemory,
-    Outs, Seq, Shape, Signal, StopCause, Value, View, Work,
+    ApiReply, ApiReq, Body, Boxed, Held, HostId, HostSignal, Key, Life, LogStep, Mark, Marks,
+    NoMemory, Outs, Seq, Shape, Signal, StopCause, Value, View, Work,
 };
 use std::alloc::Global;
 use std::collections::VecDeque;
@@ -155,6 +155,8 @@ impl World {
     ///
     /// # Errors
     /// `NoMemory`, and then the world is of use for its logs alone.
+    // Not inlined, so that a step keeps its own values at hand.
+    #[inline(never)]
     pub fn step(&mut self, alloc: Global) -> Result<Option<Taken>, NoMemory>
         requires { IsWorld (whole_of self.old) }
         ensures ok { (start : Start) → IsSound start (whole_of self.old) → IfOk result (λ at. IsStepped start (whole_of self.old) (whole_of self.new) (is_some at)) }
@@ -168,7 +170,7 @@ impl World {
         };
         let host = HostId(arrived.host);
         let handled = !self.is_discarded(arrived.host, arrived.signal.get().from);
-        self.take(alloc, arrived.host, arrived.signal)?;
+        self.take_if(alloc, arrived.host, arrived.signal, handled)?;
         Ok(Some(Taken { host, handled }))
     }
 
@@ -185,10 +187,30 @@ impl World {
         ensures ok { OnOk result (HasTaken (whole_of self.old) (record { to = host; signal = signal }) (whole_of self.new)) }
         ensures err { OnErr result (self.new.logs ≡ self.old.logs) }
     {
-        if self.is_discarded(host, signal.get().from) {
-            return Ok(());
+        let handled = !self.is_discarded(host, signal.get().from);
+        self.take_if(alloc, host, signal, handled)
+    }
+
+    // A signal that was taken from its link is handled, where it isn't discarded.
+    #[inline(always)]
+    fn take_if(
+        &mut self,
+        alloc: Global,
+        host: u32,
+        signal: Boxed<Signal>,
+        handled: bool,
+    ) -> Result<(), NoMemory>
+        requires there { IsThere (whole_of self.old) host }
+        requires known { handled ≡ not (is_discarded (whole_of self.old) (record { to = host; signal = signal })) }
+        requires given { is_discarded (whole_of self.old) (record { to = host; signal = signal }) ≡ false → own_stop host signal ≡ None }
+        ensures ok { OnOk result (HasTaken (whole_of self.old) (record { to = host; signal = signal }) (whole_of self.new)) }
+        ensures err { OnErr result (self.new.logs ≡ self.old.logs) }
+    {
+        if handled {
+            self.handle(alloc, host, signal)
+        } else {
+            Ok(())
         }
-        self.handle(alloc, host, signal)
     }
 
     // Whether a host has stopped, or has cut off the sender of a signal.
@@ -244,16 +266,64 @@ impl World {
         ensures ok { OnOk result (HasHandled (whole_of self.old) (record { to = host; signal = signal }) (whole_of self.new)) }
         ensures err { OnErr result (self.new.logs ≡ self.old.logs) }
     {
+        // Seldom has a signal a later view, which the step may install.
+        if self.is_later(host, &signal) {
+            let view = self.bodies[host as usize].standing.view.share()?;
+            return self.handle_later(alloc, host, signal, view);
+        }
+        self.handle_in(alloc, host, signal, None)
+    }
+
+    // Whether a signal has a later view than a host.
+    fn is_later(&self, host: u32, signal: &Boxed<Signal>) -> bool
+        requires { IsThere (whole_of self.now) host }
+        ensures { result ≡ nat_lt (body_at self.now.bodies.items host).standing.view.number signal.now.view.number }
+    {
+        self.bodies[host as usize].standing.view.get().number < signal.get().view.get().number
+    }
+
+    // The same of a signal that has a later view than its host, which stands in this one.
+    #[inline(never)]
+    fn handle_later(
+        &mut self,
+        alloc: Global,
+        host: u32,
+        signal: Boxed<Signal>,
+        view: Held<View>,
+    ) -> Result<(), NoMemory>
+        requires there { IsThere (whole_of self.old) host }
+        requires given { own_stop host signal ≡ None }
+        requires view { view ≡ (body_at self.old.bodies.items host).standing.view }
+        ensures ok { OnOk result (HasHandled (whole_of self.old) (record { to = host; signal = signal }) (whole_of self.new)) }
+        ensures err { OnErr result (self.new.logs ≡ self.old.logs) }
+    {
+        self.handle_in(alloc, host, signal, Some(view))
+    }
+
+    // The same of a host that stands in this view, if it isn't in one as late as that of the signal.
+    #[inline(always)]
+    fn handle_in(
+        &mut self,
+        alloc: Global,
+        host: u32,
+        signal: Boxed<Signal>,
+        view: Option<Held<View>>,
+    ) -> Result<(), NoMemory>
+        requires there { IsThere (whole_of self.old) host }
+        requires given { own_stop host signal ≡ None }
+        requires view { MatchOption view (signal.view.number ≤ (body_at self.old.bodies.items host).standing.view.number) (λ v. v ≡ (body_at self.old.bodies.items host).standing.view) }
+        ensures ok { OnOk result (HasHandled (whole_of self.old) (record { to = host; signal = signal }) (whole_of self.new)) }
+        ensures err { OnErr result (self.new.logs ≡ self.old.logs) }
+    {
         let at = host as usize;
         let before = self.stamps[at].max(signal.get().stamp);
-        let view = view_to_keep(&self.bodies[at].standing.view, &signal.get().view)?;
         if before >= STAMPS_END - 1 {
             return self.fail(alloc, host, StopCause::Clock);
         }
         self.outs.clear();
         let mut stops = None;
         match self.bodies[at].step(alloc, signal.get(), &mut self.outs, &mut stops) {
-            Ok(()) => self.enter(alloc, host, before + 1, signal, stops, 0),
+            Ok(()) => self.enter_step(alloc, host, before + 1, signal, stops),
             Err(_) => {
                 put_back(&mut self.bodies[at], view);
                 self.fail(alloc, host, StopCause::Memory)
@@ -298,7 +368,7 @@ impl World {
         let signal = self.own_signal(alloc, host, view, body)?;
         self.outs.clear();
         self.outs.mark(Mark::Stopped { cause });
-        self.enter(alloc, host, stamp, signal, Some(cause), lost)
+        self.enter_last(alloc, host, stamp, signal, cause, lost)
     }
 
     /// A host cuts off the hosts of a node's latest start, in a step of its own.
@@ -332,9 +402,52 @@ impl World {
         first_signal(alloc, &self.made, &by, host, body)
     }
 
+    // The step of a host is made, as `enter` says. Seldom is it its last, by a cause.
+    #[inline(always)]
+    fn enter_step(
+        &mut self,
+        alloc: Global,
+        host: u32,
+        stamp: u64,
+        taken: Boxed<Signal>,
+        stops: Option<StopCause>,
+    ) -> Result<(), NoMemory>
+        requires there { IsThere (whole_of self.old) host }
+        requires told { stop_in self.old.outs.marks ≡ stops }
+        requires stamp { stamp ≡ next_stamp self.old.stamps.items host taken.stamp }
+        ensures ok { OnOk result (whole_of self.new ≡ entered (whole_of self.old) 0 (record { to = host; signal = taken }) (record { state = body_at self.old.bodies.items host; effects = self.old.outs })) }
+        ensures err { OnErr result (self.new.logs ≡ self.old.logs) }
+    {
+        match stops {
+            None => self.enter(alloc, host, stamp, taken, None, 0),
+            Some(cause) => self.enter_last(alloc, host, stamp, taken, cause, 0),
+        }
+    }
+
+    // The last step of a host, which stops it for this cause, is made, as `enter` says.
+    #[inline(never)]
+    fn enter_last(
+        &mut self,
+        alloc: Global,
+        host: u32,
+        stamp: u64,
+        taken: Boxed<Signal>,
+        cause: StopCause,
+        lost: u32,
+    ) -> Result<(), NoMemory>
+        requires there { IsThere (whole_of self.old) host }
+        requires told { stop_in self.old.outs.marks ≡ Some cause }
+        requires stamp { stamp ≡ next_stamp self.old.stamps.items host taken.stamp }
+        ensures ok { OnOk result (whole_of self.new ≡ entered (whole_of self.old) lost (record { to = host; signal = taken }) (record { state = body_at self.old.bodies.items host; effects = self.old.outs })) }
+        ensures err { OnErr result (self.new.logs ≡ self.old.logs) }
+    {
+        self.enter(alloc, host, stamp, taken, Some(cause), lost)
+    }
+
     // The step of a host is made: what it sends goes on its way, its replies are told, and it stands in
     // the log. One that stops the host for a cause closes its links, of which it loses so many signals
     // first.
+    #[inline(always)]
     fn enter(
         &mut self,
         alloc: Global,
@@ -352,7 +465,7 @@ impl World {
     {
         let at = host as usize;
         tell(host, &mut self.bodies[at], &mut self.replies)?;
-        let marks = self.outs.take_marks(alloc)?;
+        let marks = take_marks(alloc, &mut self.outs)?;
         self.send(alloc, host, stamp)?;
         self.close_for(alloc, host, stamp, &taken, cause, lost)?;
         self.stopped[at] = cause.is_some();
@@ -406,6 +519,7 @@ impl World {
     }
 
     // A host that has stopped by a step that took this signal closes its links.
+    #[inline(never)]
     fn close(
         &mut self,
         alloc: Global,
@@ -432,4 +546,17 @@ impl World {
             cause,
         )
     }
+}
+
+// Takes the marks of a step. Most steps have none.
+#[inline(always)]
+fn take_marks(alloc: Global, outs: &mut Outs) -> Result<Marks, NoMemory>
+    ensures taken { IfOk result (λ marks. marks ≡ outs.old.marks) }
+    ensures ok { OnOk result (outs.new.marks ≡ []) }
+    ensures sends { outs.new.sends ≡ outs.old.sends }
+{
+    if outs.marks().is_empty() {
+        return Ok(Seq::new(alloc));
+    }
+    outs.take_marks(alloc)
 }

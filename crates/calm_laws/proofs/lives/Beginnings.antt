@@ -1,5 +1,5 @@
 -- In a life that begins without rows the hosts begin alike.
-use Rattle.std.proofs.Common.{◌≡◌, ◌∙◌, ◌%◌, ℕ, zero, suc, List, [], refl, ap, sym}
+use Rattle.std.proofs.Common.{◌≡◌, ◌∙◌, ◌%◌, ℕ, zero, suc, List, [], refl, ap, sym, subst}
 use Rattle.frag_map.specs.Layout.{first_layout}
 use Rattle.lqh_block.specs.Fresh.{no_outlet, unused}
 use Rattle.lqh_block.specs.Lqh.{unasked_yet}
@@ -14,6 +14,7 @@ use Rattle.world_core.specs.Hosts as plain_world
 use Rattle.world_core.specs.Hosts.{member_at, part_by}
 use Rattle.world_core.specs.Start.{Start, made}
 use Rattle.world_views.specs.Hosts.{part_started, started}
+use Rattle.world_views.proofs.AllBegin.{started_behind}
 use Rattle.calm_laws.specs.Alike.{AreAlike}
 use Rattle.calm_laws.specs.Steps.{HostsBeginAlike}
 
@@ -65,4 +66,7 @@ begin_alike start zero none = record {
   standing = record { shape = refl; view = refl; lives = refl; uncut = refl };
   parts = (refl, (refl, (refl, refl)));
 }
-begin_alike start (suc h) none = part_begins start (part_by (h % 3)) (member_at (made start) (suc h)) none
+begin_alike start (suc h) none =
+    subst (λ s. AreAlike start [] s (plain.fresh_part (part_by (h % 3)) (member_at (made start) (suc h))
+    (first_layout start.shape) start.epoch start.rows)) (sym (started_behind start h))
+    (part_begins start (part_by (h % 3)) (member_at (made start) (suc h)) none)

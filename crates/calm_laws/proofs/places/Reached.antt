@@ -1,7 +1,9 @@
 -- Where hosts send in the first view: to the hosts to which those of the plain machine do.
-use Rattle.std.proofs.Common.{◌≡◌, ◌≢◌, ◌⊎◌, inl, inr, ℕ, zero, suc, ◌+◌, ◌-◌, ◌*◌, ◌<◌, ◌≤◌, List, [], ◌∷◌, ◌++◌, Bool}
+use Rattle.sig_core.specs.Members.{nobody}
+use Rattle.std.proofs.lemmas.List.{get_or_past}
+use Rattle.std.proofs.Common.{◌≡◌, ◌≢◌, ◌⊎◌, inl, inr, ℕ, zero, suc, ◌+◌, ◌-◌, ◌*◌, ◌<◌, ◌≤◌, List, [], ◌∷◌, ◌++◌, Bool, subst, ◌/◌}
 use Rattle.std.proofs.Common.{length, true, false, refl, ap, sym, ◌∙◌, eq-eqb, ne_eqb, arith}
-use Rattle.std.specs.Prelude.{◌==◌, if◌then◌else◌, Option, None, Some}
+use Rattle.std.specs.Prelude.{◌==◌, if◌then◌else◌, Option, None, Some, slice_index_or}
 use Rattle.std.proofs.lemmas.Bool.{cases_eq, cases_lt}
 use Rattle.std.proofs.lemmas.Bool.Decides.{nat_tests}
 use Rattle.std.proofs.lemmas.Nat.{mod-mul-add}
@@ -13,10 +15,10 @@ use Rattle.sig_core.specs.declared.place.BlockId.TheVariants.{Qmgr}
 use Rattle.sig_core.specs.declared.place.Place.{Place}
 use Rattle.sig_core.specs.Part.{part_of}
 use Rattle.world_core.proofs.MadeFirst.{made_first, nobody_starts}
-use Rattle.world_core.proofs.HostNumbers.{beyond_host, no_member, node_host, the_member}
-use Rattle.world_core.specs.Hosts.{host_by, host_for, member_of, number_of, part_by, receiver}
+use Rattle.world_core.proofs.HostNumbers.{beyond_host, no_member, node_host, the_member, made_at, members_length}
+use Rattle.world_core.specs.Hosts.{host_by, host_for, member_at, member_of, number_of, part_by, receiver}
 use Rattle.world_core.specs.Start.{Start, made}
-use Rattle.world_views.specs.Hosts.{last_of, latest, reached}
+use Rattle.world_views.specs.Hosts.{known, last_of, latest, or_itself, reached}
 use Rattle.calm_laws.specs.Alike.{first}
 use Rattle.calm_laws.specs.Plain.{is_beating, is_main}
 
@@ -57,10 +59,49 @@ latest_first n node some = go (cases_lt n node)
     go (inl above) = latest_none n node above ∙ sym (no_member n node above)
     go (inr low) = latest_some n node some low ∙ sym (the_member n node some low)
 
+-- and so is whom a member of these nodes knows
+known_first : (me : Member) (n node : ℕ) → me.node ≤ n → 1 ≤ node
+    → or_itself me node (member_of (first_view n) node) ≡ member_of (first_view n) node
+known_first me n node low some = go (cases_lt n node)
+  where
+    go : (n < node) ⊎ (node ≤ n)
+        → or_itself me node (member_of (first_view n) node) ≡ member_of (first_view n) node
+    go (inl above) =
+        let none = no_member n node above in
+        ap (or_itself me node) none
+        ∙ if_false (Some me) None (ne_eqb me.node node (λ same. omega (arith, same, low, above)))
+        ∙ sym none
+    go (inr below) = let one = the_member n node some below in ap (or_itself me node) one ∙ sym one
+
+own_low : (start : Start) (h : ℕ) → (member_at (made start) (suc h)).node ≤ start.shape.nodes
+own_low start h = go (cases_lt (h / 3) start.shape.nodes)
+  where
+    go : (h / 3 < start.shape.nodes) ⊎ (start.shape.nodes ≤ h / 3)
+        → (slice_index_or (made start) (h / 3) nobody).node ≤ start.shape.nodes
+    go (inl low) =
+        subst (λ (m : Member). m.node ≤ start.shape.nodes) (sym (made_at start (h / 3) nobody low)) (omega (arith, low))
+    go (inr past) =
+        subst (λ (m : Member). m.node ≤ start.shape.nodes)
+        (sym (get_or_past (made start) (h / 3) nobody (omega (
+          arith,
+          past,
+          ap length (made_first start (nobody_starts start)) ∙ members_length start.shape.nodes,
+        ))))
+        (omega arith)
+
 -- so each host sends to the plain one's hosts
 pub reached_first : (start : Start) (h : ℕ) (to : Place) → reached (made start) h (first start) to ≡ host_for start to
 unfolding reached receiver
-reached_first start (suc h) to = refl
+reached_first start (suc h) to = go (to.node == 0) refl
+  where
+    go : (b : Bool) → (to.node == 0) ≡ b
+        → (if b then 0 else host_by (made start) (part_of to.block) (known (made start) (suc h) (first start) to.node))
+        ≡ (if b then 0 else host_by (made start) (part_of to.block) (member_of (first_view start.shape.nodes) to.node))
+    go true e = refl
+    go false e =
+        ap (host_by (made start) (part_of to.block))
+        (known_first (member_at (made start) (suc h)) start.shape.nodes to.node (own_low start h)
+        (grind (arith, nat_tests, e)))
 reached_first start zero to = go (to.node == 0) refl
   where
     go : (b : Bool) → (to.node == 0) ≡ b

@@ -29,6 +29,7 @@ use Rattle.world_core.specs.Hosts.{member_at, part_by}
 use Rattle.world_core.specs.Start.{Start, made}
 use Rattle.world_views.specs.Hosts.{part_started, started}
 use Rattle.world_views.specs.Machine.{step_by, told}
+use Rattle.world_views.proofs.AllBegin.{started_behind}
 use Rattle.calm_laws.specs.Alike.{AreAlike}
 use Rattle.calm_laws.specs.Calm.{is_in}
 use Rattle.calm_laws.specs.Plain.{is_beating, is_main}
@@ -144,7 +145,8 @@ heartbeat_restores start h missed s other x before beating alike calm rests at s
 pub lives_begin_at_rest : LivesBeginAtRest
 unfolding started
 lives_begin_at_rest start zero low beating = absurd (false≢true beating)
-lives_begin_at_rest start (suc h) low beating = by (part_by (h % 3)) beating
+lives_begin_at_rest start (suc h) low beating =
+    subst (λ s. IsRestingPart start (suc h) 1 s.parts) (sym (started_behind start h)) (by (part_by (h % 3)) beating)
   where
     by : (of : Part) → is_main of ≡ true
         → IsRestingPart start (suc h) 1 (part_started start of (member_at (made start) (suc h))).parts

@@ -37,6 +37,7 @@ use Rattle.world_views.specs.Machine.{machine}
 use Rattle.view_laws.specs.Runs.{WasInstalled, view_after}
 use Rattle.view_laws.proofs.runs.AllSound.{have_orderly}
 use Rattle.view_laws.proofs.runs.ChosenViews.{one_view}
+use Rattle.view_laws.proofs.runs.Headers.{installed_at}
 use Rattle.moment_laws.specs.Moments.{IsMoment, logs_of}
 use Rattle.moment_laws.specs.Places.{tc_of}
 use Rattle.moment_laws.proofs.MomentHosts.{tc_low}
@@ -214,13 +215,7 @@ module _ (start : Start) (all : ℕ → List HostStep) (e : HostStep) (es : List
         ((takeovers_are_of_orphans start all es less).gathered member there)).0
 
     stood_installed : WasInstalled start all stood
-    stood_installed = record {
-      host = h;
-      there = tc_low start member there;
-      log = log;
-      past = less.inside h;
-      is = refl;
-    }
+    stood_installed = installed_at start all h (tc_low start member there) log (less.inside h)
 
     left : (view : View) → WasInstalled start all view → view.number ≡ n → is_coordinated view.full tx ≡ false
     left view was same =

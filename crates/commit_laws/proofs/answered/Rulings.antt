@@ -1,6 +1,6 @@
 -- How far a takeover is with the transaction that it is at: while it commits it, no more answers are missing than it
 -- awaits; while it completes it, each of its keys was committed in its view.
-use Rattle.std.proofs.Common.{◌≡◌, ◌≢◌, ◌≤◌, ◌+◌, ◌-◌, ◌&&◌, ◌∙◌, ℕ, Bool, true, false, None, Some, Option, List, []}
+use Rattle.std.proofs.Common.{◌≡◌, ◌≤◌, ◌+◌, ◌-◌, ◌&&◌, ◌∙◌, ℕ, Bool, true, false, None, Some, Option, List, []}
 use Rattle.std.proofs.Common.{◌∷◌, length, nat_lt, refl, sym, ap, arith, subst, ltb-false}
 use Rattle.std.proofs.lemmas.Bool.{true≢false}
 use Rattle.std.specs.Prelude.{remove, slice_get}

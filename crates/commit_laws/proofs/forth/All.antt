@@ -1,6 +1,6 @@
 -- At each moment whoever knows that a transaction is committed knows of one that has gone forth; and the client's side
 -- has acknowledged each commit that rows are told to be acknowledged.
-use Rattle.std.proofs.Common.{◌≡◌, ◌≢◌, ◌⊎◌, ◌∙◌, ◌||◌, ◌%◌, ℕ, zero, suc, Bool, true, false, List, [], ◌∷◌, refl, sym}
+use Rattle.std.proofs.Common.{◌≡◌, ◌⊎◌, ◌∙◌, ◌||◌, ◌%◌, ℕ, zero, suc, Bool, true, false, List, [], ◌∷◌, refl, sym}
 use Rattle.std.proofs.Common.{ap, subst, arith, inl, inr}
 use Rattle.std.proofs.lemmas.Bool.{true≢false}
 use Rattle.run_theory.proofs.Pasts.{each_filter, each_from, each_in, each_map}
@@ -35,6 +35,7 @@ use Rattle.world_core.specs.Steps.{Addressed, HostStep}
 use Rattle.world_views.specs.Hosts.{part_started, started}
 use Rattle.world_views.specs.Machine.{after, machine, signals_of, step_after, step_by, told}
 use Rattle.world_views.proofs.FreshBodies.{none_pending}
+use Rattle.world_views.proofs.AllBegin.{started_behind}
 use Rattle.view_laws.specs.Order.{is_sound, sound_machine}
 use Rattle.view_laws.proofs.eras.Shapes.{shape_stays}
 use Rattle.view_laws.proofs.follow.Senders.{IsSentBy, each_sent}
@@ -148,7 +149,7 @@ module _ (start : Start) where
 
       parts : (h : ℕ) → PartsKnow F (after start h []).parts
       parts zero = tt
-      parts (suc k) = by (k % 3)
+      parts (suc k) = subst (λ s. PartsKnow F s.parts) (sym (started_behind start k)) (by (k % 3))
         where
           by : (left : ℕ) → PartsKnow F (part_started start (part_by left) (member_at (made start) (suc k))).parts
           by zero = tt

@@ -1,6 +1,6 @@
 -- Whoever comes to be known to the client's side commits: a takeover tells of a commit that left traces, and
 -- coordinators are heard that are full members of the current view alone.
-use Rattle.std.proofs.Common.{◌≡◌, ◌≢◌, ◌⊎◌, ◌<◌, ◌||◌, ◌∙◌, ℕ, true, false, length, List, [], ◌∷◌, refl, sym, subst}
+use Rattle.std.proofs.Common.{◌≡◌, ◌⊎◌, ◌<◌, ◌||◌, ◌∙◌, ℕ, true, false, length, List, [], ◌∷◌, refl, sym, subst}
 use Rattle.std.proofs.Common.{arith, inl, inr}
 use Rattle.std.proofs.lemmas.Bool.{or_cases, true≢false}
 use Rattle.std.specs.Prelude.{Option, None, Some}

@@ -24,6 +24,7 @@ use Rattle.world_core.specs.Start.{Start, made}
 use Rattle.world_core.specs.Steps.{HostStep}
 use Rattle.world_views.specs.Hosts.{part_started, started}
 use Rattle.world_views.specs.Machine.{machine, step_after}
+use Rattle.world_views.proofs.AllBegin.{started_behind}
 
 abbrev IsNoReport : Mark → Type 0
 IsNoReport (Reported tx outcome) = ⊥
@@ -46,8 +47,8 @@ none_of parts away mark is = tt
 
 module _ (start : Start) (k : ℕ) where
   begins_away : Away (started start (suc k)).parts
-  unfolding started
-  begins_away = by (part_by (k % 3)) (member_at (made start) (suc k))
+  begins_away =
+      subst (λ s. Away s.parts) (sym (started_behind start k)) (by (part_by (k % 3)) (member_at (made start) (suc k)))
     where
       by : (part : Part) (me : Member) → Away (part_started start part me).parts
       by kind.Main me = tt

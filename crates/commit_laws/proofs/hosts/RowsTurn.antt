@@ -1,7 +1,7 @@
 -- What becomes of the rows of a member at an event: nothing but for their journal, or a view is installed, or they take
 -- the signal of the event, which then is of the current view, if it is of a kind that fences stop. What their saver
 -- does is of the first two: their journal may give up what stood before a position, and it sends signals of its own.
-use Rattle.std.proofs.Common.{◌≡◌, ◌≢◌, ◌⊎◌, ◌++◌, ◌∙◌, ℕ, false, List, [], ◌∷◌, refl, sym, ap, subst, inl, inr, arith}
+use Rattle.std.proofs.Common.{◌≡◌, ◌⊎◌, ◌++◌, ◌∙◌, ℕ, false, List, [], ◌∷◌, refl, sym, ap, subst, inl, inr, arith}
 use Rattle.std.proofs.lemmas.Bool.{true≢false}
 use Rattle.run_theory.specs.Lists.{IsIn, Each}
 use Rattle.run_theory.proofs.Runs.{log_of-other, log_of-own}

@@ -1,5 +1,5 @@
 -- What comes to a key at its replicas is fair to it.
-use Rattle.std.proofs.Common.{◌≡◌, ◌≢◌, ◌⊎◌, ◌||◌, ◌==◌, ◌≤◌, ◌∙◌, ℕ, Bool, true, false, List, [], ◌∷◌, filter, map}
+use Rattle.std.proofs.Common.{◌≡◌, ◌⊎◌, ◌||◌, ◌==◌, ◌≤◌, ◌∙◌, ℕ, Bool, true, false, List, [], ◌∷◌, filter, map}
 use Rattle.std.proofs.Common.{refl, sym, ap, subst, inl, inr, arith}
 use Rattle.std.proofs.lemmas.Bool.{and_left, and_right, eq-eqb, true≢false}
 use Rattle.std.specs.Prelude.{if◌then◌else◌, Option, None, Some}

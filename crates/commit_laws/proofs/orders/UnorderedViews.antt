@@ -1,6 +1,6 @@
 -- In a view in which no takeover was ordered yet takeovers rest, no report of rows is under way, and none of its
 -- signals asks rows for what they have or tells a takeover of it.
-use Rattle.std.proofs.Common.{◌≡◌, ◌≢◌, ◌≤◌, ◌⊎◌, ◌∙◌, ℕ, false, List, [], ◌∷◌, inl, inr, refl, sym, ap, arith, subst}
+use Rattle.std.proofs.Common.{◌≡◌, ◌≤◌, ◌⊎◌, ◌∙◌, ℕ, false, List, [], ◌∷◌, inl, inr, refl, sym, ap, arith, subst}
 use Rattle.std.proofs.lemmas.Bool.{true≢false}
 use Rattle.std.specs.Prelude.{None}
 use Rattle.run_theory.specs.Lists.{Each, IsIn}

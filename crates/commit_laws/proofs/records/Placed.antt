@@ -64,6 +64,7 @@ use Rattle.request_laws.proofs.tokens.HostsApart.{ldm_low}
 use Rattle.commit_laws.specs.Traces.{IsReplicaOf, record_at, replica_at, rows_at}
 use Rattle.commit_laws.proofs.records.Once.{well_between}
 use Rattle.world_views.proofs.FreshBodies.{none_pending}
+use Rattle.view_laws.proofs.runs.Headers.{installed_at}
 use Rattle.commit_laws.proofs.records.Replicas.{chained, in_turns, self, turn_in}
 use Rattle.commit_laws.proofs.hosts.RowsTurn.{IsBetween, IsTakenAt, RowsGo, enter, rest, rows_go, take}
 use Rattle.commit_laws.proofs.hosts.RowsTurn.{between_so}
@@ -253,13 +254,8 @@ module _ (start : Start) where
 
           -- the view in which its rows stood was installed
           stood_installed : WasInstalled start all (view_of_ldm start (logs_of start es) member)
-          stood_installed = record {
-            host = ldm_of start member;
-            there = ldm_low start member there;
-            log = old (ldm_of start member);
-            past = less.inside (ldm_of start member);
-            is = refl;
-          }
+          stood_installed = installed_at start all (ldm_of start member) (ldm_low start member there)
+              (old (ldm_of start member)) (less.inside (ldm_of start member))
 
           waits : AllWait P s.lqh
           waits = between_so start all e es moment member there (λ s. AllWait P s.lqh) s between own (λ view. tt)

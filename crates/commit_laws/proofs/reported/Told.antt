@@ -62,6 +62,7 @@ use Rattle.view_laws.proofs.runs.ViewsShrink.{views_shrink}
 use Rattle.view_laws.proofs.runs.ChosenViews.{one_view}
 use Rattle.view_laws.specs.Order.{is_sound, sound_machine}
 use Rattle.view_laws.specs.Runs.{WasInstalled, view_after}
+use Rattle.view_laws.proofs.runs.Headers.{installed_at}
 use Rattle.moment_laws.specs.Moments.{IsMoment, logs_of}
 use Rattle.moment_laws.proofs.MomentViews.{moment_less}
 use Rattle.outcome_laws.proofs.client.ReportsAndWishes.{reports_few}
@@ -229,16 +230,11 @@ module _ (start : Start) (all : ℕ → List HostStep) (e : HostStep) (es : List
 
       -- the views in which the host stands shrink
       stood_installed : WasInstalled start all stood
-      stood_installed = record { host = 0; there = omega arith; log = log; past = less.inside 0; is = refl }
+      stood_installed = installed_at start all 0 (omega arith) log (less.inside 0)
 
       view_installed : WasInstalled start all view
-      view_installed = record {
-        host = 0;
-        there = omega arith;
-        log = e ∷ log;
-        past = subst (λ l. IsPast l (all 0)) new_is (moment.inside 0);
-        is = refl;
-      }
+      view_installed =
+          installed_at start all 0 (omega arith) (e ∷ log) (subst (λ l. IsPast l (all 0)) new_is (moment.inside 0))
 
       member_is : (v : View) → WasInstalled start all v → (m : Member) → is_member v m ≡ true
           → is_among v.full m ≡ true

@@ -1,5 +1,5 @@
 -- The current view at an event: it stays or rises, and nobody joins it.
-use Rattle.std.proofs.Common.{◌≡◌, ℕ, true, List, [], ◌∷◌}
+use Rattle.std.proofs.Common.{◌≡◌, ℕ, true, List, ◌∷◌}
 use Rattle.sig_core.specs.declared.member.TxId.{TxId}
 use Rattle.lqh_block.specs.Views.{is_coordinated, was_begun_by}
 use Rattle.world_core.specs.Start.{Start}

@@ -38,16 +38,17 @@ use Rattle.view_laws.proofs.follow.Memberships.{taken_entering, taken_plain, tak
 use Rattle.view_laws.proofs.follow.Seen.{to_view, view_is_seen, view_seen}
 use Rattle.view_laws.proofs.follow.Steps.{PassesAs, StepsAs, dropped, entering, passed, plain, steps_as}
 use Rattle.view_laws.proofs.follow.Walk.{along, next_goes}
-use Rattle.view_laws.proofs.runs.Headers.{headers_installed}
+use Rattle.view_laws.proofs.runs.Headers.{headers_installed, installed_at}
 use Rattle.view_laws.proofs.runs.AllSound.{have_orderly}
 use Rattle.view_laws.proofs.runs.FirstMembers.{HostIs, host_is, of_main, of_other, of_shell}
 use Rattle.view_laws.proofs.runs.Step.{started_view}
 use Rattle.view_laws.proofs.runs.ChosenViews.{of_greater, one_view, viable}
 use Rattle.view_laws.proofs.standing.Settled.{settles_above}
 use Rattle.view_laws.proofs.memberships.Steps.{row_installs}
+use Rattle.world_core.proofs.MadeFirst.{all_made}
 use Rattle.moment_laws.specs.Moments.{current}
 use Rattle.moment_laws.specs.Moments as standing
-use Rattle.moment_laws.proofs.MomentViews.{current_installed}
+use Rattle.moment_laws.proofs.MomentViews.{current_installed, greatest_next}
 use Rattle.commit_laws.proofs.hosts.InstallMarks.{one_mark, step_tells}
 
 -- A view that these events install is that of the signal, or the one that they lead to, and no greater than that.
@@ -348,6 +349,7 @@ module _ (start : Start) (logs : ℕ → List HostStep) (are : AreOfCluster star
   first_was = record {
     host = 0;
     there = omega arith;
+    made = all_made start 0 (logs 0);
     log = [];
     past = past_nil (logs 0);
     is = sym (started_view start 0);
@@ -385,7 +387,7 @@ module _ (start : Start) (logs : ℕ → List HostStep) (are : AreOfCluster star
             (each_past (λ (f : HostStep). Was f.step.taken.view) past (headers_installed start logs are h low)).0
 
         stands : Was to
-        stands = record { host = h; there = low; log = e ∷ log; past = past; is = refl }
+        stands = installed_at start logs h low (e ∷ log) past
 
         by_reached : (other : View) → IsReached e.step.taken to other → Was other
         by_reached other one = of one.is
@@ -437,7 +439,8 @@ module _ (start : Start) (logs : ℕ → List HostStep) (are : AreOfCluster star
 
   same_next : (n : ℕ) → suc n ≤ hosts start
       → IsSame (greatest_below n logs first) (standing.greatest_of start n logs)
-      → IsSame (greatest_below (suc n) logs first) (standing.greatest_of start (suc n) logs)
+      → IsSame (greatest_below (suc n) logs first)
+      (greater_view (standing.greatest_of start n logs) (view_after start n (logs n)))
   same_next n few before = record {
     was = one.was before.was;
     number = omega (arith, up, down);
@@ -466,7 +469,9 @@ module _ (start : Start) (logs : ℕ → List HostStep) (are : AreOfCluster star
 
   same_below : (n : ℕ) → n ≤ hosts start → IsSame (greatest_below n logs first) (standing.greatest_of start n logs)
   same_below zero few = record { was = first_was; number = refl; above = omega arith }
-  same_below (suc n) few = same_next n few (same_below n (omega (arith, few)))
+  same_below (suc n) few =
+      subst (IsSame (greatest_below (suc n) logs first)) (sym (greatest_next start logs n))
+      (same_next n few (same_below n (omega (arith, few))))
 
   pub greatest_was : WasInstalled start logs (greatest_view start logs)
   greatest_was = (same_below (hosts start) (omega arith)).was

@@ -1,6 +1,6 @@
 -- No host takes a signal of a greater view than the current one, but for what isn't well formed and so changes nothing:
 -- so a host without a membership comes to no greater view than that.
-use Rattle.std.proofs.Common.{◌≡◌, ◌≢◌, ◌≤◌, ◌<◌, ◌⊎◌, ◌||◌, ◌∙◌, ℕ, zero, suc, Bool, true, false, List, [], ◌∷◌, refl}
+use Rattle.std.proofs.Common.{◌≡◌, ◌≤◌, ◌<◌, ◌⊎◌, ◌||◌, ◌∙◌, ℕ, zero, suc, Bool, true, false, List, [], ◌∷◌, refl}
 use Rattle.std.proofs.Common.{sym, ap, subst, inl, inr, arith}
 use Rattle.std.proofs.lemmas.Bool.{true≢false}
 use Rattle.std.specs.Prelude.{not, None}
@@ -10,7 +10,6 @@ use Rattle.run_theory.proofs.Pasts.{each_past}
 use Rattle.run_theory.specs.Runs.{Happens}
 use Rattle.run_theory.proofs.EventCases.{event_each}
 use Rattle.world_views.proofs.TakeDriven.{not_own}
-use Rattle.sig_core.specs.declared.signal.Body.TheVariants.{Host}
 use Rattle.sig_core.specs.declared.signal.Signal.{Signal}
 use Rattle.sig_core.specs.declared.view.View.{View}
 use Rattle.sig_core.specs.Step.{Step, stay}

@@ -1,6 +1,6 @@
 -- Where the coordinator of a transaction that goes on is fenced at the current view, as that rises, the transaction
 -- keeps to it.
-use Rattle.std.proofs.Common.{◌≤◌, ◌<◌, ℕ, List, [], ◌∷◌, subst}
+use Rattle.std.proofs.Common.{◌≤◌, ◌<◌, ℕ, List, ◌∷◌, subst}
 use Rattle.std.proofs.Common.{arith}
 use Rattle.sig_core.specs.declared.member.Member.{Member}
 use Rattle.sig_core.specs.declared.member.TxId.{TxId}

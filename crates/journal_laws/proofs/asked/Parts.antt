@@ -57,6 +57,7 @@ use Rattle.world_core.specs.Hosts.{member_at, part_by}
 use Rattle.world_core.specs.Start.{Start, made}
 use Rattle.world_views.specs.Hosts.{part_started, started}
 use Rattle.world_views.specs.Machine.{step_by}
+use Rattle.world_views.proofs.AllBegin.{started_behind}
 use Rattle.outcome_laws.proofs.knowledge.HostSteps.{IsOfEffects, step_keeps}
 use Rattle.journal_laws.proofs.asked.ClientAsks.{ClientWell, client_asks}
 use Rattle.journal_laws.proofs.asked.CoordinatorAsks.{CoordinatorFits, coordinator_asks, coordinator_installs}
@@ -246,4 +247,5 @@ part_begins start kind.Ldm k = tt
 pub host_begins : (start : Start) (h : ℕ) → PartsWell (started start h).parts
 unfolding started
 host_begins start zero = tt
-host_begins start (suc h) = part_begins start (part_by (h % 3)) h
+host_begins start (suc h) =
+    subst (λ s. PartsWell s.parts) (sym (started_behind start h)) (part_begins start (part_by (h % 3)) h)

@@ -1,5 +1,5 @@
 -- Whatever the blocks of a host take that tells only of epochs that can be written, they tell and mark only such.
-use Rattle.std.proofs.Common.{◌≡◌, ℕ, zero, suc, ◌%◌, Bool, true, false}
+use Rattle.std.proofs.Common.{◌≡◌, ℕ, zero, suc, ◌%◌, Bool, true, false, subst, sym}
 use Rattle.run_theory.specs.Lists.{Each}
 use Rattle.run_theory.proofs.Pasts.{each_append, each_map}
 use Rattle.sig_core.specs.declared.mark.Mark.{Mark}
@@ -55,6 +55,7 @@ use Rattle.world_core.specs.Hosts.{member_at, part_by}
 use Rattle.world_core.specs.Start.{Start, made}
 use Rattle.world_views.specs.Hosts.{part_started, started}
 use Rattle.world_views.specs.Machine.{step_by}
+use Rattle.world_views.proofs.AllBegin.{started_behind}
 use Rattle.outcome_laws.proofs.knowledge.HostSteps.{IsOfEffects, step_keeps}
 use Rattle.journal_laws.proofs.epochs.DihLow.{DihLow, dih_installs_low, dih_installs_tell, dih_low}
 use Rattle.journal_laws.proofs.epochs.Low.{IsLow, IsLowTold, MarksLow, TellsLow, zero_low}
@@ -301,4 +302,5 @@ part_begins start low kind.Ldm k = tt
 pub host_begins : (start : Start) → IsLow start.epoch → (h : ℕ) → PartsLow (started start h).parts
 unfolding started
 host_begins start low zero = tt
-host_begins start low (suc h) = part_begins start low (part_by (h % 3)) h
+host_begins start low (suc h) =
+    subst (λ s. PartsLow s.parts) (sym (started_behind start h)) (part_begins start low (part_by (h % 3)) h)

@@ -23,6 +23,7 @@ use Rattle.world_core.specs.Hosts.{hosts, member_at, part_by}
 use Rattle.world_core.specs.Start.{Start, made}
 use Rattle.world_core.specs.Steps.{HostStep}
 use Rattle.world_views.specs.Hosts.{part_started, started}
+use Rattle.world_views.proofs.AllBegin.{started_behind}
 use Rattle.view_laws.specs.Runs.{AreOfCluster}
 use Rattle.moment_laws.proofs.MomentHosts.{HasNoTc, TcHost, of_none, of_tc, tc_host_is}
 use Rattle.moment_laws.specs.Places.{tc_of}
@@ -84,8 +85,9 @@ either_few p q (e ∷ log) = omega (arith, either_few p q log, by (p e.step.take
 
 -- a host of a node without a coordinator runs its membership, or its rows
 pub beside_is : (start : Start) (k : ℕ) → HasNoTc (started start (suc k)).parts → IsBeside (started start (suc k)).parts
-unfolding started
-beside_is start k none = by (part_by (k % 3)) (member_at (made start) (suc k)) none
+beside_is start k none =
+    let same = ap (λ s. s.parts) (started_behind start k) in
+    subst IsBeside (sym same) (by (part_by (k % 3)) (member_at (made start) (suc k)) (subst HasNoTc same none))
   where
     by : (part : Part) (me : Member) → HasNoTc (part_started start part me).parts
         → IsBeside (part_started start part me).parts

@@ -4,7 +4,6 @@ use Rattle.run_theory.proofs.Along.{along_signals_of_logs}
 use Rattle.run_theory.proofs.Orders.{each_next}
 use Rattle.run_theory.proofs.Pasts.{each_in, each_map}
 use Rattle.run_theory.specs.Along.{Comes, IsKept}
-use Rattle.run_theory.specs.Links.{sent}
 use Rattle.run_theory.specs.Lists.{Each}
 use Rattle.run_theory.specs.Runs.{log_of}
 use Rattle.sig_core.specs.declared.place.Part.{Part}
@@ -24,6 +23,7 @@ use Rattle.world_views.proofs.SentFacts.{is_stamped}
 use Rattle.world_views.specs.Hosts.{part_started, started}
 use Rattle.world_views.specs.Machine.{after, machine, signals_of, step_after, told}
 use Rattle.world_views.specs.Sending.{is_asked, is_own_work}
+use Rattle.world_views.proofs.AllBegin.{started_behind}
 use Rattle.view_laws.proofs.follow.Senders.{each_sent}
 use Rattle.outcome_laws.specs.Down.{NoDownIsTold, PartsHaveNoDown, TakesNoDown, TellsNoDown}
 use Rattle.outcome_laws.proofs.downfall.Parts.{step_down_none}
@@ -39,7 +39,8 @@ part_begins start Ldm k = tt
 host_begins : (start : Start) (h : ℕ) → PartsHaveNoDown (started start h).parts
 unfolding started
 host_begins start zero = tt
-host_begins start (suc h) = part_begins start (part_by (h % 3)) h
+host_begins start (suc h) =
+    subst (λ s. PartsHaveNoDown s.parts) (sym (started_behind start h)) (part_begins start (part_by (h % 3)) h)
 
 -- the replies that are told change nothing of it
 told_up : (h : ℕ) (step : Step node.HostBody) → PartsHaveNoDown step.state.parts → PartsHaveNoDown (told h step).parts

@@ -1,6 +1,6 @@
 -- What a host knows of transactions behind a step, what the step sends and what it marks is true, if what the host knew
 -- and what the signal tells is.
-use Rattle.std.proofs.Common.{◌≡◌, ℕ, zero, suc, true, List, [], ◌∷◌, ◌%◌}
+use Rattle.std.proofs.Common.{◌≡◌, ℕ, zero, suc, true, List, [], ◌∷◌, ◌%◌, subst, sym}
 use Rattle.sig_core.specs.declared.member.TxId.{TxId}
 use Rattle.sig_core.specs.declared.signal.Signal.{Signal}
 use Rattle.sig_core.specs.declared.view.View.{View}
@@ -16,6 +16,7 @@ use Rattle.world_core.specs.Start.{Start, made}
 use Rattle.world_core.specs.Steps.{HostStep}
 use Rattle.world_views.specs.Hosts.{part_started, started}
 use Rattle.world_views.specs.Machine.{after, step_by, told}
+use Rattle.world_views.proofs.AllBegin.{started_behind}
 use Rattle.outcome_laws.specs.Known.{PartsKnow}
 use Rattle.outcome_laws.specs.Tells.{Teaches, Tells}
 use Rattle.outcome_laws.proofs.knowledge.Parts.{AreTold, AreTrue, true_effects, true_kept}
@@ -49,8 +50,7 @@ entered_apart (Tc p) view apart = tt
 entered_apart (Ldm p) view apart = tt
 
 started_apart : (start : Start) (k : ℕ) → HasNoShell (started start (suc k)).parts
-unfolding started
-started_apart start k = by (k % 3)
+started_apart start k = subst (λ s. HasNoShell s.parts) (sym (started_behind start k)) (by (k % 3))
   where
     by : (left : ℕ) → HasNoShell (part_started start (part_by left) (member_at (made start) (suc k))).parts
     by zero = tt

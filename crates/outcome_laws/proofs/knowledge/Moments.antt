@@ -26,6 +26,7 @@ use Rattle.world_core.specs.Steps.{Addressed, HostStep}
 use Rattle.world_views.specs.Hosts.{part_started, started}
 use Rattle.world_views.specs.Machine.{IsOwnWork, after, machine, signals_of, step_after}
 use Rattle.world_views.proofs.FreshBodies.{none_pending}
+use Rattle.world_views.proofs.AllBegin.{started_behind}
 use Rattle.view_laws.specs.Order.{is_sound, sound_machine}
 use Rattle.view_laws.proofs.eras.Shapes.{shape_stays}
 use Rattle.view_laws.proofs.follow.Senders.{IsSentBy, each_sent}
@@ -67,7 +68,9 @@ module _ (start : Start) where
     where
       parts : (h : ℕ) → PartsKnow (IsDecided start (λ h. [])) (IsBegun start (λ h. [])) (after start h []).parts
       parts zero = tt
-      parts (suc k) = by (k % 3)
+      parts (suc k) =
+          subst (λ s. PartsKnow (IsDecided start (λ h. [])) (IsBegun start (λ h. [])) s.parts)
+          (sym (started_behind start k)) (by (k % 3))
         where
           by : (left : ℕ)
               → PartsKnow (IsDecided start (λ h. [])) (IsBegun start (λ h. []))

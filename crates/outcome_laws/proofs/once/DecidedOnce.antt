@@ -23,6 +23,7 @@ use Rattle.world_core.specs.Start.{Start, made}
 use Rattle.world_core.specs.Steps.{HostStep}
 use Rattle.world_views.specs.Hosts.{part_started, started}
 use Rattle.world_views.specs.Machine.{machine}
+use Rattle.world_views.proofs.AllBegin.{started_behind}
 use Rattle.view_laws.specs.Runs.{AreOfCluster}
 use Rattle.moment_laws.proofs.MomentRuns.{have_moments}
 use Rattle.moment_laws.specs.Places.{tc_of}
@@ -39,7 +40,8 @@ use Rattle.outcome_laws.proofs.coordinators.Lists.{count_more}
 none_held : (tx : TxId) (start : Start) (h : ℕ) → may_decide tx (started start h).parts ≡ 0
 unfolding started
 none_held tx start zero = refl
-none_held tx start (suc k) = by (part_by (k % 3)) (member_at (made start) (suc k))
+none_held tx start (suc k) =
+    ap (λ s. may_decide tx s.parts) (started_behind start k) ∙ by (part_by (k % 3)) (member_at (made start) (suc k))
   where
     by : (part : Part) (me : Member) → may_decide tx (part_started start part me).parts ≡ 0
     by Main me = refl

@@ -31,6 +31,7 @@ use Rattle.world_core.specs.Hosts.{first_membership, first_hosts, member_at}
 use Rattle.world_core.specs.Machine as plain
 use Rattle.world_core.specs.Machine.{IsAsked, asked_rightly, last_stamp}
 use Rattle.world_core.specs.Start.{Start, made}
+use Rattle.world_core.proofs.MadeFirst.{last_first}
 use Rattle.world_core.specs.Steps.{Addressed, HostStep}
 use Rattle.world_views.specs.Machine.{IsOwn, IsOwnWork, after, cause_in, closing, comes_rightly, machine, own_signal}
 use Rattle.world_views.specs.Sending.{is_asked, is_own_work}
@@ -82,6 +83,7 @@ own_asked start h log x view asks by = go x.body refl asks by.work
           is =
               ap (signal_at start.epoch)
               (by.is
+              ∙ ap (λ n. own_signal (made start) h n (after start h log).standing.view x.body) (last_first start h log)
               ∙ ap (λ (body : Body). own_signal (made start) h (last_stamp log) (after start h log).standing.view body)
               (is ∙ ap (λ (k : ℕ). Host (Continue (Request request) k)) work.1)
               ∙ ap (λ view. own_signal (made start) h (last_stamp log) view (Host (Continue (Request request) 0))) view

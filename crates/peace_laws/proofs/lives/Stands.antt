@@ -1,5 +1,5 @@
 -- What stands of a life in peace after some logs, and what besides where nothing is under way.
-use Rattle.std.proofs.Common.{◌≡◌, ◌≤◌, ℕ, zero, suc, ◌%◌, List, [], false, refl, ap}
+use Rattle.std.proofs.Common.{◌≡◌, ◌≤◌, ℕ, zero, suc, ◌%◌, List, [], false, refl, ap, subst, sym}
 use Rattle.run_theory.specs.Lists.{Each}
 use Rattle.run_theory.specs.Orders.{HasLogs}
 use Rattle.run_theory.specs.Runs.{IsWithin, Run, log_of}
@@ -13,6 +13,7 @@ use Rattle.world_core.specs.Steps.{HostStep}
 use Rattle.world_views.specs.Hosts.{part_started, started}
 use Rattle.world_views.specs.Machine.{has_stopped, machine}
 use Rattle.world_views.specs.Quiet.{IsQuiet}
+use Rattle.world_views.proofs.AllBegin.{started_behind}
 use Rattle.calm_laws.specs.Resting.{AreResting}
 use Rattle.calm_laws.proofs.plain_steps.Rest.{lives_begin_at_rest}
 use Rattle.peace_laws.specs.Peace.{ArePeaceful}
@@ -65,7 +66,9 @@ part_rests start h part.Ldm = tt
 begin_rests : (start : Start) (h : ℕ) → RestsIn start h start.epoch (started start h).parts
 unfolding started
 begin_rests start zero = (refl, refl)
-begin_rests start (suc h) = part_rests start (suc h) (part_by (h % 3))
+begin_rests start (suc h) =
+    subst (λ s. RestsIn start (suc h) start.epoch s.parts) (sym (started_behind start h))
+    (part_rests start (suc h) (part_by (h % 3)))
 
 pub lives_rest : (start : Start) → start.rows ≡ [] → Rests start start.epoch (λ h. [])
 lives_rest start rows =

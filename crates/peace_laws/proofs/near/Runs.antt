@@ -29,6 +29,8 @@ use Rattle.world_core.specs.Start.{Start, made}
 use Rattle.world_core.specs.Steps.{HostStep}
 use Rattle.world_views.specs.Hosts.{part_started, started}
 use Rattle.world_views.specs.Machine.{after, machine}
+use Rattle.world_views.proofs.AllBegin.{started_behind}
+use Rattle.world_views.proofs.SentFacts.{last_is}
 use Rattle.calm_laws.specs.Alike.{first}
 use Rattle.calm_laws.specs.Known.{IsOfFirst, txs_in}
 use Rattle.calm_laws.specs.Plain.{is_beating}
@@ -76,7 +78,9 @@ master_begins start part.Ldm member p is = absurd cc
 masters_begin : (start : Start) (h : ℕ) (p : MainPart) → (after start h []).parts ≡ Main p → IsMasterNear p.master
 unfolding started
 masters_begin start zero p is = absurd cc
-masters_begin start (suc h) p is = master_begins start (part_by (h % 3)) (member_at (made start) (suc h)) p is
+masters_begin start (suc h) p is =
+    master_begins start (part_by (h % 3)) (member_at (made start) (suc h)) p
+    (ap (λ s. s.parts) (sym (started_behind start h)) ∙ is)
 
 begins_near : (start : Start) (h : ℕ) → start.rows ≡ [] → AreNear start [] (after start h []) (plain.after start h [])
 begins_near start h none =
@@ -101,11 +105,7 @@ begins_mirrored start h none =
 pub begins_kept : (start : Start) → start.rows ≡ [] → IsKept start []
 begins_kept start none = record { run = tt; mirrored = λ h. begins_mirrored start h none }
 
--- what both machines know of stamps
-last_is : (start : Start) (h : ℕ) (log : List HostStep) → last (machine start) h log ≡ last_stamp log
-last_is start h [] = refl
-last_is start h (e ∷ log) = refl
-
+-- what the machine in which nothing fails knows of stamps
 plain_last : (start : Start) (h : ℕ) (log : List HostStep) → last (plain.machine start) h log ≡ last_stamp log
 plain_last start h [] = refl
 plain_last start h (e ∷ log) = refl

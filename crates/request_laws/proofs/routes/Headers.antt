@@ -1,7 +1,7 @@
 -- Signals about the rows of transactions at an event: what is told of each that was sent is told of the one that it
 -- takes, which has the view of its taker, if it has the number of that; and what is told of what blocks send is told of
 -- what their host sends.
-use Rattle.std.proofs.Common.{◌≡◌, ℕ, true, filter, List, ◌∷◌, ap, refl, subst, sym}
+use Rattle.std.proofs.Common.{◌≡◌, ℕ, true, filter, List, ◌∷◌, ap, subst, sym}
 use Rattle.run_theory.specs.Lists.{Each, IsPast}
 use Rattle.run_theory.proofs.Pasts.{each_filter, each_in, each_map, each_past}
 use Rattle.sig_core.specs.declared.outs.Outgoing.{Outgoing}
@@ -23,7 +23,7 @@ use Rattle.world_views.specs.Machine.{IsOwnWork, signals_of, step_after}
 use Rattle.view_laws.specs.Order.{is_sound}
 use Rattle.view_laws.specs.Runs.{WasInstalled, view_after}
 use Rattle.view_laws.proofs.follow.Senders.{IsSentBy, each_sent}
-use Rattle.view_laws.proofs.runs.Headers.{headers_installed}
+use Rattle.view_laws.proofs.runs.Headers.{headers_installed, installed_at}
 use Rattle.view_laws.proofs.runs.AllSound.{have_orderly}
 use Rattle.view_laws.proofs.runs.ChosenViews.{one_view}
 use Rattle.moment_laws.specs.Moments.{IsMoment, logs_of}
@@ -65,13 +65,8 @@ module _ (start : Start) (all : ℕ → List HostStep) (e : HostStep) (es : List
     event_past = subst (λ log. IsPast log (all e.host)) (own_log start all e es moment) (moment.inside e.host)
 
     pub own_installed : WasInstalled start all view
-    own_installed = record {
-      host = e.host;
-      there = host_low start all e es moment;
-      log = e ∷ logs_of start es e.host;
-      past = event_past;
-      is = refl;
-    }
+    own_installed =
+        installed_at start all e.host (host_low start all e es moment) (e ∷ logs_of start es e.host) event_past
 
     -- its header is the view of the host, if that has its number
     pub header_is : x.view.number ≡ view.number → x.view ≡ view

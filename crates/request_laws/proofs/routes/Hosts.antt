@@ -25,6 +25,7 @@ use Rattle.world_core.specs.Start.{Start, made}
 use Rattle.world_core.specs.Steps.{HostStep}
 use Rattle.world_views.specs.Hosts.{part_started, started}
 use Rattle.world_views.specs.Machine.{after, step_after, step_by, told}
+use Rattle.world_views.proofs.AllBegin.{started_behind}
 use Rattle.view_laws.proofs.runs.FirstMembers.{first_in}
 use Rattle.moment_laws.specs.Places.{ldm_of, tc_of}
 use Rattle.moment_laws.proofs.MomentHosts.{ldm_number, tc_number}
@@ -57,8 +58,9 @@ part_host start (suc k) low = by (k % 3) refl
     by : (left : ℕ) → k % 3 ≡ left → PartHost start (suc k)
     by zero e =
         is_beside
+        (subst (λ s. IsBeside s.parts) (sym (started_behind start k))
         (subst
-        (λ (left : ℕ). IsBeside (part_started start (part_by left) (member_at (made start) (suc k))).parts) (sym e) tt)
+        (λ (left : ℕ). IsBeside (part_started start (part_by left) (member_at (made start) (suc k))).parts) (sym e) tt))
     by (suc zero) e =
         let is = tc_number start (first_start (k / 3 + 1)) there in
         coordinates (first_start (k / 3 + 1)) there (omega (arith, e, is))

@@ -1,5 +1,5 @@
 -- Each view that was installed is a part of the first one, its chains are some, and hosts of members are of theirs.
-use Rattle.std.proofs.Common.{◌≡◌, ◌<◌, ◌≤◌, ◌⊎◌, ◌==◌, ◌&&◌, ℕ, Bool, true, List, [], ◌∷◌, inl, inr, refl}
+use Rattle.std.proofs.Common.{◌≡◌, ◌<◌, ◌≤◌, ◌⊎◌, ◌==◌, ◌&&◌, ℕ, Bool, true, List, [], ◌∷◌, inl, inr}
 use Rattle.std.proofs.Common.{sym, ap, subst, arith}
 use Rattle.std.proofs.lemmas.Bool.{cases_lt, eqb-true, or_cases, true≢false}
 use Rattle.run_theory.specs.Lists.{IsIn, IsPast}
@@ -21,6 +21,8 @@ use Rattle.view_laws.proofs.runs.Step.{started_view}
 use Rattle.view_laws.proofs.runs.ChosenViews.{one_view, viable}
 use Rattle.view_laws.proofs.ballots.MadeSets.{part_self}
 use Rattle.view_laws.proofs.standing.Members.{are_of_views}
+use Rattle.view_laws.proofs.runs.Headers.{installed_at}
+use Rattle.world_core.proofs.MadeFirst.{all_made}
 use Rattle.moment_laws.specs.Places.{tc_of}
 use Rattle.moment_laws.proofs.MomentHosts.{part_some, tc_low, tc_member}
 use Rattle.moment_laws.proofs.MomentMembers.{all_full}
@@ -38,6 +40,7 @@ module _ (start : Start) (all : ℕ → List HostStep) (are : AreOfCluster start
   first_installed = record {
     host = 0;
     there = omega arith;
+    made = all_made start 0 (all 0);
     log = [];
     past = past_nil (all 0);
     is = sym (started_view start 0);
@@ -72,13 +75,7 @@ module _ (start : Start) (all : ℕ → List HostStep) (are : AreOfCluster start
     -- the view in which the host of a member's coordinator stands was installed, and the member is full in it
     pub was_in : (log : List HostStep) → IsPast log (all (tc_of start member))
         → WasInstalled start all (view_after start (tc_of start member) log)
-    was_in log past = record {
-      host = tc_of start member;
-      there = tc_low start member there;
-      log = log;
-      past = past;
-      is = refl;
-    }
+    was_in log past = installed_at start all (tc_of start member) (tc_low start member there) log past
 
     pub member_full : (log : List HostStep) → IsPast log (all (tc_of start member))
         → IsIn member (view_after start (tc_of start member) log).full

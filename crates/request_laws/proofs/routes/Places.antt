@@ -17,14 +17,14 @@ use Rattle.sig_core.specs.Place.{rows_of}
 use Rattle.lqh_views.specs.State.{ReplicaState}
 use Rattle.node_views.specs.WellFormed.{is_well_formed}
 use Rattle.world_core.proofs.HostNumbers.{hosts_low}
-use Rattle.world_core.specs.Hosts.{host_by, hosts, member_of}
+use Rattle.world_core.specs.Hosts.{host_by, hosts, member_at, member_of}
 use Rattle.world_core.specs.Start.{Start, made}
 use Rattle.world_core.specs.Steps.{Addressed, HostStep}
-use Rattle.world_views.specs.Hosts.{reached, started}
+use Rattle.world_views.specs.Hosts.{or_itself, reached, started}
 use Rattle.world_views.specs.Machine.{signals_of, step_after}
 use Rattle.view_laws.specs.Order.{is_sound}
 use Rattle.view_laws.specs.Runs.{view_after}
-use Rattle.view_laws.proofs.fences.Hosts.{hosts_same, node_of}
+use Rattle.view_laws.proofs.fences.Hosts.{hosts_same, known_node}
 use Rattle.view_laws.proofs.follow.Senders.{IsSentBy, each_sent}
 use Rattle.view_laws.proofs.runs.FirstMembers.{node_low, node_some}
 use Rattle.view_laws.proofs.fences.OwnNodes.{replica_node}
@@ -62,19 +62,22 @@ module _ (start : Start) where
           let some = node_some start me there in
           omega (arith, number, node, some, hosts_low start)
 
-      found : (o : Option Member) → member_of view to.node ≡ o
+      at_last : Option Member
+      at_last = or_itself (member_at (made start) (suc h)) to.node (member_of view to.node)
+
+      found : (o : Option Member) → at_last ≡ o
           → host_by (made start) (part_of to.block) o ≡ ldm_of start me → to.node ≡ me.node
       found None e same = absurd (omega (arith, same, low))
       found (Some m) e same =
           let made_m = host_made start (part_of to.block) m (omega (arith, same, low)) in
-          sym (node_of view to.node m e)
+          sym (known_node (member_at (made start) (suc h)) view to.node m e)
           ∙ ap (λ (m : Member). m.node) (hosts_same start m me made_m there to.block block.Lqh same)
 
       by : (b : Bool)
-          → (if b then 0 else host_by (made start) (part_of to.block) (member_of view to.node)) ≡ ldm_of start me
+          → (if b then 0 else host_by (made start) (part_of to.block) at_last) ≡ ldm_of start me
           → to.node ≡ me.node
       by true same = let number = ldm_number start me there in absurd (omega (arith, same, number))
-      by false same = found (member_of view to.node) refl same
+      by false same = found at_last refl same
 
   shell_first : IsBeside (started start 0).parts
   unfolding started

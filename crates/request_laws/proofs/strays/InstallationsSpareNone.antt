@@ -1,6 +1,6 @@
 -- Where the host of a coordinator comes to stand in a greater view, all keep to it that are undecided, aren't doomed
 -- and have no operation unanswered: the coordinator was fenced at it before.
-use Rattle.std.proofs.Common.{◌≡◌, ◌⊎◌, ◌≤◌, ◌<◌, ◌∙◌, ℕ, List, ◌∷◌, refl, sym, ap, subst, arith, inl, inr}
+use Rattle.std.proofs.Common.{◌≡◌, ◌⊎◌, ◌≤◌, ◌<◌, ◌∙◌, ℕ, List, ◌∷◌, sym, ap, subst, arith, inl, inr}
 use Rattle.frag_map.specs.Layout.{first_layout}
 use Rattle.run_theory.specs.Lists.{IsIn, IsPast}
 use Rattle.sig_core.specs.declared.member.Member.{Member}
@@ -23,6 +23,7 @@ use Rattle.view_laws.proofs.fences.AlwaysThere.{fences_are_there}
 use Rattle.view_laws.proofs.fences.EachViewFenced.{each_view_by}
 use Rattle.view_laws.proofs.follow.Views.{others_move}
 use Rattle.view_laws.proofs.standing.Members.{are_of_views}
+use Rattle.view_laws.proofs.runs.Headers.{installed_at}
 use Rattle.moment_laws.specs.Moments.{IsMoment, logs_of}
 use Rattle.moment_laws.specs.Places.{tc_of}
 use Rattle.moment_laws.proofs.MomentHosts.{part_some, tc_low, tc_member}
@@ -97,7 +98,7 @@ module _ (start : Start) (all : ℕ → List HostStep) (e : HostStep) (es : List
     hale_keep : HaleKeepTo view (coordinator_after start member log)
     hale_keep =
         fenced_keep start all es less member there view
-        (record { host = h; there = tc_low start member there; log = e ∷ log; past = past; is = refl }) member_in rises
+        (installed_at start all h (tc_low start member there) (e ∷ log) past) member_in rises
         fenced
 
 pub installations_spare : InstallationsSpareNoStrays

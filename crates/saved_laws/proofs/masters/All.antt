@@ -33,6 +33,7 @@ use Rattle.view_laws.specs.Runs.{WasInstalled, view_after}
 use Rattle.view_laws.specs.Votes.{main_of}
 use Rattle.view_laws.proofs.follow.Hosts.{main_started}
 use Rattle.view_laws.proofs.follow.Senders.{IsSentBy, each_sent}
+use Rattle.world_core.proofs.MadeFirst.{all_made}
 use Rattle.moment_laws.specs.Moments.{IsMoment, logs_of}
 use Rattle.moment_laws.specs.Places.{ldm_of, tc_of}
 use Rattle.moment_laws.proofs.MomentHosts.{main_low}
@@ -144,6 +145,7 @@ module _ (start : Start) (all : ℕ → List HostStep) (e : HostStep) (es : List
     stands member there = record {
       host = main_of start member;
       there = main_low start member there;
+      made = all_made start (main_of start member) (new 0);
       log = new (main_of start member);
       past = past_self (new (main_of start member));
       is = master_view start member there new;

@@ -43,6 +43,7 @@ use Rattle.world_core.specs.Steps.{Addressed, HostStep}
 use Rattle.world_views.specs.Hosts.{part_started, started}
 use Rattle.world_views.specs.Machine.{FitsRow, after, machine, signals_of, step_after, step_by, told}
 use Rattle.world_views.proofs.StepWalk.{step_so}
+use Rattle.world_views.proofs.AllBegin.{started_behind}
 use Rattle.view_laws.specs.Order.{is_sound, sound_machine}
 use Rattle.view_laws.proofs.follow.Senders.{IsSentBy, each_sent}
 use Rattle.view_laws.proofs.ballots.MadeSets.{in_front}
@@ -281,7 +282,8 @@ told_ended M (suc h) step ended = ended
 started_ended : (M : ℕ → Type 0) (start : Start) (h : ℕ) → EndedIn M (started start h).parts
 unfolding started
 started_ended M start zero = tt
-started_ended M start (suc h) = by (part_by (h % 3))
+started_ended M start (suc h) =
+    subst (λ s. EndedIn M s.parts) (sym (started_behind start h)) (by (part_by (h % 3)))
   where
     by : (which : Part) → EndedIn M (part_started start which (member_at (made start) (suc h))).parts
     by kind.Main = tt

@@ -12,6 +12,7 @@ use Rattle.sig_core.specs.declared.signal.epoch.EpochSignal.{EpochSignal}
 use Rattle.sig_core.specs.declared.signal.epoch.EpochSignal.TheVariants.{GcpSaveConf, GcpStateConf}
 use Rattle.sig_core.specs.declared.view.View.{View}
 use Rattle.node_views.specs.WellFormed.{is_well_formed}
+use Rattle.world_core.proofs.MadeFirst.{all_made}
 use Rattle.world_core.specs.Start.{Start}
 use Rattle.world_core.specs.Steps.{Addressed, HostStep}
 use Rattle.world_views.specs.Machine.{machine}
@@ -73,6 +74,7 @@ module _ (start : Start) (all : ℕ → List HostStep) (e : HostStep) (es : List
     installed_grows view was = record {
       host = was.host;
       there = was.there;
+      made = all_made start was.host (new 0);
       log = was.log;
       past =
           event_keeps (machine start) e es (λ k log. IsPast was.log log) (λ past. past_more e past) was.host was.past;

@@ -15,6 +15,7 @@ use Rattle.api_views.specs.Members.{greater_view}
 use Rattle.node_views.specs.WellFormed.{is_well_formed}
 use Rattle.world_core.specs.Start.{Start, made}
 use Rattle.world_core.specs.Steps.{Addressed, HostStep}
+use Rattle.world_views.proofs.AllBegin.{makes_none}
 use Rattle.world_views.specs.Machine.{closing_view, signals_of, step_after, stops_by}
 use Rattle.view_laws.specs.Order.{era, is_sound, sound_machine}
 use Rattle.run_theory.specs.Ranks.{IsCausalRank}
@@ -139,5 +140,5 @@ module _ (start : Start) where
         let is = header (n.from (n.signal e)) e.host (log_of n es (n.from (n.signal e))) (n.signal e) s in
         let reached = reaches e.host (log_of n es e.host) e happens.step asked in
         omega (arith, is, reached);
-    hosts = λ es h run d. absurd d.makes;
+    hosts = λ es h run d. absurd (makes_none start h d.before d.step d.makes);
   }

@@ -35,7 +35,7 @@ use Rattle.view_laws.specs.Runs.{view_after}
 use Rattle.view_laws.specs.Votes.{membership_in}
 use Rattle.view_laws.proofs.eras.Arrivals.{Arrives, arrives, enters_it, is_low}
 use Rattle.view_laws.proofs.eras.Shapes.{shape_stays}
-use Rattle.view_laws.proofs.follow.Hosts.{started_behind}
+use Rattle.world_views.proofs.AllBegin.{started_behind}
 use Rattle.view_laws.proofs.follow.HostKinds.{never_joins, no_membership_in_shell}
 use Rattle.view_laws.proofs.follow.Memberships.{settles_on}
 use Rattle.view_laws.proofs.follow.Seen.{known_view, membership_enters, membership_is_seen, membership_seen}

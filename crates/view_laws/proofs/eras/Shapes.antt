@@ -14,7 +14,7 @@ use Rattle.world_core.specs.Steps.{HostStep}
 use Rattle.world_views.specs.Hosts.{part_started, started}
 use Rattle.world_views.specs.Machine.{after, step_by, told}
 use Rattle.world_views.proofs.StepWalk.{step_so}
-use Rattle.view_laws.proofs.follow.Hosts.{started_behind}
+use Rattle.world_views.proofs.AllBegin.{started_behind}
 
 abbrev shape_of : hosts.HostBody → Shape
 shape_of s = s.standing.shape

@@ -18,6 +18,7 @@ use Rattle.world_core.specs.Start.{Start, made}
 use Rattle.world_core.specs.Steps.{HostStep}
 use Rattle.world_views.specs.Hosts.{part_started, started}
 use Rattle.world_views.specs.Machine.{after}
+use Rattle.world_views.proofs.AllBegin.{started_behind}
 use Rattle.view_laws.specs.Fences.{FencesAreNotBelow}
 use Rattle.view_laws.specs.HostEvents.{events_of}
 use Rattle.view_laws.proofs.fences.Seen.{fence_is, fence_is_seen, fence_or, fence_seen, is_block, to_fence}
@@ -76,7 +77,9 @@ started_above : (start : Start) (h : ℕ) (at : BlockId)
     → IsNotBelow (started start h).standing.view (fence_seen at (started start h))
 unfolding started IsNotBelow
 started_above start zero at = omega arith
-started_above start (suc h) at = part_above start (part_by (h % 3)) (member_at (made start) (suc h)) at
+started_above start (suc h) at =
+    subst (λ s. IsNotBelow s.standing.view (fence_seen at s)) (sym (started_behind start h))
+    (part_above start (part_by (h % 3)) (member_at (made start) (suc h)) at)
 
 log_above : (start : Start) (h : ℕ) (log : List HostStep) (at : BlockId)
     → IsNotBelow (after start h log).standing.view (fence_seen at (after start h log))

@@ -17,7 +17,7 @@ use Rattle.view_laws.specs.HostEvents.{events_of}
 use Rattle.view_laws.proofs.fences.WhatLinksOwe.{FencesAreThere, IsThere}
 use Rattle.view_laws.proofs.fences.Hosts.{block_host}
 use Rattle.view_laws.proofs.fences.Seen.{fence_is_seen, fence_seen, is_block, to_fence}
-use Rattle.view_laws.proofs.follow.Hosts.{started_behind}
+use Rattle.world_views.proofs.AllBegin.{started_behind}
 use Rattle.view_laws.proofs.follow.Walk.{along, log_goes}
 
 event_there : (fence : Option ℕ) (event : Event) → IsThere fence → IsThere (to_fence fence event)

@@ -18,9 +18,9 @@ use Rattle.sig_core.specs.declared.view.View.{View}
 use Rattle.sig_core.specs.Part.{part_of}
 use Rattle.world_core.proofs.MadeFirst.{hosts_first, made_begins, nobody_starts}
 use Rattle.world_core.proofs.HostNumbers.{node_host, the_member}
-use Rattle.world_core.specs.Hosts.{host_at, host_by, host_for, host_of, member_of, number_of, receiver}
+use Rattle.world_core.specs.Hosts.{host_at, host_by, host_for, host_of, member_at, member_of, number_of, receiver}
 use Rattle.world_core.specs.Start.{Start, made}
-use Rattle.world_views.specs.Hosts.{reached}
+use Rattle.world_views.specs.Hosts.{or_itself, reached}
 use Rattle.view_laws.specs.Sets.{all_of}
 use Rattle.view_laws.proofs.follow.Hosts.{first_of}
 use Rattle.view_laws.proofs.runs.FirstMembers.{made_same, made_tested, node_low, node_some}
@@ -54,6 +54,19 @@ node_of view node m is =
     (each_from _ (filter (λ (m : Member). m.node == node) (all_of view))
     (λ m i. eqb-true m.node node (filter_in (λ (m : Member). m.node == node) (all_of view) m i).1))
     is
+
+-- and so is whom a member knows of the node
+pub known_node : (me : Member) (view : View) (node : ℕ) (m : Member)
+    → or_itself me node (member_of view node) ≡ Some m → m.node ≡ node
+known_node me view node m is = by (member_of view node) refl is
+  where
+    itself : (b : Bool) → (me.node == node) ≡ b → (if b then Some me else None) ≡ Some m → m.node ≡ node
+    itself true e is = let same : me ≡ m = cc in subst (λ (n : Member). n.node ≡ node) same (eqb-true me.node node e)
+    itself false e is = absurd cc
+
+    by : (o : Option Member) → member_of view node ≡ o → or_itself me node o ≡ Some m → m.node ≡ node
+    by None e is = itself (me.node == node) refl is
+    by (Some other) e is = node_of view node m (e ∙ is)
 
 module _ (start : Start) where
   by_member : (node : ℕ) (b : BlockId) → 1 ≤ node
@@ -135,19 +148,23 @@ module _ (start : Start) where
   unfolding reached
   own_reaches h view w me made_w made_me b at is = by (w.node == 0) refl is
     where
-      found : (o : Option Member) → member_of view w.node ≡ o
+      at_last : Option Member
+      at_last = or_itself (member_at (made start) (suc h)) w.node (member_of view w.node)
+
+      found : (o : Option Member) → at_last ≡ o
           → host_by (made start) (part_of b) o ≡ host_of (made start) (part_of at) me → w ≡ me
       found None e same = absurd (not_absent me made_me at (sym (absent_is (part_of b)) ∙ same))
       found (Some m) e same =
           let made_m = found_made m me made_me b at same in
-          made_same start w m made_w made_m (sym (node_of view w.node m e)) ∙ hosts_same m me made_m made_me b at same
+          made_same start w m made_w made_m (sym (known_node (member_at (made start) (suc h)) view w.node m e))
+          ∙ hosts_same m me made_m made_me b at same
 
       by : (test : Bool) → (w.node == 0) ≡ test
-          → (if test then 0 else host_by (made start) (part_of b) (member_of view w.node))
+          → (if test then 0 else host_by (made start) (part_of b) at_last)
           ≡ host_of (made start) (part_of at) me
           → w ≡ me
       by true e same = absurd (omega (arith, eqb-true w.node 0 e, node_some start w made_w))
-      by false e same = found (member_of view w.node) refl same
+      by false e same = found at_last refl same
 
   -- and only what is for a place of a part comes to that
   pub part_reaches : (h : ℕ) (view : View) (node : ℕ) (me : Member) → IsIn me (made start) → (b at : BlockId)
@@ -171,9 +188,12 @@ module _ (start : Start) where
             number_few (part_of at),
           )
 
+      at_last : Option Member
+      at_last = or_itself (member_at (made start) (suc h)) node (member_of view node)
+
       by : (test : Bool)
-          → (if test then 0 else host_by (made start) (part_of b) (member_of view node))
+          → (if test then 0 else host_by (made start) (part_of b) at_last)
           ≡ host_of (made start) (part_of at) me
           → number_of (part_of b) ≡ number_of (part_of at)
       by true same = absurd (omega (arith, same, block_host me there at, number_some (part_of at)))
-      by false same = found (member_of view node) same
+      by false same = found at_last same

@@ -7,7 +7,6 @@ use Rattle.sig_core.specs.declared.reply.ApiReply.{ApiReply}
 use Rattle.sig_core.specs.declared.signal.Body.{Body}
 use Rattle.sig_core.specs.declared.signal.Signal.{Signal}
 use Rattle.sig_core.specs.declared.view.View.{View}
-use Rattle.tc_block.proofs.TurnRows.{tells}
 use Rattle.tc_block.specs.declared.transaction.Transaction.{Transaction}
 use Rattle.tc_block.specs.Live.{turned_if}
 use Rattle.tc_block.specs.State.{TcState}
@@ -41,7 +40,7 @@ use Rattle.lqh_views.proofs.Walk.{replica_outcomes}
 use Rattle.tc_views.proofs.Walk.{coordinator_outcomes}
 use Rattle.view_laws.specs.HostEvents.{events_of}
 use Rattle.view_laws.proofs.fences.Rows.{dih_node}
-use Rattle.view_laws.proofs.follow.Hosts.{started_behind}
+use Rattle.world_views.proofs.AllBegin.{started_behind}
 use Rattle.view_laws.proofs.follow.Walk.{IsSeen, along, log_goes}
 use Rattle.view_laws.proofs.votes.Others.{still_node}
 use Rattle.view_laws.proofs.votes.Parts.{own_node}

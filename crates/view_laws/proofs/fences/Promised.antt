@@ -25,6 +25,7 @@ use Rattle.world_core.specs.Start.{Start, made}
 use Rattle.world_core.specs.Steps.{HostStep}
 use Rattle.world_views.specs.Machine.{after, step_by, told}
 use Rattle.world_views.specs.Hosts.{part_started, started}
+use Rattle.world_views.proofs.AllBegin.{started_behind}
 use Rattle.view_laws.specs.Fences.{IsFenced, RaisedFencesWerePromised, WasPromised, fence_after}
 use Rattle.view_laws.specs.HostEvents.{events_at, events_of, installing, taken_in, taking}
 use Rattle.view_laws.specs.Runs.{AreOfCluster, view_after}
@@ -221,7 +222,9 @@ host_begins : (start : Start) (h : ℕ) (at : BlockId)
     → IsKept (started start h).standing.view (fence_seen at (started start h)) []
 unfolding started IsKept
 host_begins start zero at = tt
-host_begins start (suc h) at = part_begins start (part_by (h % 3)) (member_at (made start) (suc h)) at
+host_begins start (suc h) at =
+    subst (λ s. IsKept s.standing.view (fence_seen at s) []) (sym (started_behind start h))
+    (part_begins start (part_by (h % 3)) (member_at (made start) (suc h)) at)
 
 -- the hosts of fenced blocks run no membership
 module _ (start : Start) (me : Member) (there : IsIn me (made start)) where

@@ -13,7 +13,7 @@ use Rattle.world_views.specs.Hosts.{part_started, started}
 use Rattle.world_views.specs.Machine.{after}
 use Rattle.view_laws.specs.HostEvents.{events_of, is_arbiter, is_membership}
 use Rattle.view_laws.specs.Votes.{arbiter_in, membership_in}
-use Rattle.view_laws.proofs.follow.Hosts.{started_behind}
+use Rattle.world_views.proofs.AllBegin.{started_behind}
 use Rattle.view_laws.proofs.follow.Seen.{arbiter_is_seen, arbiter_seen, membership_is_seen, membership_seen, to_arbiter}
 use Rattle.view_laws.proofs.follow.Seen.{to_membership}
 use Rattle.view_laws.proofs.follow.Walk.{along, log_goes}

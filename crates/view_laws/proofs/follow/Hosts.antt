@@ -1,5 +1,5 @@
 -- The host of a member's membership follows its events, and the shell's host those of the arbitrator.
-use Rattle.std.proofs.Common.{◌≡◌, ◌⊎◌, ◌+◌, ◌-◌, ◌*◌, ◌/◌, ◌%◌, ◌≤◌, ℕ, zero, suc, Bool, true, false, List, [], ◌∷◌}
+use Rattle.std.proofs.Common.{◌≡◌, ◌⊎◌, ◌+◌, ◌-◌, ◌*◌, ◌/◌, ◌≤◌, ℕ, zero, suc, Bool, true, false, List, [], ◌∷◌}
 use Rattle.std.proofs.Common.{◌++◌, refl, ap, sym, ◌∙◌, arith, inl, inr}
 use Rattle.std.proofs.lemmas.Bool.{eqb-true}
 use Rattle.std.proofs.lemmas.Nat.{div-mul-add, mod-mul-add}
@@ -15,9 +15,10 @@ use Rattle.node_views.specs.declared.host_body.HostBody as hosts
 use Rattle.node_views.specs.Fresh.{fresh_main}
 use Rattle.world_core.proofs.MadeFirst.{made_begins, nobody_starts}
 use Rattle.world_core.proofs.HostNumbers.{made_at, node_host, the_member}
-use Rattle.world_core.specs.Hosts.{host_by, host_for, member_at, member_of, part_by, receiver}
+use Rattle.world_core.specs.Hosts.{host_by, host_for, member_of, part_by, receiver}
 use Rattle.world_core.specs.Start.{Start, made}
 use Rattle.world_views.specs.Hosts.{part_started, started}
+use Rattle.world_views.proofs.AllBegin.{started_behind}
 use Rattle.view_laws.specs.HostEvents.{events_of, is_arbiter, is_membership}
 use Rattle.view_laws.specs.Votes.{ArbitersFollowTheirSignals, HostsFollowTheirEvents, main_of}
 use Rattle.view_laws.proofs.follow.Seen.{arbiter_is_seen, arbiter_seen, known_view, membership_is_seen, membership_seen}
@@ -76,12 +77,6 @@ module _ (start : Start) where
       main_by node some ∙ ap (host_by (made start) Main) (the_member start.shape.nodes node some low) in
       omega (arith, by_place, by_member)
 
-  -- a host as it begins
-  pub started_behind : (k : ℕ)
-      → started start (suc k) ≡ part_started start (part_by (k % 3)) (member_at (made start) (suc k))
-  unfolding started
-  started_behind k = refl
-
   -- the main host begins as the main part of its member
   node_started : (node : ℕ) → 1 ≤ node → node ≤ start.shape.nodes
       → started start (main_of start (first_start node))
@@ -89,7 +84,7 @@ module _ (start : Start) where
   node_started node some low =
       let own : node - 1 + 1 ≡ node = omega (arith, some) in
       ap (started start) (main_number node some low)
-      ∙ started_behind ((node - 1) * 3 + 0)
+      ∙ started_behind start ((node - 1) * 3 + 0)
       ∙ ap (λ k. part_started start (part_by k) (slice_index_or (made start) (((node - 1) * 3 + 0) / 3) nobody))
       (mod-mul-add (node - 1) 3 0 (omega arith))
       ∙ ap (part_started start Main)

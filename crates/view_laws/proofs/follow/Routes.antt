@@ -1,4 +1,4 @@
--- What a host of a node sends goes to the shell's host, or to one of a member of its view.
+-- What a host of a node sends goes to the shell's host, or to one of its own member or of a member of its view.
 use Rattle.std.proofs.Common.{◌≡◌, ◌==◌, ◌⊎◌, ◌<◌, ℕ, zero, suc, Bool, true, false, filter, sym, subst, refl, arith}
 use Rattle.std.proofs.Common.{inl, inr}
 use Rattle.std.specs.Prelude.{if◌then◌else◌, Option, None, Some}
@@ -9,10 +9,10 @@ use Rattle.sig_core.specs.declared.member.Member.{Member}
 use Rattle.sig_core.specs.declared.place.Place.{Place}
 use Rattle.sig_core.specs.declared.view.View.{View}
 use Rattle.sig_core.specs.Part.{part_of}
-use Rattle.world_core.specs.Hosts.{host_by, hosts, member_of}
+use Rattle.world_core.specs.Hosts.{host_by, hosts, member_at, member_of}
 use Rattle.world_core.specs.Start.{Start, made}
 use Rattle.world_core.specs.Steps.{Addressed}
-use Rattle.world_views.specs.Hosts.{known, reached}
+use Rattle.world_views.specs.Hosts.{known, or_itself, reached}
 use Rattle.world_views.specs.Machine.{signals_of}
 use Rattle.view_laws.specs.Sets.{all_of}
 use Rattle.view_laws.specs.Standing.{IsForMember, SignalsGoToMembers}
@@ -31,23 +31,31 @@ known_in view node member is =
 module _ (start : Start) where
   -- what goes from a part of a node, in this view, to where a place is reached
   goes : (k : ℕ) (view : View) (to : Place) (x : Addressed) → x.signal.view ≡ view
-      → x.to ≡ reached (made start) (suc k) view to → x.to < hosts start → (x.to ≡ 0) ⊎ IsForMember start x
+      → x.to ≡ reached (made start) (suc k) view to → x.to < hosts start → (x.to ≡ 0) ⊎ IsForMember start (suc k) x
   unfolding reached
   goes k view to x view_is at low = by (to.node == 0) at
     where
+      me : Member
+      me = member_at (made start) (suc k)
+
+      itself : (b : Bool) → x.to ≡ host_by (made start) (part_of to.block) (if b then Some me else None)
+          → IsForMember start (suc k) x
+      itself true is = record { member = me; of = inl refl; part = part_of to.block; is = is }
+      itself false is = absurd (omega (arith, low, is))
+
       found : (member : Option Member) → member_of view to.node ≡ member
-          → x.to ≡ host_by (made start) (part_of to.block) member → IsForMember start x
-      found None e is = absurd (omega (arith, low, is))
+          → x.to ≡ host_by (made start) (part_of to.block) (or_itself me to.node member) → IsForMember start (suc k) x
+      found None e is = itself (me.node == to.node) is
       found (Some member) e is = record {
         member = member;
-        of = subst (λ (v : View). IsIn member (all_of v)) (sym view_is) (known_in view to.node member e);
+        of = inr (subst (λ (v : View). IsIn member (all_of v)) (sym view_is) (known_in view to.node member e));
         part = part_of to.block;
         is = is;
       }
 
       by : (b : Bool)
           → x.to ≡ (if b then 0 else host_by (made start) (part_of to.block) (known (made start) (suc k) view to.node))
-          → (x.to ≡ 0) ⊎ IsForMember start x
+          → (x.to ≡ 0) ⊎ IsForMember start (suc k) x
       by true is = inl is
       by false is = inr (found (member_of view to.node) refl is)
 

@@ -10,7 +10,6 @@ use Rattle.sig_core.specs.declared.member.Member.{Member}
 use Rattle.sig_core.specs.declared.signal.Signal.{Signal}
 use Rattle.sig_core.specs.declared.view.View.{View}
 use Rattle.qmgr_block.specs.declared.known.Known.{Known}
-use Rattle.qmgr_block.specs.Install.{adopted}
 use Rattle.qmgr_block.specs.Laws.{Event, installs, takes}
 use Rattle.qmgr_block.specs.Promise.{may_promise}
 use Rattle.qmgr_block.specs.Qmgr.{qmgr_row}

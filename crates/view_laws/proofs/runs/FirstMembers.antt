@@ -20,7 +20,7 @@ use Rattle.world_core.proofs.MadeFirst.{begins_made, hosts_first, made_begins, m
 use Rattle.world_core.proofs.HostNumbers.{made_at}
 use Rattle.world_core.specs.Hosts.{host_by, hosts, member_at, member_of}
 use Rattle.world_core.specs.Start.{Start, made}
-use Rattle.world_views.specs.Hosts.{known, last_of, latest, reached}
+use Rattle.world_views.specs.Hosts.{known, last_of, latest, or_itself, reached}
 use Rattle.view_laws.specs.Events.{IsSet}
 use Rattle.view_laws.specs.Sets.{AreApart, all_of}
 use Rattle.view_laws.specs.Votes.{main_of}
@@ -150,6 +150,26 @@ module _ (start : Start) where
       (λ m i. let both = filter_in (λ (m : Member). m.node == node) (all_of view) m i in
       record { made = all m both.0; node_is = eqb-true m.node node both.1 }))
       is
+
+  -- a host knows who was made, where it is one's of those and stands in a view of such
+  pub known_is : (h : ℕ) → 1 ≤ h → IsIn (member_at (made start) h) (made start) → (view : View)
+      → ((m : Member) → IsIn m (all_of view) → IsIn m (made start)) → (node : ℕ) (m : Member)
+      → known (made start) h view node ≡ Some m → IsOfNode node m
+  known_is zero some own view all node m is = absurd (omega (arith, some))
+  known_is (suc h) some own view all node m is = by (member_of view node) refl is
+    where
+      me : Member
+      me = member_at (made start) (suc h)
+
+      itself : (b : Bool) → (me.node == node) ≡ b → (if b then Some me else None) ≡ Some m → IsOfNode node m
+      itself true e is =
+          let same : me ≡ m = cc in
+          subst (IsOfNode node) same (record { made = own; node_is = eqb-true me.node node e })
+      itself false e is = absurd (none_before m is)
+
+      by : (o : Option Member) → member_of view node ≡ o → or_itself me node o ≡ Some m → IsOfNode node m
+      by None e is = itself (me.node == node) refl is
+      by (Some other) e is = member_is view all node m (e ∙ is)
 
   -- what is for the membership of a node, and goes to the main host of a member, is for that one's node
   pub reaches : (h : ℕ) (view : View) (node : ℕ) (z : Member) → IsIn z (made start)

@@ -12,6 +12,7 @@ use Rattle.world_core.specs.Hosts.{hosts}
 use Rattle.world_core.specs.Start.{Start}
 use Rattle.world_core.specs.Steps.{Addressed, HostStep}
 use Rattle.world_views.proofs.SentFacts.{is_stamped}
+use Rattle.world_core.proofs.MadeFirst.{all_made}
 use Rattle.world_views.specs.Machine.{comes_rightly, machine, signals_of}
 use Rattle.world_views.specs.Sending.{is_asked}
 use Rattle.view_laws.specs.Runs.{WasInstalled, view_after}
@@ -27,14 +28,23 @@ module _ (start : Start) where
   installed_more old new more view was = record {
     host = was.host;
     there = was.there;
+    made = all_made start was.host (new 0);
     log = was.log;
     past = past_trans was.past (more was.host);
     is = was.is;
   }
 
-  stood : (logs : ℕ → List HostStep) (h : ℕ) → h < hosts start → (log : List HostStep) → IsPast log (logs h)
+  -- a host stood in the view, after a part of its log
+  pub installed_at : (logs : ℕ → List HostStep) (h : ℕ) → h < hosts start → (log : List HostStep) → IsPast log (logs h)
       → WasInstalled start logs (view_after start h log)
-  stood logs h low log past = record { host = h; there = low; log = log; past = past; is = refl }
+  installed_at logs h low log past = record {
+    host = h;
+    there = low;
+    made = all_made start h (logs 0);
+    log = log;
+    past = past;
+    is = refl;
+  }
 
   -- so it is with what was taken in logs of the hosts that there are, and with each signal on its way
   abbrev pub AreInstalled : (ℕ → List HostStep) → Type 0
@@ -61,7 +71,7 @@ module _ (start : Start) where
               → comes_rightly asked start e.host (old e.host) e.step.taken → WasInstalled start old e.step.taken.view
           by true is own =
               subst (WasInstalled start old) (sym (own_view start e.host (old e.host) e.step.taken own))
-              (stood old e.host (host_there start e es within) (old e.host) (past_self (old e.host)))
+              (installed_at old e.host (host_there start e es within) (old e.host) (past_self (old e.host)))
           by false is uncut = come.told is (within_less start e es within)
 
       more : (h : ℕ) → IsPast (old h) (new h)
@@ -79,7 +89,7 @@ module _ (start : Start) where
       -- the view in which the host stands behind the step
       view_now : WasInstalled start new (view_after start e.host (e ∷ old e.host))
       view_now =
-          stood new e.host (host_there start e es within) (e ∷ old e.host)
+          installed_at new e.host (host_there start e es within) (e ∷ old e.host)
           (subst (IsPast (e ∷ old e.host)) (sym (log_of-own (machine start) e es e.host refl))
           (past_self (e ∷ old e.host)))
 

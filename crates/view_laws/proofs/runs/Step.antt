@@ -1,5 +1,5 @@
 -- All stays sound when a host takes a true signal.
-use Rattle.std.proofs.Common.{◌≡◌, ◌⊎◌, ◌<◌, ◌≤◌, ◌%◌, ℕ, zero, suc, Bool, true, false, List, [], ◌∷◌, refl, sym, subst}
+use Rattle.std.proofs.Common.{◌≡◌, ◌⊎◌, ◌<◌, ◌≤◌, ◌%◌, ℕ, zero, suc, Bool, true, false, List, [], ◌∷◌, refl, sym, subst, ap}
 use Rattle.std.proofs.Common.{◌∙◌, inl, inr}
 use Rattle.std.proofs.lemmas.Bool.{cases_lt, true≢false}
 use Rattle.std.specs.Prelude.{None}
@@ -26,6 +26,7 @@ use Rattle.world_core.specs.Steps.{HostStep}
 use Rattle.world_views.specs.Hosts.{part_started, started}
 use Rattle.world_views.specs.Machine.{FitsRow, IsOwn, after, comes_rightly, machine}
 use Rattle.world_views.specs.Sending.{is_asked}
+use Rattle.world_views.proofs.AllBegin.{started_behind}
 use Rattle.view_laws.specs.HostEvents.{events_at, events_of, is_arbiter, is_membership, taken_in}
 use Rattle.view_laws.specs.Members.{installed_of}
 use Rattle.view_laws.specs.Runs.{events_in, view_after}
@@ -98,7 +99,8 @@ module _ (start : Start) where
   pub started_view : (h : ℕ) → (started start h).standing.view ≡ first_view start.shape.nodes
   unfolding started
   started_view zero = refl
-  started_view (suc h) = part_view (part_by (h % 3)) (member_at (made start) (suc h))
+  started_view (suc h) =
+      ap (λ s. s.standing.view) (started_behind start h) ∙ part_view (part_by (h % 3)) (member_at (made start) (suc h))
 
   module _ (is_shape : IsShape start.shape) where
     abbrev layout : Layout

@@ -1,7 +1,7 @@
 -- What a host sends in a step is true, where all is sound behind it.
-use Rattle.std.proofs.Common.{◌≡◌, ◌⊎◌, ◌<◌, ◌≤◌, ℕ, zero, suc, Bool, true, false, List, [], ◌∷◌, ◌++◌, append_assoc}
+use Rattle.std.proofs.Common.{◌≡◌, ◌⊎◌, ◌<◌, ◌≤◌, ℕ, suc, Bool, true, false, List, [], ◌∷◌, ◌++◌, append_assoc}
 use Rattle.std.proofs.Common.{map, refl, ap, sym, subst, ◌∙◌, arith, inl, inr}
-use Rattle.std.specs.Prelude.{Option, None, Some}
+use Rattle.std.specs.Prelude.{Option, None}
 use Rattle.frag_map.specs.Layout.{Layout, first_layout, members}
 use Rattle.frag_map.specs.Shape.{IsShape}
 use Rattle.run_theory.specs.Lists.{Each, IsIn, IsPast}
@@ -22,7 +22,7 @@ use Rattle.qmgr_block.specs.Laws.{Event, takes}
 use Rattle.world_core.specs.Hosts.{hosts, member_at}
 use Rattle.world_core.specs.Start.{Start, made}
 use Rattle.world_core.specs.Steps.{Addressed, HostStep}
-use Rattle.world_views.specs.Hosts.{known, reached}
+use Rattle.world_views.specs.Hosts.{reached}
 use Rattle.world_views.specs.Machine.{after, signals_of, step_after}
 use Rattle.view_laws.specs.Ballots.{Ballots, HasPromised, IsBacked, Proposed}
 use Rattle.view_laws.specs.Events.{IsSet}
@@ -41,7 +41,7 @@ use Rattle.view_laws.proofs.memberships.Answers.{answer_rightly}
 use Rattle.view_laws.proofs.memberships.Questions.{ask_rightly}
 use Rattle.view_laws.proofs.runs.Grants.{IsAnswer, IsGrantOf, IsNoGrant, arbiter_answers, members_grant}
 use Rattle.view_laws.proofs.runs.Growth.{confirmed_past, in_made, promises_past, proposed_past}
-use Rattle.view_laws.proofs.runs.FirstMembers.{HostIs, IsOfNode, host_is, latest_is, made_same, main_is, member_is}
+use Rattle.view_laws.proofs.runs.FirstMembers.{HostIs, host_is, known_is, latest_is, made_same, main_is}
 use Rattle.view_laws.proofs.runs.FirstMembers.{member_main, of_main, of_other, of_shell, reaches}
 use Rattle.view_laws.proofs.runs.MembershipStep.{heard_backed, sound_past}
 use Rattle.view_laws.proofs.runs.OrderlyBallots.{arbiter_some, granted_some, orderly_events, own_proposal}
@@ -61,13 +61,6 @@ all_made start set of member there = by (in_either member set.full set.starting 
     by : IsIn member set.full ⊎ IsIn member set.starting → IsIn member (made start)
     by (inl full) = each_in _ member set.full of.made full
     by (inr starting) = absurd (subst (IsIn member) of.none starting)
-
--- a main part knows who is of its view
-known_behind : (made : List Member) (h : ℕ) (view : View) (node : ℕ) (P : Member → Type 0) → 1 ≤ h
-    → ((m : Member) → known made (suc zero) view node ≡ Some m → P m) → (m : Member)
-    → known made h view node ≡ Some m → P m
-known_behind made zero view node P some knows m is = absurd (omega (arith, some))
-known_behind made (suc h) view node P some knows m is = knows m is
 
 -- a question that is granted is among the grants
 granted_in : (s : ArbiterState) (node number : ℕ) (group : List Member) (joins : Option Member)
@@ -163,16 +156,17 @@ module _ (start : Start) (logs : ℕ → List HostStep) (is_shape : IsShape star
               → IsIn p (proposed_in start logs w)
           proposed_there p is = in_past p (proposed_past w layout past) is
 
+          own_made : IsIn (member_at (made start) k) (made start)
+          own_made = subst (λ m. IsIn m (made start)) (sym (member_main start w made_w)) made_w
+
           -- it comes to the member of the node that it is for
           node_is : (me : Member) → IsIn me (made start)
               → reached (made start) k (view k low log e same) sent.to ≡ main_of start me
               → sent.to ≡ membership sent.to.node → sent.to.node ≡ me.node
           node_is me made_me at to =
               reaches start k (view k low log e same) sent.to.node me made_me
-              (known_behind (made start) k (view k low log e same) sent.to.node (IsOfNode start sent.to.node)
-              (omega (arith, main_is start w made_w))
-              (member_is start (view k low log e same)
-              (all_made start (view k low log e same) (view_good k low log e same).of) sent.to.node))
+              (known_is start k (omega (arith, main_is start w made_w)) own_made (view k low log e same)
+              (all_made start (view k low log e same) (view_good k low log e same).of) sent.to.node)
               (subst (λ to. reached (made start) k (view k low log e same) to ≡ main_of start me) to at)
 
           request_says : (me : Member) → IsIn me (made start) → (set : View) (node : ℕ) → node ≡ me.node

@@ -41,7 +41,7 @@ use Rattle.world_views.proofs.StepWalk.{step_so}
 use Rattle.view_laws.specs.HostEvents.{counted_events, entering_events, events_at, events_by, headed_events}
 use Rattle.view_laws.specs.HostEvents.{passed_events, sound_events}
 use Rattle.view_laws.specs.Sets.{all_of}
-use Rattle.view_laws.proofs.follow.Hosts.{started_behind}
+use Rattle.world_views.proofs.AllBegin.{started_behind}
 use Rattle.view_laws.proofs.runs.FirstMembers.{first_in}
 use Rattle.view_laws.proofs.ballots.MadeSets.{in_front}
 use Rattle.view_laws.proofs.memberships.SetTests.{any_in, any_is}

@@ -1,8 +1,8 @@
 -- A view on which a membership settles has its member as the oldest.
-use Rattle.std.proofs.Common.{◌≡◌, ◌<◌, ◌⊎◌, ◌++◌, ◌∙◌, Bool, true, false, List, [], ◌∷◌, ℕ, suc, inl, inr, refl, sym}
+use Rattle.std.proofs.Common.{◌≡◌, ◌<◌, ◌⊎◌, ◌++◌, ◌∙◌, true, List, [], ◌∷◌, ℕ, suc, inl, inr, refl, sym}
 use Rattle.std.proofs.Common.{ap, subst}
 use Rattle.std.proofs.lemmas.Bool.{true≢false}
-use Rattle.std.specs.Prelude.{Option, None, Some}
+use Rattle.std.specs.Prelude.{None, Some}
 use Rattle.frag_map.specs.Layout.{Layout, first_layout}
 use Rattle.frag_map.specs.Shape.{IsShape}
 use Rattle.run_theory.specs.Lists.{IsIn}

@@ -11,8 +11,8 @@ returns-in_default-clause-ok c =
     has_stayed (whole_of c.args.self.now) _ c.in_default.ensures.none
     (ap (with_links (whole_of c.args.self.now)) c.in_default.ensures.kept)
 
-pub take-requires-2-clause-there : goal.take-requires-2-clause-there
-take-requires-2-clause-there c =
+pub take_if-requires-clause-there : goal.take_if-requires-clause-there
+take_if-requires-clause-there c =
     can_take (whole_of c.args.self.now) (arrival c.in-Some.arrived.host c.in-Some.arrived.signal c.take.new.self)
     c.requires
     c.in-Some.ensures.taken
@@ -23,32 +23,32 @@ is_discarded-handled-requires c =
     c.requires
     c.in-Some.ensures.taken
 
-pub take-requires-2-clause-given : goal.take-requires-2-clause-given
-take-requires-2-clause-given c =
+pub take_if-requires-clause-given : goal.take_if-requires-clause-given
+take_if-requires-clause-given c =
     first_given (whole_of c.args.self.now) (arrival c.in-Some.arrived.host c.in-Some.arrived.signal c.take.new.self)
     c.requires
     c.in-Some.ensures.taken
 
 pub returns-clause-ok : goal.returns-clause-ok
 returns-clause-ok c =
-    has_stepped (whole_of c.args.self.now) (whole_of c.take-2.new.self)
+    has_stepped (whole_of c.args.self.now) (whole_of c.take_if.new.self)
     (arrival c.in-Some.arrived.host c.in-Some.arrived.signal c.take.new.self) c.in-Some.ensures.taken
-    c.in_ok-take.ensures.ok
+    c.in_ok-take_if.ensures.ok
 
 pub returns-clause-unscheduled : goal.returns-clause-unscheduled
 returns-clause-unscheduled c =
-    stepped_unscheduled (whole_of c.args.self.now) (whole_of c.take-2.new.self)
+    stepped_unscheduled (whole_of c.args.self.now) (whole_of c.take_if.new.self)
     (arrival c.in-Some.arrived.host c.in-Some.arrived.signal c.take.new.self) c.in-Some.ensures.taken
-    c.in_ok-take.ensures.ok
+    c.in_ok-take_if.ensures.ok
 
 pub returns-clause-alone : goal.returns-clause-alone
 returns-clause-alone c =
-    step_alone (whole_of c.args.self.now) (whole_of c.take-2.new.self)
+    step_alone (whole_of c.args.self.now) (whole_of c.take_if.new.self)
     (arrival c.in-Some.arrived.host c.in-Some.arrived.signal c.take.new.self) c.requires c.in-Some.ensures.taken
-    c.in_ok-take.ensures.ok
+    c.in_ok-take_if.ensures.ok
 
 pub returns-clause-made : goal.returns-clause-made
 returns-clause-made c =
-    step_more (whole_of c.args.self.now) (whole_of c.take-2.new.self)
+    step_more (whole_of c.args.self.now) (whole_of c.take_if.new.self)
     (arrival c.in-Some.arrived.host c.in-Some.arrived.signal c.take.new.self) c.is_discarded-handled.result c.get.result.now
-    c.requires c.in-Some.ensures.taken c.in_ok-take.ensures.ok c.get.ensures c.is_discarded-handled.ensures
+    c.requires c.in-Some.ensures.taken c.in_ok-take_if.ensures.ok c.get.ensures c.is_discarded-handled.ensures

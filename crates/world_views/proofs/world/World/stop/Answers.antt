@@ -4,7 +4,7 @@ use Rattle.sig_core.specs.Step.{Effects, and_mark}
 use Rattle.node_views.specs.Stop.{stop_in}
 use Rattle.world_views.proofs.world.World.stop.Goals as goal
 
-pub enter-requires-clause-told : goal.enter-requires-clause-told
-enter-requires-clause-told c =
+pub enter_last-requires-clause-told : goal.enter_last-requires-clause-told
+enter_last-requires-clause-told c =
     ap (λ (e : Effects). stop_in e.marks)
     (c.mark.ensures ∙ ap (λ (e : Effects). and_mark e (Stopped c.args.cause)) c.clear.ensures)

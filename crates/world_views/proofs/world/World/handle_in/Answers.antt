@@ -11,10 +11,10 @@ use Rattle.world_views.specs.World.{body_at}
 use Rattle.world_views.specs.WorldOf.{whole_of}
 use Rattle.world_views.proofs.HandleLemmas.{body_read, has_moved, has_no_memory, read_back, stamp_is, stands_before}
 use Rattle.world_views.proofs.HandleLemmas.{stop_told}
-use Rattle.world_views.proofs.world.World.handle.Goals as goal
+use Rattle.world_views.proofs.world.World.handle_in.Goals as goal
 
-pub enter-requires-clause-told : goal.enter-requires-clause-told
-enter-requires-clause-told c = stop_told _ _ _ _ _ c.in-Ok.ensures.taken c.in-Ok.ensures.stops
+pub enter_step-requires-clause-told : goal.enter_step-requires-clause-told
+enter_step-requires-clause-told c = stop_told _ _ _ _ _ c.in-Ok.ensures.taken c.in-Ok.ensures.stops
 
 pub returns-in-Ok-clause-ok : goal.returns-in-Ok-clause-ok
 returns-in-Ok-clause-ok c =
@@ -33,10 +33,10 @@ returns-in-Ok-clause-ok c =
     let taken =
     subst (λ (s : HostBody). IsTaken (host_row s c.args.signal) c.step.new.self nothing c.step.new.out) read
     (subst (λ (x : Signal). IsTaken (host_row c.index_mut.result.now x) c.step.new.self nothing c.step.new.out)
-    c.get-3.ensures
+    c.get-2.ensures
     c.in-Ok.ensures.taken) in
-    has_moved c.enter.result w (whole_of c.enter.new.self) (arriving h c.args.signal) c.step.new.self c.step.new.out at
-    c.requires.there.bodies taken c.requires.given c.enter.ensures.ok
+    has_moved c.enter_step.result w (whole_of c.enter_step.new.self) (arriving h c.args.signal) c.step.new.self c.step.new.out at
+    c.requires.there.bodies taken c.requires.given c.enter_step.ensures.ok
 
 pub returns-in-Err-clause-ok : goal.returns-in-Err-clause-ok
 returns-in-Err-clause-ok c =
@@ -52,21 +52,16 @@ returns-in-Err-clause-ok c =
     ))
     (search rules) in
     let read = body_read w.bodies h c.index_mut.result.now c.requires.there.bodies c.index_mut.ensures.value in
-    let seen = body_read w.bodies h c.index-2.result.now c.requires.there.bodies c.index-2.ensures in
     let same =
     read_back w.bodies h c.step.new.self c.index_mut-in-Err.result.now c.requires.there.bodies
     c.index_mut-in-Err.ensures.value in
-    let before = ap (λ (s : HostBody). s.standing.view) seen in
     let view =
-    stands_before c.in_ok-view.view (body_at w.bodies h).standing.view c.args.signal.view.number c.step.new.self
-    c.index_mut-in-Err.result.now c.put_back.new.host same
-    (subst (λ (v : View). MatchOption c.in_ok-view.view (c.args.signal.view.number ≤ v.number) (λ k. k ≡ v)) before
-    (subst (λ (x : Signal). MatchOption c.in_ok-view.view (x.view.number ≤ c.index-2.result.now.standing.view.number)
-    (λ k. k ≡ c.index-2.result.now.standing.view)) c.get-2.ensures c.in_ok-view.ensures))
+    stands_before c.args.view (body_at w.bodies h).standing.view c.args.signal.view.number c.step.new.self
+    c.index_mut-in-Err.result.now c.put_back.new.host same c.requires.view
     (subst (λ (s : HostBody). c.args.signal.view.number ≤ s.standing.view.number
     → c.step.new.self.standing.view ≡ s.standing.view) read
     (subst (λ (x : Signal). x.view.number ≤ c.index_mut.result.now.standing.view.number
-    → c.step.new.self.standing.view ≡ c.index_mut.result.now.standing.view) c.get-3.ensures c.in-Err.ensures.seen))
+    → c.step.new.self.standing.view ≡ c.index_mut.result.now.standing.view) c.get-2.ensures c.in-Err.ensures.seen))
     c.put_back.ensures.seen in
     has_no_memory c.fail-in-Err.result w (whole_of c.fail-in-Err.new.self) (arriving h c.args.signal) c.step.new.self
     c.put_back.new.host c.requires.there.bodies at view
