@@ -24,6 +24,7 @@ pub enum Version {
 /// # Errors
 /// How many of the bytes are left from the first on that fits no row: 0 where a row is cut short.
 /// Of a row epoch above the latest one the first byte is meant.
+#[inline(always)]
 #[tactic(auto, unfolding(crate::specs::Reading::row_in))]
 pub fn row_in(version: Version, latest: u64, bytes: &[u8]) -> Result<(StoredRow, usize), usize>
     ensures told { result ≡ row_in version latest bytes.now }

@@ -49,6 +49,18 @@ impl RowMap {
         }
     }
 
+    /// No rows, and room for so many.
+    ///
+    /// # Errors
+    /// `NoMemory`.
+    pub fn with_room(alloc: Global, count: usize) -> Result<RowMap, NoMemory>
+        ensures { IfOk result (λ rows. rows ≡ map.empty) }
+    {
+        Ok(RowMap {
+            rows: IndexMap::with_capacity(alloc, count)?,
+        })
+    }
+
     /// The row of the key.
     #[tactic(auto, using(crate::proofs::HashedLemmas::hashed))]
     pub fn get(&self, key: &Key) -> Option<Value>
@@ -61,6 +73,7 @@ impl RowMap {
     ///
     /// # Errors
     /// `NoMemory`, and then the rows are as they were.
+    #[inline(always)]
     #[tactic(auto, using(crate::proofs::HashedLemmas::hashed))]
     pub fn insert(&mut self, key: Key, value: Value) -> Result<(), NoMemory>
         ensures ok { OnOk result (self.new ≡ map.insert self.old key value) }

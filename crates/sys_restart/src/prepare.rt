@@ -180,10 +180,19 @@ fn checkpoint_bytes(
     ensures { IfOk result (λ bytes. bytes.items ≡ checkpoint_for shape.now node restored.now) }
 {
     let rows = rows_of_node(alloc, node, shape, restored)?;
-    let mut bytes = Vec::new(alloc);
+    let mut bytes = Vec::with_capacity(alloc, room_for(&rows))?;
     put_head(&mut bytes)?;
     put_rows(&mut bytes, restored.epoch, &rows)?;
     Ok(bytes)
+}
+
+// How many bytes a checkpoint of these rows takes.
+fn room_for(rows: &[(&Key, &Value)]) -> usize {
+    let mut room = 2usize;
+    for (key, value) in rows {
+        room = room.saturating_add(key.bytes().len() + value.bytes().len() + 10);
+    }
+    room
 }
 
 // The rows of a node's group, in byte order of their keys.

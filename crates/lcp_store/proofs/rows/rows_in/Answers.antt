@@ -7,7 +7,7 @@ use Rattle.lcp_store.proofs.rows.rows_in.Goals as goal
 pub rows-init : goal.rows-init
 rows-init c =
     begins c.args.file c.args.latest c.args.bytes.now c.in-Ok.found.0 c.in-Ok.found.1 _ _ (sym c.in-Ok.ensures.told)
-    c.new-rows.ensures
+    c.in-Ok-with_room.ensures
     (take_rest c.args.bytes.now c.in-Ok.found.1)
 
 -- one more row is read
