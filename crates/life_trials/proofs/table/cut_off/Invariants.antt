@@ -4,4 +4,4 @@ use Rattle.life_trials.proofs.table.cut_off.Given as goal
 
 -- the world is one
 abbrev pub invariant-loop-part : goal.invariant-loop-part
-invariant-loop-part g l = IsWorld (whole_of l.cluster.world)
+invariant-loop-part l = IsWorld (whole_of l.cluster.world)
