@@ -7,6 +7,10 @@
 //! | `alone` | one life, on disks that never fail; at its end the nodes tell their rows |
 //! | `disks` | five lives on the same disks, some of whose calls fail, with restarts between and cuts of power |
 //! | `fuses` | two brief lives and a restart behind each, again and again, each time with another call that fails |
+//! | `table` | a life of one transaction, in which nodes stop or are cut off: its number says which, and when |
+//!
+//! Of the table the numbers are that of the first run, how many runs there are at most, and how far it is from one to
+//! the next.
 //!
 //! Printed are what a run on disks came to, the law that a run breaks, and behind all runs of four words what they did.
 //! The status is 1 where a law is broken, and 2 where the words aren't such.
@@ -15,16 +19,20 @@
 mod alone;
 mod begin;
 mod chance;
+mod client;
 mod cluster;
 mod disks;
 mod fault;
 mod fuses;
 mod life;
 mod lives;
+mod moments;
 mod rows;
 mod shapes;
+mod table;
 mod tally;
 mod told;
+mod traced;
 mod trial;
 mod words;
 
@@ -39,7 +47,8 @@ use told::Told;
 use trial_requests::all_keys;
 use words::{Kind, Runs, all_runs};
 
-const USAGE: &str = "usage: life_trials [alone|disks|fuses] SEED COUNT FAILS ..";
+const USAGE: &str =
+    "usage: life_trials [alone|disks|fuses] SEED COUNT FAILS|table FIRST COUNT STEP ..";
 
 fn words_of(rt: &HostRuntime) -> Result<Vec<String>, Fail> {
     let mut words = Vec::new(rt.alloc());
@@ -54,10 +63,11 @@ fn run_one<W: Wait>(
     wait: &W,
     runs: &Runs,
     seed: u64,
+    events: u64,
     tally: &mut Tally,
 ) -> Result<Told, RunFault> {
     let keys = all_keys(rt.alloc())?;
-    run_kind(rt, wait, runs, seed, keys.as_slice(), tally)
+    run_kind(rt, wait, runs, seed, events, keys.as_slice(), tally)
 }
 
 fn run_kind<W: Wait>(
@@ -65,6 +75,7 @@ fn run_kind<W: Wait>(
     wait: &W,
     runs: &Runs,
     seed: u64,
+    events: u64,
     keys: &[Key],
     tally: &mut Tally,
 ) -> Result<Told, RunFault> {
@@ -72,24 +83,50 @@ fn run_kind<W: Wait>(
         Kind::Alone => alone::run_one(wait, rt.alloc(), seed, runs.fails, keys, tally),
         Kind::Disks => lives::run_one(wait, rt.alloc(), seed, runs.fails, keys, tally),
         Kind::Fuses => fuses::run_one(wait, rt.alloc(), seed, runs.fails, keys, tally),
+        Kind::Table => table::run_one(wait, rt.alloc(), seed, events, keys, tally),
+    }
+}
+
+// How many signals are taken in the life of the table in which nothing fails.
+fn events_of<W: Wait>(rt: &HostRuntime, wait: &W, runs: &Runs) -> Result<u64, RunFault> {
+    match runs.kind {
+        Kind::Table => table::events(wait, rt.alloc()),
+        _ => Ok(0),
     }
 }
 
 // Does these runs, and says whether no law was broken.
 fn run_all<W: Wait>(rt: &HostRuntime, wait: &W, runs: &Runs) -> Result<bool, Fail> {
     let mut tally = Tally::new();
-    for more in 0..runs.count {
-        let seed = runs.first.wrapping_add(more);
-        match run_one(rt, wait, runs, seed, &mut tally) {
-            Ok(told) => told.tell(rt, seed)?,
-            Err(fault) => {
-                tally.add_fault();
-                println!(rt; "run {seed}: {}", fault.name())?;
-            }
-        }
+    match events_of(rt, wait, runs) {
+        Ok(events) => run_each(rt, wait, runs, events, &mut tally)?,
+        Err(fault) => tell_fault(rt, runs.first, fault, &mut tally)?,
     }
     tally.tell(rt, runs)?;
     Ok(tally.is_faultless())
+}
+
+fn run_each<W: Wait>(
+    rt: &HostRuntime,
+    wait: &W,
+    runs: &Runs,
+    events: u64,
+    tally: &mut Tally,
+) -> Result<(), Fail> {
+    for at in 0..runs.count {
+        let seed = runs.seed(at);
+        match run_one(rt, wait, runs, seed, events, tally) {
+            Ok(told) => told.tell(rt, seed)?,
+            Err(fault) => tell_fault(rt, seed, fault, tally)?,
+        }
+    }
+    Ok(())
+}
+
+fn tell_fault(rt: &HostRuntime, seed: u64, fault: RunFault, tally: &mut Tally) -> Result<(), Fail> {
+    tally.add_fault();
+    println!(rt; "run {seed}: {}", fault.name())?;
+    Ok(())
 }
 
 fn main(rt: HostRuntime) -> Result<ExitCode, Fail> {

@@ -66,7 +66,7 @@ fn lay_rows(alloc: Global, disk: &mut MemDisk, file: u8, rows: u64) -> Result<u6
     put_head(&mut bytes)?;
     let value = Value::new(&[b'v'; 100])?;
     for number in 0..rows {
-        put_row2(&mut bytes, &key_of(number)?, 1, &value)?;
+        put_row2(&mut bytes, &key_of(number)?, 1, value.bytes())?;
         if bytes.len() > PIECE_BYTES - 256 {
             done(disk.write(file, at, &bytes))?;
             at = at.saturating_add(bytes.len() as u64);
@@ -222,7 +222,7 @@ fn is_right(rt: &HostRuntime, restored: &Restored, size: Size, changes: u64) -> 
     for group in restored.groups.as_slice() {
         for (_, value) in group.lend_rows(rt.alloc())? {
             count = count.saturating_add(1);
-            if *value == changed {
+            if value == changed.bytes() {
                 found = found.saturating_add(1);
             }
         }

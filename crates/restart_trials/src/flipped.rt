@@ -69,7 +69,7 @@ fn are_same_but(alloc: Global, rows: &RowMap, keys: &[u8; 2]) -> Result<bool, Tr
 fn without(alloc: Global, rows: &RowMap, keys: &[u8; 2]) -> Result<RowMap, Trouble> {
     let mut left = RowMap::new(alloc);
     for (key, value) in &rows.to_rows(alloc)? {
-        left.insert(*key, *value)?;
+        left.insert(*key, value.bytes())?;
     }
     let [one, other] = keys;
     left.remove(&key_of(*one)?);

@@ -130,7 +130,8 @@ fn life(alloc: Global, lives: u64) -> Result<Restored, Trouble> {
 fn rows_of(alloc: Global, life: u64) -> Result<RowMap, Trouble> {
     let mut rows = RowMap::new(alloc);
     for number in 0..life.saturating_mul(MORE) {
-        rows.insert(key_of(number)?, value_of(life)?)?;
+        let value = value_of(life)?;
+        rows.insert(key_of(number)?, value.bytes())?;
     }
     Ok(rows)
 }

@@ -16,5 +16,6 @@ pub fn put_long_rows(rows: &mut RowMap) -> Result<(), Trouble> {
 fn put_long_row(rows: &mut RowMap, letter: u8, digit: u8) -> Result<(), Trouble> {
     let mut key = [letter; 32];
     key[31] = digit;
-    Ok(rows.insert(Key::new(&key)?, Value::new(&[digit; 200])?)?)
+    let value = Value::new(&[digit; 200])?;
+    Ok(rows.insert(Key::new(&key)?, value.bytes())?)
 }

@@ -188,7 +188,7 @@ fn append_long_rows(alloc: Global, bytes: &mut Vec<u8>) -> Result<(), Trouble> {
     let mut rows = RowMap::new(alloc);
     put_long_rows(&mut rows)?;
     for (key, value) in &rows.to_rows(alloc)? {
-        put_row2(bytes, key, 1, value)?;
+        put_row2(bytes, key, 1, value.bytes())?;
     }
     Ok(())
 }

@@ -17,14 +17,16 @@ pub fn checkpoint(alloc: Global, rows: &[(u8, u8, u64)]) -> Result<Vec<u8>, Trou
 }
 
 fn put_letters(bytes: &mut Vec<u8>, key: u8, value: u8, epoch: u64) -> Result<(), Trouble> {
-    Ok(put_row2(bytes, &key_of(key)?, epoch, &value_of(value)?)?)
+    let value = value_of(value)?;
+    Ok(put_row2(bytes, &key_of(key)?, epoch, value.bytes())?)
 }
 
 /// A checkpoint of version 1.
 pub fn first_checkpoint(alloc: Global, rows: &[(u8, u8)]) -> Result<Vec<u8>, Trouble> {
     let mut bytes = Vec::new(alloc);
     for (key, value) in rows {
-        put_row(&mut bytes, &key_of(*key)?, &value_of(*value)?)?;
+        let value = value_of(*value)?;
+        put_row(&mut bytes, &key_of(*key)?, value.bytes())?;
     }
     Ok(bytes)
 }

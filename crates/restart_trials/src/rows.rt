@@ -22,7 +22,8 @@ pub fn value_of(letter: u8) -> Result<Value, Trouble> {
 
 /// Puts a row of one letter.
 pub fn put_letter(rows: &mut RowMap, key: u8, value: u8) -> Result<(), Trouble> {
-    Ok(rows.insert(key_of(key)?, value_of(value)?)?)
+    let value = value_of(value)?;
+    Ok(rows.insert(key_of(key)?, value.bytes())?)
 }
 
 /// These rows.

@@ -28,8 +28,8 @@ pub fn flip_all(alloc: Global) -> Result<u64, Trouble> {
 
 fn checkpoint(alloc: Global) -> Result<Vec<u8>, Trouble> {
     let mut bytes = Vec::new(alloc);
-    put_row(&mut bytes, &Key::new(b"abc")?, &Value::new(&[b'v'; 96])?)?;
-    put_row(&mut bytes, &key_of(b'd')?, &value_of(b'4')?)?;
+    put_row(&mut bytes, &Key::new(b"abc")?, &[b'v'; 96])?;
+    put_row(&mut bytes, &key_of(b'd')?, &[b'4'])?;
     Ok(bytes)
 }
 

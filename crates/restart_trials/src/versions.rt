@@ -67,7 +67,8 @@ fn has_next(disk: &mut MemDisk) -> Result<(), Trouble> {
 pub fn the_longest_words(alloc: Global) -> Result<(), Trouble> {
     let mut rows = RowMap::new(alloc);
     put_long_rows(&mut rows)?;
-    rows.insert(Key::new(b"a")?, Value::new(b"")?)?;
+    let value = Value::new(b"")?;
+    rows.insert(Key::new(b"a")?, value.bytes())?;
     let bytes = bytes_of(alloc, &rows)?;
     let found = read_back(alloc, &bytes, bytes.len() as u64)?;
     is_same(alloc, &found, &rows)
@@ -77,7 +78,7 @@ pub fn the_longest_words(alloc: Global) -> Result<(), Trouble> {
 fn bytes_of(alloc: Global, rows: &RowMap) -> Result<Vec<u8>, Trouble> {
     let mut bytes = Vec::new(alloc);
     for (key, value) in &rows.to_rows(alloc)? {
-        put_row(&mut bytes, key, value)?;
+        put_row(&mut bytes, key, value.bytes())?;
     }
     Ok(bytes)
 }

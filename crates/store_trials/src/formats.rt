@@ -126,7 +126,7 @@ fn write_checkpoint(rt: &HostRuntime, rows: &[Row], bytes: &mut Vec<u8>) -> Resu
     let watch = Watch::start(rt)?;
     put_head(bytes)?;
     for row in rows {
-        put_row2(bytes, &row.key, 1, &row.value)?;
+        put_row2(bytes, &row.key, 1, row.value.bytes())?;
     }
     tell(rt, "checkpoint", bytes.len(), &watch)
 }
