@@ -26,7 +26,7 @@ use Rattle.tc_block.specs.Turn.{Turn}
 use Rattle.tc_views.specs.State.{CoordinatorState}
 use Rattle.node_views.specs.WellFormed.{is_well_formed}
 use Rattle.world_core.specs.Entries.{ops_of}
-use Rattle.world_core.specs.Start.{Start, made}
+use Rattle.world_core.specs.Start.{NobodyStarts, Start, made}
 use Rattle.world_core.specs.Steps.{Addressed, HostStep}
 use Rattle.world_views.specs.Machine.{step_after}
 use Rattle.view_laws.specs.Order.{sound_machine}
@@ -86,7 +86,8 @@ aborting_answered asked (Committing epoch awaited) is = absurd cc
 aborting_answered asked (Completing epoch awaited) is = absurd cc
 aborting_answered asked (Aborting why verifying awaited) is = tt
 
-module _ (start : Start) (member : Member) (there : IsIn member (made start)) (tx : TxId) where
+module _ (start : Start) (nobody : NobodyStarts start) (member : Member) (there : IsIn member (made start)) (tx : TxId)
+    where
   abbrev c : List HostStep → CoordinatorState
   c log = coordinator_after start member log
 
@@ -100,7 +101,7 @@ module _ (start : Start) (member : Member) (there : IsIn member (made start)) (t
   b log = has_gone_back start member tx log
 
   none_first : o [] ≡ None
-  none_first = ap (λ (s : CoordinatorState). entry_of s tx) (coordinator_first start member there)
+  none_first = ap (λ (s : CoordinatorState). entry_of s tx) (coordinator_first start member there nobody)
 
   abbrev Answered : List HostStep → Type 0
   Answered log = (t : Transaction) → o log ≡ Some t → AnsweredIn t.asked t.phase
@@ -154,7 +155,7 @@ module _ (start : Start) (member : Member) (there : IsIn member (made start)) (t
         aborting_answered turn.step.state.asked turn.step.state.phase (goes.on going)
 
     answered_next : Answered log → Answered (e ∷ log)
-    answered_next old u is = by (coordinator_comes start member there log e tx)
+    answered_next old u is = by (coordinator_comes start member there nobody log e tx)
       where
         by : Step → AnsweredIn u.asked u.phase
         by (same stays unborn untold) = old u (sym stays ∙ is)
@@ -172,7 +173,7 @@ module _ (start : Start) (member : Member) (there : IsIn member (made start)) (t
       with_more epoch ops with_it = record {
         marked = inr with_it.marked;
         ops_are =
-            ops_stay start member there log e heard tx (kept.decided tx epoch with_it.marked) ∙ with_it.ops_are;
+            ops_stay start member there nobody log e heard tx (kept.decided tx epoch with_it.marked) ∙ with_it.ops_are;
       }
 
       knows_more : (ops : List (Op × Answer)) (phase : Phase) → KnowsIn log ops phase → KnowsIn (e ∷ log) ops phase
@@ -217,7 +218,7 @@ module _ (start : Start) (member : Member) (there : IsIn member (made start)) (t
         own : coordinator_member tx ≡ member
         own =
             each_found (λ (e : TxId × Transaction). coordinator_member e.0 ≡ member) (c log).tc.live tx t
-            (coordinator_of start member there log).own found
+            (coordinator_of start member there nobody log).own found
 
         marked : IsMarked (Decided tx epoch) log
         marked = heard.gives tx epoch about well own
@@ -229,7 +230,7 @@ module _ (start : Start) (member : Member) (there : IsIn member (made start)) (t
         waiting (inl gone) = by gone
           where
             says : (f log ≡ false) × (b log ≡ false)
-            says = subst (WaySays (f log) (b log)) at ((goes_one_way start member there tx log).says t found)
+            says = subst (WaySays (f log) (b log)) at ((goes_one_way start member there tx nobody log).says t found)
 
             by : HasGone start member log tx → ops_of tx log ≡ t.ops
             by (inl forth) = absurd (true≢false (sym forth ∙ says.0))
@@ -238,7 +239,8 @@ module _ (start : Start) (member : Member) (there : IsIn member (made start)) (t
         given_with : IsDecidedWith start member log tx epoch t.ops
         given_with = record {
           marked = marked;
-          ops_are = waiting (told_waits start member there tx log (ops_of tx log) (kept.decided tx epoch marked));
+          ops_are =
+              waiting (told_waits start member there tx nobody log (ops_of tx log) (kept.decided tx epoch marked));
         }
 
       turn_knows : (t : Transaction) (node : ℕ) (turn : Turn) → o log ≡ Some t
@@ -263,7 +265,7 @@ module _ (start : Start) (member : Member) (there : IsIn member (made start)) (t
           knows_aborting turn.step.state.ops turn.step.state.phase (goes.on going)
 
       knows_next : Knows log → Knows (e ∷ log)
-      knows_next old u is = by (coordinator_comes start member there log e tx)
+      knows_next old u is = by (coordinator_comes start member there nobody log e tx)
         where
           by : Step → KnowsIn (e ∷ log) u.ops u.phase
           by (same stays unborn untold) = knows_more u.ops u.phase (old u (sym stays ∙ is))
@@ -281,7 +283,7 @@ module _ (start : Start) (member : Member) (there : IsIn member (made start)) (t
   knows : (log : List HostStep) → Heard start member log → Knows log
   knows [] heard t is = absurd (let none : None ≡ Some t = sym none_first ∙ is in cc)
   knows (e ∷ log) heard t is =
-      knows_next log e heard.0 (is_kept start member there log heard.1) (knows log heard.1) t is
+      knows_next log e heard.0 (is_kept start member there nobody log heard.1) (knows log heard.1) t is
 
   -- who goes forth was decided
   abbrev WasDecided : List HostStep → Type 0
@@ -299,7 +301,7 @@ module _ (start : Start) (member : Member) (there : IsIn member (made start)) (t
         of_phase t found false at = refl
         of_phase t found true at =
             absurd (not_both (f log) (at_decided t.phase (f log) (b log)
-            ((goes_one_way start member there tx log).says t found) at) was)
+            ((goes_one_way start member there tx nobody log).says t found) at) was)
 
         by : (x : Option Transaction) → o log ≡ x → is_at is_decided x ≡ false
         by None at = refl
@@ -317,7 +319,7 @@ module _ (start : Start) (member : Member) (there : IsIn member (made start)) (t
       on_some on = left ∙ ap (λ b. if b then None else Some turn.step.state) on
 
       way_now : turn.over ≡ false → WaySays (f (e ∷ log)) (b (e ∷ log)) turn.step.state.phase
-      way_now on = (goes_one_way start member there tx (e ∷ log)).says turn.step.state (on_some on)
+      way_now on = (goes_one_way start member there tx nobody (e ∷ log)).says turn.step.state (on_some on)
 
       not_now : turn.over ≡ false → (phase : Phase) → turn.step.state.phase ≡ phase → is_decided phase ≡ false → ⊥
       not_now on phase at undecided =
@@ -339,7 +341,7 @@ module _ (start : Start) (member : Member) (there : IsIn member (made start)) (t
               → b (e ∷ log) ≡ true
           back (inl at) =
               gone_stays start member tx is_aborting (tells_abort tx) log e
-              (at_aborting t.phase (f log) (b log) ((goes_one_way start member there tx log).says t found) at)
+              (at_aborting t.phase (f log) (b log) ((goes_one_way start member there tx nobody log).says t found) at)
           back (inr told) = gone_told start member tx is_aborting (tells_abort tx) log e (among told)
 
           by : (over : Bool) → turn.over ≡ over → ⊥
@@ -347,7 +349,7 @@ module _ (start : Start) (member : Member) (there : IsIn member (made start)) (t
               not_now on turn.step.state.phase refl (aborting_apart turn.step.state.phase (goes.on on))
           by true over =
               not_both (b (e ∷ log)) (back (goes.ends over))
-              ((goes_one_way start member there tx (e ∷ log)).one_way is)
+              ((goes_one_way start member there tx nobody (e ∷ log)).one_way is)
 
       turn_decides : is_well_formed start.shape e.step.taken ≡ true → (node : ℕ)
           → Changes node tx t e.step.taken.body turn → WasDecided (e ∷ log)
@@ -360,12 +362,12 @@ module _ (start : Start) (member : Member) (there : IsIn member (made start)) (t
           (epoch, inr (given_with log e heard kept t found at epoch about well).marked)
       turn_decides well node (turns.forth epoch at goes) =
           absurd (not_both (f log)
-          (at_decided t.phase (f log) (b log) ((goes_one_way start member there tx log).says t found)
+          (at_decided t.phase (f log) (b log) ((goes_one_way start member there tx nobody log).says t found)
           (is_decided_as t.phase epoch at)) was)
       turn_decides well node (turns.back undecided goes) = absurd (not_back goes)
 
     decided_now : WasDecided (e ∷ log)
-    decided_now = by (coordinator_comes start member there log e tx)
+    decided_now = by (coordinator_comes start member there nobody log e tx)
       where
         by : Step log e → WasDecided (e ∷ log)
         by (same stays unborn untold) =
@@ -383,7 +385,7 @@ module _ (start : Start) (member : Member) (there : IsIn member (made start)) (t
 
       by : (x : Bool) → f log ≡ x → (f log ≡ true → WasDecided log) → WasDecided (e ∷ log)
       by true was before = more (before was)
-      by false was before = decided_now log e heard.0 (is_kept start member there log heard.1) was is
+      by false was before = decided_now log e heard.0 (is_kept start member there nobody log heard.1) was is
 
   says_in : (log : List HostStep) (t : Transaction) (phase : Phase) → WaySays (f log) (b log) phase
       → AnsweredIn t.asked phase → KnowsIn log t.ops phase → SaysIn start member log tx t phase
@@ -394,7 +396,8 @@ module _ (start : Start) (member : Member) (there : IsIn member (made start)) (t
   says_in log t (Aborting why verifying awaited) way none known = way.0
 
 -- so all stands, behind a log that has heard rightly
-module _ (start : Start) (member : Member) (there : IsIn member (made start)) (logs : ℕ → List HostStep)
+module _ (start : Start) (nobody : NobodyStarts start) (member : Member) (there : IsIn member (made start))
+    (logs : ℕ → List HostStep)
     (heard : Heard start member (logs (tc_of start member)))
   where
     abbrev log : List HostStep
@@ -404,38 +407,39 @@ module _ (start : Start) (member : Member) (there : IsIn member (made start)) (l
     s = coordinator_after start member (logs (tc_of start member))
 
     kept : IsKept start member there (logs (tc_of start member))
-    kept = is_kept start member there (logs (tc_of start member)) heard
+    kept = is_kept start member there nobody (logs (tc_of start member)) heard
 
     says : Each (SaysOf start member log) s.tc.live
     says =
         each_from (SaysOf start member log) s.tc.live
         (λ e inside.
-        let found = found_in s.tc.live (coordinator_of start member there log).once e inside in
-        says_in start member there e.0 log e.1 e.1.phase
-        ((goes_one_way start member there e.0 log).says e.1 found)
-        (answered start member there e.0 log e.1 found) (knows start member there e.0 log heard e.1 found))
+        let found = found_in s.tc.live (coordinator_of start member there nobody log).once e inside in
+        says_in start nobody member there e.0 log e.1 e.1.phase
+        ((goes_one_way start member there e.0 nobody log).says e.1 found)
+        (answered start nobody member there e.0 log e.1 found)
+            (knows start nobody member there e.0 log heard e.1 found))
 
     given_with_it : (tx : TxId) (epoch : ℕ) → IsMarked (Decided tx epoch) log → IsGivenWith start member log tx epoch
     given_with_it tx epoch marked = record {
       ops = ops_of tx log;
       decided = record { marked = marked; ops_are = refl };
-      waits = told_waits start member there tx log (ops_of tx log) (kept.decided tx epoch marked);
+      waits = told_waits start member there tx nobody log (ops_of tx log) (kept.decided tx epoch marked);
     }
 
     right_of : (body : Body) → HasTold start (tc_of start member) body log → IsRightOf start member log body
-    right_of (Epoch (DiVerifyReq tx ops)) told = told_waits start member there tx log ops told
+    right_of (Epoch (DiVerifyReq tx ops)) told = told_waits start member there tx nobody log ops told
     right_of (Epoch (DiVerifyConf tx epoch)) told = given_with_it tx epoch (kept.given tx epoch told)
     right_of body told = tt
 
     all_stands : CoordinatorStands start member logs
     all_stands = record {
-      of = coordinator_of start member there log;
+      of = coordinator_of start member there nobody log;
       says = says;
-      keyed = coordinator_touched start member there log;
+      keyed = coordinator_touched start member there nobody log;
       forgotten = λ tx own low some none.
-          (goes_one_way start member there tx log).gone own (lower_come tx.seq s.tc.next_seq low) some none;
-      one_way = λ tx is. (goes_one_way start member there tx log).one_way is;
-      forth = λ tx is. forth_decided start member there tx log heard is;
+          (goes_one_way start member there tx nobody log).gone own (lower_come tx.seq s.tc.next_seq low) some none;
+      one_way = λ tx is. (goes_one_way start member there tx nobody log).one_way is;
+      forth = λ tx is. forth_decided start nobody member there tx log heard is;
       decided = given_with_it;
       signals =
           each_map (λ (x : Addressed). HasTold start (tc_of start member) x.signal.body log)
@@ -446,4 +450,4 @@ module _ (start : Start) (member : Member) (there : IsIn member (made start)) (l
 
 pub coordinators_stand : CoordinatorsStand
 coordinators_stand start all es moment member there =
-    all_stands start member there (logs_of start es) (heard_at start all member there es moment)
+    all_stands start moment.cluster.nobody member there (logs_of start es) (heard_at start all member there es moment)

@@ -22,7 +22,7 @@ use Rattle.sig_core.specs.declared.view.View.{View}
 use Rattle.sig_core.specs.Part.{part_of}
 use Rattle.qmgr_block.specs.Promise.{fence_of, fences}
 use Rattle.world_core.specs.Hosts.{host_of, hosts}
-use Rattle.world_core.specs.Start.{Start, made}
+use Rattle.world_core.specs.Start.{NobodyStarts, Start, made}
 use Rattle.world_core.specs.Steps.{Addressed, HostStep}
 use Rattle.world_views.specs.Hosts.{reached}
 use Rattle.world_views.specs.Machine.{IsOwn, IsOwnWork, after, closing, comes_rightly, machine, signals_of, step_after}
@@ -68,7 +68,8 @@ module _ (start : Start) (logs : ℕ → List HostStep) where
   abbrev pub IsPromisedAt : Addressed → Type 0
   IsPromisedAt y = IsPromisedTo y.to y.signal
 
-  module _ (k : ℕ) (log : List HostStep) (e : HostStep) (past : IsPast (e ∷ log) (logs k)) where
+  module _ (nobody : NobodyStarts start) (k : ℕ) (log : List HostStep) (e : HostStep) (past : IsPast (e ∷ log) (logs k))
+      where
     from_main : (y : Addressed) (view : View) (sent : Outgoing) → y.signal.body ≡ sent.body
         → y.to ≡ reached (made start) k view sent.to → IsOfMain start k (e ∷ log) sent → IsPromisedAt y
     from_main y view sent body to of me there at is set says =
@@ -79,9 +80,9 @@ module _ (start : Start) (logs : ℕ → List HostStep) where
         let reaches : reached (made start) k view (record { node = of.member.node; block = one.block })
         ≡ host_of (made start) (part_of at) me =
         sym (ap (λ (s : Outgoing). reached (made start) k view s.to) one.is) ∙ sym to ∙ is in
-        let number : k ≡ suc ((of.member.node - 1) * 3 + 0) = of.at ∙ main_is start of.member of.made in
+        let number : k ≡ suc ((of.member.node - 1) * 3 + 0) = of.at ∙ main_is start nobody of.member of.made in
         let own : of.member ≡ me =
-        own_reaches start ((of.member.node - 1) * 3 + 0) view of.member me of.made there one.block at
+        own_reaches start nobody ((of.member.node - 1) * 3 + 0) view of.member me of.made there one.block at
         (subst (λ k. reached (made start) k view (record { node = of.member.node; block = one.block })
         ≡ host_of (made start) (part_of at) me) number reaches) in
         let events : IsPast (events_of is_membership start k (e ∷ log)) (events_of is_membership start k (logs k)) =
@@ -106,7 +107,7 @@ module _ (start : Start) (logs : ℕ → List HostStep) where
     each_promised low =
         each_map _ _ (signals_of start k log e)
         (λ y one. by y one.sent one.body one.to
-        (each_in _ one.sent (step_after start k log e).effects.sends (host_fences start k low log e) one.there))
+        (each_in _ one.sent (step_after start k log e).effects.sends (host_fences start nobody k low log e) one.there))
         (each_sent start k log e)
       where
         by : (y : Addressed) (sent : Outgoing) → y.signal.body ≡ sent.body
@@ -131,7 +132,7 @@ module _ (start : Start) (logs : ℕ → List HostStep) where
     sent_promised i j (e ∷ log) past =
         put_each (machine start) IsPromisedAt j (sent_by (machine start) i log e) (sent (machine start) i j log)
         (sent_by_each (machine start) IsPromisedAt i log e
-        (λ runs. each_promised i log e past (low_host i e log past)))
+        (λ runs. each_promised are.nobody i log e past (low_host i e log past)))
         (sent_promised i j log (past_less e past))
 
     closing_promised : (i : ℕ) (log : List HostStep) (e : HostStep) (j : ℕ) → IsPromisedAt (closing start i log e j)
