@@ -1,6 +1,7 @@
 //! Random lives of clusters, and the laws that they and the restarts between them are judged by. Four words say what is
 //! run, and more such fours behind them: a kind, the first seed, how many runs, and at how many of a hundred requests
-//! failures begin. A run is made of its seed alone, so one that breaks a law can be had again.
+//! failures begin. A run is made of its seed alone, so one that breaks a law can be had again. Where the first word is
+//! `traces`, lives as traces are tried before.
 //!
 //! | kind | what a run is |
 //! |---|---|
@@ -13,7 +14,7 @@
 //! the next.
 //!
 //! Printed are what a run on disks came to, the law that a run breaks, and behind all runs of four words what they did.
-//! The status is 1 where a law is broken, and 2 where the words aren't such.
+//! The status is 1 where a law is broken or a trace isn't what it should be, and 2 where the words aren't such.
 #![tactic(auto)]
 
 mod alone;
@@ -33,6 +34,7 @@ mod table;
 mod tally;
 mod told;
 mod traced;
+mod traces;
 mod trial;
 mod words;
 
@@ -48,7 +50,7 @@ use trial_requests::all_keys;
 use words::{Kind, Runs, all_runs};
 
 const USAGE: &str =
-    "usage: life_trials [alone|disks|fuses] SEED COUNT FAILS|table FIRST COUNT STEP ..";
+    "usage: life_trials [traces] [alone|disks|fuses] SEED COUNT FAILS|table FIRST COUNT STEP ..";
 
 fn words_of(rt: &HostRuntime) -> Result<Vec<String>, Fail> {
     let mut words = Vec::new(rt.alloc());
@@ -129,13 +131,25 @@ fn tell_fault(rt: &HostRuntime, seed: u64, fault: RunFault, tally: &mut Tally) -
     Ok(())
 }
 
+// Whether traces are tried, and the words behind.
+fn split_traces(words: &[String]) -> (bool, &[String]) {
+    match words.split_first() {
+        Some((first, behind)) if first.as_str() == "traces" => (true, behind),
+        _ => (false, words),
+    }
+}
+
 fn main(rt: HostRuntime) -> Result<ExitCode, Fail> {
     let words = words_of(&rt)?;
-    let Some(all) = all_runs(rt.alloc(), words.as_slice())? else {
+    let (has_traces, words) = split_traces(words.as_slice());
+    let Some(all) = all_runs(rt.alloc(), words)? else {
         println!(rt; "{USAGE}")?;
         return Ok(ExitCode::from(2));
     };
     let mut faultless = true;
+    if has_traces {
+        faultless = traces::try_all(&rt, &rt)?;
+    }
     for runs in all.as_slice() {
         faultless &= run_all(&rt, &rt, runs)?;
     }

@@ -5,7 +5,7 @@ mod lives;
 mod places;
 mod trials;
 
-use crate::tell;
+use crate::traces::tell;
 use lives::{Failing, trace_alone, trace_of_pair};
 use places::{StepPlace, places};
 use sig_core::{Life, NoMemory};

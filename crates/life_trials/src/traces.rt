@@ -1,8 +1,5 @@
 //! Traces, tried out: a life worked out by hand; each kind of signal, mark, work, request and line; each byte
-//! changed, and each trace cut short at each length. Of each trial it is printed whether it came out; the status
-//! is 1 where one didn't.
-#![tactic(auto)]
-
+//! changed, and each trace cut short at each length. Of each trial it is printed whether it came out.
 mod bearing;
 mod checks;
 mod kinds;
@@ -14,7 +11,7 @@ use kinds::bear_kinds;
 use life::{SHAPE, STEP, STEP_END, TRACE, a_life, a_step, found_slots};
 use sig_core::{NoMemory, Own, Table};
 use std::alloc::Global;
-use std::process::ExitCode;
+use std::sync::Wait;
 use std::test::Fail;
 use trace_write::{WriteFault, write_step, write_trace};
 
@@ -163,10 +160,14 @@ fn try_kinds(rt: &HostRuntime, failed: &mut bool) -> Result<(), Fail> {
     tell(rt, "of each mark", passed, failed)
 }
 
-fn main(rt: HostRuntime) -> Result<ExitCode, Fail> {
+/// Tries all of it, and says whether it came out.
+///
+/// # Errors
+/// Want of memory, and a line that isn't written.
+pub fn try_all<W: Wait>(rt: &HostRuntime, wait: &W) -> Result<bool, Fail> {
     let mut failed = false;
-    try_life(&rt, &mut failed)?;
-    try_kinds(&rt, &mut failed)?;
-    try_checks(&rt, &rt, &mut failed)?;
-    Ok(ExitCode::from(if failed { 1 } else { 0 }))
+    try_life(rt, &mut failed)?;
+    try_kinds(rt, &mut failed)?;
+    try_checks(rt, wait, &mut failed)?;
+    Ok(!failed)
 }

@@ -1,7 +1,7 @@
 use Rattle.world_views.specs.WorldOf.{whole_of}
 use Rattle.world_views.proofs.WorldLemmas.{driven_world}
-use Rattle.trace_runs.proofs.Stays.{empty_world, gone_world}
-use Rattle.trace_runs.proofs.checks.lives.pick.Goals as goal
+use Rattle.life_trials.proofs.Worlds.{empty_world, gone_world}
+use Rattle.life_trials.proofs.traces.checks.lives.pick.Goals as goal
 
 pub returns-in-Ok : goal.returns-in-Ok
 returns-in-Ok c =

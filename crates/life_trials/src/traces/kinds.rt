@@ -1,5 +1,5 @@
 //! For each kind of what traces tell, the least trace that begins with a step of it.
-use crate::bearing::{bears_changes, bears_cuts, fault_of, is_written_again};
+use crate::traces::bearing::{bears_changes, bears_cuts, fault_of, is_written_again};
 use sig_core::NoMemory;
 use std::alloc::Global;
 

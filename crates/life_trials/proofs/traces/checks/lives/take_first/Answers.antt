@@ -1,7 +1,7 @@
 use Rattle.std.specs.Prelude.{is_some}
 use Rattle.world_views.specs.WorldOf.{whole_of}
-use Rattle.trace_runs.proofs.Stays.{step_world}
-use Rattle.trace_runs.proofs.checks.lives.take_first.Goals as goal
+use Rattle.life_trials.proofs.Worlds.{step_world}
+use Rattle.life_trials.proofs.traces.checks.lives.take_first.Goals as goal
 
 pub returns : goal.returns
 returns c =

@@ -1,6 +1,6 @@
 use Rattle.world_views.specs.WorldOf.{whole_of}
-use Rattle.trace_runs.proofs.Stays.{driven_ok}
-use Rattle.trace_runs.proofs.checks.lives.drive.Goals as goal
+use Rattle.life_trials.proofs.Worlds.{driven_ok}
+use Rattle.life_trials.proofs.traces.checks.lives.drive.Goals as goal
 
 pub returns : goal.returns
 returns g c =

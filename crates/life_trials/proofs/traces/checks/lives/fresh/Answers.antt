@@ -1,8 +1,8 @@
 use Rattle.std.proofs.Common.{[], refl}
 use Rattle.gcp_master.specs.declared.numbers.TheConstants.{MICROS}
 use Rattle.world_views.specs.WorldOf.{whole_of}
-use Rattle.trace_runs.proofs.Stays.{begun_ok}
-use Rattle.trace_runs.proofs.checks.lives.fresh.Goals as goal
+use Rattle.life_trials.proofs.Worlds.{begun_ok}
+use Rattle.life_trials.proofs.traces.checks.lives.fresh.Goals as goal
 
 pub returns : goal.returns
 returns c =
