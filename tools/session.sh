@@ -9,14 +9,17 @@ is_stale() {
 # How the program is called.
 usage() {
     cat <<END
-ndb [--nodes N] [--replicas R] [--fragments F] [FILE]
+ndb [--nodes N] [--replicas R] [--fragments F] [--trace] [FILE]
     A cluster of N nodes, 1 to 8 (2), with R replicas of each row, 1 to 4 (2), which divide N, and
     F fragments, 1 to 32 (4). It runs the script in FILE, or on standard input; at a terminal it is a
-    console, where \`help\` tells more.
+    console, where \`help\` tells more. With --trace it writes no replies, but the trace of its last life.
+ndb --check [FILE]
+    Tells the history of a trace, or why it is none of a right life.
 ndb --help, ndb --version
 
 status   0 the input was read to its end, or to \`quit\`    1 words refused     2 a line refused
-         3 reading failed    4 writing failed    5 memory is wanting    9 a line too long
+         3 reading failed    4 writing failed    5 memory is wanting    9 a line, or a trace, too long
+         11 no trace    12 a step of a trace is wrong
 docs/SCRIPT.md is the manual, docs/TUTORIAL.md a first hour.
 END
 }
@@ -38,7 +41,9 @@ tell_status() {
         3) words='reading failed' ;;
         4) words='writing failed' ;;
         5) words='memory is wanting' ;;
-        9) words='a line is too long: more than 512 bytes, or the 65,537th' ;;
+        9) words='a line is too long, of more than 512 bytes, or the 65,537th; or a trace, of more than 2^30' ;;
+        11) words='what was read is no trace of a cluster; the line tells where it stops being one' ;;
+        12) words='the trace has a step that the machine does not make; the line tells which' ;;
         *) words='the program was stopped' ;;
     esac
     [ ! -t 2 ] || echo "ndb: status $1: $words" >&2
@@ -65,9 +70,11 @@ take_words() {
     done
 }
 
-# Leaves in `crate` that of the program that these words want: the console at a terminal, and else the plain one.
+# Leaves in `crate` that of the program that these words want: the console at a terminal, unless they ask for a trace or
+# the check of one, and else the plain one.
 choose_crate() {
     crate=ndb_shell
+    case " ${words[*]} " in *' --trace '* | *' --check '*) return ;; esac
     if [ -z "$script" ] && [ -t 0 ]; then crate=ndb_console; fi
 }
 

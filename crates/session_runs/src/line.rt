@@ -29,6 +29,10 @@ pub enum Line<'a> {
     Lay(Laid<'a>),
     /// The program is run again, on the disks that are left: what follows is its script.
     Again,
+    /// The program is run again, and reads what it has written.
+    Fed,
+    /// The byte at this place of what is read is this one.
+    Byte { at: usize, byte: u8 },
     /// The logs are told.
     Logs,
 }
@@ -65,6 +69,8 @@ pub fn parse<'a>(line: &'a str) -> Option<Line<'a>> {
         "crlf" => Some(Line::Returned(rest)),
         "last" => Some(Line::Last(rest)),
         "again" if rest.is_empty() => Some(Line::Again),
+        "fed" if rest.is_empty() => Some(Line::Fed),
+        "byte" => changed_byte(rest),
         "logs" if rest.is_empty() => Some(Line::Logs),
         "no" => failure(rest),
         "lay" => disk_write(rest),
@@ -103,6 +109,15 @@ fn disk_write<'a>(rest: &'a str) -> Option<Line<'a>> {
         at: at.parse::<u64>().ok()?,
         bytes,
     }))
+}
+
+// The line of a byte that is changed.
+fn changed_byte<'a>(rest: &'a str) -> Option<Line<'a>> {
+    let (at, byte) = cut_word(rest);
+    Some(Line::Byte {
+        at: at.parse::<usize>().ok()?,
+        byte: byte.parse::<u8>().ok()?,
+    })
 }
 
 // A line with a number in it.

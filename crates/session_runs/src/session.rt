@@ -10,6 +10,17 @@ pub struct Run {
     pub words: Vec<String>,
     pub script: Vec<u8>,
     pub writes: Vec<DiskWrite>,
+    /// Bytes of what is read that are changed.
+    pub changes: Vec<Change>,
+    /// Whether the next run reads what this one writes.
+    pub feeds: bool,
+}
+
+/// A byte of what is read that is changed.
+#[derive(Clone, Copy)]
+pub struct Change {
+    pub at: usize,
+    pub byte: u8,
 }
 
 /// Bytes that are written to a node's disk.
@@ -59,6 +70,8 @@ impl Run {
             words: Vec::new(alloc),
             script: Vec::new(alloc),
             writes: Vec::new(alloc),
+            changes: Vec::new(alloc),
+            feeds: false,
         }
     }
 }
@@ -89,12 +102,20 @@ impl Session {
             Line::Last(line) => Ok(self.run.script.extend_from_slice(line.as_bytes())?),
             Line::Spaces(count) => self.add_spaces(count),
             Line::Lay(laid) => self.add_write(alloc, laid),
-            Line::Again => {
-                let run = mem::replace(&mut self.run, Run::new(alloc));
-                Ok(self.earlier.push(run)?)
+            Line::Again => self.next_run(alloc),
+            Line::Fed => {
+                self.run.feeds = true;
+                self.next_run(alloc)
             }
+            Line::Byte { at, byte } => Ok(self.run.changes.push(Change { at, byte })?),
             line => self.setting.set(line),
         }
+    }
+
+    // Another run follows.
+    fn next_run(&mut self, alloc: Global) -> Result<(), Fault> {
+        let run = mem::replace(&mut self.run, Run::new(alloc));
+        Ok(self.earlier.push(run)?)
     }
 
     fn add_words(&mut self, alloc: Global, words: &str) -> Result<(), Fault> {
