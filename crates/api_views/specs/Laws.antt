@@ -26,10 +26,21 @@ use Rattle.api_views.specs.Rounds.{round_effects}
 use Rattle.api_views.specs.State.{ClientState, telling, within}
 use Rattle.api_views.specs.Stops.{is_down}
 
--- no host stopped, no node was cut, and no closing of an epoch is asked for
+-- no host stopped, no node was cut, and neither a closing of an epoch nor a start was asked for
 abbrev pub calm_state : ApiState → ℕ → Option View → ClientState
 calm_state a nodes over =
-    record { api = a; nodes = nodes; stops = []; cuts = []; taken_over = over; closing = None; own = false }
+    record {
+      api = a;
+      nodes = nodes;
+      stops = [];
+      cuts = [];
+      taken_over = over;
+      closing = None;
+      own = false;
+      later = [];
+      starting = None;
+      own_start = false;
+    }
 
 -- only a member of the greatest view may say this
 abbrev pub is_vouched : Body → Bool
