@@ -32,7 +32,7 @@ use Rattle.qmgr_block.specs.Join.{has_node, join_if, joining_with, may_add, prom
 use Rattle.qmgr_block.specs.Promise.{confirmed_at, confirmed_if, confirmed_place, fence_row, is_fenced, is_ldm, less}
 use Rattle.qmgr_block.specs.Promise.{may_promise, promise_by, promise_row, promising, waits_for, with_absent}
 use Rattle.qmgr_block.specs.Promise.{with_missing_from}
-use Rattle.qmgr_block.specs.Propose.{has_number, next_number}
+use Rattle.qmgr_block.specs.Propose.{has_number, next_number, proposed_view}
 use Rattle.qmgr_block.specs.Qmgr.{host_table, joining_table, membership_table, qmgr_table}
 use Rattle.qmgr_block.specs.Ring.{heartbeat_by, heartbeat_row, round_by, round_row, sides, with_missing, with_round}
 use Rattle.qmgr_block.specs.Sets.{is_among, is_in, is_special, joined_view, members_of, promoted_view, same_member}
@@ -42,8 +42,8 @@ use Rattle.qmgr_block.specs.State.{QmgrState}
 use Rattle.qmgr_block.specs.Suspects.{close_row, has_more, is_kept_suspect, presides, report_row, told_if, with_closed}
 use Rattle.qmgr_block.specs.Suspects.{with_closing, with_suspect, with_suspects}
 use Rattle.qmgr_block.proofs.KeptLemmas.{Kept, all_noted_holds, closed_kept, kept_on, kept_self, next_is_high}
-use Rattle.qmgr_block.proofs.KeptLemmas.{noted_holds, proposed_if_kept, suspect_kept, suspects_kept, suspects_promised}
-use Rattle.qmgr_block.proofs.KeptLemmas.{told_kept, told_on}
+use Rattle.qmgr_block.proofs.KeptLemmas.{noted_holds, proposed_if_kept, proposed_kept, suspect_kept, suspects_kept}
+use Rattle.qmgr_block.proofs.KeptLemmas.{suspects_promised, told_kept, told_on}
 
 -- heartbeats
 round_if : (k : Known) (n : ℕ) (less : Bool) → Kept k (if less then record k { missed = n } else k)

@@ -7,7 +7,7 @@ use Rattle.run_theory.specs.Along.{Comes, IsKept}
 use Rattle.run_theory.specs.Lists.{Each}
 use Rattle.run_theory.specs.Runs.{IsWithin, log_of}
 use Rattle.world_core.specs.Hosts.{hosts}
-use Rattle.world_core.specs.Start.{Start}
+use Rattle.world_core.specs.Start.{NobodyStarts, Start}
 use Rattle.world_core.specs.Steps.{Addressed, HostStep}
 use Rattle.world_views.proofs.SentFacts.{is_stamped}
 use Rattle.world_views.specs.Machine.{closing, machine, signals_of}
@@ -18,6 +18,7 @@ use Rattle.view_laws.proofs.runs.TrueSends.{host_sends}
 use Rattle.view_laws.proofs.runs.Sound.{AreSoundLogs, IsGood, IsSoundSignal}
 use Rattle.view_laws.proofs.runs.Step.{host_there, sound_next, sound_start, true_view}
 use Rattle.view_laws.proofs.runs.ChosenViews.{of_greater, within_less}
+use Rattle.view_laws.proofs.runs.Unstarted.{newest_tells, run_unstarted}
 
 module _ (start : Start) (is_shape : IsShape start.shape) where
   -- all is sound in logs of the hosts that there are, and so is each signal on its way
@@ -36,14 +37,16 @@ module _ (start : Start) (is_shape : IsShape start.shape) where
       sound_next start is_shape es e within come.happens.step.fits (come.all.law before)
       (λ asked. come.told asked before)
 
-  sends_next : (es : List HostStep) (e : HostStep) → IsNext es e
+  sends_next : NobodyStarts start → (es : List HostStep) (e : HostStep) → IsNext es e
       → Each (λ x. IsTrueIn x (log_of (machine start) (e ∷ es)))
       (signals_of start e.host (log_of (machine start) es e.host) e)
-  sends_next es e come =
+  sends_next nobody es e come =
       all_within (signals_of start e.host (log_of (machine start) es e.host) e)
       (λ within.
-      host_sends start (log_of (machine start) (e ∷ es)) is_shape (next es e come within) e.host
-      (host_there start e es within)
+      host_sends start (log_of (machine start) (e ∷ es)) is_shape (next es e come within)
+      (newest_tells start (log_of (machine start) (e ∷ es))
+      (run_unstarted start nobody (e ∷ es) (come.run, come.happens)))
+      e.host (host_there start e es within)
       (log_of (machine start) es e.host) e (log_of-own (machine start) e es e.host refl))
     where
       -- what holds of each where the logs are of the hosts that there are
@@ -73,11 +76,11 @@ module _ (start : Start) (is_shape : IsShape start.shape) where
         asks = λ at. tt;
       }
 
-  pub kept : IsKept (machine start) IsTrueIn AreSound
-  kept = record {
+  pub kept : NobodyStarts start → IsKept (machine start) IsTrueIn AreSound
+  kept nobody = record {
     start = λ within. sound_start start is_shape;
     step = next;
-    sends = λ es e come runs. sends_next es e come;
+    sends = λ es e come runs. sends_next nobody es e come;
     closing = λ es e come stops. closing_next es e come;
     stays = λ es e x come is within.
         signal_more start (log_of (machine start) es) (log_of (machine start) (e ∷ es))
@@ -90,7 +93,7 @@ have_orderly start es run =
     let logs = log_of (machine start) es in
     let sound : AreSoundLogs start logs =
     (along_signals (machine start) (IsTrueIn start run.shape) (AreSound start run.shape)
-    (kept start run.shape) es run.run).law
+    (kept start run.shape run.nobody) es run.run).law
     run.within in
     record {
       orderly = sound_orderly start logs run.shape sound;
@@ -101,5 +104,5 @@ have_orderly start es run =
 pub logs_sound : (start : Start) (logs : ℕ → List HostStep) → AreOfCluster start logs → AreSoundLogs start logs
 logs_sound start logs are =
     (along_signals_of_logs (machine start) (is_stamped start) (IsTrueIn start are.shape) (AreSound start are.shape)
-    (kept start are.shape) (hosts start) logs are.within are.right).law
+    (kept start are.shape are.nobody) (hosts start) logs are.within are.right).law
     are.within
