@@ -17,8 +17,8 @@ use Rattle.step_forms.specs.Does.{Speaks}
 use Rattle.api_views.specs.Client.{client_row}
 use Rattle.api_views.specs.State.{ClientState}
 
--- it asks coordinators, rows, masters of checkpoints and presidents, tells hosts of rounds, deaths and cuts, and goes on
--- telling what gets no answer
+-- it asks coordinators, rows, masters of checkpoints and presidents, tells hosts of rounds, deaths and cuts, and goes
+-- on telling what gets no answer
 abbrev pub is_client_word : Body → Bool
 is_client_word (Host Round) = true
 is_client_word (Host (Kill order)) = true

@@ -337,7 +337,8 @@ module _ (s : QmgrState) (x : Signal) (R : Step QmgrState → Type 0) (forms : Q
   stop_goes cause is = forms.stops cause is
 
   -- joins
-  start_goes : (member : Member) (own : Option ℕ) → x.body ≡ Joining (StartReq member own) → Goes (start_row k member own)
+  start_goes : (member : Member) (own : Option ℕ) → x.body ≡ Joining (StartReq member own)
+      → Goes (start_row k member own)
   unfolding start_row proposed_view
   start_goes member own is =
       by (is_among k.layout.view.full member) refl (has_node (members_of k.layout.view) member) refl (may_add k) refl

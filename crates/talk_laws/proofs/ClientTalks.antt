@@ -57,7 +57,6 @@ use Rattle.api_views.proofs.Outcomes.{ClientOutcomes, IsAsked, client_outcomes, 
 use Rattle.api_views.proofs.Walk.{anew_all_each, asking_each, more_each, over_each, rounds_each, starting_each}
 use Rattle.answer_laws.proofs.ApiSteps.{is_calm}
 
-
 abbrev pub IsPlain : Outgoing → Type 0
 IsPlain sent = is_calm sent.body ≡ true
 

@@ -232,8 +232,8 @@ is_asked_in member body = false
 abbrev pub asks_for : Member → Outgoing → Bool
 asks_for member sent = is_asked_in member sent.body
 
--- The shell's step after its log makes host h, of a later start: it asks the others to take the member in, and before it
--- the shell stood in the view in which the host begins.
+-- The shell's step after its log makes host h, of a later start: it asks the others to take the member in, and before
+-- it the shell stood in the view in which the host begins.
 pub record MakesBy (start : Start) (log : List HostStep) (e : HostStep) (late : Late) : Type 0 where
   pub asks : list_any (asks_for late.member) (step_after start 0 log e).effects.sends ≡ true
   pub view : (after start 0 log).standing.view ≡ late.view

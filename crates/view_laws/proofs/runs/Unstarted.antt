@@ -6,7 +6,7 @@ use Rattle.std.proofs.lemmas.Bool.{true≢false}
 use Rattle.std.specs.Prelude.{if◌then◌else◌, Option, None, Some}
 use Rattle.run_theory.specs.Along.{Comes, IsKept}
 use Rattle.run_theory.specs.Lists.{Each, IsIn, IsPast}
-use Rattle.run_theory.specs.Runs.{IsWithin, Run, log_of}
+use Rattle.run_theory.specs.Runs.{Run, log_of}
 use Rattle.run_theory.proofs.Along.{along_signals, along_signals_of_logs}
 use Rattle.run_theory.proofs.EventCases.{event_cases}
 use Rattle.run_theory.proofs.Pasts.{each_append, each_in, each_map, past_cases, past_less}
@@ -32,7 +32,7 @@ use Rattle.arbiter_block.specs.Arbiter.{ArbiterState, arbiter_row}
 use Rattle.arbiter_block.specs.Words.{is_arbiter_word}
 use Rattle.arbiter_block.proofs.Walk.{arbiter_words}
 use Rattle.node_views.specs.Blocks.{in_shell, parts_entered, parts_row, settled_at}
-use Rattle.node_views.specs.declared.host_body.HostBody as hosts
+use Rattle.node_views.specs.declared.host_body.HostBody as node
 use Rattle.node_views.specs.declared.parts.Parts.{Parts}
 use Rattle.node_views.specs.declared.parts.Parts.TheVariants.{Ldm, Main, Shell, Tc}
 use Rattle.node_views.specs.declared.shell_part.ShellPart.{ShellPart}
@@ -40,7 +40,7 @@ use Rattle.node_views.specs.Parts.{in_client}
 use Rattle.node_views.specs.Replies.{giving}
 use Rattle.node_views.specs.Words.{parts_words}
 use Rattle.node_views.proofs.Walk.{parts_outcomes}
-use Rattle.world_core.specs.Hosts as world_hosts
+use Rattle.world_core.specs.Hosts.{hosts}
 use Rattle.world_core.specs.Requests.{request_in}
 use Rattle.world_core.specs.Start.{NobodyStarts, Start}
 use Rattle.world_core.specs.Steps.{Addressed, HostStep}
@@ -107,7 +107,8 @@ module _ (p : ShellPart) (none : p.client.starting ≡ None) (x : Signal) where
           runs = refl;
           known = inr one.asked;
           quiet = λ same.
-              absurd (not_longer q.client.later (client_row q.client x).state.later _ (same ∙ sym later) (sym one.later));
+              absurd (not_longer q.client.later (client_row q.client x).state.later _ (same ∙ sym later)
+                  (sym one.later));
         }
 
     still : (parts : Parts) (more : List Outgoing) (own : ShellPart) → parts ≡ Shell own
@@ -160,7 +161,7 @@ module _ (p : ShellPart) (none : p.client.starting ≡ None) (x : Signal) where
   unfolding noted
   entered_none = none
 
-  module _ (s : hosts.HostBody) (is : s.parts ≡ Shell p) where
+  module _ (s : node.HostBody) (is : s.parts ≡ Shell p) where
     entered_is : (parts_entered s.parts x.view).state ≡ Shell entered
     entered_is = ap (λ (parts : Parts). (parts_entered parts x.view).state) is
 
@@ -364,4 +365,4 @@ pub logs_unstarted : NobodyBeginsAnew
 logs_unstarted start logs are =
     without start are.nobody logs
     (along_signals_of_logs (machine start) (is_stamped start) (NoneAsks start are.nobody)
-    (Unstarted start are.nobody) (kept start are.nobody) (world_hosts.hosts start) logs are.within are.right).law
+    (Unstarted start are.nobody) (kept start are.nobody) (hosts start) logs are.within are.right).law
