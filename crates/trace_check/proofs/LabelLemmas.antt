@@ -13,8 +13,7 @@ use Rattle.trace_check.specs.Labels.{is_labelled}
 
 -- one of them says that it is another's
 labelled : (start : Start) (h : ℕ) (log : HostLog) → IsLabelled start h log → is_labelled h log ≡ true
-labelled start h log is = rw (is.made ∙ made_at_first start h)
-    (ap (λ b. b && true) (eq-eqb log.host.0 h (ap (λ (at : HostId). at.0) is.host)))
+labelled start h log is = rw (is.made ∙ made_at_first start h) (ap (λ b. b && true) (eq-eqb log.host.0 h (ap (λ (at : HostId). at.0) is.host)))
 
 pub other_label : (start : Start) (logs : List HostLog) (at : ℕ) → at < length logs
     → is_labelled at (slice_index_or logs at (no_steps 0)) ≡ false → AreLabelled start logs → ⊥
