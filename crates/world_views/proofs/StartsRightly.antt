@@ -11,7 +11,7 @@ use Rattle.api_views.specs.Laws.{asks_start}
 use Rattle.world_core.specs.Requests.{request_in}
 use Rattle.world_core.specs.Start.{Start}
 use Rattle.world_core.specs.Steps.{HostStep}
-use Rattle.world_views.specs.Machine.{StartsRightly, request_of, starts_by}
+use Rattle.world_views.specs.Machine.{StartsRightly, starts_by}
 use Rattle.world_views.specs.Sending.{is_asked}
 
 module _ (start : Start) (log : List HostStep) (e : HostStep) where

@@ -3,7 +3,7 @@
 use Rattle.std.proofs.Common.{◌≡◌, ◌⊎◌, ◌++◌, ◌+◌, ◌∙◌, ℕ, Bool, true, false, List, [], ◌∷◌, length, refl, ap, sym, subst}
 use Rattle.std.proofs.Common.{inl, inr, arith, length-append}
 use Rattle.std.proofs.lemmas.Bool.{true≢false}
-use Rattle.std.specs.Prelude.{if◌then◌else◌, Option, None, Some}
+use Rattle.std.specs.Prelude.{if◌then◌else◌, None, Some}
 use Rattle.run_theory.specs.Along.{Comes, IsKept}
 use Rattle.run_theory.specs.Lists.{Each, IsIn, IsPast}
 use Rattle.run_theory.specs.Runs.{Run, log_of}
@@ -31,7 +31,7 @@ use Rattle.api_views.proofs.StartLemmas.{starts_asked}
 use Rattle.arbiter_block.specs.Arbiter.{ArbiterState, arbiter_row}
 use Rattle.arbiter_block.specs.Words.{is_arbiter_word}
 use Rattle.arbiter_block.proofs.Walk.{arbiter_words}
-use Rattle.node_views.specs.Blocks.{in_shell, parts_entered, parts_row, settled_at}
+use Rattle.node_views.specs.Blocks.{in_shell, parts_entered, parts_row}
 use Rattle.node_views.specs.declared.host_body.HostBody as node
 use Rattle.node_views.specs.declared.parts.Parts.{Parts}
 use Rattle.node_views.specs.declared.parts.Parts.TheVariants.{Ldm, Main, Shell, Tc}
@@ -51,7 +51,6 @@ use Rattle.world_views.specs.Sending.{is_asked}
 use Rattle.world_views.proofs.SentFacts.{is_stamped}
 use Rattle.world_views.proofs.StepEach.{step_words}
 use Rattle.world_views.proofs.StepWalk.{IsTaken, IsWalked, next_comes}
-use Rattle.view_laws.specs.Runs.{AreOfCluster}
 use Rattle.view_laws.specs.Unstarted.{AreWithoutStarts, HasNoStart, NobodyBeginsAnew, TellsNoStart}
 use Rattle.view_laws.proofs.follow.Senders.{each_sent}
 
