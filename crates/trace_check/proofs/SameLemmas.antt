@@ -350,11 +350,12 @@ module _ (start : Start) (told : List HostLog) (right : AreOfRun start told) (un
         (Host (Cut node (record { 0 = first_of ms node })))) sound.right.made
         ∙ ap (λ n. own_signal (made start) h n (body_at w.bodies h).standing.view
         (Host (Cut node (record { 0 = first_of (made start) node }))))
-            (sound.right.stamps h low ∙ sym (last_first start h log))
+        (sound.right.stamps h low ∙ sym (last_first start h log))
         ∙ ap (λ (s : HostBody). own_signal (made start) h (last_of start h log) s.standing.view
         (Host (Cut node (record { 0 = first_of (made start) node })))) body_is
         ∙ ap (λ n. own_signal (made start) h (last_of start h log) body.standing.view (Host (Cut node (record {
-            0 = n }))))
+          0 = n;
+        }))))
         (sym work.1.is_first)
         ∙ ap (own_signal (made start) h (last_of start h log) body.standing.view) (sym is_cut)
         ∙ sym rightly.is in

@@ -311,7 +311,7 @@ module _ (s : QmgrState) (x : Signal) where
         has_been = λ member own is outside settled seen. sends_plain k k.promised _ (like_self k) (refl, tt);
         joins = λ member own lost is no_full outside settled unseen may lacks.
             proposes (joining_with k member own) (joined_view k.layout.view (next_number k) member) (Some member) lost
-                []
+            []
             (above_last k k k.promised (like_self k)) tt;
         promotes = λ member lost is may lacks.
             proposes k (promoted_view k.layout.view (next_number k) member) None lost []

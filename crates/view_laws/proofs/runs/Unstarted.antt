@@ -107,7 +107,7 @@ module _ (p : ShellPart) (none : p.client.starting ≡ None) (x : Signal) where
           known = inr one.asked;
           quiet = λ same.
               absurd (not_longer q.client.later (client_row q.client x).state.later _ (same ∙ sym later)
-                  (sym one.later));
+              (sym one.later));
         }
 
     still : (parts : Parts) (more : List Outgoing) (own : ShellPart) → parts ≡ Shell own

@@ -113,5 +113,5 @@ arbiters_tell follow start log e =
 pub arbiters_vote : ArbitersFollowTheirSignals → ArbitersVote
 arbiters_vote follow start log e =
     each_map _ _ (step_after start 0 log e).effects.sends
-        (λ sent tells plain vote. tells plain (vote_told sent.body vote))
+    (λ sent tells plain vote. tells plain (vote_told sent.body vote))
     (arbiters_tell follow start log e)
