@@ -11,7 +11,7 @@ use Rattle.run_laws.specs.Transit.{Comes, logs_of}
 use Rattle.run_theory.specs.Lists.{Each}
 use Rattle.world_core.specs.Hosts.{first_hosts, member_at}
 use Rattle.world_core.specs.Machine.{signals_of}
-use Rattle.world_core.specs.Start.{Start, made}
+use Rattle.world_core.specs.Start.{NobodyStarts, Start, made}
 use Rattle.world_core.specs.Steps.{Addressed, HostStep}
 use Rattle.world_views.specs.Machine.{after}
 use Rattle.world_views.specs.Sending.{is_asked}
@@ -48,7 +48,7 @@ NoneGivesUp logs =
 
 -- a life begins at rest
 abbrev pub LivesBeginAtRest : Type 0
-LivesBeginAtRest = (start : Start) → AreResting start (λ h. [])
+LivesBeginAtRest = (start : Start) → NobodyStarts start → AreResting start (λ h. [])
 
 -- what a host of the plain machine sends in a step, whoever is to take it takes in calm
 abbrev pub PlainSendsAreCalm : Type 0

@@ -27,7 +27,7 @@ use Rattle.sig_core.specs.declared.signal.host.Work.TheVariants.{Request}
 use Rattle.sig_core.specs.Place.{client, membership}
 use Rattle.sig_core.specs.Step.{to_place}
 use Rattle.world_core.specs.Hosts as plain_world
-use Rattle.world_core.specs.Start.{Start}
+use Rattle.world_core.specs.Start.{NobodyStarts, Start}
 use Rattle.world_views.specs.Hosts.{started}
 use Rattle.world_views.specs.Machine.{replies_at, step_by, stops_by, told}
 use Rattle.world_views.specs.Sending.{is_own_work}
@@ -134,4 +134,5 @@ PartsStepAlike =
 -- in a life that begins without rows they begin alike
 abbrev pub HostsBeginAlike : Type 0
 HostsBeginAlike =
-    (start : Start) (h : ℕ) → start.rows ≡ [] → AreAlike start [] (started start h) (plain_world.started start h)
+    (start : Start) → NobodyStarts start → (h : ℕ) → start.rows ≡ []
+    → AreAlike start [] (started start h) (plain_world.started start h)

@@ -38,9 +38,9 @@ use Rattle.node_views.proofs.HostEach.{IsOfHost}
 use Rattle.node_views.proofs.Walk.{parts_each}
 use Rattle.node_views.proofs.WordWalk.{parts_speak, parts_speak_installed}
 use Rattle.view_laws.proofs.follow.Senders.{IsSentBy, each_sent}
-use Rattle.world_core.proofs.MadeFirst.{hosts_first, nobody_starts}
+use Rattle.world_core.proofs.MadeFirst.{hosts_first}
 use Rattle.world_core.specs.Hosts.{host_at, host_by, hosts as many_hosts}
-use Rattle.world_core.specs.Start.{Start, made}
+use Rattle.world_core.specs.Start.{NobodyStarts, Start, made}
 use Rattle.world_core.specs.Steps.{Addressed, HostStep}
 use Rattle.world_views.specs.Hosts.{known, reached}
 use Rattle.world_views.specs.Machine.{after, machine, signals_of, step_after, step_by}
@@ -138,45 +138,45 @@ module _ (start : Start) where
   abbrev pub IsNotMain : ℕ → Type 0
   IsNotMain h = h % 3 ≡ 1 → many_hosts start ≤ h
 
-  host_not_main : (place : Option ℕ) → IsNotMain (host_at (length (made start) * 3 + 1) Tc place)
-  host_not_main None is = omega (arith, hosts_first start (nobody_starts start))
-  host_not_main (Some place) is = absurd (omega (arith, is))
+  host_not_main : NobodyStarts start → (place : Option ℕ) → IsNotMain (host_at (length (made start) * 3 + 1) Tc place)
+  host_not_main nobody None is = omega (arith, hosts_first start nobody)
+  host_not_main nobody (Some place) is = absurd (omega (arith, is))
 
-  member_not_main : (member : Option Member) → IsNotMain (host_by (made start) Tc member)
-  member_not_main None is = omega (arith, hosts_first start (nobody_starts start))
-  member_not_main (Some member) is = host_not_main (position (is_member member) (made start)) is
+  member_not_main : NobodyStarts start → (member : Option Member) → IsNotMain (host_by (made start) Tc member)
+  member_not_main nobody None is = omega (arith, hosts_first start nobody)
+  member_not_main nobody (Some member) is = host_not_main nobody (position (is_member member) (made start)) is
 
-  reached_not_main : (h : ℕ) (view : View) (to : Place) → to.block ≡ block.Dih
+  reached_not_main : NobodyStarts start → (h : ℕ) (view : View) (to : Place) → to.block ≡ block.Dih
       → IsNotMain (reached (made start) h view to)
   unfolding reached
-  reached_not_main h view to is = by (to.node == 0)
+  reached_not_main nobody h view to is = by (to.node == 0)
     where
       by : (b : Bool)
           → IsNotMain (if b then 0 else host_by (made start) (part_of to.block) (known (made start) h view to.node))
       by true = λ one. absurd (omega (arith, one))
       by false =
           subst (λ at. IsNotMain (host_by (made start) (part_of at) (known (made start) h view to.node))) (sym is)
-          (member_not_main (known (made start) h view to.node))
+          (member_not_main nobody (known (made start) h view to.node))
 
   -- so it is of what was sent
   abbrev pub GoesToEpochs : Addressed → Type 0
   GoesToEpochs x = (epoch mask : ℕ) → x.signal.body ≡ Epoch (CopyGciReq epoch mask) → IsNotMain x.to
 
-  sent_goes : (h : ℕ) (log : List HostStep) (e : HostStep) (x : Addressed)
+  sent_goes : NobodyStarts start → (h : ℕ) (log : List HostStep) (e : HostStep) (x : Addressed)
       → IsSentBy (made start) h (after start h (e ∷ log)).standing.view (step_after start h log e).effects.sends x
       → GoesToEpochs x
-  sent_goes h log e x one epoch mask is =
+  sent_goes nobody h log e x one epoch mask is =
       let does = step_sends h (after start h log) e.step.taken in
       let for_epochs : IsForEpochs one.sent =
       each_in IsForEpochs one.sent (step_after start h log e).effects.sends does.0 one.there in
       subst IsNotMain (sym one.to)
-      (reached_not_main h (after start h (e ∷ log)).standing.view one.sent.to
+      (reached_not_main nobody h (after start h (e ∷ log)).standing.view one.sent.to
       (for_epochs epoch mask (sym one.body ∙ is)))
 
-  pub all_go : (i j : ℕ) (log : List HostStep) → Each GoesToEpochs (sent (machine start) i j log)
-  all_go i j [] = tt
-  all_go i j (e ∷ log) =
+  pub all_go : NobodyStarts start → (i j : ℕ) (log : List HostStep) → Each GoesToEpochs (sent (machine start) i j log)
+  all_go nobody i j [] = tt
+  all_go nobody i j (e ∷ log) =
       put_each (machine start) GoesToEpochs j (sent_by (machine start) i log e) (sent (machine start) i j log)
       (sent_by_each (machine start) GoesToEpochs i log e
-      (λ goes. each_map _ GoesToEpochs (signals_of start i log e) (sent_goes i log e) (each_sent start i log e)))
-      (all_go i j log)
+      (λ goes. each_map _ GoesToEpochs (signals_of start i log e) (sent_goes nobody i log e) (each_sent start i log e)))
+      (all_go nobody i j log)

@@ -106,7 +106,8 @@ module _ (start : Start) (w t : Whole) (old new : Disks) (counts : List ℕ) (so
     body_is = sound_still.right.bodies h low ran
 
     member_is : (body_at stepped.bodies h).standing.member ≡ member_at (made start) h
-    member_is = ap (λ (s : HostBody). s.standing.member) body_is ∙ (host_home start h some low now).is
+    member_is =
+        ap (λ (s : HostBody). s.standing.member) body_is ∙ (host_home start sound.right.nobody h some low now).is
 
     node_is : node_of stepped h ≡ (member_at (made start) h).node
     node_is = ap (λ (m : Member). m.node) member_is
@@ -115,13 +116,13 @@ module _ (start : Start) (w t : Whole) (old new : Disks) (counts : List ℕ) (so
     kept_is = ap (λ (s : HostBody). kept_of s (newest_taken now)) body_is
 
     there : IsIn (member_at (made start) h) (made start)
-    there = host_made start h some low
+    there = host_made start sound.right.nobody h some low
 
     has_disk : start.shape.nodes ≤ length old.told → start.shape.nodes ≤ length old.slots
         → HasDisk (node_of stepped h) (length old.told) (length old.slots)
     has_disk told slots =
-        let least = node_some start (member_at (made start) h) there in
-        let most = node_low start (member_at (made start) h) there in record {
+        let least = node_some start sound.right.nobody (member_at (made start) h) there in
+        let most = node_low start sound.right.nobody (member_at (made start) h) there in record {
           some = omega (arith, least, node_is);
           disk = omega (arith, most, node_is, told);
           slots_of = omega (arith, most, node_is, slots);

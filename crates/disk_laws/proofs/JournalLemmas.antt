@@ -25,7 +25,7 @@ use Rattle.lqh_views.specs.State.{ReplicaState}
 use Rattle.moment_laws.proofs.MomentHosts.{ldm_started}
 use Rattle.node_views.specs.declared.host_body.HostBody as hosts
 use Rattle.request_laws.specs.Blocks.{no_replica, rows_in}
-use Rattle.world_core.specs.Start.{Start, made}
+use Rattle.world_core.specs.Start.{NobodyStarts, Start, made}
 use Rattle.world_core.specs.Steps.{HostStep}
 use Rattle.journal_laws.specs.Events.{behind_all, changed_if, records_behind, records_if, rows_behind}
 use Rattle.journal_laws.specs.Journal.{AreEventsOf, first_rows, lqh_after, outlet_with}
@@ -165,9 +165,9 @@ module _ (start : Start) (member : Member) (there : IsIn member (made start)) wh
   records = records_behind first
 
   -- as a life begins nothing is in the journal
-  pub first_outlet : (lqh []).outlet ≡ outlet_with []
-  first_outlet =
-      ap (λ (s : hosts.HostBody). (of_host s).lqh.outlet) (ldm_started start member there)
+  pub first_outlet : NobodyStarts start → (lqh []).outlet ≡ outlet_with []
+  first_outlet nobody =
+      ap (λ (s : hosts.HostBody). (of_host s).lqh.outlet) (ldm_started start nobody member there)
     where
       of_host : hosts.HostBody → ReplicaState
       of_host s = rows_in (no_replica start member) s.parts
@@ -182,11 +182,12 @@ module _ (start : Start) (member : Member) (there : IsIn member (made start)) wh
       ∙ sym (ap (rows_behind first) is)
 
   -- their journal keeps its bytes
-  pub keeps_bytes : (log : List HostStep) (events : List Event) → AreEventsOf start member log events
+  pub keeps_bytes : NobodyStarts start → (log : List HostStep) (events : List Event)
+      → AreEventsOf start member log events
       → (lqh log).outlet.keeps ≡ true
-  keeps_bytes [] events are = ap (λ (o : OutletState). o.keeps) first_outlet
-  keeps_bytes (e ∷ log) events (event, (older, (is, of, step))) =
-      goes_keeps (lqh log) (lqh (e ∷ log)) _ event (goes _ _ _ _ event step) (keeps_bytes log older of)
+  keeps_bytes nobody [] events are = ap (λ (o : OutletState). o.keeps) (first_outlet nobody)
+  keeps_bytes nobody (e ∷ log) events (event, (older, (is, of, step))) =
+      goes_keeps (lqh log) (lqh (e ∷ log)) _ event (goes _ _ _ _ event step) (keeps_bytes nobody log older of)
 
   -- the records behind one event more, or none
   pub records_on : (log : List HostStep) (events : List Event) (event : Option Event)
@@ -197,13 +198,14 @@ module _ (start : Start) (member : Member) (there : IsIn member (made start)) wh
       ∙ ap (λ (rows : RowsState). records_if event rows ++ records events) (sym (rows_are_behind log events of))
 
   -- a step adds the same records to the same
-  same_on : (e : HostStep) (log : List HostStep) (it : Todo) (event other : Option Event) (older others : List Event)
+  same_on : NobodyStarts start
+      → (e : HostStep) (log : List HostStep) (it : Todo) (event other : Option Event) (older others : List Event)
       → AreEventsOf start member log older → AreEventsOf start member log others
       → Goes (lqh log) (lqh (e ∷ log)) it event → Goes (lqh log) (lqh (e ∷ log)) it other
       → AreRecords (records (option_to_list event ++ older)) → AreRecords (records (option_to_list other ++ others))
       → (AreRecords (records older) → AreRecords (records others) → records older ≡ records others)
       → records (option_to_list event ++ older) ≡ records (option_to_list other ++ others)
-  same_on e log it event other older others of of_others made by are too before =
+  same_on nobody e log it event other older others of of_others made by are too before =
       records_on log older event of
       ∙ ap (λ front. front ++ records older) added
       ∙ ap (λ back. records_if other (lqh log).rows ++ back)
@@ -219,18 +221,20 @@ module _ (start : Start) (member : Member) (there : IsIn member (made start)) wh
 
       added : records_if event (lqh log).rows ≡ records_if other (lqh log).rows
       added =
-          same_added (lqh log) (lqh (e ∷ log)) it event other (keeps_bytes log older of) made by
+          same_added (lqh log) (lqh (e ∷ log)) it event other (keeps_bytes nobody log older of) made by
           (newer_records (records_if event (lqh log).rows) (records older) all)
           (newer_records (records_if other (lqh log).rows) (records others) all_others)
 
   -- a log has one list of records, whatever events tell it
-  pub same_records : (log : List HostStep) (one other : List Event) → AreEventsOf start member log one
+  pub same_records : NobodyStarts start → (log : List HostStep) (one other : List Event)
+      → AreEventsOf start member log one
       → AreEventsOf start member log other → AreRecords (records one) → AreRecords (records other)
       → records one ≡ records other
-  same_records [] one other a b are too = ap records (a ∙ sym b)
-  same_records (e ∷ log) one other (event, (older, (is, of, step))) (event2, (older2, (is2, of2, step2))) are too =
+  same_records nobody [] one other a b are too = ap records (a ∙ sym b)
+  same_records nobody (e ∷ log) one other (event, (older, (is, of, step))) (event2, (older2, (is2, of2, step2))) are too
+      =
       ap records is
-      ∙ same_on e log _ event event2 older older2 of of2 (goes _ _ _ _ event step) (goes _ _ _ _ event2 step2)
+      ∙ same_on nobody e log _ event event2 older older2 of of2 (goes _ _ _ _ event step) (goes _ _ _ _ event2 step2)
       (subst (λ events. AreRecords (records events)) is are)
-      (subst (λ events. AreRecords (records events)) is2 too) (same_records log older older2 of of2)
+      (subst (λ events. AreRecords (records events)) is2 too) (same_records nobody log older older2 of of2)
       ∙ sym (ap records is2)

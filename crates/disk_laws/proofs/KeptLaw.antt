@@ -12,7 +12,7 @@ use Rattle.sysfile_core.specs.Reading.{system_of_file}
 use Rattle.sys_restart.specs.Files.{Files}
 use Rattle.sys_restart.proofs.StandsLemmas.{left_as}
 use Rattle.node_disk.specs.Slots.{SlotsInUse}
-use Rattle.world_core.specs.Start.{Start, made}
+use Rattle.world_core.specs.Start.{NobodyStarts, Start, made}
 use Rattle.world_core.specs.Steps.{HostStep}
 use Rattle.world_core.specs.World.{logs_at}
 use Rattle.moment_laws.specs.Places.{ldm_of, tc_of}
@@ -39,11 +39,11 @@ module _ (start : Start) (member : Member) (before : Rows) (first : SystemSlot) 
     least = has.least;
   }
 
-  rows_found : IsIn member (made start)
+  rows_found : NobodyStarts start → IsIn member (made start)
       → KeepsRows start member before first log s calls
       → HasSavedRows start member before first.generation log image
-  rows_found there (inl has) = all_found start member before first log s calls image there has.last left
-  rows_found there (inr leaves) = leaves.leaves image (λ file low apart. left file low)
+  rows_found nobody there (inl has) = all_found start nobody member before first log s calls image there has.last left
+  rows_found nobody there (inr leaves) = leaves.leaves image (λ file low apart. left file low)
 
   noted_found : KeepsNoted start member before first log s calls
       → HasLatest start member before first log image
@@ -52,9 +52,9 @@ module _ (start : Start) (member : Member) (before : Rows) (first : SystemSlot) 
 
 pub kept_is_found : WhatIsKeptIsFound
 kept_is_found = record {
-  rows = λ start member before first w disks image up left.
-      rows_found start member before first (logs_at w.logs (ldm_of start member)) up.slots up.calls image left up.there
-      up.is.rows;
+  rows = λ start nobody member before first w disks image up left.
+      rows_found start member before first (logs_at w.logs (ldm_of start member)) up.slots up.calls image left nobody
+      up.there up.is.rows;
   noted = λ start member before first w disks image up left.
       noted_found start member before first (logs_at w.logs (tc_of start member)) up.slots up.calls image left
       up.is.noted;

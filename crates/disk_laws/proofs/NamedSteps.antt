@@ -43,7 +43,7 @@ use Rattle.node_disk.specs.Saving.{free_file, name_calls, named_control, walk_na
 use Rattle.node_disk.specs.Slots.{SlotsInUse}
 use Rattle.node_restart.specs.Rows.{HasRows, NamesRows, RestoresRows}
 use Rattle.node_restart.proofs.NamingLemmas.{names_keep}
-use Rattle.world_core.specs.Start.{Start, made}
+use Rattle.world_core.specs.Start.{NobodyStarts, Start, made}
 use Rattle.world_core.specs.Steps.{HostStep}
 use Rattle.request_laws.specs.Blocks.{rows_after, saver_after, saving_after}
 use Rattle.journal_laws.specs.Events.{records_behind}
@@ -154,27 +154,28 @@ module _ (start : Start) (member : Member) (there : IsIn member (made start)) (b
   abbrev kept : List Redo
   kept = old_stand.0
 
-  size : length (lqh_after start member log).outlet.left
+  size : NobodyStarts start → length (lqh_after start member log).outlet.left
       ≡ length (log_bytes has.redo) + length (log_bytes newer)
   unfolding goes_nowhere
-  size =
+  size nobody =
       left_size start member there before first log log s calls has
-      (goes_nowhere start member before first log s calls has) can late
+      (goes_nowhere start member before first log s calls has) can late nobody
 
-  now_stand : (more : List Redo)
+  now_stand : NobodyStarts start → (more : List Redo)
       × StandFor start member before checkpoint.rows finished.epoch finished.from now more
-  now_stand =
+  now_stand nobody =
       checkpoint.stand log (past_self log)
-      (omega (arith, usable.ends, has.ends, has.begins, has.rows.named.ends, size)) now has.until_now.events_of
+      (omega (arith, usable.ends, has.ends, has.begins, has.rows.named.ends, size nobody)) now has.until_now.events_of
 
   newer_are : AreRecords newer
   newer_are = newer_records newer has.redo has.until_now.stand.are
 
   -- with the newer records what the checkpoint has stands for all until now
-  same_now : now_stand.0 ≡ newer ++ kept
-  same_now =
-      one_newest now_stand.0 (newer ++ kept) now_stand.1.are (both_records newer kept newer_are old_stand.1.are)
-      (now_stand.1.bytes
+  same_now : (nobody : NobodyStarts start) → (now_stand nobody).0 ≡ newer ++ kept
+  same_now nobody =
+      one_newest (now_stand nobody).0 (newer ++ kept) (now_stand nobody).1.are
+      (both_records newer kept newer_are old_stand.1.are)
+      ((now_stand nobody).1.bytes
       ∙ ap (λ all. drop finished.from (log_bytes all)) has.until_now.is
       ∙ ap (drop finished.from) (bytes_append newer (records has.events))
       ∙ drop-append-le finished.from old_bytes (log_bytes newer) old_stand.1.most
@@ -184,35 +185,37 @@ module _ (start : Start) (member : Member) (there : IsIn member (made start)) (b
   older_are : AreRecords (records older)
   older_are = subst (λ events. AreRecords (records events)) is new.records.records
 
-  same_records_now : records now ≡ records new.events
-  same_records_now =
-      same_records start member there log now older has.until_now.events_of of has.until_now.are older_are
+  same_records_now : NobodyStarts start → records now ≡ records new.events
+  same_records_now nobody =
+      same_records start member there nobody log now older has.until_now.events_of of has.until_now.are older_are
       ∙ sym (ap records is)
 
-  behind_it : StandUntilNow start member before first (e ∷ log) checkpoint.rows finished.epoch finished.from has.events
+  behind_it : NobodyStarts start
+      → StandUntilNow start member before first (e ∷ log) checkpoint.rows finished.epoch finished.from has.events
       kept
-  behind_it = record {
+  behind_it nobody = record {
     now = new.events;
     events_of = new.records.events_of;
     are = new.records.records;
     newer = newer;
-    is = sym same_records_now ∙ has.until_now.is;
+    is = sym (same_records_now nobody) ∙ has.until_now.is;
     stand =
         stand_same start member before checkpoint.rows finished.epoch finished.from now new.events (newer ++ kept)
-        same_records_now
-        (subst (StandFor start member before checkpoint.rows finished.epoch finished.from now) same_now now_stand.1);
+        (same_records_now nobody)
+        (subst (StandFor start member before checkpoint.rows finished.epoch finished.from now) (same_now nobody)
+        (now_stand nobody).1);
   }
 
   -- the records before its position are given up
-  old_all : records has.events ≡ kept ++ records new.followed.given_up.gone
+  old_all : NobodyStarts start → records has.events ≡ kept ++ records new.followed.given_up.gone
   unfolding behind_it
-  old_all =
+  old_all nobody =
       sym (drop-append_seam newer (records has.events))
       ∙ ap (drop (length newer))
-      (sym behind_it.is
+      (sym (behind_it nobody).is
       ∙ all_kept start member there (e ∷ log) new.events new.records new.followed.given_up (newer ++ kept)
-      behind_it.stand.are
-      (behind_it.stand.bytes
+      (behind_it nobody).stand.are
+      ((behind_it nobody).stand.bytes
       ∙ ap (λ (o : OutletState). drop o.flushed (log_bytes (records new.events))) (sym switch.outlet))
       ∙ append_assoc newer kept (records new.followed.given_up.gone))
       ∙ drop-append_seam newer (kept ++ records new.followed.given_up.gone)
@@ -232,8 +235,8 @@ module _ (start : Start) (member : Member) (there : IsIn member (made start)) (b
       by (inl few) = omega (arith, few, has.few)
       by (inr (some, few)) = omega (arith, few, has.few, has.latest, can.saved, late)
 
-  few_bytes : s.control.redo_end ≤ s.control.redo_start + REDO_BYTES
-  few_bytes = omega (arith, has.rows.named.ends, can.room, size)
+  few_bytes : NobodyStarts start → s.control.redo_end ≤ s.control.redo_start + REDO_BYTES
+  few_bytes nobody = omega (arith, has.rows.named.ends, can.room, size nobody)
 
   from_end : finished.from ≤ s.control.redo_end
   from_end = omega (arith, usable.from, has.ends)
@@ -249,8 +252,8 @@ module _ (start : Start) (member : Member) (there : IsIn member (made start)) (b
         has.begins,
       )
 
-  pub may : MayName s finished
-  may = record {
+  pub may : NobodyStarts start → MayName s finished
+  may nobody = record {
     readable = record {
       least_file = (next_file_is (Some s.control)).0;
       most_file = (next_file_is (Some s.control)).1;
@@ -259,12 +262,12 @@ module _ (start : Start) (member : Member) (there : IsIn member (made start)) (b
           and_from (nat_le finished.from s.control.redo_end)
           (nat_le (s.control.redo_end - finished.from) REDO_BYTES)
           (le-leb finished.from s.control.redo_end from_end)
-          (le-leb (s.control.redo_end - finished.from) REDO_BYTES (omega (arith, few_bytes, has_from)));
+          (le-leb (s.control.redo_end - finished.from) REDO_BYTES (omega (arith, few_bytes nobody, has_from)));
       generation = numbers.generation;
       serial = serial_fits;
       saved = omega (arith, can.saved, has.latest);
       redo_start = omega (arith, usable.low);
-      redo_end = omega (arith, has.low, few_bytes);
+      redo_end = omega (arith, has.low, few_bytes nobody);
       ckpt_size = omega (arith, usable.small);
     };
     serial = serial_low;
@@ -329,12 +332,12 @@ module _ (start : Start) (member : Member) (there : IsIn member (made start)) (b
       (omega (arith, usable.saved_is, usable.durable)) can.followed.durable)
 
   -- Either way it has what is to be found.
-  pub named_found : (longer : List HostStep) → IsPast log longer
+  pub named_found : NobodyStarts start → (longer : List HostStep) → IsPast log longer
       → (rows_after start member (kept_part longer)).saved ≤ s.control.saved → (image : Files) → Named image
       → HasSavedRows start member before first.generation longer image
-  named_found longer behind least image (inl restores) =
+  named_found nobody longer behind least image (inl restores) =
       last_found start member before first log s calls has longer behind least image restores
-  named_found longer behind least image (inr restores) = record {
+  named_found nobody longer behind least image (inr restores) = record {
     slot = named_control s finished;
     generation_is = has.generation_is;
     older = has.older;
@@ -346,11 +349,12 @@ module _ (start : Start) (member : Member) (there : IsIn member (made start)) (b
     told = its_epoch longer behind;
     restores =
         stand_restores start member before checkpoint.rows finished.epoch finished.from has.events kept
-        (records new.followed.given_up.gone) image (named_control s finished) old_stand.1 old_all restores;
+        (records new.followed.given_up.gone) image (named_control s finished) old_stand.1 (old_all nobody) restores;
     latest = least;
   }
 
-  module _ (walked : HasWalked start member before first (Walked finished switch.end) log s calls) where
+  module _ (nobody : NobodyStarts start) (walked : HasWalked start member before first (Walked finished switch.end) log
+      s calls) where
     named : NamesRows (named_control s finished) finished.epoch checkpoint.rows kept calls
     named = record {
       clean = walked.1;
@@ -369,7 +373,8 @@ module _ (start : Start) (member : Member) (there : IsIn member (made start)) (b
       law : LeavesOnly after (length calls) Named
           × (ok ≡ true → HasRows (walk_named s finished) finished.epoch checkpoint.rows kept after)
       law =
-          names_keep s finished has.least has.base checkpoint.rows has.redo kept calls after ok has.rows may named runs
+          names_keep s finished has.least has.base checkpoint.rows has.redo kept calls after ok has.rows (may nobody)
+          named runs
 
       -- whatever a crash leaves of its end
       pub names_leave : length calls ≤ length after → (image : Files) → IsLeft after image → Named image
@@ -407,8 +412,8 @@ module _ (start : Start) (member : Member) (there : IsIn member (made start)) (b
         least = finished.epoch;
         stands = old_stand.1;
         gone = records new.followed.given_up.gone;
-        all = old_all;
-        until_now = behind_it;
+        all = old_all nobody;
+        until_now = behind_it nobody;
         told = its_epoch (e ∷ log) (past_more e (past_self log));
         rows = law.1 so;
       }

@@ -26,7 +26,7 @@ use Rattle.node_disk.specs.Slots.{SlotsInUse}
 use Rattle.node_disk.proofs.LawLemmas.{system_leaves}
 use Rattle.node_restart.specs.Rows.{HasRows}
 use Rattle.node_restart.proofs.SystemLaw.{system_keeps}
-use Rattle.world_core.specs.Start.{Start, made}
+use Rattle.world_core.specs.Start.{NobodyStarts, Start, made}
 use Rattle.world_core.specs.Steps.{HostStep}
 use Rattle.world_views.specs.Disks.{HasAtMostOneMore}
 use Rattle.world_views.specs.Machine.{has_stopped, stops_by}
@@ -160,10 +160,10 @@ module _ (start : Start) (member : Member) (before : Rows) (first : SystemSlot) 
       Used saved = if saved then s else record s { system = next; system_at = 1 - s.system_at }
 
       -- by an earlier step
-      noted_before : now ≡ log → AreKept (DurableAt epoch mask)
+      noted_before : NobodyStarts start → now ≡ log → AreKept (DurableAt epoch mask)
       unfolding Asks Used
-      noted_before same =
-          let was = was_noted start member there log epoch mask ran
+      noted_before nobody same =
+          let was = was_noted start member there nobody log epoch mask ran
           (subst (λ l. noted start member there l ≡ DurableAt epoch mask) same is) in
           let none : nat_le epoch s.system.epoch ≡ true =
           le-leb epoch s.system.epoch (has.latest epoch mask was) in
@@ -190,11 +190,11 @@ module _ (start : Start) (member : Member) (before : Rows) (first : SystemSlot) 
         fits : epoch < 2 ^ 64
         fits = low epoch mask (subst (λ l. WasNoted start h l epoch mask) (sym more) (inl notes))
 
-        saved : AreNoted start member before first e log s calls has epoch mask notes
-            (noted_mask start member there e log epoch mask notes.1) fits tells.calls ok
-        saved =
+        saved : (nobody : NobodyStarts start) → AreNoted start member before first e log s calls has epoch mask notes
+            (noted_mask start member there nobody e log epoch mask notes.1) fits tells.calls ok
+        saved nobody =
             noted_go start member before first e log s calls has epoch mask notes
-            (noted_mask start member there e log epoch mask notes.1) fits tells.calls tells.grows ok made_so
+            (noted_mask start member there nobody e log epoch mask notes.1) fits tells.calls tells.grows ok made_so
 
         others : (file : ℕ) → file ≢ SYSTEM_FILE → state_of tells.calls file ≡ state_of calls file
         others file apart = system_leaves s epoch mask calls tells.calls ok file made_so apart
@@ -239,18 +239,20 @@ module _ (start : Start) (member : Member) (before : Rows) (first : SystemSlot) 
         rows_still (inr leaves) = inr (still_left leaves)
 
         -- it failed, and the host stops
-        leaves_so : ok ≡ false → (stop : HostStep) → list_any is_disk_stop stop.step.marks ≡ true → (image : Files)
+        leaves_so : NobodyStarts start → ok ≡ false → (stop : HostStep) → list_any is_disk_stop stop.step.marks ≡ true
+            → (image : Files)
             → IsImage (state_of tells.calls SYSTEM_FILE) (image SYSTEM_FILE)
             → HasLatest start member before first (stop ∷ now) image
-        leaves_so not_so stop failed image left =
+        leaves_so nobody not_so stop failed image left =
             subst (λ l. HasLatest start member before first (stop ∷ l) image) (sym more)
             (latest_found start member before first e log s calls has epoch mask notes
-            (noted_mask start member there e log epoch mask notes.1) fits (stop ∷ e ∷ log)
+            (noted_mask start member there nobody e log epoch mask notes.1) fits (stop ∷ e ∷ log)
             (past_more stop (past_self (e ∷ log))) (failed_part stop e log failed) image
-            (saved.failed not_so (joined image (files_of tells.calls)) (system_left tells.calls image tells.kept left)))
+            ((saved nobody).failed not_so (joined image (files_of tells.calls))
+            (system_left tells.calls image tells.kept left)))
 
-        noted_now : AreKept (DurableAt epoch mask)
-        noted_now = record {
+        noted_now : NobodyStarts start → AreKept (DurableAt epoch mask)
+        noted_now nobody = record {
           done = λ so. record {
             calls = tells.calls;
             is = tells.is;
@@ -258,7 +260,7 @@ module _ (start : Start) (member : Member) (before : Rows) (first : SystemSlot) 
               rows = rows_then on.rows;
               noted =
                   inl (subst (λ l. HasAllNoted start member before first l (system_saved s epoch mask) tells.calls)
-                  (sym more) (saved.done so));
+                  (sym more) ((saved nobody).done so));
             };
           };
           failed = λ not_so stop failed stops. record {
@@ -266,19 +268,20 @@ module _ (start : Start) (member : Member) (before : Rows) (first : SystemSlot) 
             is = tells.is;
             on = record {
               rows = rows_still on.rows;
-              noted = inr (record { kept = tells.kept; stopped = stops; leaves = leaves_so not_so stop failed });
+              noted = inr (record { kept = tells.kept; stopped = stops; leaves = leaves_so nobody not_so stop failed });
             };
           };
         }
 
-      durable_kept : HasAtMostOneMore log now → AreKept (DurableAt epoch mask)
-      durable_kept (inl same) = noted_before same
-      durable_kept (inr (e, more)) = noted_now e more
+      durable_kept : NobodyStarts start → HasAtMostOneMore log now → AreKept (DurableAt epoch mask)
+      durable_kept nobody (inl same) = noted_before nobody same
+      durable_kept nobody (inr (e, more)) = noted_now e more nobody
 
     -- whatever it is
-    pub noted_kept : Runs (calls_of (files_of calls) s (noted start member there now)) calls told ok
+    pub noted_kept : NobodyStarts start
+        → Runs (calls_of (files_of calls) s (noted start member there now)) calls told ok
         → AreKept (noted start member there now)
-    noted_kept runs = by (noted_no_rows start member there now)
+    noted_kept nobody runs = by (noted_no_rows start member there nobody now)
       where
         Made : Kept → Type 0
         Made kept = Runs (calls_of (files_of calls) s kept) calls told ok
@@ -286,4 +289,4 @@ module _ (start : Start) (member : Member) (before : Rows) (first : SystemSlot) 
         by : IsNoRows (noted start member there now) → AreKept (noted start member there now)
         by (nothing is) = subst AreKept (sym is) (nothing_kept is (subst Made is runs))
         by (durable one) =
-            subst AreKept (sym one.is) (durable_kept one.epoch one.mask one.is (subst Made one.is runs) grows)
+            subst AreKept (sym one.is) (durable_kept one.epoch one.mask one.is (subst Made one.is runs) nobody grows)

@@ -19,7 +19,7 @@ use Rattle.lqh_saver.specs.declared.stage.Todo.TheVariants as todo
 use Rattle.moment_laws.specs.Places.{tc_of}
 use Rattle.request_laws.proofs.routes.Layouts.{runs_tc}
 use Rattle.view_laws.proofs.eras.Shapes.{shape_stays}
-use Rattle.world_core.specs.Start.{Start, made}
+use Rattle.world_core.specs.Start.{NobodyStarts, Start, made}
 use Rattle.world_core.specs.Steps.{HostStep}
 use Rattle.world_views.specs.Disks.{newest_taken}
 use Rattle.world_views.specs.Machine.{after, has_stopped}
@@ -107,27 +107,29 @@ no_rows s taken none = subst (λ o. IsNoRows (kept_beside o s taken)) (sym none)
 
 -- so it is with the host that coordinates for a member
 module _ (start : Start) (member : Member) (there : IsIn member (made start)) where
-  no_outlet : (log : List HostStep) → outlet_of (after start (tc_of start member) log).parts ≡ None
-  no_outlet log = ap outlet_of (runs_tc start member there log).runs
+  no_outlet : NobodyStarts start → (log : List HostStep) → outlet_of (after start (tc_of start member) log).parts ≡ None
+  no_outlet nobody log = ap outlet_of (runs_tc start nobody member there log).runs
 
   abbrev pub noted : List HostStep → Kept
   noted log = kept_behind start (tc_of start member) log
 
-  pub noted_no_rows : (log : List HostStep) → IsNoRows (noted log)
-  noted_no_rows log = no_rows (after start (tc_of start member) log) (newest_taken log) (no_outlet log)
+  pub noted_no_rows : NobodyStarts start → (log : List HostStep) → IsNoRows (noted log)
+  noted_no_rows nobody log = no_rows (after start (tc_of start member) log) (newest_taken log) (no_outlet nobody log)
 
   -- what it notes comes of its newest step
-  pub none_noted : noted [] ≡ NothingNew
-  none_noted = ap (λ o. kept_beside o (after start (tc_of start member) []) None) (no_outlet [])
+  pub none_noted : NobodyStarts start → noted [] ≡ NothingNew
+  none_noted nobody = ap (λ o. kept_beside o (after start (tc_of start member) []) None) (no_outlet nobody [])
 
-  pub noted_mask : (e : HostStep) (log : List HostStep) (epoch mask : ℕ) → noted (e ∷ log) ≡ DurableAt epoch mask
+  pub noted_mask : NobodyStarts start → (e : HostStep) (log : List HostStep) (epoch mask : ℕ)
+      → noted (e ∷ log) ≡ DurableAt epoch mask
       → is_mask start.shape mask ≡ true
-  noted_mask e log epoch mask is =
-      subst (λ (shape : Shape). is_mask shape mask ≡ true) (shape_stays start (tc_of start member) (e ∷ log))
+  noted_mask nobody e log epoch mask is =
+      subst (λ (shape : Shape). is_mask shape mask ≡ true) (shape_stays start nobody (tc_of start member) (e ∷ log))
       (kept_says (after start (tc_of start member) (e ∷ log)) e.step.taken epoch mask is).named
 
   -- and one that it notes while the host runs was noted
-  pub was_noted : (log : List HostStep) (epoch mask : ℕ) → has_stopped log ≡ false → noted log ≡ DurableAt epoch mask
+  pub was_noted : NobodyStarts start → (log : List HostStep) (epoch mask : ℕ) → has_stopped log ≡ false
+      → noted log ≡ DurableAt epoch mask
       → WasNoted start (tc_of start member) log epoch mask
-  was_noted [] epoch mask runs is = let none = none_noted in absurd cc
-  was_noted (e ∷ log) epoch mask runs is = inl (runs, is)
+  was_noted nobody [] epoch mask runs is = let none = none_noted nobody in absurd cc
+  was_noted nobody (e ∷ log) epoch mask runs is = inl (runs, is)

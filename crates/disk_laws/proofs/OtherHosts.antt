@@ -21,10 +21,10 @@ use Rattle.node_views.specs.declared.parts.Parts.TheVariants as part
 use Rattle.node_views.specs.Saving.{outlet_of}
 use Rattle.node_views.proofs.HostWalk.{Saying}
 use Rattle.world_views.proofs.AllBegin.{started_behind}
-use Rattle.world_core.proofs.MadeFirst.{hosts_first, nobody_starts}
+use Rattle.world_core.proofs.MadeFirst.{hosts_first}
 use Rattle.world_core.proofs.HostNumbers.{made_at}
 use Rattle.world_core.specs.Hosts.{hosts, member_at, part_by}
-use Rattle.world_core.specs.Start.{Start, made}
+use Rattle.world_core.specs.Start.{NobodyStarts, Start, made}
 use Rattle.world_core.specs.Steps.{Addressed, HostStep}
 use Rattle.world_core.specs.World.{logs_at}
 use Rattle.world_views.specs.Disks.{newest_taken}
@@ -97,20 +97,21 @@ module _ (start : Start) where
       ∙ step_none h (after start h log) e.step.taken (none_after h log some none)
 
   -- a main part has none
-  main_none : (k : ℕ) → k % 3 ≡ 0 → outlet_of (started start (suc k)).parts ≡ None
-  main_none k is =
-      ap (λ (s : hosts_of.HostBody). outlet_of s.parts) (started_behind start k)
+  main_none : NobodyStarts start → (k : ℕ) → k % 3 ≡ 0 → outlet_of (started start (suc k)).parts ≡ None
+  main_none none_starts k is =
+      ap (λ (s : hosts_of.HostBody). outlet_of s.parts) (started_behind start none_starts k)
       ∙ ap (λ left. outlet_of (part_started start (part_by left) (member_at (made start) (suc k))).parts) is
 
   -- what a link gave to a host was sent to it, or is a closing
-  given_goes : (i j : ℕ) (log : List HostStep) (x : Addressed) (xs : List Addressed)
+  given_goes : NobodyStarts start → (i j : ℕ) (log : List HostStep) (x : Addressed) (xs : List Addressed)
       → IsGiven (machine start) i j log (x ∷ xs) → (epoch mask : ℕ) → x.signal.body ≡ Epoch (CopyGciReq epoch mask)
       → GoesToEpochs start x
-  given_goes i j log x xs (inl past) epoch mask is =
-      let told : Each (GoesToEpochs start) (x ∷ xs) = each_past (GoesToEpochs start) past (all_go start i j log) in
+  given_goes none_starts i j log x xs (inl past) epoch mask is =
+      let told : Each (GoesToEpochs start) (x ∷ xs) =
+      each_past (GoesToEpochs start) past (all_go start none_starts i j log) in
       told.0
-  given_goes i j [] x xs (inr closing) epoch mask is = absurd closing
-  given_goes i j (e ∷ log) x xs (inr closing) epoch mask is =
+  given_goes none_starts i j [] x xs (inr closing) epoch mask is = absurd closing
+  given_goes none_starts i j (e ∷ log) x xs (inr closing) epoch mask is =
       let same : (machine start).closing i log e j ≡ x = cc (closing.is) in
       let body : Host (Closed (cause_in e.step.marks)) ≡ Epoch (CopyGciReq epoch mask) =
       ap (λ (y : Addressed). y.signal.body) same ∙ is in
@@ -147,7 +148,7 @@ module _ (start : Start) where
 
         by : (x.from.0 < hosts start) ⊎ (hosts start ≤ x.from.0) → ⊥
         by (inl there) =
-            goes (given_goes x.from.0 h (logs_at w.logs x.from.0) ((machine start).signal e) _
+            goes (given_goes sound.right.nobody x.from.0 h (logs_at w.logs x.from.0) ((machine start).signal e) _
             (subst (IsGiven (machine start) x.from.0 h (logs_at w.logs x.from.0)) taken_is
             (sound.right.linked x.from.0 h there low).given) epoch mask says)
         by (inr beyond) =
@@ -179,17 +180,18 @@ pub others_keep_nothing : (start : Start) (w : Whole) → IsSound start w → (m
     → place_of start h ≡ member.node - 1 → kept_behind start h (logs_at w.logs h) ≡ NothingNew
 others_keep_nothing start w sound member there zero some low not_rows not_tc at = absurd (omega (arith, some))
 others_keep_nothing start w sound member there (suc k) some low not_rows not_tc at =
-    main_keeps_nothing start w sound (suc k) low (omega (arith, first)) some (main_none start k first)
+    main_keeps_nothing start w sound (suc k) low (omega (arith, first)) some
+    (main_none start sound.right.nobody k first)
   where
     place : k / 3 ≡ member.node - 1
     place =
-        let few : k / 3 < start.shape.nodes = omega (arith, low, hosts_first start (nobody_starts start)) in
+        let few : k / 3 < start.shape.nodes = omega (arith, low, hosts_first start sound.right.nobody) in
         let node : place_of start (suc k) ≡ k / 3 + 1 - 1 =
         ap (λ (m : Member). m.node - 1) (made_at start (k / 3) nobody few) in
         omega (arith, node, at)
 
     first : k % 3 ≡ 0
     first =
-        let rows = ldm_number start member there in
-        let tc = tc_number start member there in
+        let rows = ldm_number start sound.right.nobody member there in
+        let tc = tc_number start sound.right.nobody member there in
         omega (arith, place, rows, tc, not_rows, not_tc)

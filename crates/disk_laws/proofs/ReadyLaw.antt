@@ -73,7 +73,7 @@ AreNamed start member r calls s =
     (s.system ≡ next_system start.shape r) × HasSlot start.shape member.node r (files_of calls) s.control
 
 pub ready_keep_up : ReadyDisksKeepUp
-ready_keep_up start member r calls s kept from there ready is = record {
+ready_keep_up start nobody member r calls s kept from there ready is = record {
   rows = inl (record { last = last; walked = λ runs. walked });
   noted = inl (record {
     slot = (are_in_use (r.generation + 1) calls s kept ready.0.0 is).1;
@@ -101,16 +101,16 @@ ready_keep_up start member r calls s kept from there ready is = record {
     has = both.1
 
     saved : s.control.saved ≡ (rows_after start member []).saved
-    saved = has.saved ∙ sym from ∙ sym (first_saved start member there)
+    saved = has.saved ∙ sym from ∙ sym (first_saved start nobody member there)
 
     before : Rows
     before = rows_of_node start.shape member.node r
 
     own_saver : saver_after start member [] ≡ fresh_saver start.start_epoch 0
-    own_saver = first_saver start member there
+    own_saver = first_saver start nobody member there
 
     outlet : (lqh_after start member []).outlet ≡ outlet_with []
-    outlet = first_outlet start member there
+    outlet = first_outlet start member there nobody
 
     stands : StandFor start member before before start.start_epoch s.control.redo_start [] []
     stands = record {

@@ -34,7 +34,7 @@ use Rattle.node_disk.proofs.LawLemmas.{checkpoints_leave, rows_leave}
 use Rattle.node_restart.specs.Rows.{HasRows}
 use Rattle.node_restart.proofs.NamingLemmas.{walks_keep}
 use Rattle.node_restart.proofs.RestoredLaw.{restored}
-use Rattle.world_core.specs.Start.{Start, made}
+use Rattle.world_core.specs.Start.{NobodyStarts, Start, made}
 use Rattle.world_core.specs.Steps.{HostStep}
 use Rattle.world_views.specs.Machine.{has_stopped, stops_by}
 use Rattle.request_laws.specs.Blocks.{rows_after, saver_after}
@@ -125,7 +125,8 @@ module _ (start : Start) (member : Member) (there : IsIn member (made start)) (b
   }
 
   -- what was noted as saved is saved
-  module _ (log : List HostStep) (has : HasLastRows start member before first log s calls)
+  module _ (nobody : NobodyStarts start) (log : List HostStep)
+      (has : HasLastRows start member before first log s calls)
       (on : GoesOn start member before first log now s calls has) (can : AreSavable start member before now)
       (late : 2 ^ 32 ≤ start.epoch)
       (walked : has_stopped now ≡ false → HasWalked start member before first stage now s calls)
@@ -162,7 +163,8 @@ module _ (start : Start) (member : Member) (there : IsIn member (made start)) (b
         same_file (free_file s) (omega (arith, free.1)) (λ is. absurd (omega (arith, is, free.0)))
 
     saved : AreSaved start member there before first log now s calls has on can late tells.calls ok
-    saved = rows_go start member there before first log now s calls has on can late tells.calls tells.grows ok made_so
+    saved = rows_go start member there before first log now s calls has on can late nobody tells.calls tells.grows ok
+        made_so
 
     walked_here : has_stopped now ≡ false → HasWalked start member before first stage now s tells.calls
     walked_here goes =
@@ -202,7 +204,8 @@ module _ (start : Start) (member : Member) (there : IsIn member (made start)) (b
     }
 
   -- Calls that leave the rows which were saved last, and the slots: they go on with what was written of a checkpoint.
-  module _ (last : HasLastRows start member before first now s calls) (kept : Kept) (same : slots_after s kept ≡ s)
+  module _ (nobody : NobodyStarts start) (last : HasLastRows start member before first now s calls) (kept : Kept)
+      (same : slots_after s kept ≡ s)
       (tells : TellsRecord calls told) (rows : HasRows s last.least last.base last.redo tells.calls)
       (same_system : state_of tells.calls SYSTEM_FILE ≡ state_of calls SYSTEM_FILE)
       (walked : ok ≡ true → HasWalked start member before first stage now s tells.calls) where
@@ -212,7 +215,7 @@ module _ (start : Start) (member : Member) (there : IsIn member (made start)) (b
     left_least : (stop : HostStep) → list_any is_disk_stop stop.step.marks ≡ true
         → (rows_after start member (kept_part (stop ∷ now))).saved ≤ s.control.saved
     left_least stop failed =
-        let rises = saved_along start member there (without_newest now) now (without_is_past now) in
+        let rises = saved_along start nobody member there (without_newest now) now (without_is_past now) in
         let same : (rows_after start member (kept_part (stop ∷ now))).saved
         ≡ (rows_after start member (without_newest now)).saved =
         ap (λ (b : Bool). (rows_after start member (kept_if stop now b)).saved) failed in
@@ -245,8 +248,8 @@ module _ (start : Start) (member : Member) (there : IsIn member (made start)) (b
     }
 
   -- a piece of a checkpoint is written
-  module _ (last : HasLastRows start member before first now s calls) (rows : RowsState) (walk : WalkState) (to : ℕ)
-      (old : List Piece) (stage_is : stage ≡ Walking (stepped rows walk) to)
+  module _ (nobody : NobodyStarts start) (last : HasLastRows start member before first now s calls) (rows : RowsState)
+      (walk : WalkState) (to : ℕ) (old : List Piece) (stage_is : stage ≡ Walking (stepped rows walk) to)
       (all : written start member now ≡ written_by (todo.Write (next_piece rows walk)) old)
       (size : length (pieces_bytes (pieces_if walk.size old)) ≡ walk.size)
       (front : StandsInFront (pieces_bytes (pieces_if walk.size old)) (files_of calls (free_file s)))
@@ -268,7 +271,7 @@ module _ (start : Start) (member : Member) (there : IsIn member (made start)) (b
 
     pub piece_kept : KeptSo (OfCheckpoint (todo.Write piece))
     piece_kept =
-        left_kept last (OfCheckpoint (todo.Write piece)) refl piece_tells
+        left_kept nobody last (OfCheckpoint (todo.Write piece)) refl piece_tells
         (walks_keep.written s piece last.least last.base last.redo calls piece_tells.calls ok last.rows piece_made []
         piece_tells.calls refl
         piece_tells.grows)
@@ -277,7 +280,8 @@ module _ (start : Start) (member : Member) (there : IsIn member (made start)) (b
         piece_walked
 
   -- it is synced
-  module _ (last : HasLastRows start member before first now s calls) (finished : Finished) (end : ℕ)
+  module _ (nobody : NobodyStarts start) (last : HasLastRows start member before first now s calls)
+      (finished : Finished) (end : ℕ)
       (stage_is : stage ≡ Walked finished end) (has : HasWritten start member before first finished.size now s calls)
       (runs : Runs (settle_calls s) calls told ok) where
     sync_tells : TellsRecord calls told
@@ -298,7 +302,7 @@ module _ (start : Start) (member : Member) (there : IsIn member (made start)) (b
 
     pub sync_kept : KeptSo (OfCheckpoint todo.Sync)
     sync_kept =
-        left_kept last (OfCheckpoint todo.Sync) refl sync_tells
+        left_kept nobody last (OfCheckpoint todo.Sync) refl sync_tells
         (walks_keep.settled s last.least last.base last.redo calls sync_tells.calls ok last.rows sync_made []
         sync_tells.calls refl sync_tells.grows)
         (checkpoints_leave.settled s calls sync_tells.calls ok SYSTEM_FILE sync_made

@@ -36,7 +36,7 @@ use Rattle.node_disk.specs.Saving.{name_calls, named_control, walk_named}
 use Rattle.node_disk.specs.Slots.{SlotsInUse}
 use Rattle.node_disk.proofs.LawLemmas.{checkpoints_leave}
 use Rattle.node_views.specs.Saving.{outlet_of}
-use Rattle.world_core.specs.Start.{Start, made}
+use Rattle.world_core.specs.Start.{NobodyStarts, Start, made}
 use Rattle.world_core.specs.Steps.{HostStep}
 use Rattle.world_views.specs.Disks.{newest_taken}
 use Rattle.world_views.specs.Machine.{after, has_stopped, machine, stops_by}
@@ -109,15 +109,16 @@ module _ (start : Start) (member : Member) (before : Rows) (first : SystemSlot) 
   todo_behind log = todo_in (after start ldm log) (newest_taken log)
 
   -- what a disk keeps of the host of the rows
-  pub rows_kept_are : (log : List HostStep)
+  pub rows_kept_are : NobodyStarts start → (log : List HostStep)
       → kept_behind start ldm log ≡ kept_unless (saved_of log) (lqh log).outlet (todo_behind log)
-  rows_kept_are log =
-      let at = runs_ldm start member there log in
+  rows_kept_are nobody log =
+      let at = runs_ldm start nobody member there log in
       let host = after start ldm log in
       ap (λ o. kept_beside o host (newest_taken log)) (ap outlet_of at.runs)
       ∙ ap (λ (r : ReplicaState). kept_beside (Some r.lqh.outlet) host (newest_taken log))
       (sym (rows_are start member ldm log refl at.own at.runs))
-      ∙ ap (λ (saved : ℕ). kept_unless saved (lqh log).outlet (todo_behind log)) (saved_is start member there log)
+      ∙ ap (λ (saved : ℕ). kept_unless saved (lqh log).outlet (todo_behind log))
+      (saved_is start nobody member there log)
 
   -- where it runs, nothing of them failed
   pub rows_there : (log : List HostStep) (s : SlotsInUse) (calls : List Call) → has_stopped log ≡ false
@@ -147,43 +148,47 @@ module _ (start : Start) (member : Member) (before : Rows) (first : SystemSlot) 
     made_by : IsStepBy (saving_after start member log) (saving_after start member (e ∷ log)) e.step.taken.body it event
     made_by = new.records.events_of.1.1.2
 
-    pub goes_on : IsNoName it → GoesOn start member before first log (e ∷ log) s calls last
-    goes_on none =
+    pub goes_on : NobodyStarts start → IsNoName it → GoesOn start member before first log (e ∷ log) s calls last
+    goes_on nobody none =
         let same =
         named_same (saving_after start member log) (saving_after start member (e ∷ log)) e.step.taken.body it event
         made_by none in
         record {
           past = past_more e (past_self log);
           begins = last.begins
-              ∙ sym (flushed_same (lqh log) (lqh (e ∷ log)) event (keeps_bytes start member there log older older_of)
+              ∙ sym (flushed_same (lqh log) (lqh (e ∷ log)) event
+              (keeps_bytes start member there nobody log older older_of)
               (appends_by (lqh log) (lqh (e ∷ log)) it event
               (goes (saving_after start member log) (saving_after start member (e ∷ log)) e.step.taken.body it event
               made_by)
               none));
           named = same;
-          noted = saves_noted start member there log e local;
-          until_now = until_on start member there before first e log can.events can.records can.followed.given_up
+          noted = saves_noted start member there nobody log e local;
+          until_now = until_on start nobody member there before first e log can.events can.records can.followed.given_up
               new.events new.records event older events_are older_of last.base last.least s.control.redo_start
               last.events last.redo last.begins last.until_now;
         }
 
     -- where something is to be done of it that names nothing, they are still the last
-    still : IsNoName it → (it ≡ todo.Nothing → ⊥) → HasLastRows start member before first (e ∷ log) s calls
-    still none done =
-        still_last start member there before first log (e ∷ log) s calls last (goes_on none)
-        (todo_keeps start member there log e done ∙ last.latest)
+    still : NobodyStarts start → IsNoName it → (it ≡ todo.Nothing → ⊥)
+        → HasLastRows start member before first (e ∷ log) s calls
+    still nobody none done =
+        still_last start member there before first log (e ∷ log) s calls last (goes_on nobody none)
+        (todo_keeps start nobody member there log e done ∙ last.latest)
 
   -- the host stops by a step of which the disk keeps nothing
-  pub rows_stop : (log now : List HostStep) (s : SlotsInUse) (calls : List Call) → IsLog (machine start) ldm now
+  pub rows_stop : NobodyStarts start → (log now : List HostStep) (s : SlotsInUse) (calls : List Call)
+      → IsLog (machine start) ldm now
       → ((l : List HostStep) → IsPast l now → AreSavable start member before l)
       → HasStopped start ldm log now → KeepsRows start member before first log s calls
       → KeepsRows start member before first now s calls
-  rows_stop log now s calls local savable stopped (inl has) =
+  rows_stop nobody log now s calls local savable stopped (inl has) =
       inl (subst (λ l. HasAllRows start member before first l s calls) (sym stopped.is) (record {
         last = still_last start member there before first log (e ∷ log) s calls has.last
             (goes_on e log (subst (IsLog (machine start) ldm) stopped.is local) (savable log past) new s calls has.last
+            nobody
             none)
-            (stop_keeps start member there log e (ap stops_by (sym stopped.step.fits.marks) ∙ stopped.stops)
+            (stop_keeps start nobody member there log e (ap stops_by (sym stopped.step.fits.marks) ∙ stopped.stops)
             ∙ has.last.latest);
         walked = λ runs. absurd (true≢false (sym stopped.stops ∙ runs));
       }))
@@ -201,10 +206,11 @@ module _ (start : Start) (member : Member) (before : Rows) (first : SystemSlot) 
       none =
           no_name_of (todo_at start member e log) todo.Nothing
           (ap (λ (b : Bool). todo_unless b (todo_behind (e ∷ log))) stopped.stops) nothing_names
-  rows_stop log now s calls local savable stopped (inr leaves) =
+  rows_stop nobody log now s calls local savable stopped (inr leaves) =
       absurd (true≢false (sym leaves.stopped ∙ running start log stopped.step.runs))
 
-  module _ (late : 2 ^ 32 ≤ start.epoch) (noted_log : List HostStep) (s : SlotsInUse) (calls : List Call)
+  module _ (nobody : NobodyStarts start) (late : 2 ^ 32 ≤ start.epoch) (noted_log : List HostStep) (s : SlotsInUse)
+      (calls : List Call)
       (told : Option (List Call)) (ok : Bool) where
     abbrev Made : Kept → Type 0
     Made kept = Runs (calls_of (files_of calls) s kept) calls told ok
@@ -223,7 +229,7 @@ module _ (start : Start) (member : Member) (before : Rows) (first : SystemSlot) 
         → RowsAreKept start member before first now noted_log s told ok (kept_behind start ldm now)
     kept_as now keeps =
         subst (λ kept. Made kept → RowsAreKept start member before first now noted_log s told ok kept)
-        (sym (rows_kept_are now)) keeps
+        (sym (rows_kept_are nobody now)) keeps
 
     -- A host that runs has a step more.
     module _ (e : HostStep) (log : List HostStep) (ran : has_stopped log ≡ false)
@@ -256,8 +262,9 @@ module _ (start : Start) (member : Member) (before : Rows) (first : SystemSlot) 
           → Keeps now step_todo
       plain nothing walked =
           keeps_by now step_todo todo.Nothing nothing
-          (saves_kept start member there before first now noted_log s calls noted told ok log has.last
-          (goes_on e log local can new s calls has.last (no_name_of step_todo todo.Nothing nothing nothing_names)) new
+          (saves_kept start member there before first now noted_log s calls noted told ok nobody log has.last
+          (goes_on e log local can new s calls has.last nobody
+          (no_name_of step_todo todo.Nothing nothing nothing_names)) new
           late
           (λ on.
           walked_on start member before first log now s calls (stage_of now) (written_same todo.Nothing nothing refl)
@@ -275,8 +282,8 @@ module _ (start : Start) (member : Member) (before : Rows) (first : SystemSlot) 
           → step_todo ≡ todo.Write (next_piece (lqh log).rows walks.walk) → Keeps now step_todo
       writes walks is =
           keeps_by now step_todo (todo.Write piece) is
-          (piece_kept start member there before first now noted_log s calls noted told ok
-          (still e log local can new s calls has.last
+          (piece_kept start member there before first now noted_log s calls noted told ok nobody
+          (still e log local can new s calls has.last nobody
           (no_name_of step_todo (todo.Write piece) is (λ finished names. cc))
           (λ nothing. cc))
           (lqh log).rows walks.walk walks.to (written start member log) walks.stage
@@ -291,8 +298,8 @@ module _ (start : Start) (member : Member) (before : Rows) (first : SystemSlot) 
       syncs : (walks : EndsWalk was behind) → step_todo ≡ todo.Sync → Keeps now step_todo
       syncs walks is =
           keeps_by now step_todo todo.Sync is
-          (sync_kept start member there before first now noted_log s calls noted told ok
-          (still e log local can new s calls has.last (no_name_of step_todo todo.Sync is (λ finished names. cc))
+          (sync_kept start member there before first now noted_log s calls noted told ok nobody
+          (still e log local can new s calls has.last nobody (no_name_of step_todo todo.Sync is (λ finished names. cc))
           (λ nothing. cc))
           (finished_of walks.walk (redo.noted was.saver.floor was.replica.lqh.outlet)) (end_of was.replica.lqh.outlet)
           walks.stage
@@ -307,7 +314,7 @@ module _ (start : Start) (member : Member) (before : Rows) (first : SystemSlot) 
             ∙ ap (λ (o : Option Event). option_to_list o ++ new.records.events_of.1.0) none
 
         noted_on : NotesSaves was behind
-        noted_on = saves_noted start member there log e local
+        noted_on = saves_noted start member there nobody log e local
 
         module _ (runs : Runs (name_calls (files_of calls CONTROL_FILE) s finished) calls told ok) where
           tells : TellsRecord calls told
@@ -336,7 +343,8 @@ module _ (start : Start) (member : Member) (before : Rows) (first : SystemSlot) 
                   inl (record {
                     last =
                         named_last start member there before first e log s calls has.last can new late finished switch
-                        new.records.events_of.1.0 older_is new.records.events_of.1.1.1 noted_on walked tells.calls ok
+                        new.records.events_of.1.0 older_is new.records.events_of.1.1.1 noted_on nobody walked
+                        tells.calls ok
                         made_so so;
                     walked = λ on.
                         subst
@@ -360,12 +368,13 @@ module _ (start : Start) (member : Member) (before : Rows) (first : SystemSlot) 
               → HasSavedRows start member before first.generation (stop ∷ now) image
           leaves stop failed image left =
               named_found start member there before first e log s calls has.last can new late finished switch
-              new.records.events_of.1.0 older_is new.records.events_of.1.1.1 noted_on (stop ∷ now)
+              new.records.events_of.1.0 older_is new.records.events_of.1.1.1 noted_on nobody (stop ∷ now)
               (past_more stop (past_more e (past_self log))) (least stop failed) image
               (others_named start member there before first e log s calls has.last can new late finished switch
               new.records.events_of.1.0 older_is new.records.events_of.1.1.1 noted_on (files_of tells.calls) image
               (names_leave start member there before first e log s calls has.last can new late finished switch
-              new.records.events_of.1.0 older_is new.records.events_of.1.1.1 noted_on walked tells.calls ok made_so
+              new.records.events_of.1.0 older_is new.records.events_of.1.1.1 noted_on nobody walked tells.calls ok
+              made_so
               tells.grows (joined (files_of tells.calls) image) (others_left tells.calls image tells.kept left)))
 
           names_now : RowsAreKept start member before first now noted_log s told ok (OfCheckpoint (todo.Name finished))

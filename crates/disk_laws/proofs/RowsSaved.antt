@@ -29,7 +29,7 @@ use Rattle.node_disk.proofs.CallLemmas.{same_record}
 use Rattle.node_restart.specs.Rows.{HasRows, RestoresRows, records_saved}
 use Rattle.node_restart.proofs.RestoredLaw.{restored}
 use Rattle.node_restart.proofs.SaveLaw.{rows_kept}
-use Rattle.world_core.specs.Start.{Start, made}
+use Rattle.world_core.specs.Start.{NobodyStarts, Start, made}
 use Rattle.world_core.specs.Steps.{HostStep}
 use Rattle.request_laws.specs.Blocks.{rows_after, saver_after, saving_after}
 use Rattle.disk_world.specs.Keeping.{redo_from}
@@ -191,25 +191,26 @@ module _ (start : Start) (member : Member) (there : IsIn member (made start)) (b
         on.until_now.is ∙ ap (λ older. newer ++ older) has.all ∙ sym (append_assoc newer has.redo has.gone)
 
     -- the journal has what is saved, and what is still to be saved
-    left_both : outlet.left ≡ log_bytes has.redo ++ log_bytes newer
-    left_both =
+    left_both : NobodyStarts start → outlet.left ≡ log_bytes has.redo ++ log_bytes newer
+    left_both nobody =
         left_is start member there new can.events can.records
         ∙ ap (λ records. drop outlet.flushed (log_bytes records))
-        (same_records start member there new can.events on.until_now.now can.records.events_of on.until_now.events_of
+        (same_records start member there nobody new can.events on.until_now.now can.records.events_of
+        on.until_now.events_of
         can.records.records on.until_now.are)
         ∙ ap (λ (at : ℕ). drop at (log_bytes (records_behind (first_rows start member) on.until_now.now)))
         (sym on.begins)
         ∙ sym on.until_now.stand.bytes
         ∙ bytes_append newer has.redo
 
-    pub left_size : length outlet.left ≡ length (log_bytes has.redo) + length (log_bytes newer)
-    left_size = ap length left_both ∙ length-append (log_bytes has.redo) (log_bytes newer)
+    pub left_size : NobodyStarts start → length outlet.left ≡ length (log_bytes has.redo) + length (log_bytes newer)
+    left_size nobody = ap length (left_both nobody) ∙ length-append (log_bytes has.redo) (log_bytes newer)
 
-    pub rest_is : redo_from outlet s.control.redo_end ≡ log_bytes newer
-    rest_is =
+    pub rest_is : NobodyStarts start → redo_from outlet s.control.redo_end ≡ log_bytes newer
+    rest_is nobody =
         ap (λ (behind : Bool). if behind then [] else drop (s.control.redo_end - outlet.flushed) outlet.left)
         (le-ltb s.control.redo_end outlet.flushed (omega (arith, has.rows.named.ends, on.begins)))
-        ∙ ap (drop (s.control.redo_end - outlet.flushed)) left_both
+        ∙ ap (drop (s.control.redo_end - outlet.flushed)) (left_both nobody)
         ∙ drop_at (log_bytes has.redo) (log_bytes newer) (s.control.redo_end - outlet.flushed)
         (omega (arith, has.rows.named.ends, on.begins))
 
@@ -227,8 +228,8 @@ module _ (start : Start) (member : Member) (there : IsIn member (made start)) (b
         control_numbers s.control_at (files_of calls CONTROL_FILE) s.control
         (sound_of calls CONTROL_FILE has.rows.control.kept (omega arith)).are_bytes has.rows.control.stands
 
-    few_bytes : s.control.redo_end + length (log_bytes newer) ≤ s.control.redo_start + REDO_BYTES
-    few_bytes = omega (arith, has.rows.named.ends, can.room, left_size)
+    few_bytes : NobodyStarts start → s.control.redo_end + length (log_bytes newer) ≤ s.control.redo_start + REDO_BYTES
+    few_bytes nobody = omega (arith, has.rows.named.ends, can.room, left_size nobody)
 
     serial_low : s.control.saved < epoch → s.control.serial < 2 ^ 64 - 1
     serial_low up = by has.serial
@@ -238,8 +239,8 @@ module _ (start : Start) (member : Member) (there : IsIn member (made start)) (b
         by (inl few) = omega (arith, few, has.few)
         by (inr (some, few)) = omega (arith, few, has.few, up, can.saved, late)
 
-    pub may : s.control.saved < epoch → MaySaveRows s epoch (log_bytes newer)
-    may up = record {
+    pub may : NobodyStarts start → s.control.saved < epoch → MaySaveRows s epoch (log_bytes newer)
+    may nobody up = record {
       readable = record {
         least_file = names.least;
         most_file = names.most;
@@ -248,12 +249,12 @@ module _ (start : Start) (member : Member) (there : IsIn member (made start)) (b
             and_from (nat_le s.control.redo_start next.redo_end)
             (nat_le (next.redo_end - s.control.redo_start) REDO_BYTES)
             (le-leb s.control.redo_start next.redo_end (omega (arith, has.rows.named.ends)))
-            (le-leb (next.redo_end - s.control.redo_start) REDO_BYTES (omega (arith, few_bytes)));
+            (le-leb (next.redo_end - s.control.redo_start) REDO_BYTES (omega (arith, few_bytes nobody)));
         generation = numbers.generation;
         serial = serial_fits;
         saved = omega (arith, can.saved);
         redo_start = omega (arith, has.low);
-        redo_end = omega (arith, has.low, few_bytes);
+        redo_end = omega (arith, has.low, few_bytes nobody);
         ckpt_size = numbers.size;
       };
       serial = serial_low up;
@@ -263,13 +264,14 @@ module _ (start : Start) (member : Member) (there : IsIn member (made start)) (b
         serial_fits = omega (arith, serial_low up)
 
     -- a later epoch is of the life, so its numbers suffice
-    serials : s.control.saved < epoch → HaveSerials start member before first (saver_after start member new).named used
-    serials up = inr (own, by has.serial)
+    serials : NobodyStarts start → s.control.saved < epoch
+        → HaveSerials start member before first (saver_after start member new).named used
+    serials nobody up = inr (own, by has.serial)
       where
         of_life : (epoch ≡ start.start_epoch) ⊎ (start.epoch ≤ epoch) → start.epoch ≤ epoch
         of_life (inl none) =
-            let least = saved_along start member there [] has.older (past_nil has.older) in
-            let begun = first_saved start member there in
+            let least = saved_along start nobody member there [] has.older (past_nil has.older) in
+            let begun = first_saved start nobody member there in
             absurd (omega (arith, none, least, begun, has.saved, up))
         of_life (inr later) = later
 
@@ -301,7 +303,8 @@ module _ (start : Start) (member : Member) (there : IsIn member (made start)) (b
       pub later : ok ≡ false → s.control.saved < epoch
 
     -- a later epoch is saved
-    module _ (up : s.control.saved < epoch) (after : List Call) (grows : length calls ≤ length after) (ok : Bool)
+    module _ (nobody : NobodyStarts start) (up : s.control.saved < epoch) (after : List Call)
+        (grows : length calls ≤ length after) (ok : Bool)
         (runs : Runs (rows_calls (files_of calls CONTROL_FILE) s epoch (log_bytes newer)) calls (Some after) ok) where
       not_yet : nat_le epoch s.control.saved ≡ false
       not_yet = lt-leb epoch s.control.saved up
@@ -314,7 +317,7 @@ module _ (start : Start) (member : Member) (there : IsIn member (made start)) (b
           after)
       law =
           rows_kept s epoch has.least has.base newer has.redo calls after ok has.rows
-          (newer_records newer has.redo on.until_now.stand.are) (may up) runs
+          (newer_records newer has.redo on.until_now.stand.are) (may nobody up) runs
 
       either : (image : Files)
           → RestoresRows has.least image s.control has.base has.redo ⊎ RestoresRows has.least image next has.base both
@@ -333,7 +336,7 @@ module _ (start : Start) (member : Member) (there : IsIn member (made start)) (b
       ends : NotesSaves (saving_after start member log) (saving_after start member new)
           → next.redo_end ≡ (saver_after start member new).saved_end
       ends (inl (same, end)) = absurd (omega (arith, same, up, has.latest))
-      ends (inr (more, end)) = omega (arith, end, left_size, has.rows.named.ends, on.begins)
+      ends (inr (more, end)) = omega (arith, end, left_size nobody, has.rows.named.ends, on.begins)
 
       now_last : HasRows used has.least has.base both after → HasLastRows start member before first new used after
       now_last rows = record {
@@ -341,7 +344,7 @@ module _ (start : Start) (member : Member) (there : IsIn member (made start)) (b
         begins = on.begins;
         low = has.low;
         ends = ends on.noted;
-        serial = serials up;
+        serial = serials nobody up;
         few = omega (arith, has.few, on.named);
         older = new;
         past = past_self new;
@@ -349,7 +352,7 @@ module _ (start : Start) (member : Member) (there : IsIn member (made start)) (b
         latest = refl;
         events = on.until_now.now;
         events_of = on.until_now.events_of;
-        end_is = omega (arith, left_size, has.rows.named.ends, on.begins);
+        end_is = omega (arith, left_size nobody, has.rows.named.ends, on.begins);
         base = has.base;
         redo = both;
         least = has.least;
@@ -372,7 +375,7 @@ module _ (start : Start) (member : Member) (there : IsIn member (made start)) (b
       later_saves = record {
         done = λ so.
             subst (λ (bytes : List ℕ). HasLastRows start member before first new (rows_saved s epoch bytes) after)
-            (sym rest_is)
+            (sym (rest_is nobody))
             (subst (λ (saved : Bool). HasLastRows start member before first new (if saved then s else used) after)
             (sym not_yet) (now_last (now_has so)));
         failed = λ not_so image left. either image (law.0 [] after refl grows image left);
@@ -380,11 +383,11 @@ module _ (start : Start) (member : Member) (there : IsIn member (made start)) (b
       }
 
     -- whatever epoch it is
-    pub rows_go : (after : List Call) → length calls ≤ length after → (ok : Bool)
+    pub rows_go : NobodyStarts start → (after : List Call) → length calls ≤ length after → (ok : Bool)
         → Runs (rows_calls (files_of calls CONTROL_FILE) s epoch (redo_from outlet s.control.redo_end)) calls
         (Some after) ok
         → AreSaved after ok
-    rows_go after grows ok runs = by (nat_le epoch s.control.saved) refl
+    rows_go nobody after grows ok runs = by (nat_le epoch s.control.saved) refl
       where
         bytes : List ℕ
         bytes = redo_from outlet s.control.redo_end
@@ -399,7 +402,7 @@ module _ (start : Start) (member : Member) (there : IsIn member (made start)) (b
 
         by : (saved : Bool) → nat_le epoch s.control.saved ≡ saved → AreSaved after ok
         by true e =
-            let rises = saved_along start member there log new on.past in
+            let rises = saved_along start nobody member there log new on.past in
             let same : epoch ≡ s.control.saved = omega (arith, leb-true epoch s.control.saved e, rises, has.latest) in
             let none : Runs [] calls (Some after) ok =
             subst (λ (saved : Bool). Runs (Asks saved) calls (Some after) ok) e runs in
@@ -416,10 +419,10 @@ module _ (start : Start) (member : Member) (there : IsIn member (made start)) (b
               later = λ not_so. absurd (true≢false (sym none.1 ∙ not_so));
             }
         by false e =
-            later_saves (omega (arith, leb-false epoch s.control.saved e)) after grows ok
+            later_saves nobody (omega (arith, leb-false epoch s.control.saved e)) after grows ok
             (subst
             (λ (bytes : List ℕ). Runs (rows_calls (files_of calls CONTROL_FILE) s epoch bytes) calls (Some after) ok)
-            rest_is runs)
+            (rest_is nobody) runs)
 
     -- What such an image has is what there is to be found in it, also behind a stop for which nothing of the last step
     -- counts.
@@ -446,11 +449,12 @@ module _ (start : Start) (member : Member) (there : IsIn member (made start)) (b
     }
 
 -- so it is of a disk that has the rows
-pub all_found : (start : Start) (member : Member) (before : Rows) (first : SystemSlot) (log : List HostStep)
+pub all_found : (start : Start) (nobody : NobodyStarts start) (member : Member) (before : Rows) (first : SystemSlot)
+    (log : List HostStep)
     (s : SlotsInUse) (calls : List Call) (image : Files) → IsIn member (made start)
     → HasLastRows start member before first log s calls → IsLeft calls image
     → HasSavedRows start member before first.generation log image
-all_found start member before first log s calls image there has left =
-    let least = saved_along start member there (kept_part log) log (kept_is_past log) in
+all_found start nobody member before first log s calls image there has left =
+    let least = saved_along start nobody member there (kept_part log) log (kept_is_past log) in
     last_found start member before first log s calls has log (past_self log) (omega (arith, least, has.latest)) image
     (restored s has.least has.base has.redo calls image has.rows left)

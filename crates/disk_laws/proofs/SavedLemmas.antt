@@ -23,7 +23,7 @@ use Rattle.moment_laws.proofs.MomentHosts.{ldm_started, part_some}
 use Rattle.request_laws.specs.Blocks.{no_replica, rows_after, rows_in}
 use Rattle.request_laws.proofs.routes.Layouts.{runs_ldm}
 use Rattle.request_laws.proofs.routes.PartSteps.{own_ldm, rows_are}
-use Rattle.world_core.specs.Start.{Start, made}
+use Rattle.world_core.specs.Start.{NobodyStarts, Start, made}
 use Rattle.world_core.specs.Steps.{HostStep}
 use Rattle.world_views.specs.Machine.{after, step_after, stops_by, told}
 use Rattle.journal_laws.proofs.events.ReplicaEvents.{saved_rises}
@@ -53,7 +53,7 @@ pub told_some : (h : ℕ) (t : Step hosts.HostBody) → 1 ≤ h → told h t ≡
 told_some zero t some = absurd (omega (arith, some))
 told_some (suc h) t some = refl
 
-module _ (start : Start) (member : Member) (there : IsIn member (made start)) where
+module _ (start : Start) (nobody : NobodyStarts start) (member : Member) (there : IsIn member (made start)) where
   abbrev h : ℕ
   h = ldm_of start member
 
@@ -63,18 +63,19 @@ module _ (start : Start) (member : Member) (there : IsIn member (made start)) wh
   -- it is what its host's part says
   pub saved_is : (log : List HostStep) → saved_by (after start h log).parts ≡ saved_after log
   saved_is log =
-      let at = runs_ldm start member there log in
+      let at = runs_ldm start nobody member there log in
       ap saved_by at.runs
       ∙ sym (ap (λ (r : ReplicaState). r.saved) (rows_are start member h log refl at.own at.runs))
 
   -- at first it is the epoch from which the life started
   pub first_saved : saved_after [] ≡ start.start_epoch
   first_saved =
-      ap (λ (s : hosts.HostBody). (rows_in (no_replica start member) s.parts).saved) (ldm_started start member there)
+      ap (λ (s : hosts.HostBody). (rows_in (no_replica start member) s.parts).saved)
+      (ldm_started start nobody member there)
 
   log_rises : (log : List HostStep) (e : HostStep) → saved_after log ≤ saved_after (e ∷ log)
   log_rises log e =
-      let step = own_ldm start member there log e in
+      let step = own_ldm start nobody member there log e in
       let before : saved_after log ≡ step.own.replica.saved =
       ap (λ (r : ReplicaState). r.saved) (rows_are start member h log refl step.own step.runs) in
       let behind : saved_after (e ∷ log) ≡ step.does.own.replica.saved =
@@ -96,7 +97,7 @@ module _ (start : Start) (member : Member) (there : IsIn member (made start)) wh
   pub stop_keeps : (log : List HostStep) (e : HostStep)
       → stops_by (step_after start h log e).effects.marks ≡ true → saved_after (e ∷ log) ≡ saved_after log
   stop_keeps log e stops =
-      let at = runs_ldm start member there log in
+      let at = runs_ldm start nobody member there log in
       let t : Step hosts.HostBody = step_after start h log e in
       sym (saved_is (e ∷ log))
       ∙ ap (λ (s : hosts.HostBody). saved_by s.parts) (told_some h t (part_some start Ldm member))

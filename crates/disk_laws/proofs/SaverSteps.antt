@@ -26,7 +26,7 @@ use Rattle.moment_laws.proofs.MomentHosts.{part_some}
 use Rattle.request_laws.specs.Blocks.{rows_after}
 use Rattle.request_laws.proofs.routes.Layouts.{runs_ldm}
 use Rattle.request_laws.proofs.routes.PartSteps.{rows_are}
-use Rattle.world_core.specs.Start.{Start, made}
+use Rattle.world_core.specs.Start.{NobodyStarts, Start, made}
 use Rattle.world_core.specs.Steps.{HostStep}
 use Rattle.world_views.specs.Machine.{after, own_stop, step_after, step_by, step_if, stops_by}
 use Rattle.disk_world.specs.Keeping.{todo_in}
@@ -80,7 +80,7 @@ module _ (s : hosts.HostBody) (x : Signal) (p : LdmPart) where
       by (Some cause) on = absurd (true≢false on)
       by None on = rows_keep (checkpoints_are_of_their_steps s x p runs on)
 
-module _ (start : Start) (member : Member) (there : IsIn member (made start)) where
+module _ (start : Start) (nobody : NobodyStarts start) (member : Member) (there : IsIn member (made start)) where
   abbrev h : ℕ
   h = ldm_of start member
 
@@ -93,7 +93,7 @@ module _ (start : Start) (member : Member) (there : IsIn member (made start)) wh
       t = step_after start h log e
 
       own : LdmPart
-      own = (runs_ldm start member there log).own
+      own = (runs_ldm start nobody member there log).own
 
       state : after start h (e ∷ log) ≡ t.state
       state = told_some h t (part_some start Ldm member)
@@ -107,10 +107,10 @@ module _ (start : Start) (member : Member) (there : IsIn member (made start)) wh
 
       by : (b : Bool) → stops_by t.effects.marks ≡ b
           → (rows_after start member (e ∷ log)).saved ≡ (rows_after start member log).saved
-      by true stops = stop_keeps start member there log e stops
+      by true stops = stop_keeps start nobody member there log e stops
       by false goes =
-          let at = runs_ldm start member there log in
-          sym (saved_is start member there (e ∷ log))
+          let at = runs_ldm start nobody member there log in
+          sym (saved_is start nobody member there (e ∷ log))
           ∙ ap (λ (s : hosts.HostBody). saved_by s.parts) state
           ∙ step_leaves (after start h log) e.step.taken at.own h at.runs goes
           (there_is (stops_by e.step.marks) refl done)

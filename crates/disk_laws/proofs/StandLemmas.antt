@@ -21,7 +21,7 @@ use Rattle.node_restart.specs.Rows.{RestoresRows}
 use Rattle.local_ckpt.specs.Events.{Event, left_by}
 use Rattle.local_ckpt.specs.Laws.{HasPrepares}
 use Rattle.lqh_block.specs.State.{LqhState}
-use Rattle.world_core.specs.Start.{Start, made}
+use Rattle.world_core.specs.Start.{NobodyStarts, Start, made}
 use Rattle.world_core.specs.Steps.{HostStep}
 use Rattle.journal_laws.specs.Checkpoints.{ComeToTheSame}
 use Rattle.journal_laws.specs.Events.{records_behind, records_if, rows_behind}
@@ -115,18 +115,19 @@ module _ (start : Start) (member : Member) (there : IsIn member (made start)) wh
 
   module _ (before base : Rows) where
     -- a step's records come to the same on both
-    more_same : (events : List Event) (event : Option Event) (kept : List Redo) (least : ℕ)
+    more_same : NobodyStarts start → (events : List Event) (event : Option Event) (kept : List Redo) (least : ℕ)
         → HasPrepares (rows_behind first events) kept → ComeToTheSame least base kept before (records events)
         → ComeToTheSame least base (records_if event (rows_behind first events) ++ kept) before
         (records (option_to_list event ++ events))
-    more_same events None kept least has same = same
-    more_same events (Some event) kept least has same = λ epoch up.
+    more_same nobody events None kept least has same = same
+    more_same nobody events (Some event) kept least has same = λ epoch up.
         let s = rows_behind first events in
         ap (replayed epoch base) (sym (logged_behind event s kept))
-        ∙ replays_more s kept (orderly_behind first events (first_orderly start member there)) has epoch base event
+        ∙ replays_more s kept (orderly_behind first events (first_orderly start nobody member there)) has epoch base
+        event
         ∙ ap (left_by epoch event s)
-        (same epoch up ∙ replays first before events epoch (first_pending start member there))
-        ∙ sym (replays first before (event ∷ events) epoch (first_pending start member there))
+        (same epoch up ∙ replays first before events epoch (first_pending start nobody member there))
+        ∙ sym (replays first before (event ∷ events) epoch (first_pending start nobody member there))
 
     -- A step's records come behind those that stand until now.
     module _ (log : List HostStep) (now : List Event) (of : AreEventsOf start member log now)
@@ -157,8 +158,9 @@ module _ (start : Start) (member : Member) (there : IsIn member (made start)) wh
       added_are : AreRecords added
       added_are = newer_records added (records now) (subst AreRecords all are)
 
-      pub stand_more : StandFor start member before base least position (option_to_list event ++ now) (added ++ kept)
-      stand_more = record {
+      pub stand_more : NobodyStarts start
+          → StandFor start member before base least position (option_to_list event ++ now) (added ++ kept)
+      stand_more nobody = record {
         are = both_records added kept added_are stand.are;
         bytes = bytes;
         most = omega (arith, stand.most, size);
@@ -166,13 +168,14 @@ module _ (start : Start) (member : Member) (there : IsIn member (made start)) wh
             (λ (rows : RowsState). ComeToTheSame least base (records_if event rows ++ kept) before
             (records (option_to_list event ++ now)))
             (sym (rows_are_behind start member there log now of))
-            (more_same now event kept least
+            (more_same nobody now event kept least
             (subst (λ (rows : RowsState). HasPrepares rows kept) (rows_are_behind start member there log now of) has)
             stand.same);
       }
 
 -- So it is of all that was until now, at a step that names no checkpoint.
-module _ (start : Start) (member : Member) (there : IsIn member (made start)) (before : Rows) (slot : SystemSlot)
+module _ (start : Start) (nobody : NobodyStarts start) (member : Member) (there : IsIn member (made start))
+    (before : Rows) (slot : SystemSlot)
     (e : HostStep) (log : List HostStep) (can : List Event) (has : HasRecords start member log can)
     (given : HasGivenUp start member log can) (new : List Event) (has_new : HasRecords start member (e ∷ log) new)
     (event : Option Event) (older : List Event) (is : new ≡ option_to_list event ++ older)
@@ -195,14 +198,14 @@ module _ (start : Start) (member : Member) (there : IsIn member (made start)) (b
   older_are = older_records step_records (all_records older) (subst AreRecords goes_on has_new.records)
 
   same : all_records was.now ≡ all_records older
-  same = same_records start member there log was.now older was.events_of of was.are older_are
+  same = same_records start member there nobody log was.now older was.events_of of was.are older_are
 
   has_prepares : HasPrepares (lqh_after start member log).rows kept
   has_prepares =
       prepared start member there log can has given kept was.stand.are
       (was.stand.bytes
       ∙ ap (λ all. drop position (log_bytes all))
-      (same_records start member there log was.now can was.events_of has.events_of was.are has.records)
+      (same_records start member there nobody log was.now can was.events_of has.events_of was.are has.records)
       ∙ ap (λ (from : ℕ). drop from (log_bytes (all_records can))) at)
 
   stand_on : StandFor start member before base least position new (step_records ++ kept)
@@ -210,7 +213,7 @@ module _ (start : Start) (member : Member) (there : IsIn member (made start)) (b
       subst (λ all. StandFor start member before base least position all (step_records ++ kept)) (sym is)
       (stand_more start member there before base log older of event least position kept
       (subst AreRecords (ap all_records is) has_new.records) has_prepares
-      (stand_same start member before base least position was.now older kept same was.stand))
+      (stand_same start member before base least position was.now older kept same was.stand) nobody)
 
   pub until_on : StandUntilNow start member before slot (e ∷ log) base least position events redo
   until_on = record {

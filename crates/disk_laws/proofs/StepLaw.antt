@@ -143,7 +143,7 @@ module _ (start : Start) (member : Member) (before : Rows) (first : SystemSlot) 
       (savable : (log : List HostStep) → IsPast log (logs_at t.logs ldm) → AreSavable start member before log)
       (notable : AreNotable start member (logs_at t.logs tc)) where
     apart : tc ≢ ldm
-    apart = tc_apart start member there
+    apart = tc_apart start sound.right.nobody member there
 
     -- the host of the rows
     module _ (ok : Bool) (moves : Moves ldm ok) where
@@ -156,7 +156,7 @@ module _ (start : Start) (member : Member) (before : Rows) (first : SystemSlot) 
       rows_has : HasKept kept_rows d old new ok
       rows_has =
           kept_as kept_rows kept_rows (place_of start ldm) d old old new new ok moves.kept refl
-          (place_is start member ldm (ldm_member start member there)) refl refl
+          (place_is start member ldm (ldm_member start sound.right.nobody member there)) refl refl
 
       noted_same : logs_at stepped.logs tc ≡ logs_at w.logs tc
       noted_same = moves.others tc apart
@@ -165,7 +165,8 @@ module _ (start : Start) (member : Member) (before : Rows) (first : SystemSlot) 
       module _ (past : IsPast now (logs_at t.logs ldm)) where
         kept_now : RowsAreKept start member before first now (logs_at w.logs tc) up.slots told_now ok kept_rows
         kept_now =
-            rows_kept start member before first there late (logs_at w.logs tc) up.slots up.calls told_now ok moves.step
+            rows_kept start member before first there sound.right.nobody late (logs_at w.logs tc) up.slots up.calls
+            told_now ok moves.step
             (logs_at w.logs ldm) now moves.more moves.ran moves.runs moves.local
             (λ log older. savable log (past_trans older past)) up.is (own_runs kept_rows ok rows_has)
 
@@ -197,7 +198,7 @@ module _ (start : Start) (member : Member) (before : Rows) (first : SystemSlot) 
       noted_has : HasKept kept_noted d old new ok
       noted_has =
           kept_as kept_noted kept_noted (place_of start tc) d old old new new ok moves.kept refl
-          (place_is start member tc (tc_member start member there)) refl refl
+          (place_is start member tc (tc_member start sound.right.nobody member there)) refl refl
 
       grown : HasAtMostOneMore (logs_at w.logs tc) now_noted
       grown = inr (moves.step, moves.more)
@@ -210,7 +211,8 @@ module _ (start : Start) (member : Member) (before : Rows) (first : SystemSlot) 
             moves.ran moves.runs low up.slots up.calls up.is told_now ok kept_noted
         kept_so =
             noted_kept start member before first there (logs_at w.logs ldm) (logs_at w.logs tc) now_noted grown
-            moves.ran moves.runs low up.slots up.calls up.is told_now ok (own_runs kept_noted ok noted_has)
+            moves.ran moves.runs low up.slots up.calls up.is told_now ok sound.right.nobody
+            (own_runs kept_noted ok noted_has)
 
       noted_keep : ok ≡ true → t ≡ stepped → KeepsUp start member before first t new
       noted_keep so same =
@@ -294,23 +296,25 @@ module _ (start : Start) (member : Member) (before : Rows) (first : SystemSlot) 
           is = ap (λ (disks : Disks). get_or disks.told d None) same_disks ∙ up.told;
           on = record {
             rows = rows_by (stopped_or start w t old new counts sound gone same_world stops ldm
-                (part_some start Ldm member) (ldm_low start member there));
+                (part_some start Ldm member) (ldm_low start sound.right.nobody member there));
             noted = noted_by (stopped_or start w t old new counts sound gone same_world stops tc
-                (part_some start Tc member) (tc_low start member there));
+                (part_some start Tc member) (tc_low start sound.right.nobody member there));
           };
         })
       where
         local : IsLog (machine start) ldm (logs_at t.logs ldm)
         local =
             subst (IsLog (machine start) ldm) (sym (logs_same start w t old new counts sound gone same_world ldm))
-            ((sound_still start w t old new counts sound gone).right.local ldm (ldm_low start member there))
+            ((sound_still start w t old new counts sound gone).right.local ldm
+            (ldm_low start sound.right.nobody member there))
 
         rows_by : IsSameOrStopped start w t ldm
             → KeepsRows start member before first (logs_at t.logs ldm) up.slots up.calls
         rows_by (inl same) =
             subst (λ log. KeepsRows start member before first log up.slots up.calls) (sym same) up.is.rows
         rows_by (inr stopped_so) =
-            rows_stop start member before first there (logs_at w.logs ldm) (logs_at t.logs ldm) up.slots up.calls local
+            rows_stop start member before first there sound.right.nobody (logs_at w.logs ldm) (logs_at t.logs ldm)
+            up.slots up.calls local
             savable stopped_so up.is.rows
 
         noted_by : IsSameOrStopped start w t tc

@@ -146,15 +146,16 @@ module _ (start : Start) (member : Member) (before : Rows) (first : SystemSlot) 
           since = since;
           made =
               made_of ldm (kept_behind start ldm (log_of ldm))
-              (place_is start member ldm (ldm_member start member there)) refl has;
+              (place_is start member ldm (ldm_member start sound.right.nobody member there)) refl has;
         })
 
     -- it coordinates
     noting_goes : gone.host ≡ tc → HasAsked tc → WhoseStep
-    noting_goes at has = by (noted_no_rows start member there (log_of tc))
+    noting_goes at has = by (noted_no_rows start member there sound.right.nobody (log_of tc))
       where
         made_so : (what : Kept) → noted start member there (log_of tc) ≡ what → HasMade what
-        made_so what is = made_of tc what (place_is start member tc (tc_member start member there)) is has
+        made_so what is =
+            made_of tc what (place_is start member tc (tc_member start sound.right.nobody member there)) is has
 
         by : IsNoRows (noted start member there (log_of tc)) → WhoseStep
         by (nothing is) = none_of (made_so NothingNew is)

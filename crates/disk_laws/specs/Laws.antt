@@ -18,7 +18,7 @@ use Rattle.sys_restart.specs.declared.restored.Restored.{Restored}
 use Rattle.sys_restart.specs.Calls.{next_system, rows_of_node}
 use Rattle.sys_restart.specs.Files.{Files}
 use Rattle.sys_restart.specs.Prepared.{IsReady}
-use Rattle.world_core.specs.Start.{Start, made}
+use Rattle.world_core.specs.Start.{NobodyStarts, Start, made}
 use Rattle.world_core.specs.Steps.{HostStep}
 use Rattle.world_core.specs.World.{logs_at}
 use Rattle.world_views.specs.Driven.{HasAsked, IsSound}
@@ -36,7 +36,8 @@ use Rattle.disk_laws.specs.OnDisk.{IsOnDisk, KeepsUp}
 -- a disk that is ready for a life has what there is to keep of hosts that did nothing yet
 abbrev pub ReadyDisksKeepUp : Type 0
 ReadyDisksKeepUp =
-    (start : Start) (member : Member) (r : Restored) (calls : List Call) (s : SlotsInUse) → IsRecord calls
+    (start : Start) → NobodyStarts start → (member : Member) (r : Restored) (calls : List Call) (s : SlotsInUse)
+    → IsRecord calls
     → start.start_epoch ≡ r.epoch → IsIn member (made start) → IsReady start.shape member.node r calls
     → slots_in (r.generation + 1) (files_of calls) ≡ Ok (Some s)
     → IsOnDisk start member (rows_of_node start.shape member.node r) (next_system start.shape r) [] [] s calls
@@ -84,8 +85,8 @@ RequestsAreKept =
 -- was noted.
 pub record WhatIsKeptIsFound : Type 0 where
   pub rows :
-      (start : Start) (member : Member) (before : Rows) (first : SystemSlot) (w : Whole) (disks : Disks)
-      (image : Files) → (up : KeepsUp start member before first w disks) → IsLeft up.calls image
+      (start : Start) → NobodyStarts start → (member : Member) (before : Rows) (first : SystemSlot) (w : Whole)
+      (disks : Disks) (image : Files) → (up : KeepsUp start member before first w disks) → IsLeft up.calls image
       → HasSavedRows start member before first.generation (logs_at w.logs (ldm_of start member)) image
   pub noted :
       (start : Start) (member : Member) (before : Rows) (first : SystemSlot) (w : Whole) (disks : Disks)

@@ -194,7 +194,7 @@ module _ (start : Start) (all : ℕ → List HostStep) where
       -- a host of epochs
       module _ (me : Member) (there : IsIn me (made start)) (at : e.host ≡ tc_of start me) where
         runs : RunsTc start e.host (old e.host)
-        runs = tc_at start e.host me there at (old e.host)
+        runs = tc_at start e.host moment.cluster.nobody me there at (old e.host)
 
         epochs_are : epochs_of start old me ≡ runs.part.dih
         epochs_are =
@@ -213,7 +213,7 @@ module _ (start : Start) (all : ℕ → List HostStep) where
         decider_full low =
             full_before start all e es moment stand me
             (subst (λ (m : Member). IsIn m (current start (logs_of start (e ∷ es))).full)
-            (ap (member_at (made start)) at ∙ tc_member start me there)
+            (ap (member_at (made start)) at ∙ tc_member start moment.cluster.nobody me there)
             (current_host start all (e ∷ es) moment e.host (subst (λ h. 1 ≤ h) (sym at) (part_some start Tc me))
             (host_low start all e es moment)
             (own_behind start all e es moment ∙ taker_stands start all e es moment low)))
@@ -245,7 +245,7 @@ module _ (start : Start) (all : ℕ → List HostStep) where
             by (inr low) (inr has) = given_down me (decider_full low) has.rest gives down
 
       decisions_next : AreDown (decisions start es) → AreDown (decisions start (e ∷ es))
-      decisions_next down = by (tc_host_is start e.host (host_low start all e es moment))
+      decisions_next down = by (tc_host_is start moment.cluster.nobody e.host (host_low start all e es moment))
         where
           by : TcHost start e.host → AreDown (decisions start (e ∷ es))
           by (of_tc me there at) = tc_down me there at down

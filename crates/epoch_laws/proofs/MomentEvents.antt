@@ -17,7 +17,7 @@ use Rattle.gcp_master.specs.Master.{fresh_master, master_row}
 use Rattle.gcp_master.specs.Resume.{in_view}
 use Rattle.gcp_master.specs.State.{MasterState}
 use Rattle.node_views.specs.Fence.{is_body_fenced, is_epoch_fenced, is_fenced}
-use Rattle.world_core.specs.Start.{Start}
+use Rattle.world_core.specs.Start.{NobodyStarts, Start}
 use Rattle.world_core.specs.Steps.{Addressed, HostStep}
 use Rattle.world_views.specs.Machine.{after}
 use Rattle.view_laws.specs.Runs.{view_after}
@@ -41,22 +41,23 @@ use Rattle.moment_laws.proofs.PartTaken.{IsTaken, IsTakenNow, entered_fence, tak
 use Rattle.epoch_laws.proofs.StepTc.{moves_from}
 
 -- a host of a node, and the signal of its step
-module _ (start : Start) where
+module _ (start : Start) (nobody : NobodyStarts start) where
   pub host_epochs : (other : DihState) (h : ℕ) → 1 ≤ h → (log : List HostStep) (e : HostStep)
       → EpochsMove start.shape (dih_in other (after start h log).parts) e.step.taken (view_after start h (e ∷ log))
       (dih_in other (after start h (e ∷ log)).parts)
   host_epochs other h some log e =
       epochs_move other start.shape e.step.taken (after start h log).parts (view_after start h log)
-      (after start h (e ∷ log)).parts (view_after start h (e ∷ log)) (fences_are_not_below start h log block.Dih)
-      (entered_fence (after start h log).parts e.step.taken.view block.Dih) (after_moves start h some log e)
+      (after start h (e ∷ log)).parts (view_after start h (e ∷ log)) (fences_are_not_below start nobody h log block.Dih)
+      (entered_fence (after start h log).parts e.step.taken.view block.Dih) (after_moves start nobody h some log e)
 
   pub host_master : (other : MasterState) (h : ℕ) → 1 ≤ h → (log : List HostStep) (e : HostStep)
       → MasterMoves start.shape (master_in other (after start h log).parts) (view_after start h log) e.step.taken
       (view_after start h (e ∷ log)) (master_in other (after start h (e ∷ log)).parts)
   host_master other h some log e =
       master_moves other start.shape e.step.taken (view_after start h (e ∷ log)) (first_layout start.shape)
-      (after start h log).parts (view_after start h log) (after start h (e ∷ log)).parts (host_follows start h log)
-      (after_moves start h some log e)
+      (after start h log).parts (view_after start h log) (after start h (e ∷ log)).parts
+      (host_follows start nobody h log)
+      (after_moves start nobody h some log e)
 
 module _ (start : Start) (all : ℕ → List HostStep) (e : HostStep) (es : List HostStep)
     (moment : IsMoment start all (e ∷ es))
@@ -124,7 +125,7 @@ module _ (start : Start) (all : ℕ → List HostStep) (e : HostStep) (es : List
           own k at =
               subst (λ k. EpochsMove start.shape before_it x (view_after start k (e ∷ old k))
               (dih_in fresh_epochs (after start h (e ∷ old h)).parts)) (sym at)
-              (host_epochs start fresh_epochs h (part_some start Tc member) (old h) e)
+              (host_epochs start moment.cluster.nobody fresh_epochs h (part_some start Tc member) (old h) e)
 
           by : (e.host ≡ h) ⊎ (e.host ≢ h) → EpochsDo member
           by (inl at) =
@@ -223,7 +224,7 @@ module _ (start : Start) (all : ℕ → List HostStep) (e : HostStep) (es : List
               master_did at (λ above. omega (arith, above, number))
               (subst (Comes e.host) (sym log)
               (subst (λ host. Comes host (e ∷ old k)) (sym at)
-              (host_master start fresh k (part_some start Main member) (old k) e)))
+              (host_master start moment.cluster.nobody fresh k (part_some start Main member) (old k) e)))
           by (inr other) =
               unmoved (ap (λ log. master_in fresh (after start k log).parts) (other_log start all e es moment k other))
 

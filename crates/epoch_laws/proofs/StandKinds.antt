@@ -19,9 +19,9 @@ use Rattle.node_views.specs.declared.parts.Parts.{Parts}
 use Rattle.node_views.specs.declared.parts.Parts.TheVariants as part
 use Rattle.node_views.specs.declared.shell_part.ShellPart.{ShellPart}
 use Rattle.node_views.specs.Replies.{giving}
-use Rattle.world_core.proofs.MadeFirst.{begins_made, hosts_first, nobody_starts}
+use Rattle.world_core.proofs.MadeFirst.{begins_made, hosts_first}
 use Rattle.world_core.specs.Hosts.{hosts}
-use Rattle.world_core.specs.Start.{Start, made}
+use Rattle.world_core.specs.Start.{NobodyStarts, Start, made}
 use Rattle.world_core.specs.Steps.{HostStep}
 use Rattle.world_views.specs.Hosts.{started}
 use Rattle.world_views.specs.Machine.{after, step_by, told}
@@ -114,11 +114,12 @@ module _ (start : Start) where
   rows_of (part.Main p) is = absurd cc
   rows_of (part.Tc p) is = absurd cc
 
-  pub runs_rows : (me : Member) → IsIn me (made start) → (log : List HostStep)
+  pub runs_rows : NobodyStarts start → (me : Member) → IsIn me (made start) → (log : List HostStep)
       → RunsRows (after start (ldm_of start me) log).parts
-  runs_rows me there log =
+  runs_rows nobody me there log =
       rows_of (after start (ldm_of start me) log).parts
-      (part_after (ldm_of start me) log ∙ ap (λ (s : node.HostBody). part_in s.parts) (ldm_started start me there))
+      (part_after (ldm_of start me) log ∙ ap (λ (s : node.HostBody). part_in s.parts)
+      (ldm_started start nobody me there))
 
   -- a main host
   pub record RunsMain (parts : Parts) : Type 0 where
@@ -131,15 +132,18 @@ module _ (start : Start) where
   main_part_of (part.Tc p) is = absurd cc
   main_part_of (part.Ldm p) is = absurd cc
 
-  pub runs_main : (me : Member) → IsIn me (made start) → (log : List HostStep)
+  pub runs_main : NobodyStarts start → (me : Member) → IsIn me (made start) → (log : List HostStep)
       → RunsMain (after start (main_of start me) log).parts
-  runs_main me there log =
+  runs_main nobody me there log =
       main_part_of (after start (main_of start me) log).parts
-      (part_after (main_of start me) log ∙ ap (λ (s : node.HostBody). part_in s.parts) (main_started start me there))
+      (part_after (main_of start me) log ∙ ap (λ (s : node.HostBody). part_in s.parts)
+      (main_started start nobody me there))
 
-  pub main_at : (me : Member) → IsIn me (made start) → (h : ℕ) → h ≡ main_of start me → (log : List HostStep)
+  pub main_at : NobodyStarts start → (me : Member) → IsIn me (made start) → (h : ℕ) → h ≡ main_of start me
+      → (log : List HostStep)
       → RunsMain (after start h log).parts
-  main_at me there h at log = subst (λ k. RunsMain (after start k log).parts) (sym at) (runs_main me there log)
+  main_at nobody me there h at log =
+      subst (λ k. RunsMain (after start k log).parts) (sym at) (runs_main nobody me there log)
 
   -- its master is that of the member
   pub master_at : (logs : ℕ → List HostStep) (me : Member) (h : ℕ) → h ≡ main_of start me → (parts : Parts)
@@ -156,22 +160,22 @@ module _ (start : Start) where
     of_tc : (me : Member) → IsIn me (made start) → h ≡ tc_of start me → Whose h
     of_rows : (me : Member) → IsIn me (made start) → h ≡ ldm_of start me → Whose h
 
-  pub whose : (h : ℕ) → h < hosts start → Whose h
-  whose zero low = of_shell refl
-  whose (suc k) low = by (k % 3) refl
+  pub whose : NobodyStarts start → (h : ℕ) → h < hosts start → Whose h
+  whose nobody zero low = of_shell refl
+  whose nobody (suc k) low = by (k % 3) refl
     where
       there : IsIn (first_start (k / 3 + 1)) (made start)
       there = begins_made start _
           (first_in start.shape.nodes (k / 3 + 1) (omega arith)
-          (omega (arith, low, hosts_first start (nobody_starts start))))
+          (omega (arith, low, hosts_first start nobody)))
 
       by : (left : ℕ) → k % 3 ≡ left → Whose (suc k)
       by zero e =
-          let is = main_number start (first_start (k / 3 + 1)) there in
+          let is = main_number start nobody (first_start (k / 3 + 1)) there in
           of_main (first_start (k / 3 + 1)) there (omega (arith, e, is))
       by (suc zero) e =
-          let is = tc_number start (first_start (k / 3 + 1)) there in
+          let is = tc_number start nobody (first_start (k / 3 + 1)) there in
           of_tc (first_start (k / 3 + 1)) there (omega (arith, e, is))
       by (suc (suc left)) e =
-          let is = ldm_number start (first_start (k / 3 + 1)) there in
+          let is = ldm_number start nobody (first_start (k / 3 + 1)) there in
           of_rows (first_start (k / 3 + 1)) there (omega (arith, e, is))

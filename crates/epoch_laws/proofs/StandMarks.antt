@@ -11,7 +11,7 @@ use Rattle.sig_core.specs.declared.view.View.{View}
 use Rattle.dih_node.specs.Dih.{fresh_dih}
 use Rattle.dih_node.specs.State.{DihState}
 use Rattle.node_views.specs.declared.host_body.HostBody as hosts
-use Rattle.world_core.specs.Start.{Start, made}
+use Rattle.world_core.specs.Start.{NobodyStarts, Start, made}
 use Rattle.world_core.specs.Steps.{HostStep}
 use Rattle.world_views.specs.Machine.{after, machine, step_after}
 use Rattle.view_laws.specs.Order.{sound_machine}
@@ -42,10 +42,11 @@ up_to_none epoch (Decided tx given) none = absurd cc
 up_to_none epoch _ none = tt
 
 -- the epochs of a member are those of its coordinating host
-pub runs_epochs : (start : Start) (logs : ℕ → List HostStep) (me : Member) → IsIn me (made start)
+pub runs_epochs : (start : Start) (nobody : NobodyStarts start) (logs : ℕ → List HostStep) (me : Member)
+    → IsIn me (made start)
     → RunsTc start (tc_of start me) (logs (tc_of start me))
-runs_epochs start logs me there =
-    runs_tc start (tc_of start me) _ (ap (λ (s : hosts.HostBody). s.parts) (tc_started start me there))
+runs_epochs start nobody logs me there =
+    runs_tc start (tc_of start me) _ (ap (λ (s : hosts.HostBody). s.parts) (tc_started start nobody me there))
     (logs (tc_of start me))
 
 module _ (start : Start) (all : ℕ → List HostStep) (e : HostStep) (es : List HostStep)
@@ -72,15 +73,15 @@ module _ (start : Start) (all : ℕ → List HostStep) (e : HostStep) (es : List
           runs.is))
         where
           runs : RunsTc start (tc_of start m) (old (tc_of start m))
-          runs = runs_epochs start old m there
+          runs = runs_epochs start moment.cluster.nobody old m there
 
-          below : (runs_epochs start old m there).part.dih.current ≤ epoch
+          below : (runs_epochs start moment.cluster.nobody old m there).part.dih.current ≤ epoch
           below = subst (λ (s : DihState). s.current ≤ epoch)
-              (ap (dih_in (fresh_dih 0 0 0 0)) (runs_epochs start old m there).is) (low m at)
+              (ap (dih_in (fresh_dih 0 0 0 0)) (runs_epochs start moment.cluster.nobody old m there).is) (low m at)
 
       pub given_next : Each (GivesUpTo epoch) e.step.marks
       given_next = subst (Each (GivesUpTo epoch)) (sym marks_are)
-          (by (tc_host_is start e.host (host_low start all e es moment)))
+          (by (tc_host_is start moment.cluster.nobody e.host (host_low start all e es moment)))
         where
           by : TcHost start e.host → Each (GivesUpTo epoch) (step_after start e.host (old e.host) e).effects.marks
           by (of_tc me there at) = tc_given me there at

@@ -28,7 +28,7 @@ use Rattle.node_views.specs.declared.main_part.MainPart.{MainPart}
 use Rattle.node_views.specs.declared.parts.Parts.{Parts}
 use Rattle.node_views.specs.declared.parts.Parts.TheVariants as part
 use Rattle.node_views.specs.Parts.{main_row}
-use Rattle.world_core.specs.Start.{Start, made}
+use Rattle.world_core.specs.Start.{NobodyStarts, Start, made}
 use Rattle.world_core.specs.Steps.{Addressed, HostStep}
 use Rattle.world_views.specs.Machine.{after}
 use Rattle.view_laws.specs.Runs.{view_after}
@@ -117,17 +117,18 @@ module _ (member : Member) where
     moves_run parts view runs (walk.entering above passes) =
         passes_run (parts_entered parts x.view).state x.view (entered_runs parts view x.view runs) passes
 
-module _ (start : Start) (member : Member) (there : IsIn member (made start)) where
+module _ (start : Start) (nobody : NobodyStarts start) (member : Member) (there : IsIn member (made start)) where
   runs_master : (log : List HostStep)
       → RunsMaster member (after start (main_of start member) log).parts (view_after start (main_of start member) log)
   runs_master [] =
-      subst (λ (s : hosts.HostBody). RunsMaster member s.parts s.standing.view) (sym (main_started start member there))
+      subst (λ (s : hosts.HostBody). RunsMaster member s.parts s.standing.view)
+      (sym (main_started start nobody member there))
       (record { main = _; is = refl; view_is = refl; member_is = refl })
   runs_master (e ∷ log) =
       let h = main_of start member in
       moves_run member start.shape e.step.taken (after start h (e ∷ log)).parts (view_after start h (e ∷ log))
       (after start h log).parts (view_after start h log) (runs_master log)
-      (after_moves start h (part_some start Main member) log e)
+      (after_moves start nobody h (part_some start Main member) log e)
 
   -- so the master stands where its host does
   pub master_view : (logs : ℕ → List HostStep)
@@ -217,7 +218,8 @@ module _ (start : Start) (all : ℕ → List HostStep) (e : HostStep) (es : List
       view_same : is_now.view ≡ was.view → Rose → ⊥
       view_same same up =
           let one : (view_after start h (new h)).number ≡ (view_after start h (old h)).number =
-          ap (λ (v : View). v.number) (sym (master_view start p there new) ∙ same ∙ master_view start p there old) in
+          ap (λ (v : View). v.number) (sym (master_view start moment.cluster.nobody p there new) ∙ same ∙ master_view
+          start moment.cluster.nobody p there old) in
           omega (arith, one, up)
 
       -- so it is where its host enters a view
@@ -244,7 +246,8 @@ module _ (start : Start) (all : ℕ → List HostStep) (e : HostStep) (es : List
           by : (number_in start old h < number_in start new h) ⊎ (number_in start new h ≤ number_in start old h) → Stood
           by (inl up) = rose up
           by (inr low) =
-              let above = current_above start old h (main_low start p there) in
+              let above =
+              current_above start old moment.cluster.nobody h (main_low start moment.cluster.nobody p there) in
               let rises = current_rises start all e es moment in
               let here : number_in start new h ≡ current_number start new = stands in
               stood (omega (arith, low, above, rises, here, number_rises start all e es moment h))
@@ -253,13 +256,20 @@ module _ (start : Start) (all : ℕ → List HostStep) (e : HostStep) (es : List
               kept : Turn start all e es moment → current start new ≡ current start old
               kept (keeps same stands) = same
               kept (raises above stands_too) =
-                  absurd (omega (arith, low, above, current_above start old h (main_low start p there), stands))
+                  absurd (omega (
+                    arith,
+                    low,
+                    above,
+                    current_above start old moment.cluster.nobody h
+                        (main_low start moment.cluster.nobody p there),
+                    stands,
+                  ))
 
       -- its host takes no signal for epochs
       pub not_tc : e.host ≡ main_of start p → (m : Member) → e.host ≡ tc_of start m → ⊥
       not_tc at m at_too =
-          let one = main_number start p there in
-          let other = tc_number start m (taker_made start all e es moment stand m at_too) in
+          let one = main_number start moment.cluster.nobody p there in
+          let other = tc_number start moment.cluster.nobody m (taker_made start all e es moment stand m at_too) in
           omega (arith, at, at_too, one, other)
 
       -- who is ordered is the president
@@ -273,7 +283,8 @@ module _ (start : Start) (all : ℕ → List HostStep) (e : HostStep) (es : List
           let member_made =
           current_made start all es (moment_less start all e es moment) x.member
           (first_inside x.member (current start old).full first) in
-          let one : x.member ≡ p = main_same start x.member p member_made there (sym told.is_true.1 ∙ at) in
+          let one : x.member ≡ p =
+          main_same start moment.cluster.nobody x.member p member_made there (sym told.is_true.1 ∙ at) in
           subst (λ (v : View). IsFirst p v.full) (sym told.view)
           (subst (λ (m : Member). IsFirst m (current start old).full) one first)
 
@@ -323,12 +334,14 @@ module _ (start : Start) (all : ℕ → List HostStep) (e : HostStep) (es : List
           before_it = record {
             view =
                 ap (λ (v : View). v.full)
-                (master_view start p there old
-                ∙ stands_in_current start all es (moment_less start all e es moment) h (main_low start p there) stands);
+                (master_view start moment.cluster.nobody p there old
+                ∙ stands_in_current start all es (moment_less start all e es moment) h
+                (main_low start moment.cluster.nobody p there) stands);
             one = p;
             one_in = first_inside p (current start old).full first_old;
             apart = λ member inside.
-                tc_apart start member (current_made start all es (moment_less start all e es moment) member inside);
+                tc_apart start moment.cluster.nobody member
+                (current_made start all es (moment_less start all e es moment) member inside);
             sound =
                 each_from _ (current start old).full
                 (λ member inside.

@@ -130,7 +130,7 @@ module _ (start : Start) (all : ℕ → List HostStep) (e : HostStep) (es : List
           by : (e.host ≡ main_of start p) ⊎ (e.host ≢ main_of start p) → IsStanding start new p
           by (inl own) =
               let above =
-              current_above start new (main_of start p)
+              current_above start new moment.cluster.nobody (main_of start p)
               (subst (λ h. h < hosts start) own (host_low start all e es moment)) in
               let up = number_rises start all e es moment (main_of start p) in
               let same = number in
@@ -144,7 +144,8 @@ module _ (start : Start) (all : ℕ → List HostStep) (e : HostStep) (es : List
       not_rose : (p : Member) → IsIn p (made start) → IsStanding start old p
           → number_in start old (main_of start p) < number_in start new (main_of start p) → ⊥
       not_rose p there at up =
-          let above = current_above start new (main_of start p) (main_low start p there) in
+          let above = current_above start new moment.cluster.nobody (main_of start p)
+          (main_low start moment.cluster.nobody p there) in
           let same = number in
           omega (arith, at, up, above, same)
 

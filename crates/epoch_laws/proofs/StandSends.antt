@@ -36,7 +36,7 @@ use Rattle.qmgr_block.specs.Install.{is_oldest_of}
 use Rattle.qmgr_block.specs.declared.known.Known.{Known}
 use Rattle.qmgr_block.specs.State.{QmgrState}
 use Rattle.world_core.specs.Hosts.{host_by, member_at, member_of}
-use Rattle.world_core.specs.Start.{Start, made}
+use Rattle.world_core.specs.Start.{NobodyStarts, Start, made}
 use Rattle.world_core.specs.Steps.{Addressed, HostStep}
 use Rattle.world_views.specs.Hosts.{or_itself, reached}
 use Rattle.world_views.specs.Machine.{after, own_stop, signals_of, step_after, step_by, step_if, stops_by}
@@ -186,11 +186,13 @@ module _ (start : Start) (logs : ℕ → List HostStep) (y : Addressed) where
 
 -- what the host of a membership sends to the master of its own node comes to that of its own member, if this is the
 -- first
-reached_own : (start : Start) (me : Member) → IsIn me (made start) → (view : View) → IsFirst me view.full
+reached_own : (start : Start) (nobody : NobodyStarts start) (me : Member) → IsIn me (made start) → (view : View)
+    → IsFirst me view.full
     → reached (made start) (main_of start me) view (checkpoints me.node) ≡ main_of start me
 unfolding reached
-reached_own start me there view first =
-    subst (λ h. reached (made start) h view (checkpoints me.node) ≡ main_of start me) (sym (main_number start me there))
+reached_own start nobody me there view first =
+    subst (λ h. reached (made start) h view (checkpoints me.node) ≡ main_of start me)
+    (sym (main_number start nobody me there))
     (by (me.node == 0) refl)
   where
     own : Member
@@ -199,7 +201,7 @@ reached_own start me there view first =
     by : (b : Bool) → (me.node == 0) ≡ b
         → (if b then 0 else host_by (made start) Main (or_itself own me.node (member_of view me.node)))
         ≡ main_of start me
-    by true e = let some = node_some start me there in absurd (omega (arith, eqb-true me.node 0 e, some))
+    by true e = let some = node_some start nobody me there in absurd (omega (arith, eqb-true me.node 0 e, some))
     by false e =
         ap (λ found. host_by (made start) Main (or_itself own me.node found))
         (first_known me view.full view.starting first)
@@ -228,7 +230,7 @@ module _ (start : Start) (all : ℕ → List HostStep) (e : HostStep) (es : List
     -- the epochs of a member on this host
     module _ (me : Member) (there : IsIn me (made start)) (at : e.host ≡ tc_of start me) where
       runs : RunsTc start e.host (old e.host)
-      runs = tc_at start e.host me there at (old e.host)
+      runs = tc_at start e.host moment.cluster.nobody me there at (old e.host)
 
       step : IsStepOfTc s x runs.part stood (after start e.host (e ∷ old e.host)).parts sends
       step = tc_steps s x runs.part e.host runs.is
@@ -252,7 +254,7 @@ module _ (start : Start) (all : ℕ → List HostStep) (e : HostStep) (es : List
           let stands : stood ≡ current start new = taker_stands start all e es moment low in
           let fence : s.standing.view.number ≤ fence_at s.parts x.to.block s.standing.view.number =
           subst (λ (b : BlockId). s.standing.view.number ≤ fence_at s.parts b s.standing.view.number) (sym to)
-          (fences_are_not_below start e.host (old e.host) block.Dih) in
+          (fences_are_not_below start moment.cluster.nobody e.host (old e.host) block.Dih) in
           record {
             block = to;
             sound = sound;
@@ -316,10 +318,11 @@ module _ (start : Start) (all : ℕ → List HostStep) (e : HostStep) (es : List
       tc_sent y one = by (cases_Bool (is_well_formed start.shape x)) step.did
         where
           of : y.signal.member ≡ me
-          of = one.member ∙ ap (member_at (made start)) at ∙ tc_member start me there
+          of = one.member ∙ ap (member_at (made start)) at ∙ tc_member start moment.cluster.nobody me there
 
           sounds : (b : Bool) → is_well_formed start.shape x ≡ b → is_well_formed s.standing.shape x ≡ b
-          sounds b is = subst (λ shape. is_well_formed shape x ≡ b) (sym (shape_stays start e.host (old e.host))) is
+          sounds b is = subst (λ shape. is_well_formed shape x ≡ b)
+              (sym (shape_stays start moment.cluster.nobody e.host (old e.host))) is
 
           by : (is_well_formed start.shape x ≡ true) ⊎ (is_well_formed start.shape x ≡ false)
               → tc.IsLeft runs.part.dih step.part.dih sends ⊎ tc.IsReached s x stood runs.part.dih step.part.dih sends
@@ -345,7 +348,7 @@ module _ (start : Start) (all : ℕ → List HostStep) (e : HostStep) (es : List
         (stands : stood ≡ current start new)
       where
         main_runs : RunsMain start s.parts
-        main_runs = main_at start me there e.host at (old e.host)
+        main_runs = main_at start moment.cluster.nobody me there e.host at (old e.host)
 
         main_step : IsStepOfMain s x main_runs.main stood (after start e.host (e ∷ old e.host)).parts sends
         main_step = main_steps s x main_runs.main e.host main_runs.is
@@ -368,7 +371,8 @@ module _ (start : Start) (all : ℕ → List HostStep) (e : HostStep) (es : List
         known_new : main_step.part.qmgr ≡ membership_of start me (new (main_of start me))
         known_new =
             let is : Some main_step.part.qmgr ≡ Some (membership_of start me (new (main_of start me))) =
-            sym (ap membership_in parts_new) ∙ (hosts_follow start me (new (main_of start me)) there).state in
+            sym (ap membership_in parts_new)
+            ∙ (hosts_follow start moment.cluster.nobody me (new (main_of start me)) there).state in
             cc (is)
 
         known_me : main_step.part.qmgr.known.me ≡ me
@@ -380,7 +384,7 @@ module _ (start : Start) (all : ℕ → List HostStep) (e : HostStep) (es : List
         known_view : main_step.part.qmgr.known.layout.view ≡ current start new
         known_view =
             ap (λ (q : QmgrState). q.known.layout.view) known_new
-            ∙ sym (hosts_follow start me (new (main_of start me)) there).view
+            ∙ sym (hosts_follow start moment.cluster.nobody me (new (main_of start me)) there).view
             ∙ ap (λ h. view_after start h (new h)) (sym at)
             ∙ own_behind start all e es moment ∙ stands
 
@@ -393,7 +397,7 @@ module _ (start : Start) (all : ℕ → List HostStep) (e : HostStep) (es : List
 
         module _ (y : Addressed) (one : IsSentBy (made start) e.host stood sends y) where
           main_of_me : y.signal.member ≡ me
-          main_of_me = one.member ∙ ap (member_at (made start)) at ∙ member_main start me there
+          main_of_me = one.member ∙ ap (member_at (made start)) at ∙ member_main start moment.cluster.nobody me there
 
           -- an order goes to the master beside the membership
           ordered_to : IsOrdering main_step.part.qmgr.known one.sent.to
@@ -404,7 +408,8 @@ module _ (start : Start) (all : ℕ → List HostStep) (e : HostStep) (es : List
               ap (reached (made start) e.host stood) order.own
               ∙ ap (λ (m : Member). reached (made start) e.host stood (checkpoints m.node)) known_me
               ∙ ap (λ h. reached (made start) h stood (checkpoints me.node)) at
-              ∙ reached_own start me there stood (subst (λ (v : View). IsFirst me v.full) (sym stands) first) in (
+              ∙ reached_own start moment.cluster.nobody me there stood
+              (subst (λ (v : View). IsFirst me v.full) (sym stands) first) in (
                 subst (λ (m : Member). IsPresident start new m) (sym main_of_me) first,
                 one.to ∙ own ∙ ap (main_of start) (sym main_of_me),
               )
@@ -468,9 +473,9 @@ module _ (start : Start) (all : ℕ → List HostStep) (e : HostStep) (es : List
     rows_sent me there at y one =
         let runs : RunsRows start s.parts =
         subst (λ h. RunsRows start (after start h (old h)).parts) (sym at)
-        (runs_rows start me there (old (ldm_of start me))) in
+        (runs_rows start moment.cluster.nobody me there (old (ldm_of start me))) in
         let of : y.signal.member ≡ me =
-        one.member ∙ ap (member_at (made start)) at ∙ ldm_member start me there in
+        one.member ∙ ap (member_at (made start)) at ∙ ldm_member start moment.cluster.nobody me there in
         rows_true start new y (one.from ∙ at ∙ ap (ldm_of start) (sym of)) y.signal.body
         (subst IsOfRowsBy (sym one.body) (each_in IsOfRows one.sent sends (rows_send e.host s x runs.rows runs.is)
         one.there))
@@ -478,7 +483,7 @@ module _ (start : Start) (all : ℕ → List HostStep) (e : HostStep) (es : List
     -- whoever sends it
     sent_true : stood ≡ current start new → (y : Addressed) → IsSentBy (made start) e.host stood sends y
         → IsTrue start new y
-    sent_true stands y one header = by (whose start e.host (host_low start all e es moment))
+    sent_true stands y one header = by (whose start moment.cluster.nobody e.host (host_low start all e es moment))
       where
         by : Whose start e.host → IsTrueOf start new y y.signal.body
         by (of_shell at) = shell_sent at y one

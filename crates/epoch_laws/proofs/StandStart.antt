@@ -46,11 +46,13 @@ module _ (start : Start) (all : ℕ → List HostStep) (below : start.start_epoc
   module _ (member : Member) (there : IsIn member (made start)) where
     epochs_begin : epochs_of start logs member
         ≡ fresh_dih member.node first.number start.epoch start.start_epoch
-    epochs_begin = ap (λ (s : hosts.HostBody). dih_in (fresh_dih 0 0 0 0) s.parts) (tc_started start member there)
+    epochs_begin = ap (λ (s : hosts.HostBody). dih_in (fresh_dih 0 0 0 0) s.parts)
+        (tc_started start moment.cluster.nobody member there)
 
     master_begins : master_of start logs member ≡ fresh_master member first start.epoch
     master_begins =
-        ap (λ (s : hosts.HostBody). master_in (fresh_master member first 0) s.parts) (main_started start member there)
+        ap (λ (s : hosts.HostBody). master_in (fresh_master member first 0) s.parts)
+        (main_started start moment.cluster.nobody member there)
 
     sound_begun : IsSound (fresh_dih member.node first.number start.epoch start.start_epoch)
     sound_begun = record {
@@ -91,11 +93,11 @@ module _ (start : Start) (all : ℕ → List HostStep) (below : start.start_epoc
 
   -- the current view is the first one
   current_first : current start logs ≡ first
-  current_first = by (current start logs) (current_is start logs)
+  current_first = by (current start logs) (current_is start logs moment.cluster.nobody)
     where
       by : (view : View) → (view ≡ first) ⊎ IsViewOf start logs (world.hosts start) view → view ≡ first
       by view (inl is) = is
-      by view (inr one) = one.is ∙ started_view start one.host
+      by view (inr one) = one.is ∙ started_view start moment.cluster.nobody one.host
 
   right_begun : (member : Member) (president : Bool) → IsRightIn start logs [] (first_phase start.epoch president)
   right_begun member true =

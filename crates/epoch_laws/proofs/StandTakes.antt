@@ -95,7 +95,8 @@ module _ (start : Start) (all : ℕ → List HostStep) (e : HostStep) (es : List
         host_made start Tc member (subst (λ h. h < hosts start) at (host_low start all e es moment))
 
     taker_is : (member : Member) → e.host ≡ tc_of start member → member ≡ member_at (made start) e.host
-    taker_is member at = sym (ap (member_at (made start)) at ∙ tc_member start member (taker_made member at))
+    taker_is member at =
+        sym (ap (member_at (made start)) at ∙ tc_member start moment.cluster.nobody member (taker_made member at))
 
     pub one_taker : (one other : Member) → e.host ≡ tc_of start one → e.host ≡ tc_of start other → other ≡ one
     one_taker one other at at_too = taker_is other at_too ∙ sym (taker_is one at)

@@ -5,7 +5,7 @@ use Rattle.sig_core.specs.declared.member.Member.{Member}
 use Rattle.node_views.specs.declared.host_body.HostBody as node
 use Rattle.node_views.specs.declared.parts.Parts.TheVariants.{Tc}
 use Rattle.node_views.specs.declared.tc_part.TcPart.{TcPart}
-use Rattle.world_core.specs.Start.{Start, made}
+use Rattle.world_core.specs.Start.{NobodyStarts, Start, made}
 use Rattle.world_core.specs.Steps.{HostStep}
 use Rattle.world_views.specs.Hosts.{started}
 use Rattle.world_views.specs.Machine.{after}
@@ -27,7 +27,9 @@ module _ (start : Start) (h : ℕ) where
       record { part = step.part; is = step.is }
 
   -- the host of a member's coordinator
-  pub tc_at : (me : Member) → IsIn me (made start) → h ≡ tc_of start me → (log : List HostStep) → RunsTc log
-  tc_at me there at log =
+  pub tc_at : NobodyStarts start → (me : Member) → IsIn me (made start) → h ≡ tc_of start me → (log : List HostStep)
+      → RunsTc log
+  tc_at nobody me there at log =
       runs_tc _
-      (ap (λ k. (started start k).parts) at ∙ ap (λ (s : node.HostBody). s.parts) (tc_started start me there)) log
+      (ap (λ k. (started start k).parts) at ∙ ap (λ (s : node.HostBody). s.parts) (tc_started start nobody me there))
+      log

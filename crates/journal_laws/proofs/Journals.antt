@@ -63,7 +63,7 @@ pub journals : JournalsHaveRecords
 journals start all es low moment words member there =
     let h : ℕ = ldm_of start member in
     let log : List HostStep = logs_of start es h in
-    has_records start member there moment.cluster.shape log
+    has_records start member there moment.cluster.nobody moment.cluster.shape log
     (log_past (machine start) h (moment.inside h) (moment.cluster.right.local h))
     (takes_writable start moment.cluster.shape low all log
     (each_past (λ (e : HostStep). IsWellAsked e.step.taken.body) (moment.inside h)

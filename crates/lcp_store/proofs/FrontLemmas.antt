@@ -1,7 +1,7 @@
 -- What stands in front of lists.
 use Rattle.std.proofs.Common.{◌≡◌, ◌≤◌, ℕ, List, ◌++◌, length, take, ap, sym, ◌∙◌, refl, arith}
 use Rattle.std.specs.Prelude.{Result, Ok, Err, OnErr}
-use Rattle.std.proofs.lemmas.List.{take-take, take_at, take_min, length-append}
+use Rattle.std.proofs.lemmas.List.{take-take, take_at, length-append}
 
 -- what is in front of a list that is in front is in front
 pub front_of_front : (a b m ys : List ℕ) → m ≡ a ++ b → take (length m) ys ≡ m → take (length a) ys ≡ a
@@ -14,4 +14,4 @@ pub kept : {X E : Type 0} (r : Result X E) (a b m ys : List ℕ) → m ≡ a ++ 
 kept (Ok done) a b m ys is front = tt
 kept (Err fault) a b m ys is front = front_of_front a b m ys is front
 
-pub ruleset fronts = (front_of_front, kept, take_min)
+pub ruleset fronts = (front_of_front, kept)

@@ -1,3 +1,4 @@
+mod FieldLemmas
 mod FrontLemmas
 mod ReadingLaws
 mod RowsLemmas

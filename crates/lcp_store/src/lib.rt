@@ -8,6 +8,6 @@ mod rows;
 mod write;
 
 pub use laws::{checkpoints_are_read, no_row_begins_another, rows_are_read};
-pub use row::{ROW_BYTES, Version, row_in};
+pub use row::{LentRow, ROW_BYTES, Version, lent_row_in, row_in};
 pub use rows::rows_in;
 pub use write::{put_head, put_row, put_row2};

@@ -1,10 +1,10 @@
 //! The rows of a checkpoint.
-ghost use Rattle.std.specs.Prelude.{◌≡◌, ◌≤◌, length, MatchResult};
+ghost use Rattle.std.specs.Prelude.{◌≡◌, ◌≤◌, ◌<◌, length, IfSome, MatchResult};
 ghost use Rattle.lcp_store.specs.Reading.{Reads, damage, version_in};
 
-use crate::row::{Version, row_in};
+use crate::row::{Version, lent_row_in};
 use row_map::RowMap;
-use sig_core::ReadFault;
+use sig_core::{KEY_BYTES, ReadFault, VALUE_BYTES};
 use std::alloc::Global;
 
 /// The rows of a checkpoint of either version, which are all bytes of this file. Of the rows of one key
@@ -22,9 +22,11 @@ pub fn rows_in(alloc: Global, file: u8, latest: u64, bytes: &[u8]) -> Result<Row
         Err(left) => return Err(damage(file, bytes, left)),
     };
     let mut rest = &bytes[head..];
-    let mut rows = RowMap::new(alloc);
+    let Ok(mut rows) = RowMap::with_room(alloc, count_rows(version, rest), rest.len()) else {
+        return Err(ReadFault::NoMemory);
+    };
     'rows: while !rest.is_empty() {
-        match row_in(version, latest, rest) {
+        match lent_row_in(version, latest, rest) {
             Ok((row, taken)) => match rows.insert(row.key, row.value) {
                 Ok(()) => rest = &rest[taken..],
                 Err(_) => return Err(ReadFault::NoMemory),
@@ -33,6 +35,40 @@ pub fn rows_in(alloc: Global, file: u8, latest: u64, bytes: &[u8]) -> Result<Row
         }
     }
     Ok(rows)
+}
+
+// How many rows stand in front of bytes, as their lengths tell: there is room for them before they are read.
+fn count_rows(version: Version, bytes: &[u8]) -> usize {
+    let mut rest = bytes;
+    let mut count = 0usize;
+    'rows: while let Some(behind) = behind_row(version, rest) {
+        rest = behind;
+        count = count.saturating_add(1);
+    }
+    count
+}
+
+// What stands behind the row in front, where its lengths are those of a row.
+fn behind_row(version: Version, bytes: &[u8]) -> Option<&[u8]>
+    ensures { IfSome result (λ rest. length rest.now < length bytes.now) }
+{
+    let rest = behind_word(bytes, 1, KEY_BYTES)?;
+    match version {
+        Version::First => behind_word(rest, 0, VALUE_BYTES),
+        Version::Second => behind_word(rest.get(8..)?, 0, VALUE_BYTES),
+    }
+}
+
+// What stands behind a word of `least` to `most` bytes and its length.
+fn behind_word(bytes: &[u8], least: usize, most: usize) -> Option<&[u8]>
+    ensures { IfSome result (λ rest. length rest.now < length bytes.now) }
+{
+    let (first, rest) = bytes.split_first()?;
+    let len = *first as usize;
+    if len < least || most < len {
+        return None;
+    }
+    rest.get(len..)
 }
 
 // The version of a checkpoint, and how many bytes tell it.

@@ -36,6 +36,17 @@ pub fn drive<W: Wait>(rt: &W, alloc: Global, cluster: &mut Cluster) -> Result<()
     cluster.drive(rt, alloc)
 }
 
+/// Takes the signal that driving takes next. Says whether there was one.
+///
+/// # Errors
+/// `NoMemory`.
+pub fn take_first(alloc: Global, cluster: &mut Cluster) -> Result<bool, NoMemory>
+    requires { IsWorld (whole_of cluster.old.world) }
+    ensures { OnOk result (IsWorld (whole_of cluster.new.world)) }
+{
+    cluster.step(alloc)
+}
+
 /// Drives the cluster until nothing is under way, and asks what an unanswered command waits for.
 ///
 /// # Errors

@@ -16,6 +16,12 @@ pub enum RunFault {
     Refused(RestartFault),
     /// A restart meets calls that fail again and again.
     Unopened,
+    /// The client isn't told how its transaction ended.
+    Untold,
+    /// The trace of a life is refused.
+    Untraced,
+    /// A cluster has more to do behind a stop than the table has moments for.
+    Unrest,
     NoMemory,
 }
 
@@ -29,6 +35,9 @@ impl RunFault {
             RunFault::Refused(RestartFault::OtherShape { .. }) => "a disk has another shape",
             RunFault::Refused(_) => "a restart is refused",
             RunFault::Unopened => "a restart fails again and again",
+            RunFault::Untold => "the end of the transaction isn't told",
+            RunFault::Untraced => "the trace is refused",
+            RunFault::Unrest => "the table ends before the cluster rests",
             RunFault::NoMemory => "out of memory",
         }
     }

@@ -8,7 +8,7 @@ pub const LIVES: usize = 5;
 /// What a run came to, where it breaks no law.
 #[derive(Clone, Copy)]
 pub enum Told {
-    /// A life that stands alone.
+    /// A life that stands alone, or is of the table.
     Alone,
     /// Lives on disks of so many nodes: how many local checkpoints were reported, with which epochs the lives began,
     /// as checkpoint numbers, and with how many rows.

@@ -8,6 +8,7 @@ pub enum Kind {
     Alone,
     Disks,
     Fuses,
+    Table,
 }
 
 impl Kind {
@@ -17,18 +18,29 @@ impl Kind {
             Kind::Alone => "alone",
             Kind::Disks => "disks",
             Kind::Fuses => "fuses",
+            Kind::Table => "table",
         }
     }
 }
 
-/// Runs of a kind, one for each seed.
+/// Runs of a kind, one for each seed, or of the table, one for each number.
 #[derive(Clone, Copy)]
 pub struct Runs {
     pub kind: Kind,
     pub first: u64,
     pub count: u64,
-    /// At so many of a hundred requests failures begin.
+    /// At so many of a hundred requests failures begin; of the table, how far it is from a number to the next.
     pub fails: u64,
+}
+
+impl Runs {
+    /// The seed or number of a run, from 0.
+    pub fn seed(&self, at: u64) -> u64 {
+        match self.kind {
+            Kind::Table => self.first.saturating_add(at.saturating_mul(self.fails)),
+            _ => self.first.wrapping_add(at),
+        }
+    }
 }
 
 /// The runs that these words ask for, some; none where a word isn't such.
@@ -66,6 +78,7 @@ fn kind_of(word: &str) -> Option<Kind> {
         "alone" => Some(Kind::Alone),
         "disks" => Some(Kind::Disks),
         "fuses" => Some(Kind::Fuses),
+        "table" => Some(Kind::Table),
         _ => None,
     }
 }

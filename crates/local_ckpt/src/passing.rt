@@ -50,5 +50,5 @@ fn put_row_at<R: Rows>(rows: &R, at: u64, out: &mut Vec<u8>) -> Result<(), NoMem
     ensures { OnOk result (out.new.items ≡ out.old.items ++ flat_map row_bytes (row_in (R.state_of rows.now) (slice_index_or (R.state_of rows.now).places at None))) }
 {
     let (key, epoch, value) = rows.row_at(at);
-    put_row2(out, key, epoch, value)
+    put_row2(out, key, epoch, value.bytes())
 }

@@ -1,5 +1,5 @@
-//! What no clause says of a link: that it takes what it has room for and gives what it holds, and that threads pass
-//! signals through it.
+//! What no clause says of a link: that it takes what it has room for and gives what it holds. That two threads pass
+//! signals through links, one each way, is what `link_bench` does.
 ghost use Rattle.std.specs.Prelude.{◌≡◌, IfOk};
 ghost use Rattle.link_queue.specs.End.{IsSentBy};
 
@@ -10,16 +10,11 @@ use sig_core::{
 use std::alloc::Global;
 use std::sync::Wait;
 use std::test::Fail;
-use std::thread;
-use std::thread::Threads;
 
 const NOBODY: Member = Member { node: 0, start: 0 };
 
 // No test sends more.
 const MOST: u64 = 1 << 32;
-
-// How often a thread looks at its links at most.
-const LOOKS: u64 = 50_000_000;
 
 // A signal of host 1 with this number.
 fn numbered(alloc: Global, view: &Held<View>, seq: u64) -> Result<Boxed<Signal>, NoMemory>
@@ -143,63 +138,5 @@ fn a_full_link_refuses_until_one_is_taken(rt: HostRuntime) -> Result<(), Fail> {
     assert_eq!(rt; offers_all(&rt, alloc, &mut tx, 130, 131)?, 0);
     assert_eq!(rt; takes(&rt, &mut rx), Some(1));
     assert_eq!(rt; rx.taken(), 2);
-    Ok(())
-}
-
-// Passes so many signals each way, and tells whether all that were to come came, in order. Looks a bounded number of
-// times, so that it ends where the other end is gone.
-fn converses<W: Wait>(
-    rt: &W,
-    alloc: Global,
-    mut tx: LinkTx,
-    mut rx: LinkRx,
-    count: u64,
-) -> Result<bool, NoMemory>
-    requires { tx.from ≡ 1 }
-{
-    let view = some_view(alloc)?;
-    let mut sent = 0u64;
-    let mut taken = 0u64;
-    for _ in 0..LOOKS {
-        if sent >= count && taken >= count {
-            return Ok(true);
-        }
-        if sent < count && offers(rt, alloc, &view, &mut tx, sent)? {
-            sent = sent.saturating_add(1);
-        }
-        match takes(rt, &mut rx) {
-            Some(seq) if seq == taken => taken = taken.saturating_add(1),
-            Some(_) => return Ok(false),
-            None => thread::yield_now(),
-        }
-    }
-    Ok(false)
-}
-
-// Two threads pass so many signals each way.
-fn both_converse<R: Threads + Wait + Sync>(
-    rt: &R,
-    alloc: Global,
-    count: u64,
-) -> Result<(bool, bool), NoMemory> {
-    let (there, arriving) = make(alloc, 1, 1)?;
-    let (back, returning) = make(alloc, 1, 1)?;
-    let (one, other) = thread::join(
-        rt,
-        move ||
-            requires { there.from ≡ 1 }
-        { converses(rt, alloc, there, returning, count) },
-        move ||
-            requires { back.from ≡ 1 }
-        { converses(rt, alloc, back, arriving, count) },
-    );
-    Ok((one?, other?))
-}
-
-#[test]
-fn two_threads_pass_signals_both_ways(rt: HostRuntime) -> Result<(), Fail> {
-    let (one, other) = both_converse(&rt, rt.alloc(), 100_000)?;
-    assert_eq!(rt; one, true);
-    assert_eq!(rt; other, true);
     Ok(())
 }

@@ -13,10 +13,10 @@ use Rattle.sig_core.specs.declared.place.Part.TheVariants.{Ldm, Tc}
 use Rattle.sig_core.specs.Members.{nobody}
 use Rattle.node_views.specs.declared.parts.Parts.{Parts}
 use Rattle.node_views.specs.declared.parts.Parts.TheVariants as part
-use Rattle.world_core.proofs.MadeFirst.{begins_made, hosts_first, made_begins, nobody_starts}
+use Rattle.world_core.proofs.MadeFirst.{begins_made, hosts_first, made_begins}
 use Rattle.world_core.proofs.HostNumbers.{hosts_low, made_at}
 use Rattle.world_core.specs.Hosts.{host_at, host_of, hosts, member_at, part_by}
-use Rattle.world_core.specs.Start.{Start, made}
+use Rattle.world_core.specs.Start.{NobodyStarts, Start, made}
 use Rattle.world_core.specs.Steps.{HostStep}
 use Rattle.world_views.specs.Hosts.{part_started, started}
 use Rattle.world_views.specs.Machine.{after}
@@ -50,29 +50,29 @@ host_made start part member low = by (position (is_member member) (made start)) 
     by None e low = absurd (omega (arith, low))
     by (Some i) e low = made_tested start member (any_found (is_member member) (made start) i e)
 
-module _ (start : Start) (me : Member) (there : IsIn me (made start)) where
+module _ (start : Start) (none_starts : NobodyStarts start) (me : Member) (there : IsIn me (made start)) where
   abbrev host_by_number : ℕ → ℕ
   host_by_number k = suc ((me.node - 1) * 3 + k)
 
   some : 1 ≤ me.node
-  some = node_some start me there
+  some = node_some start none_starts me there
 
   low : me.node ≤ start.shape.nodes
-  low = node_low start me there
+  low = node_low start none_starts me there
 
   pub tc_number : tc_of start me ≡ host_by_number 1
-  tc_number = let is = block_host start me there block.Tc in omega (arith, is)
+  tc_number = let is = block_host start none_starts me there block.Tc in omega (arith, is)
 
   pub ldm_number : ldm_of start me ≡ host_by_number 2
-  ldm_number = let is = block_host start me there block.Lqh in omega (arith, is)
+  ldm_number = let is = block_host start none_starts me there block.Lqh in omega (arith, is)
 
   pub main_number : main_of start me ≡ host_by_number 0
-  main_number = let is = block_host start me there block.Qmgr in omega (arith, is)
+  main_number = let is = block_host start none_starts me there block.Qmgr in omega (arith, is)
 
   -- each is of the member
   at_number : (k : ℕ) → k < 3 → member_at (made start) (host_by_number k) ≡ me
   at_number k few =
-      let first = first_of start.shape.nodes me (made_begins start (nobody_starts start) me there) in
+      let first = first_of start.shape.nodes me (made_begins start none_starts me there) in
       let own : me.node - 1 + 1 ≡ me.node = omega (arith, some) in
       let node : me.node ≡ first.node = ap (λ (m : Member). m.node) first.is in
       ap (λ i. slice_index_or (made start) i nobody) (div-mul-add (me.node - 1) 3 k few)
@@ -102,7 +102,7 @@ module _ (start : Start) (me : Member) (there : IsIn me (made start)) where
   pub tc_started : started start (tc_of start me) ≡ part_started start Tc me
   tc_started =
       ap (started start) tc_number
-      ∙ started_behind start ((me.node - 1) * 3 + 1)
+      ∙ started_behind start none_starts ((me.node - 1) * 3 + 1)
       ∙ ap (λ k. part_started start (part_by k) (member_at (made start) (host_by_number 1)))
       (mod-mul-add (me.node - 1) 3 1 (omega arith))
       ∙ ap (part_started start Tc) (at_number 1 (omega arith))
@@ -134,15 +134,15 @@ pub data TcHost (start : Start) (h : ℕ) : Type 0 where
   of_tc : (me : Member) → IsIn me (made start) → h ≡ tc_of start me → TcHost start h
   of_none : HasNoTc (started start h).parts → TcHost start h
 
-pub tc_host_is : (start : Start) (h : ℕ) → h < hosts start → TcHost start h
+pub tc_host_is : (start : Start) (none_starts : NobodyStarts start) (h : ℕ) → h < hosts start → TcHost start h
 unfolding started
-tc_host_is start zero low = of_none tt
-tc_host_is start (suc k) low = by (k % 3) refl
+tc_host_is start none_starts zero low = of_none tt
+tc_host_is start none_starts (suc k) low = by (k % 3) refl
   where
     without : (left : ℕ) → k % 3 ≡ left
         → HasNoTc (part_started start (part_by left) (member_at (made start) (suc k))).parts → TcHost start (suc k)
     without left e none =
-        of_none (subst (λ s. HasNoTc s.parts) (sym (started_behind start k))
+        of_none (subst (λ s. HasNoTc s.parts) (sym (started_behind start none_starts k))
         (subst (λ (left : ℕ). HasNoTc (part_started start (part_by left) (member_at (made start) (suc k))).parts)
         (sym e)
         none))
@@ -151,18 +151,18 @@ tc_host_is start (suc k) low = by (k % 3) refl
     by zero e = without 0 e tt
     by (suc zero) e =
         let enough : 1 ≤ k / 3 + 1 = omega arith in
-        let few : k / 3 + 1 ≤ start.shape.nodes = omega (arith, low, hosts_first start (nobody_starts start)) in
+        let few : k / 3 + 1 ≤ start.shape.nodes = omega (arith, low, hosts_first start none_starts) in
         let there = begins_made start _ (first_in start.shape.nodes (k / 3 + 1) enough few) in
-        let is = tc_number start (first_start (k / 3 + 1)) there in
+        let is = tc_number start none_starts (first_start (k / 3 + 1)) there in
         of_tc (first_start (k / 3 + 1)) there (omega (arith, e, is))
     by (suc (suc left)) e = without (suc (suc left)) e tt
 
 -- the part that runs its rows
-pub ldm_started : (start : Start) (me : Member) → IsIn me (made start)
+pub ldm_started : (start : Start) (none_starts : NobodyStarts start) (me : Member) → IsIn me (made start)
     → started start (ldm_of start me) ≡ part_started start Ldm me
-ldm_started start me there =
-    ap (started start) (ldm_number start me there)
-    ∙ started_behind start ((me.node - 1) * 3 + 2)
+ldm_started start none_starts me there =
+    ap (started start) (ldm_number start none_starts me there)
+    ∙ started_behind start none_starts ((me.node - 1) * 3 + 2)
     ∙ ap (λ k. part_started start (part_by k) (member_at (made start) (suc ((me.node - 1) * 3 + 2))))
     (mod-mul-add (me.node - 1) 3 2 (omega arith))
-    ∙ ap (part_started start Ldm) (at_number start me there 2 (omega arith))
+    ∙ ap (part_started start Ldm) (at_number start none_starts me there 2 (omega arith))

@@ -23,7 +23,7 @@ module _ (start : Start) (logs : ℕ → List HostStep) (are : AreOfCluster star
   current_low : (newer older : List (ℕ × HostStep)) (k : ℕ) (e : HostStep)
       → by_views start logs ≡ newer ++ (k, e) ∷ older → current_number start (logs_of start (in_order older)) ≤ k
   current_low newer older k e is =
-      by (current start (logs_of start (in_order older))) (current_is start (logs_of start (in_order older)))
+      by (current start (logs_of start (in_order older))) (current_is start (logs_of start (in_order older)) are.nobody)
     where
       acts : ActsInGreatest start k e (in_order older)
       acts = act_in_greatest start logs are newer older k e is
@@ -33,7 +33,7 @@ module _ (start : Start) (logs : ℕ → List HostStep) (are : AreOfCluster star
           let low : (view_after start 0 []).number ≤ k =
           acts.greatest 0 [] (past_nil (logs_of start (e ∷ in_order older) 0)) in
           let same : view.number ≡ (view_after start 0 []).number =
-          ap (λ (v : View). v.number) (first ∙ sym (started_view start 0)) in
+          ap (λ (v : View). v.number) (first ∙ sym (started_view start are.nobody 0)) in
           omega (arith, low, same)
       by view (inr one) =
           let low : (view_after start one.host (logs_of start (in_order older) one.host)).number ≤ k =

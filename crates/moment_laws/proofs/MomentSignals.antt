@@ -20,7 +20,7 @@ use Rattle.sig_core.specs.declared.signal.host.HostSignal.TheVariants.{Closed}
 use Rattle.sig_core.specs.declared.view.View.{View}
 use Rattle.node_views.specs.WellFormed.{is_well_formed}
 use Rattle.world_core.specs.Hosts.{hosts}
-use Rattle.world_core.specs.Start.{Start}
+use Rattle.world_core.specs.Start.{NobodyStarts, Start}
 use Rattle.world_core.specs.Steps.{Addressed, HostStep}
 use Rattle.world_views.specs.Machine.{IsOwn, IsOwnWork, cause_in, comes_rightly, signals_of, stops_by}
 use Rattle.world_views.specs.Sending.{is_asked}
@@ -47,12 +47,12 @@ module _ (start : Start) where
   n = sound_machine start
 
   -- a host has sent nothing of a greater view than its own
-  pub sent_low : (i j : ℕ) (log : List HostStep)
+  pub sent_low : NobodyStarts start → (i j : ℕ) (log : List HostStep)
       → Each (λ (x : Addressed). x.signal.view.number ≤ (view_after start i log).number) (sent n i j log)
-  sent_low i j [] = tt
-  sent_low i j (e ∷ log) =
+  sent_low nobody i j [] = tt
+  sent_low nobody i j (e ∷ log) =
       put_each n IsLow j (sent_by n i log e) (sent n i j log) (sent_by_each n IsLow i log e (λ goes. new))
-      (each_map _ IsLow (sent n i j log) old (sent_low i j log))
+      (each_map _ IsLow (sent n i j log) old (sent_low nobody i j log))
     where
       IsLow : Addressed → Type 0
       IsLow = λ x. x.signal.view.number ≤ (view_after start i (e ∷ log)).number
@@ -68,7 +68,7 @@ module _ (start : Start) where
           (each_sent start i log e))
 
       old : (x : Addressed) → x.signal.view.number ≤ (view_after start i log).number → IsLow x
-      old x low = let rises = view_rises start i log e in omega (arith, low, rises)
+      old x low = let rises = view_rises start nobody i log e in omega (arith, low, rises)
 
   -- what is told of all that was sent is told of what a link gives, but for closings
   module _ (K : Addressed → Type 0) where
@@ -149,8 +149,9 @@ sent_below start all es moment i j = by (cases_lt i (hosts start))
         (sent (sound_machine start) i j (logs_of start es i))
     by (inl low) =
         each_map _ _ (sent (sound_machine start) i j (logs_of start es i))
-        (λ x below. let up = current_above start (logs_of start es) i low in omega (arith, below, up))
-        (sent_low start i j (logs_of start es i))
+        (λ x below. let up = current_above start (logs_of start es) moment.cluster.nobody i low in
+        omega (arith, below, up))
+        (sent_low start moment.cluster.nobody i j (logs_of start es i))
     by (inr high) =
         subst (λ log. Each (λ (x : Addressed). x.signal.view.number ≤ current_number start (logs_of start es))
         (sent (sound_machine start) i j log))

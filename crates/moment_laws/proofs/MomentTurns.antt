@@ -65,7 +65,7 @@ module _ (start : Start) (all : ℕ → List HostStep) (e : HostStep) (es : List
     number_rises =
         event_moves (machine start) e es
         (λ h old log. (view_after start h old).number ≤ (view_after start h log).number)
-        (view_rises start e.host (before e.host) e) (λ h log. omega arith)
+        (view_rises start moment.cluster.nobody e.host (before e.host) e) (λ h log. omega arith)
 
     -- each host stands below what is above the current view before it and above the view of its host behind it
     others_below : (number h : ℕ) → h < hosts start → current_number start before ≤ number → own_number ≤ number
@@ -73,16 +73,16 @@ module _ (start : Start) (all : ℕ → List HostStep) (e : HostStep) (es : List
     others_below number h low old new =
         event_cases (machine start) e es h (λ log. (view_after start h log).number ≤ number)
         (λ at. subst (λ h. (view_after start h (e ∷ before h)).number ≤ number) at new)
-        (λ other. let up = current_above start before h low in omega (arith, up, old))
+        (λ other. let up = current_above start before moment.cluster.nobody h low in omega (arith, up, old))
 
     current_below : (number : ℕ) → current_number start before ≤ number → own_number ≤ number
         → current_number start behind ≤ number
-    current_below number old new = by (current start behind) (current_is start behind)
+    current_below number old new = by (current start behind) (current_is start behind moment.cluster.nobody)
       where
         by : (view : View) → IsSome start behind (hosts start) view → view.number ≤ number
         by view (inl first) =
             let same : view.number ≡ (first_layout start.shape).view.number = ap (λ (v : View). v.number) first in
-            let up = first_below start before in
+            let up = first_below start before moment.cluster.nobody in
             omega (arith, same, up, old)
         by view (inr one) =
             let same : view.number ≡ number_in start behind one.host = ap (λ (v : View). v.number) one.is in
@@ -90,22 +90,22 @@ module _ (start : Start) (all : ℕ → List HostStep) (e : HostStep) (es : List
             omega (arith, same, up)
 
     pub current_rises : current_number start before ≤ current_number start behind
-    current_rises = by (current start before) (current_is start before)
+    current_rises = by (current start before) (current_is start before moment.cluster.nobody)
       where
         by : (view : View) → IsSome start before (hosts start) view → view.number ≤ current_number start behind
         by view (inl first) =
             let same : view.number ≡ (first_layout start.shape).view.number = ap (λ (v : View). v.number) first in
-            let up = first_below start behind in
+            let up = first_below start behind moment.cluster.nobody in
             omega (arith, same, up)
         by view (inr one) =
             let same : view.number ≡ number_in start before one.host = ap (λ (v : View). v.number) one.is in
             let rises = number_rises one.host in
-            let up = current_above start behind one.host one.below in
+            let up = current_above start behind moment.cluster.nobody one.host one.below in
             omega (arith, same, rises, up)
 
     own_above : own_number ≤ current_number start behind
     own_above =
-        let up = current_above start behind e.host host_low in
+        let up = current_above start behind moment.cluster.nobody e.host host_low in
         let is = own_number_is in
         omega (arith, up, is)
 

@@ -12,7 +12,7 @@ use Rattle.sig_core.specs.declared.view.View.{View}
 use Rattle.api_views.specs.Members.{greater_view}
 use Rattle.world_core.proofs.MadeFirst.{all_made}
 use Rattle.world_core.specs.Hosts.{hosts}
-use Rattle.world_core.specs.Start.{Start}
+use Rattle.world_core.specs.Start.{NobodyStarts, Start}
 use Rattle.world_core.specs.Steps.{HostStep}
 use Rattle.world_views.proofs.SentFacts.{is_stamped}
 use Rattle.world_views.specs.Machine.{machine}
@@ -37,35 +37,36 @@ module _ (start : Start) where
     greatest n = greatest_of start n logs
 
     -- each host is there
-    pub greatest_next : (n : ℕ) → greatest (suc n) ≡ greater_view (greatest n) (view_after start n (logs n))
-    greatest_next n =
-        ap (λ made. greater_if made (greatest n) (view_after start n (logs n))) (all_made start n (logs 0))
+    pub greatest_next : NobodyStarts start → (n : ℕ)
+        → greatest (suc n) ≡ greater_view (greatest n) (view_after start n (logs n))
+    greatest_next nobody n =
+        ap (λ made. greater_if made (greatest n) (view_after start n (logs n))) (all_made start nobody n (logs 0))
 
-    grown : (n : ℕ) → (greatest n).number ≤ (greatest (suc n)).number
-    grown n =
-        subst (λ (v : View). (greatest n).number ≤ v.number) (sym (greatest_next n))
+    grown : NobodyStarts start → (n : ℕ) → (greatest n).number ≤ (greatest (suc n)).number
+    grown nobody n =
+        subst (λ (v : View). (greatest n).number ≤ v.number) (sym (greatest_next nobody n))
         (greater_own (greatest n) (view_after start n (logs n)))
 
-    greatest_above : (n h : ℕ) → h < n → number_in logs h ≤ (greatest n).number
-    greatest_above zero h below = absurd (omega (arith, below))
-    greatest_above (suc n) h below = by (greatest_above n h) (eq-or-lt_of_le (le_of_suc-le-suc below))
+    greatest_above : NobodyStarts start → (n h : ℕ) → h < n → number_in logs h ≤ (greatest n).number
+    greatest_above nobody zero h below = absurd (omega (arith, below))
+    greatest_above nobody (suc n) h below = by (greatest_above nobody n h) (eq-or-lt_of_le (le_of_suc-le-suc below))
       where
         by : (h < n → number_in logs h ≤ (greatest n).number) → (h ≡ n) ⊎ (h < n)
             → number_in logs h ≤ (greatest (suc n)).number
         by before (inl at) =
             subst (λ (k : ℕ). number_in logs k ≤ (greatest (suc n)).number) (sym at)
-            (subst (λ (v : View). number_in logs n ≤ v.number) (sym (greatest_next n))
+            (subst (λ (v : View). number_in logs n ≤ v.number) (sym (greatest_next nobody n))
             (greater_taken (greatest n) (view_after start n (logs n))))
         by before (inr less) =
-            let up = grown n in
+            let up = grown nobody n in
             let old = before less in
             omega (arith, up, old)
 
-    greatest_first : (n : ℕ) → (first_layout start.shape).view.number ≤ (greatest n).number
-    greatest_first zero = omega arith
-    greatest_first (suc n) =
-        let up = grown n in
-        let old = greatest_first n in
+    greatest_first : NobodyStarts start → (n : ℕ) → (first_layout start.shape).view.number ≤ (greatest n).number
+    greatest_first nobody zero = omega arith
+    greatest_first nobody (suc n) =
+        let up = grown nobody n in
+        let old = greatest_first nobody n in
         omega (arith, up, old)
 
     -- a host below n stands in the view
@@ -83,40 +84,41 @@ module _ (start : Start) where
         let low = one.below in
         inr (record { host = one.host; below = omega (arith, low); is = one.is })
 
-    greatest_is : (n : ℕ) → IsSome n (greatest n)
-    greatest_is zero = inl refl
-    greatest_is (suc n) =
-        subst (IsSome (suc n)) (sym (greatest_next n))
+    greatest_is : NobodyStarts start → (n : ℕ) → IsSome n (greatest n)
+    greatest_is nobody zero = inl refl
+    greatest_is nobody (suc n) =
+        subst (IsSome (suc n)) (sym (greatest_next nobody n))
         (of_greater (IsSome (suc n)) (greatest n) (view_after start n (logs n))
-        (some_more n (greatest n) (greatest_is n))
+        (some_more n (greatest n) (greatest_is nobody n))
         (inr (record { host = n; below = omega arith; is = refl })))
 
-    pub current_above : (h : ℕ) → h < hosts start → number_in logs h ≤ current_number logs
-    current_above h low = greatest_above (hosts start) h low
+    pub current_above : NobodyStarts start → (h : ℕ) → h < hosts start → number_in logs h ≤ current_number logs
+    current_above nobody h low = greatest_above nobody (hosts start) h low
 
-    pub first_below : (first_layout start.shape).view.number ≤ current_number logs
-    first_below = greatest_first (hosts start)
+    pub first_below : NobodyStarts start → (first_layout start.shape).view.number ≤ current_number logs
+    first_below nobody = greatest_first nobody (hosts start)
 
-    pub current_is : IsSome (hosts start) (current start logs)
-    current_is = greatest_is (hosts start)
+    pub current_is : NobodyStarts start → IsSome (hosts start) (current start logs)
+    current_is nobody = greatest_is nobody (hosts start)
 
     -- it was installed in all logs of which these are a part
-    module _ (shape : IsShape start.shape) (all : ℕ → List HostStep) (inside : IsCut logs all) where
+    module _ (nobody : NobodyStarts start) (shape : IsShape start.shape) (all : ℕ → List HostStep)
+        (inside : IsCut logs all) where
       pub view_installed : (h : ℕ) → h < hosts start → WasInstalled start all (view_after start h (logs h))
-      view_installed h low = installed_at start all h low (logs h) (inside h)
+      view_installed h low = installed_at start nobody all h low (logs h) (inside h)
 
       first_installed : WasInstalled start all (first_layout start.shape).view
       first_installed = record {
         host = 0;
         there = omega arith;
-        made = all_made start 0 (all 0);
+        made = all_made start nobody 0 (all 0);
         log = [];
         past = past_nil (all 0);
-        is = sym (started_view start 0);
+        is = sym (started_view start nobody 0);
       }
 
       pub current_installed : WasInstalled start all (current start logs)
-      current_installed = by (current start logs) current_is
+      current_installed = by (current start logs) (current_is nobody)
         where
           by : (view : View) → IsSome (hosts start) view → WasInstalled start all view
           by view (inl first) = subst (WasInstalled start all) (sym first) first_installed
@@ -139,7 +141,8 @@ module _ (start : Start) (all : ℕ → List HostStep) (es : List HostStep) (mom
       moment.inside
 
   pub moment_installed : WasInstalled start all (current start (logs_of start es))
-  moment_installed = current_installed start (logs_of start es) moment.cluster.shape all moment.inside
+  moment_installed =
+      current_installed start (logs_of start es) moment.cluster.nobody moment.cluster.shape all moment.inside
 
   -- it is the view of each host of this number
   pub stands_in_current : (h : ℕ) → h < hosts start
@@ -148,4 +151,5 @@ module _ (start : Start) (all : ℕ → List HostStep) (es : List HostStep) (mom
   stands_in_current h low same =
       one_view have_orderly start all moment.cluster (view_after start h (logs_of start es h))
       (current start (logs_of start es))
-      (view_installed start (logs_of start es) moment.cluster.shape all moment.inside h low) moment_installed same
+      (view_installed start (logs_of start es) moment.cluster.nobody moment.cluster.shape all moment.inside h low)
+      moment_installed same

@@ -8,7 +8,7 @@ use Rattle.sig_core.specs.declared.view.View.{View}
 use Rattle.node_views.specs.Blocks.{parts_entered, parts_row, settled_at}
 use Rattle.node_views.specs.declared.host_body.HostBody as hosts
 use Rattle.node_views.specs.declared.parts.Parts.{Parts}
-use Rattle.world_core.specs.Start.{Start}
+use Rattle.world_core.specs.Start.{NobodyStarts, Start}
 use Rattle.world_core.specs.Steps.{HostStep}
 use Rattle.world_views.specs.Machine.{after, step_after, step_by}
 use Rattle.view_laws.specs.Runs.{view_after}
@@ -61,10 +61,10 @@ step_moves x h s =
     (parts_do s x h)
 
 -- a host of a node, and the signal of its step
-pub after_moves : (start : Start) (h : ℕ) → 1 ≤ h → (log : List HostStep) (e : HostStep)
+pub after_moves : (start : Start) (nobody : NobodyStarts start) (h : ℕ) → 1 ≤ h → (log : List HostStep) (e : HostStep)
     → Moves start.shape (after start h log).parts (view_after start h log) e.step.taken
     (after start h (e ∷ log)).parts (view_after start h (e ∷ log))
-after_moves start h some log e =
+after_moves start nobody h some log e =
     moves_of start.shape e.step.taken (after start h (e ∷ log)).parts (view_after start h (e ∷ log))
     (after start h log).parts (view_after start h log) (step_after start h log e).effects.sends
-    (after_do start h some log e)
+    (after_do start nobody h some log e)

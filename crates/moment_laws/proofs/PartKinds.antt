@@ -12,7 +12,7 @@ use Rattle.node_views.specs.declared.parts.Parts.{Parts}
 use Rattle.node_views.specs.declared.parts.Parts.TheVariants as part
 use Rattle.node_views.specs.declared.shell_part.ShellPart.{ShellPart}
 use Rattle.node_views.specs.declared.tc_part.TcPart.{TcPart}
-use Rattle.world_core.specs.Start.{Start}
+use Rattle.world_core.specs.Start.{NobodyStarts, Start}
 use Rattle.world_core.specs.Steps.{HostStep}
 use Rattle.world_views.specs.Machine.{after, step_after}
 use Rattle.view_laws.specs.Runs.{view_after}
@@ -120,7 +120,7 @@ module _ (shape : Shape) (view : View) (x : Signal) (now : Parts) (seen : View) 
   shell_does p = part_does shell_kind shell_is shape x p view now seen sends
 
 -- a host that runs such a part after its log
-module _ (start : Start) (h : ℕ) (log : List HostStep) (e : HostStep) where
+module _ (start : Start) (nobody : NobodyStarts start) (h : ℕ) (log : List HostStep) (e : HostStep) where
   abbrev DoFrom : Parts → Type 0
   DoFrom parts =
       PartsDo start.shape parts (view_after start h log) e.step.taken (after start h (e ∷ log)).parts
@@ -132,7 +132,7 @@ module _ (start : Start) (h : ℕ) (log : List HostStep) (e : HostStep) where
   tc_after some p runs =
       tc_does start.shape (view_after start h log) e.step.taken (after start h (e ∷ log)).parts
       (view_after start h (e ∷ log)) (step_after start h log e).effects.sends p
-      (subst DoFrom runs (after_do start h some log e))
+      (subst DoFrom runs (after_do start nobody h some log e))
 
   pub ldm_after : 1 ≤ h → (p : LdmPart) → (after start h log).parts ≡ part.Ldm p
       → LdmDoes start.shape p (view_after start h log) e.step.taken (after start h (e ∷ log)).parts
@@ -140,10 +140,10 @@ module _ (start : Start) (h : ℕ) (log : List HostStep) (e : HostStep) where
   ldm_after some p runs =
       ldm_does start.shape (view_after start h log) e.step.taken (after start h (e ∷ log)).parts
       (view_after start h (e ∷ log)) (step_after start h log e).effects.sends p
-      (subst DoFrom runs (after_do start h some log e))
+      (subst DoFrom runs (after_do start nobody h some log e))
 
 -- the shell's host, before its replies are told
-module _ (start : Start) (log : List HostStep) (e : HostStep) where
+module _ (start : Start) (nobody : NobodyStarts start) (log : List HostStep) (e : HostStep) where
   pub shell_after : (p : ShellPart) → (after start 0 log).parts ≡ part.Shell p
       → ShellDoes start.shape p (view_after start 0 log) e.step.taken (step_after start 0 log e).state.parts
       (view_after start 0 (e ∷ log)) (step_after start 0 log e).effects.sends
@@ -154,4 +154,4 @@ module _ (start : Start) (log : List HostStep) (e : HostStep) where
       (λ parts. PartsDo start.shape parts (view_after start 0 log) e.step.taken
       (step_after start 0 log e).state.parts (step_after start 0 log e).state.standing.view
       (step_after start 0 log e).effects.sends)
-      runs (step_do start 0 log e))
+      runs (step_do start nobody 0 log e))

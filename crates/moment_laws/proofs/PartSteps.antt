@@ -15,7 +15,7 @@ use Rattle.node_views.specs.declared.parts.Parts.{Parts}
 use Rattle.node_views.specs.Fence.{is_fenced}
 use Rattle.node_views.specs.Row.{entered, host_row, is_barred, taken_if}
 use Rattle.node_views.specs.WellFormed.{is_well_formed}
-use Rattle.world_core.specs.Start.{Start}
+use Rattle.world_core.specs.Start.{NobodyStarts, Start}
 use Rattle.world_core.specs.Steps.{HostStep}
 use Rattle.world_views.specs.Machine.{after, own_stop, step_after, step_by, step_if}
 use Rattle.view_laws.specs.Runs.{view_after}
@@ -139,7 +139,7 @@ module _ (s : hosts.HostBody) (x : Signal) where
           })
 
 -- so it is along a log: the shell's host tells its replies behind its step
-module _ (start : Start) where
+module _ (start : Start) (nobody : NobodyStarts start) where
   pub step_do : (h : ℕ) (log : List HostStep) (e : HostStep)
       → PartsDo start.shape (after start h log).parts (view_after start h log) e.step.taken
       (step_after start h log e).state.parts (step_after start h log e).state.standing.view
@@ -149,7 +149,7 @@ module _ (start : Start) where
       (λ shape. PartsDo shape (after start h log).parts (view_after start h log) e.step.taken
       (step_after start h log e).state.parts (step_after start h log e).state.standing.view
       (step_after start h log e).effects.sends)
-      (shape_stays start h log) (parts_do (after start h log) e.step.taken h)
+      (shape_stays start nobody h log) (parts_do (after start h log) e.step.taken h)
 
   pub after_do : (h : ℕ) → 1 ≤ h → (log : List HostStep) (e : HostStep)
       → PartsDo start.shape (after start h log).parts (view_after start h log) e.step.taken

@@ -12,7 +12,7 @@ use Rattle.node_views.specs.declared.parts.Parts.{Parts}
 use Rattle.node_views.specs.declared.parts.Parts.TheVariants as part
 use Rattle.node_views.specs.Fence.{is_fenced}
 use Rattle.node_views.specs.WellFormed.{is_well_formed}
-use Rattle.world_core.specs.Start.{Start}
+use Rattle.world_core.specs.Start.{NobodyStarts, Start}
 use Rattle.world_core.specs.Steps.{HostStep}
 use Rattle.world_views.specs.Machine.{after}
 use Rattle.view_laws.specs.Runs.{view_after}
@@ -78,7 +78,7 @@ fence_stays parts view x between stood front at fence (enters above same stands 
     (subst (λ parts. x.view.number ≤ fence_at parts at x.view.number) (sym same) (entered_fence parts x.view at))
 
 -- whatever host takes it
-module _ (start : Start) (h : ℕ) (log : List HostStep) (x : Signal) where
+module _ (start : Start) (nobody : NobodyStarts start) (h : ℕ) (log : List HostStep) (x : Signal) where
   pub passed_is : (between : Parts) (stood : View) (front : List Outgoing)
       → Enters (after start h log).parts (view_after start h log) x between stood front
       → IsPassed start.shape between stood x → (at : BlockId) → x.to.block ≡ at → IsTaken start.shape at x stood
@@ -86,7 +86,7 @@ module _ (start : Start) (h : ℕ) (log : List HostStep) (x : Signal) where
       passed_taken start.shape at between stood x stood refl
       (λ is same.
       fence_stays (after start h log).parts (view_after start h log) x between stood front x.to.block
-      (fences_are_not_below start h log x.to.block) entering)
+      (fences_are_not_below start nobody h log x.to.block) entering)
       passed to
 
 module _ (start : Start) (all : ℕ → List HostStep) (e : HostStep) (es : List HostStep)
@@ -129,7 +129,7 @@ module _ (start : Start) (all : ℕ → List HostStep) (e : HostStep) (es : List
     passed_now between stood front entering passed same at to =
         taken_now at
         (subst (IsTaken start.shape at x) (sym same)
-        (passed_is start e.host old x between stood front entering passed at to))
+        (passed_is start moment.cluster.nobody e.host old x between stood front entering passed at to))
 
     -- and to the part that the host runs
     pub handled_now : {P : Type 0} (kind : Kind P) → IsKind kind → (p : P)

@@ -1,6 +1,6 @@
 -- Right logs are moments, and who takes a signal stands in the current view.
 use Rattle.std.specs.Prelude.{◌≡◌, ◌≤◌, ℕ, List, ◌∷◌}
-use Rattle.world_core.specs.Start.{Start}
+use Rattle.world_core.specs.Start.{NobodyStarts, Start}
 use Rattle.world_core.specs.Steps.{HostStep}
 use Rattle.view_laws.specs.Runs.{AreOfCluster, view_after}
 use Rattle.world_views.specs.Machine.{after, step_after}
@@ -26,7 +26,7 @@ TakersStandInTheCurrentView =
 -- a step of a host comes to what its blocks do at the signal
 abbrev pub StepsComeToParts : Type 0
 StepsComeToParts =
-    (start : Start) (h : ℕ) (log : List HostStep) (e : HostStep)
+    (start : Start) → NobodyStarts start → (h : ℕ) (log : List HostStep) (e : HostStep)
     → PartsDo start.shape (after start h log).parts (view_after start h log) e.step.taken
     (step_after start h log e).state.parts (step_after start h log e).state.standing.view
     (step_after start h log e).effects.sends

@@ -28,7 +28,7 @@ greatest_of start zero logs = (first_layout start.shape).view
 greatest_of start (suc n) logs =
     greater_if (is_made start n (logs 0)) (greatest_of start n logs) (view_after start n (logs n))
 
--- the current view: the greatest in which any host stands
+-- the current view: the greatest in which any host stands that is there
 abbrev pub current : Start → (ℕ → List HostStep) → View
 current start logs = greatest_of start (hosts start) logs
 

@@ -18,7 +18,7 @@ use Rattle.world_core.specs.Hosts.{first_hosts, hosts}
 use Rattle.world_core.specs.Machine as plain
 use Rattle.world_core.specs.Quiet as plain_quiet
 use Rattle.world_core.specs.Requests as plain_requests
-use Rattle.world_core.specs.Start.{Start}
+use Rattle.world_core.specs.Start.{NobodyStarts, Start}
 use Rattle.world_core.specs.Steps.{HostStep}
 use Rattle.world_views.specs.Machine.{machine}
 use Rattle.world_views.specs.Quiet.{IsQuiet}
@@ -72,7 +72,8 @@ pub record ArePlain (start : Start) (logs : ℕ → List HostStep) : Type 0 wher
 
 abbrev pub PeacefulLivesArePlain : Type 0
 PeacefulLivesArePlain =
-    (start : Start) (asked : List ApiReq) (logs : ℕ → List HostStep) → IsPeacefulLife start asked logs
+    (start : Start) → NobodyStarts start → (asked : List ApiReq) (logs : ℕ → List HostStep)
+    → IsPeacefulLife start asked logs
     → ArePlain start logs
 
 -- A closing of an epoch was answered since then: the client was told that an epoch is closed, or durable, and nothing
@@ -90,6 +91,6 @@ pub record IsAnsweredBy (start : Start) (request : ApiReq) (was now : ℕ → Li
 -- so it is where nothing is under way any more
 abbrev pub ClosingsAreAnswered : Type 0
 ClosingsAreAnswered =
-    (start : Start) (earlier : List ApiReq) (request : ApiReq) (was now : ℕ → List HostStep)
+    (start : Start) → NobodyStarts start → (earlier : List ApiReq) (request : ApiReq) (was now : ℕ → List HostStep)
     → IsPeacefulLife start earlier was → IsQuiet start was → is_closing_request request ≡ true
     → GoOnBy start request was now → IsQuiet start now → IsAnsweredBy start request was now

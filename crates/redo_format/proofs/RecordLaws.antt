@@ -1,7 +1,8 @@
 -- What is encoded is decoded, and what is decoded was encoded.
 use Rattle.std.proofs.Common.{◌≡◌, ℕ, zero, suc, ◌-◌, ◌+◌, ◌≤◌, Bool, true, false, List, [], ◌∷◌, ◌++◌, length, take}
 use Rattle.std.proofs.Common.{refl, sym, ap, subst, ◌∙◌, arith}
-use Rattle.std.specs.Prelude.{Option, None, Some, IfSome, IfOk, Result, Ok, Err, position, nat_lt, ◌||◌, if◌then◌else◌}
+use Rattle.std.specs.Prelude.{Option, None, Some, IfSome, IfOk, MatchResult, Result, Ok, Err, position, nat_lt, ◌||◌}
+use Rattle.std.specs.Prelude.{if◌then◌else◌}
 use Rattle.std.specs.Int.{w16, w32, w64, to_be_bytes}
 use Rattle.std.proofs.lemmas.Bool.{le-ltb}
 use Rattle.std.proofs.lemmas.Bool.Decides.{nat_tests}
@@ -16,6 +17,8 @@ use Rattle.redo_format.specs.declared.fault.FormatFault.{FormatFault}
 use Rattle.sig_core.specs.Redo.{bytes_of, word, flag, image_bytes}
 use Rattle.redo_format.specs.Records.{IsRecord}
 use Rattle.redo_format.specs.Reading.{record_at}
+use Rattle.redo_format.specs.declared.lent.LentRedo.{LentRedo}
+use Rattle.redo_format.specs.Lent.{redo_of}
 use Rattle.redo_format.specs.Decoding.{IsDecoded, NoneBeginsAnother, from_read, decoded}
 use Rattle.redo_format.proofs.Readers.{IsBytes, IsWord, Reads}
 use Rattle.redo_format.proofs.RecordReaders.{RecordFits, kind_of, behind, flag_fits, reads_record}
@@ -114,6 +117,12 @@ pub found : (bytes : List ℕ) (r : Result (Redo × ℕ) FormatFault) → IsByte
     → IfOk r (IsDecoded bytes)
 found bytes (Err fault) are e = tt
 found bytes (Ok x) are e = found_by bytes (record_at bytes) x are refl (sym e)
+
+pub found_lent : (bytes : List ℕ) (r : Result (LentRedo × ℕ) FormatFault) → IsBytes bytes
+    → MatchResult r (λ x. decoded bytes ≡ Ok (redo_of x.0, x.1)) (λ fault. decoded bytes ≡ Err fault)
+    → IfOk r (λ x. IsDecoded bytes (redo_of x.0, x.1))
+found_lent bytes (Err fault) are e = tt
+found_lent bytes (Ok x) are e = found_by bytes (record_at bytes) (redo_of x.0, x.1) are refl e
 
 pair_is : (x y : Redo × List ℕ) (fine : Result (Redo × List ℕ) ℕ) → fine ≡ Ok x → fine ≡ Ok y → x ≡ y
 pair_is x y fine e f = cc

@@ -5,13 +5,15 @@ ghost use Rattle.std.specs.Int.{w32, w64};
 ghost use Rattle.sig_core.specs.Word.{is_unprintable};
 ghost use Rattle.redo_format.specs.Reading.{Gives, abort_at, byte_at, commit_at, head_at, least_flag, most_flag};
 ghost use Rattle.redo_format.specs.Reading.{number_at, prepare_at, record_at, run_at, transaction_at, word_at};
+ghost use Rattle.redo_format.specs.Lent.{redo_of};
 
-use sig_core::{Key, Redo, TxId, Value, first_unprintable};
+use crate::lent::{LentImage, LentRedo};
+use sig_core::{Key, TxId, first_unprintable};
 
 /// A record of any kind.
 #[tactic(auto, unfolding(crate::specs::Reading::record_at))]
-pub fn record_at(bytes: &[u8]) -> Result<(Redo, &[u8]), usize>
-    ensures { Gives (λ x. (x.0, x.1.now)) result (record_at bytes.now) }
+pub fn record_at(bytes: &[u8]) -> Result<(LentRedo<'_>, &[u8]), usize>
+    ensures { Gives (λ x. (redo_of x.0, x.1.now)) result (record_at bytes.now) }
 {
     let (kind, rest) = byte_at(bytes, 1, 3)?;
     match kind {
@@ -22,15 +24,15 @@ pub fn record_at(bytes: &[u8]) -> Result<(Redo, &[u8]), usize>
 }
 
 #[tactic(auto, unfolding(crate::specs::Reading::prepare_at, crate::specs::Reading::image_at))]
-fn prepare_at(bytes: &[u8]) -> Result<(Redo, &[u8]), usize>
-    ensures { Gives (λ x. (x.0, x.1.now)) result (prepare_at bytes.now) }
+fn prepare_at(bytes: &[u8]) -> Result<(LentRedo<'_>, &[u8]), usize>
+    ensures { Gives (λ x. (redo_of x.0, x.1.now)) result (prepare_at bytes.now) }
 {
     let (size, tx, rest) = head_at(bytes, 20, 252)?;
     let (fragment, rest) = byte_at(rest, 0, 31)?;
     let (flag, rest) = byte_at(rest, least_flag(size), most_flag(size))?;
     if flag == 0 {
         let (key, rest) = word_at(rest, size - 19, size - 19)?;
-        let redo = Redo::Prepare {
+        let redo = LentRedo::Prepare {
             tx,
             fragment,
             key: key_of(key),
@@ -41,23 +43,23 @@ fn prepare_at(bytes: &[u8]) -> Result<(Redo, &[u8]), usize>
     let (key, rest) = word_at(rest, size.saturating_sub(220).max(1), (size - 20).min(32))?;
     let len = size - 20 - key.len() as u8;
     let (value, rest) = word_at(rest, len, len)?;
-    let redo = Redo::Prepare {
+    let redo = LentRedo::Prepare {
         tx,
         fragment,
         key: key_of(key),
-        image: Some(value_of(value)),
+        image: Some(LentImage::new(value)),
     };
     Ok((redo, rest))
 }
 
 #[tactic(auto, unfolding(crate::specs::Reading::commit_at))]
-fn commit_at(bytes: &[u8]) -> Result<(Redo, &[u8]), usize>
-    ensures { Gives (λ x. (x.0, x.1.now)) result (commit_at bytes.now) }
+fn commit_at(bytes: &[u8]) -> Result<(LentRedo<'_>, &[u8]), usize>
+    ensures { Gives (λ x. (redo_of x.0, x.1.now)) result (commit_at bytes.now) }
 {
     let (size, tx, rest) = head_at(bytes, 26, 57)?;
     let (epoch, rest) = u64_at(rest)?;
     let (key, rest) = word_at(rest, size - 25, size - 25)?;
-    let redo = Redo::Commit {
+    let redo = LentRedo::Commit {
         tx,
         epoch,
         key: key_of(key),
@@ -66,12 +68,12 @@ fn commit_at(bytes: &[u8]) -> Result<(Redo, &[u8]), usize>
 }
 
 #[tactic(auto, unfolding(crate::specs::Reading::abort_at))]
-fn abort_at(bytes: &[u8]) -> Result<(Redo, &[u8]), usize>
-    ensures { Gives (λ x. (x.0, x.1.now)) result (abort_at bytes.now) }
+fn abort_at(bytes: &[u8]) -> Result<(LentRedo<'_>, &[u8]), usize>
+    ensures { Gives (λ x. (redo_of x.0, x.1.now)) result (abort_at bytes.now) }
 {
     let (size, tx, rest) = head_at(bytes, 18, 49)?;
     let (key, rest) = word_at(rest, size - 17, size - 17)?;
-    let redo = Redo::Abort {
+    let redo = LentRedo::Abort {
         tx,
         key: key_of(key),
     };
@@ -79,6 +81,7 @@ fn abort_at(bytes: &[u8]) -> Result<(Redo, &[u8]), usize>
 }
 
 /// Behind the kind: the length of the whole, from `least` to `most`, and the transaction.
+#[inline(always)]
 #[tactic(auto, unfolding(crate::specs::Reading::head_at))]
 fn head_at(bytes: &[u8], least: u8, most: u8) -> Result<(u8, TxId, &[u8]), usize>
     ensures read { Gives (λ x. ((x.0, x.1), x.2.now)) result (head_at least most bytes.now) }
@@ -90,6 +93,7 @@ fn head_at(bytes: &[u8], least: u8, most: u8) -> Result<(u8, TxId, &[u8]), usize
     Ok((size, tx, rest))
 }
 
+#[inline(always)]
 #[tactic(auto, unfolding(crate::specs::Reading::transaction_at))]
 fn transaction_at(bytes: &[u8]) -> Result<(TxId, &[u8]), usize>
     ensures { Gives (λ x. (x.0, x.1.now)) result (transaction_at bytes.now) }
@@ -115,6 +119,7 @@ fn most_flag(size: u8) -> u8
 }
 
 /// A word of `least` to `most` bytes, behind its length.
+#[inline(always)]
 #[tactic(auto, unfolding(crate::specs::Reading::word_at))]
 fn word_at(bytes: &[u8], least: u8, most: u8) -> Result<(&[u8], &[u8]), usize>
     ensures read { Gives (λ x. (x.0.now, x.1.now)) result (word_at least most bytes.now) }
@@ -126,6 +131,7 @@ fn word_at(bytes: &[u8], least: u8, most: u8) -> Result<(&[u8], &[u8]), usize>
     run_at(rest, len as usize)
 }
 
+#[inline(always)]
 fn key_of(word: &[u8]) -> Key
     requires least { 1 ≤ length word.now }
     requires most { length word.now ≤ 32 }
@@ -138,18 +144,8 @@ fn key_of(word: &[u8]) -> Key
     }
 }
 
-fn value_of(word: &[u8]) -> Value
-    requires most { length word.now ≤ 200 }
-    requires printable { position is_unprintable word.now ≡ None }
-    ensures { result ≡ word.now }
-{
-    match Value::new(word) {
-        Ok(value) => value,
-        Err(_) => unreachable!(),
-    }
-}
-
 /// So many printable bytes.
+#[inline(always)]
 #[tactic(auto, unfolding(crate::specs::Reading::run_at))]
 fn run_at(bytes: &[u8], len: usize) -> Result<(&[u8], &[u8]), usize>
     ensures read { Gives (λ x. (x.0.now, x.1.now)) result (run_at len bytes.now) }
@@ -170,6 +166,7 @@ fn run_at(bytes: &[u8], len: usize) -> Result<(&[u8], &[u8]), usize>
 }
 
 /// A byte from `least` to `most`.
+#[inline(always)]
 fn byte_at(bytes: &[u8], least: u8, most: u8) -> Result<(u8, &[u8]), usize>
     ensures read { Gives (λ x. (x.0, x.1.now)) result (byte_at least most bytes.now) }
     ensures range { IfOk result (λ x. (least ≤ x.0) × (x.0 ≤ most)) }
@@ -185,6 +182,7 @@ fn byte_at(bytes: &[u8], least: u8, most: u8) -> Result<(u8, &[u8]), usize>
     }
 }
 
+#[inline(always)]
 fn u32_at(bytes: &[u8]) -> Result<(u32, &[u8]), usize>
     ensures { Gives (λ x. (x.0, x.1.now)) result (number_at w32 bytes.now) }
 {
@@ -196,6 +194,7 @@ fn u32_at(bytes: &[u8]) -> Result<(u32, &[u8]), usize>
     Ok((number, rest))
 }
 
+#[inline(always)]
 fn u64_at(bytes: &[u8]) -> Result<(u64, &[u8]), usize>
     ensures { Gives (λ x. (x.0, x.1.now)) result (number_at w64 bytes.now) }
 {

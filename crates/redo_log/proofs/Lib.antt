@@ -1,3 +1,4 @@
+mod LatestLemmas
 pub mod LawLemmas
 pub mod ReplayLemmas
 pub mod OrderLemmas

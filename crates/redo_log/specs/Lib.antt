@@ -1,4 +1,5 @@
 pub mod LogState
+pub mod Latest
 pub mod Laws
 pub mod Replaying
 pub mod Stored

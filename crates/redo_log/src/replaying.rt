@@ -6,6 +6,7 @@ ghost use Rattle.redo_format.specs.declared.fault.FormatFault.TheVariants as for
 ghost use Rattle.sig_core.specs.Redo.{bytes_of};
 ghost use Rattle.redo_format.specs.Records.{IsRecord};
 ghost use Rattle.redo_format.specs.Decoding.{decoded};
+ghost use Rattle.redo_format.specs.Lent.{redo_of};
 ghost use Rattle.redo_log.specs.declared.image_id.ImageId.{ImageId};
 ghost use Rattle.redo_log.specs.Replaying.{Replays, applied, damage, id_of, image_at, prepared_by, same_id, with_image};
 ghost use Rattle.redo_log.specs.Stored.{HasCause, ReplaysStored, files_of};
@@ -14,9 +15,9 @@ use crate::image_id::ImageId;
 use crate::prepared::Prepared;
 use crate::stored::read_log;
 use host_io::Disk;
-use redo_format::{FormatFault, decode};
+use redo_format::{FormatFault, LentImage, LentRedo, decode_lent};
 use row_map::RowMap;
-use sig_core::{Key, NoMemory, ReadFault, Redo, Value, file_of, place_of};
+use sig_core::{Key, NoMemory, ReadFault, file_of, place_of};
 use std::alloc::Global;
 
 /// Replays a log onto rows, from one position up to another, as a disk has it in the files of this
@@ -91,13 +92,14 @@ pub fn replay_bytes(
 
 // The record at the front of the bytes, and those behind it; or the place of the first byte that
 // fits no record, or the length where the bytes end before.
+#[inline(always)]
 #[tactic(auto, using(crate::proofs::ReplayLemmas::fronts))]
-fn first_record(bytes: &[u8]) -> Result<(Redo, &[u8]), usize>
-    ensures is { MatchResult result (λ x. IsRecord x.0) (λ at. decoded bytes.now ≡ Err (format.NotRecord at)) }
-    ensures split { MatchResult result (λ x. bytes.now ≡ bytes_of x.0 ++ x.1.now) (λ at. at ≤ length bytes.now) }
+fn first_record(bytes: &[u8]) -> Result<(LentRedo<'_>, &[u8]), usize>
+    ensures is { MatchResult result (λ x. IsRecord (redo_of x.0)) (λ at. decoded bytes.now ≡ Err (format.NotRecord at)) }
+    ensures split { MatchResult result (λ x. bytes.now ≡ bytes_of (redo_of x.0) ++ x.1.now) (λ at. at ≤ length bytes.now) }
     ensures fewer { MatchResult result (λ x. length x.1.now < length bytes.now) (λ at. at ≤ length bytes.now) }
 {
-    match decode(bytes) {
+    match decode_lent(bytes) {
         Ok((redo, taken)) => Ok((redo, &bytes[taken..])),
         Err(FormatFault::NotRecord { at }) => Err(at),
     }
@@ -124,27 +126,36 @@ fn damage(parity: u8, from: u64, bytes: &[u8], behind: usize) -> ReadFault
 }
 
 // Replays one more record.
-fn apply(
+#[inline(always)]
+fn apply<'a>(
     rows: &mut RowMap,
-    prepared: &mut Prepared,
-    redo: &Redo,
+    prepared: &mut Prepared<'a>,
+    redo: &LentRedo<'a>,
     epoch: u64,
 ) -> Result<(), NoMemory>
-    ensures rows { OnOk result (rows.new ≡ applied epoch redo.now (image_at prepared.old (id_of redo.now)) rows.old) }
-    ensures prepared { OnOk result ((q : ImageId) → image_at prepared.new q ≡ cond (same_id (id_of redo.now) q) (prepared_by redo.now) (image_at prepared.old q)) }
+    ensures rows { OnOk result (rows.new ≡ applied epoch (redo_of redo.now) (image_at prepared.old (id_of (redo_of redo.now))) rows.old) }
+    ensures prepared { OnOk result ((q : ImageId) → image_at prepared.new q ≡ cond (same_id (id_of (redo_of redo.now)) q) (prepared_by (redo_of redo.now)) (image_at prepared.old q)) }
 {
     match redo {
-        Redo::Prepare {
+        LentRedo::Prepare {
             tx,
             fragment: _,
             key,
-            image,
-        } => prepared.put(ImageId { tx: *tx, key: *key }, *image),
-        Redo::Commit { tx, epoch: at, key } => match prepared.take(ImageId { tx: *tx, key: *key }) {
-            Some(image) => commit(rows, key, &image, *at <= epoch),
-            None => Ok(()),
-        },
-        Redo::Abort { tx, key } => {
+            image: Some(image),
+        } => prepared.put(ImageId { tx: *tx, key: *key }, Some(image.again())),
+        LentRedo::Prepare {
+            tx,
+            fragment: _,
+            key,
+            image: None,
+        } => prepared.put(ImageId { tx: *tx, key: *key }, None),
+        LentRedo::Commit { tx, epoch: at, key } => {
+            match prepared.take(ImageId { tx: *tx, key: *key }) {
+                Some(image) => commit(rows, key, &image, *at <= epoch),
+                None => Ok(()),
+            }
+        }
+        LentRedo::Abort { tx, key } => {
             let _ = prepared.take(ImageId { tx: *tx, key: *key });
             Ok(())
         }
@@ -152,14 +163,20 @@ fn apply(
 }
 
 // Makes an image the row, if that is wanted.
-fn commit(rows: &mut RowMap, key: &Key, image: &Option<Value>, wanted: bool) -> Result<(), NoMemory>
+#[inline(always)]
+fn commit(
+    rows: &mut RowMap,
+    key: &Key,
+    image: &Option<LentImage<'_>>,
+    wanted: bool,
+) -> Result<(), NoMemory>
     ensures { OnOk result (rows.new ≡ cond wanted (with_image rows.old key.now image.now) rows.old) }
 {
     if !wanted {
         return Ok(());
     }
     match image {
-        Some(value) => rows.insert(*key, *value),
+        Some(image) => rows.change(*key, image.bytes()),
         None => {
             rows.remove(key);
             Ok(())

@@ -3,7 +3,7 @@ use Rattle.std.specs.Prelude.{◌≡◌, ◌≤◌, ◌⊎◌, true, false, List
 use Rattle.run_theory.specs.Lists.{IsIn}
 use Rattle.sig_core.specs.declared.member.Member.{Member}
 use Rattle.sig_core.specs.declared.member.TxId.{TxId}
-use Rattle.world_core.specs.Start.{Start, made}
+use Rattle.world_core.specs.Start.{NobodyStarts, Start, made}
 use Rattle.world_core.specs.Steps.{HostStep}
 use Rattle.outcome_laws.specs.Counts.{coordinator_member, is_unborn}
 use Rattle.request_laws.specs.Blocks.{coordinator_after}
@@ -20,5 +20,6 @@ pub record GoesOneWay (start : Start) (member : Member) (tx : TxId) (log : List 
 
 abbrev pub TransactionsGoOneWay : Type 0
 TransactionsGoOneWay =
-    (start : Start) (member : Member) → IsIn member (made start) → (tx : TxId) (log : List HostStep)
+    (start : Start) → NobodyStarts start → (member : Member) → IsIn member (made start)
+    → (tx : TxId) (log : List HostStep)
     → GoesOneWay start member tx log

@@ -8,7 +8,7 @@ use Rattle.sig_core.specs.declared.view.View.{View}
 use Rattle.tc_block.specs.declared.transaction.Transaction.{Transaction}
 use Rattle.tc_block.specs.Doom.{is_among, is_undecided, strays}
 use Rattle.tc_views.specs.State.{CoordinatorState}
-use Rattle.world_core.specs.Start.{Start, made}
+use Rattle.world_core.specs.Start.{NobodyStarts, Start, made}
 use Rattle.world_core.specs.Steps.{HostStep}
 use Rattle.view_laws.specs.Runs.{ballots_of, view_after}
 use Rattle.moment_laws.specs.Moments.{IsMoment, logs_of}
@@ -47,7 +47,7 @@ FencesSpareNoStrays =
 -- the view of a coordinator's host, and the number that it has itself, are one
 abbrev pub CoordinatorsHaveTheNumber : Type 0
 CoordinatorsHaveTheNumber =
-    (start : Start) (member : Member) (log : List HostStep) → IsIn member (made start)
+    (start : Start) → NobodyStarts start → (member : Member) (log : List HostStep) → IsIn member (made start)
     → (coordinator_after start member log).number ≡ (view_after start (tc_of start member) log).number
 
 -- where the host of a coordinator comes to stand in a greater view, all hale ones keep to that

@@ -16,14 +16,14 @@ use Rattle.key_laws.specs.LockLaws.{is_attended}
 use Rattle.key_laws.specs.PrimaryEvents.{AreAlone, NoneOf}
 use Rattle.key_laws.specs.Replica.{Event, Replica, asks, at_key, commits, completes, is_by, key_after}
 use Rattle.host_laws.specs.ReplicaLaws.{IsWell}
-use Rattle.world_core.specs.Start.{Start, made}
+use Rattle.world_core.specs.Start.{NobodyStarts, Start, made}
 use Rattle.world_core.specs.Steps.{HostStep}
 use Rattle.request_laws.specs.Blocks.{rows_after}
 use Rattle.request_laws.specs.Replicas.{event_under}
 
 abbrev pub RowsAreWell : Type 0
 RowsAreWell =
-    (start : Start) (member : Member) → IsIn member (made start) → (log : List HostStep)
+    (start : Start) → NobodyStarts start → (member : Member) → IsIn member (made start) → (log : List HostStep)
     → IsWell (rows_after start member log).lqh
 
 -- each wait in the queue of the key has a request of its transaction among those that wait for it
@@ -37,7 +37,8 @@ EventsKeepRequests = (event : Event) (r : Replica) → HaveRequests r → HaveRe
 -- and so after every log
 abbrev pub WaitsHaveRequests : Type 0
 WaitsHaveRequests =
-    (start : Start) (member : Member) → IsIn member (made start) → (log : List HostStep) (key : List ℕ)
+    (start : Start) → NobodyStarts start → (member : Member) → IsIn member (made start)
+    → (log : List HostStep) (key : List ℕ)
     → HaveRequests (at_key key (rows_after start member log).lqh)
 
 -- The transaction of each request holds the key's lock as it needs to, or waits for it; and no two requests for the key

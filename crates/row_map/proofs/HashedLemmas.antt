@@ -1,21 +1,19 @@
 -- Rows by their hashes as a finite map: what a hashed map does to its entries is what the finite map does.
-use Rattle.std.proofs.Common.{◌≡◌, ◌∙◌, ℕ, Bool, true, false, true≢false, cond, List, [], ◌∷◌, refl, ap, sym, Ordering}
-use Rattle.std.specs.Prelude.{Some, None, nat_eq}
+use Rattle.std.proofs.Common.{◌≡◌, ◌∙◌, ℕ, Bool, cond, List, [], ◌∷◌, refl, ap, sym, Ordering}
+use Rattle.std.specs.Prelude.{Some, None}
 use Rattle.std.specs.Ordering.{nat_cmp, is_lt, eq_by_cmp}
 use Rattle.std.specs.Cmp.{eq_by_cmp_equiv}
-use Rattle.std.specs.Cmp.Lexicographic.{pointwise, slice_cmp, nat_list_cmp_total, texts_ties}
+use Rattle.std.specs.Cmp.Lexicographic.{slice_cmp, nat_list_cmp_total, texts_ties}
 use Rattle.std.specs.Map.{lookup}
 use Rattle.indexmap.specs.IndexMap.{IndexMap, Updates, UpdatesBy, get}
 use Rattle.std.specs.FinMap as map
+use Rattle.row_map.specs.Stored.{same}
 
 abbrev pub in_order : List ℕ → List ℕ → Ordering
 in_order = slice_cmp nat_cmp
 
 abbrev pub is_before : List ℕ → List ℕ → Bool
 is_before one other = is_lt (in_order one other)
-
-abbrev pub same : List ℕ → List ℕ → Bool
-same = pointwise nat_eq
 
 -- a look-up by a key is that of the finite map of the entries
 find_lookup : (q : List ℕ) (es : List (List ℕ × List ℕ)) → map.find in_order q es ≡ lookup (same q) es
@@ -29,7 +27,7 @@ pub get_hashed : (es : List (List ℕ × List ℕ)) (q : List ℕ)
 get_hashed es q = map.get-from_entries nat_list_cmp_total es q ∙ find_lookup q es
 
 -- whichever way round two keys are compared, they are the same or not
-same_either_way : (k q : List ℕ) → same k q ≡ eq_by_cmp in_order q k
+pub same_either_way : (k q : List ℕ) → same k q ≡ eq_by_cmp in_order q k
 same_either_way k q = texts_ties k q ∙ (eq_by_cmp_equiv nat_list_cmp_total).symm k q
 
 pub insert_hashed : {S : Type 0} (m n : IndexMap (List ℕ) (List ℕ) S) (k v : List ℕ) → Updates same m n k (Some v)

@@ -1,3 +1,4 @@
 pub mod HashedLemmas
 pub mod ListingLemmas
 pub mod SortedLemmas
+pub mod StoredLemmas

@@ -11,7 +11,8 @@ use Rattle.std.specs.List.Sorted.{IsSortedBy, IsStrictlySortedBy}
 use Rattle.std.specs.Map.{keys_of}
 use Rattle.std.specs.Ordering.{is_eq, is_lt, ordering_reverse}
 use Rattle.indexmap.proofs.MapLemmas.{distinct_permutation, lookup_permutation, sorted_keys}
-use Rattle.row_map.proofs.HashedLemmas.{get_hashed, in_order, is_before, same}
+use Rattle.row_map.specs.Stored.{same}
+use Rattle.row_map.proofs.HashedLemmas.{get_hashed, in_order, is_before}
 
 both : (a b : Bool) → T a → T b → T (a && b)
 both true b p q = q

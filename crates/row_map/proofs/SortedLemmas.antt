@@ -1,5 +1,5 @@
 -- What std's sort ensures of references, said of what they refer to.
-use Rattle.std.proofs.Common.{◌≡◌, ◌∙◌, ℕ, ◌+◌, ◌<◌, Bool, false, List, [], ◌∷◌, ap, map, length, arith, Ordering}
+use Rattle.std.proofs.Common.{◌≡◌, ◌∙◌, ℕ, ◌+◌, ◌<◌, Bool, List, [], ◌∷◌, ap, map, length, arith, Ordering}
 use Rattle.std.proofs.Common.{Bor}
 use Rattle.std.proofs.lemmas.Fn.{always_returns_same}
 use Rattle.std.proofs.lemmas.List.{get_or-map, length-map}

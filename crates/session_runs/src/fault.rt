@@ -3,7 +3,7 @@ use sig_core::NoMemory;
 use std::alloc::{AllocError, AllocFailed};
 
 /// Why a text has no sessions, or a session no end.
-#[derive(Clone, Copy, Debug, PartialEq, Eq)]
+#[derive(Clone, Copy)]
 pub enum Fault {
     /// A line is none of a session, or none that may stand there.
     Line,

@@ -30,6 +30,7 @@ use Rattle.shell_top.proofs.FitLemmas.{disks_are_handed_on}
 use Rattle.shell_top.proofs.HistoryLemmas.{one_history}
 use Rattle.shell_top.proofs.OnDisksLemmas.{left_as_history}
 use Rattle.shell_top.proofs.UnbornLemmas.{unborn_early}
+use Rattle.world_core.specs.Start.{Start}
 use Rattle.world_core.specs.World.{logs_at}
 use Rattle.world_views.proofs.ShellLemmas.{down_is}
 use Rattle.world_views.specs.Shell.{finds_down}
@@ -324,7 +325,8 @@ module _ (shape : Shape) (sound : IsShape shape) where
           restored = begun.restored;
           lived = begun.lived;
           were = closed.were;
-          served = fresh_served g.start g.whole begun.fresh;
+          served =
+              fresh_served g.start g.whole begun.fresh (ap (λ (start : Start). start.late) begun.begins);
           told = sym
               (ap (λ xs. line ++ xs)
               (subst (λ start. text_of start (logs_at g.whole.logs 0) ≡ []) begun.begins
@@ -361,7 +363,9 @@ module _ (shape : Shape) (sound : IsShape shape) where
           restored = begun.restored;
           lived = begun.lived;
           were = refl;
-          served = fresh_served begun.going.start begun.going.whole begun.fresh;
+          served =
+              fresh_served begun.going.start begun.going.whole begun.fresh
+              (ap (λ (start : Start). start.late) begun.begins);
           told = sym
               (subst (λ start. text_of start (logs_at begun.going.whole.logs 0) ≡ []) begun.begins
               (fresh_told begun.going.start begun.going.whole begun.fresh));

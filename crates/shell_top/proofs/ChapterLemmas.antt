@@ -48,10 +48,10 @@ is_life shape sound e commands life lived =
       safe = cuts_are_safe start (logs_of life) (begins_behind shape life) sound refl lived.within lived.right;
       between = between_cuts start (logs_of life) (begins_behind shape life) sound refl lived.within lived.right;
       grows = λ small large inside cut. histories_grow start small large inside;
-      reported = reported start (logs_of life) lived.right;
+      reported = reported start refl (logs_of life) lived.right;
       peaceful = λ none peaceful wants.
           let peace = lived.in_peace peaceful wants in
-          peacefully_served lives_plain closings_answered start sound none (begins_behind shape life) peace.0
+          peacefully_served lives_plain closings_answered start refl sound none (begins_behind shape life) peace.0
           (logs_of life) peace.1 e lived.quiet;
     }
 

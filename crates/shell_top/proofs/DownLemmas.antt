@@ -46,7 +46,7 @@ use Rattle.node_views.specs.Replies.{giving}
 use Rattle.node_views.specs.Words.{parts_words}
 use Rattle.world_core.proofs.MadeFirst.{all_made}
 use Rattle.world_core.specs.Hosts.{hosts}
-use Rattle.world_core.specs.Start.{Start}
+use Rattle.world_core.specs.Start.{NobodyStarts, Start}
 use Rattle.world_core.specs.Steps.{Addressed, HostStep}
 use Rattle.world_views.proofs.StepEach.{step_words}
 use Rattle.world_views.specs.Hosts.{started}
@@ -156,7 +156,7 @@ record IsUnstopped (start : Start) (log : List HostStep) : Type 0 where
   runs : (after start 0 log).parts ≡ part.Shell own
   none : own.client.stops ≡ []
 
-module _ (start : Start) (log : List HostStep) (e : HostStep) (p : ShellPart)
+module _ (start : Start) (nobody : NobodyStarts start) (log : List HostStep) (e : HostStep) (p : ShellPart)
     (runs : (after start 0 log).parts ≡ part.Shell p) (none : p.client.stops ≡ []) (open_now : IsOpen e)
   where
     abbrev x : Signal
@@ -167,7 +167,7 @@ module _ (start : Start) (log : List HostStep) (e : HostStep) (p : ShellPart)
 
     did : ShellDoes start.shape p (view_after start 0 log) e.step.taken (step_after start 0 log e).state.parts
         (view_after start 0 (e ∷ log)) (step_after start 0 log e).effects.sends
-    did = shell_after start log e p runs
+    did = shell_after start nobody log e p runs
 
     -- once the view of the signal is installed
     between_none : did.between.client.stops ≡ []
@@ -215,10 +215,11 @@ first_unstopped : (start : Start) → IsUnstopped start []
 unfolding started
 first_unstopped start = record { own = _; runs = refl; none = refl }
 
-unstopped : (start : Start) (log : List HostStep) → Each IsOpen log → IsUnstopped start log
-unstopped start [] all = first_unstopped start
-unstopped start (e ∷ log) all =
-    let one = unstopped start log all.1 in next_unstopped start log e one.own one.runs one.none all.0
+unstopped : (start : Start) (nobody : NobodyStarts start) (log : List HostStep) → Each IsOpen log
+    → IsUnstopped start log
+unstopped start nobody [] all = first_unstopped start
+unstopped start nobody (e ∷ log) all =
+    let one = unstopped start nobody log all.1 in next_unstopped start nobody log e one.own one.runs one.none all.0
 
 -- who has counted no stop takes whoever is full for one that runs
 some_runs : (p : Member → Bool) (members : List Member) → list_any p members ≡ true
@@ -247,17 +248,17 @@ IsOpenSignal y = closes y.signal.body ≡ None
 
 module _ (start : Start) where
   -- the shell has heard of no stop, and knows a view in which somebody is full
-  up_by : (log : List HostStep) → Each IsOpen log → IsShape start.shape
+  up_by : NobodyStarts start → (log : List HostStep) → Each IsOpen log → IsShape start.shape
       → is_viable start.shape (view_after start 0 log) ≡ true
       → finds_down start log ≡ false
   unfolding client.is_down
-  up_by log all shape manned = by (has_stopped log)
+  up_by nobody log all shape manned = by (has_stopped log)
     where
       own : IsUnstopped start log
-      own = unstopped start log all
+      own = unstopped start nobody log all
 
       sees : IsSeeing start log
-      sees = seeing start log
+      sees = seeing start nobody log
 
       view_is : own.own.client.api.view ≡ view_after start 0 log
       view_is =
@@ -373,7 +374,7 @@ module _ (start : Start) (inside : ℕ → List HostStep) (of : AreOfCluster sta
   pub never_down : ((h : ℕ) → h < hosts start → has_stopped (inside h) ≡ false) → (log : List HostStep)
       → IsPast log (inside 0) → finds_down start log ≡ false
   never_down go_on log past =
-      up_by start log
+      up_by start of.nobody log
       (each_past IsOpen past
       (all_open start (inside 0) (of.right.local 0)
       (λ i. given_open start i 0 (inside i) (taken (machine start) i (inside 0)) (goes i) (of.right.linked i 0))))
@@ -390,7 +391,7 @@ module _ (start : Start) (inside : ℕ → List HostStep) (of : AreOfCluster sta
       seen = record {
         host = 0;
         there = omega arith;
-        made = all_made start 0 (inside 0);
+        made = all_made start of.nobody 0 (inside 0);
         log = log;
         past = past;
         is = refl;

@@ -8,9 +8,8 @@ use Rattle.sig_core.specs.declared.log.HostLog.{HostLog}
 use Rattle.shell_top.specs.Served.{AreInPeace, IsServed}
 use Rattle.shell_top.specs.Text.{down_line}
 use Rattle.shell_top.specs.Told.{text_of}
-use Rattle.world_core.proofs.MadeFirst.{nobody_starts}
 use Rattle.world_core.specs.Hosts.{hosts}
-use Rattle.world_core.specs.Start.{Start}
+use Rattle.world_core.specs.Start.{NobodyStarts, Start}
 use Rattle.world_core.specs.Steps.{HostStep}
 use Rattle.world_core.specs.World.{for_each, logs_at, no_steps, of_host}
 use Rattle.world_core.proofs.FreshWorld.{each_at, each_length}
@@ -55,11 +54,11 @@ fresh_peace start = ([], λ h. no_step start h)
 
 module _ (start : Start) (w : Whole) (is : w ≡ new_world start) where
   -- so it has served no command
-  pub fresh_served : IsServed start [] w
-  fresh_served = subst (IsServed start []) (sym is)
+  pub fresh_served : NobodyStarts start → IsServed start [] w
+  fresh_served nobody = subst (IsServed start []) (sym is)
       (record {
         given = [];
-        right = fresh_right start (nobody_starts start);
+        right = fresh_right start nobody;
         quiet = fresh_quiet start;
         asked = ap requests (no_step start 0);
         at_quiet = fresh_asked start;
@@ -73,5 +72,5 @@ module _ (start : Start) (w : Whole) (is : w ≡ new_world start) where
   fresh_told = ap (λ (x : Whole). text_of start (logs_at x.logs 0)) is ∙ fresh_text start
 
   -- and it is sound
-  pub fresh_going : IsSound start w
-  fresh_going = subst (IsSound start) (sym is) (fresh_sound start (nobody_starts start))
+  pub fresh_going : NobodyStarts start → IsSound start w
+  fresh_going nobody = subst (IsSound start) (sym is) (fresh_sound start nobody)

@@ -111,7 +111,8 @@ module _ {D : Type 0} (lives : Lives D) (w : DiskWorld D) (is : lives.world ≡ 
     still_sound (Some e) sound = tt
     still_sound None sound =
         subst (λ start. IsSound start (whole_of t.world))
-        (ap (start_in lives.shape) (goes lives w is) ∙ sym (ap (λ (g : Going). g.start) (goes_same lives.shape w t same)))
+        (ap (start_in lives.shape) (goes lives w is)
+        ∙ sym (ap (λ (g : Going). g.start) (goes_same lives.shape w t same)))
         sound
 
 -- what goes on as it did, however a line was told
@@ -150,7 +151,7 @@ module _ {D : Type 0} (shape : Shape) (told : List (Option (List Call))) (faults
       }
 
   pub goes_on : IsGoing (Some (going_in shape w))
-  goes_on = fresh_going (start_from shape w.start w.rows.items) (whole_of w.world) fresh
+  goes_on = fresh_going (start_from shape w.start w.rows.items) (whole_of w.world) fresh refl
 
 module _ {D : Type 0} (told : D → Option (List Call)) (faults : D → ℕ) where
   -- disks that were taken from where no life goes on

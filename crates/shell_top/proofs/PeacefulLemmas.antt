@@ -18,7 +18,7 @@ use Rattle.shell_top.specs.Peace.{EachIsClosed, IsClosedIn, IsPeacefullyServed}
 use Rattle.world_core.specs.Hosts.{first_hosts}
 use Rattle.world_core.specs.Machine as plain
 use Rattle.world_core.specs.Quiet as plain_quiet
-use Rattle.world_core.specs.Start.{Start}
+use Rattle.world_core.specs.Start.{NobodyStarts, Start}
 use Rattle.world_core.specs.Steps.{HostStep}
 use Rattle.world_views.specs.Quiet.{IsQuiet}
 use Rattle.world_views.specs.Requests.{requests}
@@ -63,6 +63,7 @@ last_of (x ∷ xs) = go (last_of xs)
         inr (record { front = x ∷ has.front; last = has.last; is = ap (λ (ys : List ApiReq). x ∷ ys) has.is })
 
 module _ (plain_lives : PeacefulLivesArePlain) (closings : ClosingsAreAnswered) (start : Start)
+    (nobody : NobodyStarts start)
     (shape : IsShape start.shape) (rows : start.rows ≡ []) (begins : start.start_epoch < start.epoch)
   where
     life : (asked : List ApiReq) (logs : ℕ → List HostStep) → AreServedBy start asked logs
@@ -109,7 +110,7 @@ module _ (plain_lives : PeacefulLivesArePlain) (closings : ClosingsAreAnswered) 
               asked_before = both.0;
               asked = is ∙ ap (λ (rs : List ApiReq). earlier ++ request ∷ rs) none;
               answered =
-                  closings start before request was logs (life before was served.1.0) was_quiet closing
+                  closings start nobody before request was logs (life before was served.1.0) was_quiet closing
                   (subst (λ r. GoOnBy start r was logs) both.1 goes) (quiet none);
             }
         by (inr has) inside =
@@ -132,7 +133,7 @@ module _ (plain_lives : PeacefulLivesArePlain) (closings : ClosingsAreAnswered) 
     -- what logs say that came about in peace
     module _ (asked : List ApiReq) (logs : ℕ → List HostStep) (served : AreServedBy start asked logs) where
       are_plain : ArePlain start logs
-      are_plain = plain_lives start asked logs (life asked logs served)
+      are_plain = plain_lives start nobody asked logs (life asked logs served)
 
       pub peacefully_served : (e : Ending) → ((e ≡ ending.NoMemory → ⊥) → IsQuiet start logs)
           → IsPeacefullyServed start e logs

@@ -29,7 +29,10 @@ impl<T: Drop> Boxed<T> {
         let value = Box::new(alloc, value)?;
         Ok(Boxed { value })
     }
+}
 
+// Whoever only reads need not show that the value may be dropped: of a signal that is a proof for each of its parts.
+impl<T> Boxed<T> {
     /// The value.
     pub fn get(&self) -> &T
         ensures { result.now ≡ self.now }

@@ -31,8 +31,8 @@ fn stored(row: &Row) -> Result<StoredRow, Fail> {
 
 fn add(out: &mut Vec<u8>, row: &StoredRow) -> Result<(), NoMemory> {
     match row.epoch {
-        Some(epoch) => put_row2(out, &row.key, epoch, &row.value),
-        None => put_row(out, &row.key, &row.value),
+        Some(epoch) => put_row2(out, &row.key, epoch, row.value.bytes()),
+        None => put_row(out, &row.key, row.value.bytes()),
     }
 }
 

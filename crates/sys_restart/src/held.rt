@@ -13,7 +13,7 @@ use host_io::Disk;
 use redo_format::decode;
 use redo_log::read_log;
 use row_map::RowMap;
-use sig_core::{ControlSlot, Key, NoMemory, ReadFault, Redo, Shape, Value};
+use sig_core::{ControlSlot, Key, NoMemory, ReadFault, Redo, Shape};
 use std::alloc::Global;
 
 /// Whether a node of a cluster holds the keys of all rows, and of the records of the redo that a control slot names, up
@@ -58,7 +58,7 @@ fn are_held(alloc: Global, node: u8, rows: &RowMap, shape: &Shape) -> Result<boo
 }
 
 // Whether a node holds the keys of all these rows.
-fn all_held(node: u8, rows: &[(&Key, &Value)], shape: &Shape) -> bool
+fn all_held(node: u8, rows: &[(&Key, &[u8])], shape: &Shape) -> bool
     requires { IsShape shape.now }
     ensures { result ≡ list_all (is_held shape.now node) (map deref_pair rows.now) }
 {

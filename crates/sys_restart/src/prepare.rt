@@ -1,9 +1,10 @@
 //! What one node's disk is given for the next life: a checkpoint, and a control slot that names it.
 ghost use Rattle.std.specs.Prelude.{◌≡◌, ◌≤◌, ◌<◌, ◌+◌, ◌-◌, ◌++◌, List, [], ◌∷◌, Some, false, is_ok, IfOk, OnErr, OnOk, length, map, min, take, drop};
 ghost use Rattle.std.specs.FinMap as finmap;
-ghost use Rattle.std.specs.List.{flat_map};
+ghost use Rattle.std.specs.List.{All, flat_map};
 ghost use Rattle.std.specs.Map.Iter.{deref_pair};
 ghost use Rattle.sig_core.specs.Checkpoint.{row_bytes};
+ghost use Rattle.row_map.specs.Stored.{IsValue};
 ghost use Rattle.frag_map.specs.Shape.{IsShape};
 ghost use Rattle.host_io.specs.Call.{Call, Synced, Wrote};
 ghost use Rattle.host_io.specs.Disk.{IsWritten};
@@ -24,7 +25,7 @@ use crate::restored::{Restored, numbers_fit};
 use frag_map::group_of;
 use host_io::{Disk, Failed};
 use lcp_store::{checkpoints_are_read, put_head, put_row2};
-use sig_core::{ControlSlot, Key, NoMemory, PIECE_BYTES, RestartFault, Shape, Value};
+use sig_core::{ControlSlot, Key, NoMemory, PIECE_BYTES, RestartFault, Shape};
 use std::alloc::Global;
 use sysfile_core::{
     CLOSED, CONTROL_BYTES, CONTROL_FILE, control_bytes, place_of, write_owner, write_slot,
@@ -180,10 +181,19 @@ fn checkpoint_bytes(
     ensures { IfOk result (λ bytes. bytes.items ≡ checkpoint_for shape.now node restored.now) }
 {
     let rows = rows_of_node(alloc, node, shape, restored)?;
-    let mut bytes = Vec::new(alloc);
+    let mut bytes = Vec::with_capacity(alloc, room_for(&rows))?;
     put_head(&mut bytes)?;
     put_rows(&mut bytes, restored.epoch, &rows)?;
     Ok(bytes)
+}
+
+// How many bytes a checkpoint of these rows takes.
+fn room_for(rows: &[(&Key, &[u8])]) -> usize {
+    let mut room = 2usize;
+    for (key, value) in rows {
+        room = room.saturating_add(key.bytes().len() + value.len() + 10);
+    }
+    room
 }
 
 // The rows of a node's group, in byte order of their keys.
@@ -192,9 +202,10 @@ fn rows_of_node<'a>(
     node: u8,
     shape: &Shape,
     restored: &'a Restored,
-) -> Result<Vec<(&'a Key, &'a Value)>, NoMemory>
+) -> Result<Vec<(&'a Key, &'a [u8])>, NoMemory>
     requires { IsShape shape.now }
-    ensures { IfOk result (λ rows. map deref_pair rows.items ≡ finmap.entries (rows_of_node shape.now node restored.now)) }
+    ensures rows { IfOk result (λ rows. map deref_pair rows.items ≡ finmap.entries (rows_of_node shape.now node restored.now)) }
+    ensures values { IfOk result (λ rows. All (λ row. IsValue row.1.now) rows.items) }
 {
     let group = group_of(node, shape) as usize;
     let groups = restored.groups.as_slice();
@@ -206,7 +217,8 @@ fn rows_of_node<'a>(
 }
 
 // Appends rows, each as of the epoch.
-fn put_rows(bytes: &mut Vec<u8>, epoch: u64, rows: &[(&Key, &Value)]) -> Result<(), NoMemory>
+fn put_rows(bytes: &mut Vec<u8>, epoch: u64, rows: &[(&Key, &[u8])]) -> Result<(), NoMemory>
+    requires { All (λ row. IsValue row.1.now) rows.now }
     ensures { OnOk result (bytes.new.items ≡ bytes.old.items ++ flat_map row_bytes (map (row_at epoch) (map deref_pair rows.now))) }
 {
     for (key, value) in rows {

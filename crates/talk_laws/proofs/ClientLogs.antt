@@ -33,7 +33,7 @@ use Rattle.outcome_laws.proofs.coordinators.Lists.{count_more}
 use Rattle.report_laws.specs.Answered.{answers_among, is_answered}
 use Rattle.report_laws.specs.Asked.{asked_by, asked_in}
 use Rattle.report_laws.specs.Told.{answer_in}
-use Rattle.world_core.specs.Start.{Start}
+use Rattle.world_core.specs.Start.{NobodyStarts, Start}
 use Rattle.world_core.specs.Steps.{HostStep}
 use Rattle.world_views.specs.Machine.{after, replies_at, step_after}
 use Rattle.host_laws.proofs.coordinator.Keys.{key_of_tx}
@@ -155,7 +155,7 @@ module _ (tx : TxId) where
           (length (told_of start tx log)) (length (sent_of (wished_by tx) start 0 log)) (takes_in (is_begin tx) log)
       pub among : AreAmong (told_of start tx log) (taken_of (told_by tx) log)
 
-    module _ (e : HostStep) (log : List HostStep) where
+    module _ (nobody : NobodyStarts start) (e : HostStep) (log : List HostStep) where
       abbrev t : Step HostBody
       t = step_after start 0 log e
 
@@ -169,7 +169,7 @@ module _ (tx : TxId) where
           let light =
           step_light (of_client no_body (is_report tx) (count_open tx) (is_begin tx)) IsShell
           (client_light no_body (is_report tx) (count_open tx) (is_begin tx) (reports_client tx)) e.step.taken 0
-          (after start 0 log) (is_shell start log) in
+          (after start 0 log) (is_shell start nobody log) in
           omega (arith, light.below, open_is (after start 0 log).parts, open_is (after start 0 (e ∷ log)).parts)
 
       unwished_below : count_sent (is_wish tx) t.effects.sends
@@ -179,7 +179,7 @@ module _ (tx : TxId) where
           let light =
           step_light (of_client (is_wish tx) no_mark (count_unwished tx) (is_begin tx)) IsShell
           (client_light (is_wish tx) no_mark (count_unwished tx) (is_begin tx) asks_client) e.step.taken 0
-          (after start 0 log) (is_shell start log) in
+          (after start 0 log) (is_shell start nobody log) in
           omega (arith, light.below, unwished_is (after start 0 log).parts, unwished_is (after start 0 (e ∷ log)).parts)
 
       module _ (few : one_if (is_begin tx e.step.taken.body) + takes_in (is_begin tx) log ≤ 1)
@@ -190,7 +190,7 @@ module _ (tx : TxId) where
               few
               (opened_after start (e ∷ log)) t.effects.sends replied
           pays =
-              step_talks start e log
+              step_talks start nobody e log
               (PaysSo tx (opened_after start log) _ _ _ _ old.talked e.step.taken.body few)
               (pays_forms tx (opened_after start log) _ _ _ _ old.talked e.step.taken.body few)
               (pays_beside tx (opened_after start log) _ _ _ _ old.talked e.step.taken.body few)
@@ -198,7 +198,7 @@ module _ (tx : TxId) where
           -- what an answer makes the client's side reply is that answer, or nothing
           only : (one : TxId) (answer : Answer) → e.step.taken.body ≡ Client (TcKeyConf one answer)
               → AreAmong (reverse (answers_among replied)) (answer ∷ [])
-          only one answer is = by (row_tells start e log).answers
+          only one answer is = by (row_tells start nobody e log).answers
             where
               by : (answers_among replied ≡ []) ⊎ (answers_among replied ≡ answer_in e.step.taken.body)
                   → AreAmong (reverse (answers_among replied)) (answer ∷ [])
@@ -269,6 +269,7 @@ module _ (tx : TxId) where
       among = tt;
     }
 
-    pub client_log : (log : List HostStep) → takes_in (is_begin tx) log ≤ 1 → ClientLog log
-    client_log [] few = first
-    client_log (e ∷ log) few = next e log (omega (arith, few)) (client_log log (omega (arith, few)))
+    pub client_log : NobodyStarts start → (log : List HostStep) → takes_in (is_begin tx) log ≤ 1 → ClientLog log
+    client_log nobody [] few = first
+    client_log nobody (e ∷ log) few =
+        next nobody e log (omega (arith, few)) (client_log nobody log (omega (arith, few)))

@@ -7,12 +7,12 @@ use Rattle.talk_laws.proofs.ReportsSingle.{told_few}
 use Rattle.talk_laws.proofs.ReportsTold.{answers_are_heard, ends_are_marked, told_under_names}
 
 pub reported : ReportsAreMarked
-reported start logs right = record {
-  told = ends_are_marked start logs right;
-  heard = answers_are_heard start logs right;
-  told_own = told_under_names start logs right;
-  single = λ tx. told_few tx start (logs 0);
-  requested = λ newer e before is. asked_as_requested start e before;
-  of_one = λ newer before is. named_once start before;
-  asks_own = λ newer e before is. asked_of_its_transaction start e before;
+reported start nobody logs right = record {
+  told = ends_are_marked start nobody logs right;
+  heard = answers_are_heard start nobody logs right;
+  told_own = told_under_names start nobody logs right;
+  single = λ tx. told_few tx start nobody (logs 0);
+  requested = λ newer e before is. asked_as_requested start nobody e before;
+  of_one = λ newer before is. named_once start nobody before;
+  asks_own = λ newer e before is. asked_of_its_transaction start nobody e before;
 }

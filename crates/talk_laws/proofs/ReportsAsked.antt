@@ -18,7 +18,7 @@ use Rattle.api_block.specs.Opened.{begins_at, begun_operating, is_named, operati
 use Rattle.host_laws.proofs.api.Begins.{same_name-is}
 use Rattle.report_laws.specs.Requested.{name_of_request}
 use Rattle.world_core.specs.Requests.{request_in}
-use Rattle.world_core.specs.Start.{Start}
+use Rattle.world_core.specs.Start.{NobodyStarts, Start}
 use Rattle.world_core.specs.Steps.{HostStep}
 use Rattle.world_views.specs.Machine.{step_after}
 use Rattle.answer_laws.proofs.ApiSteps.{is_calm}
@@ -83,9 +83,9 @@ module _ (opened : List OpenTransaction) (body : Body) where
     installs = λ now sends marks replies view asks. asks;
   }
 
-pub asked_of_its_transaction : (start : Start) (e : HostStep) (log : List HostStep)
+pub asked_of_its_transaction : (start : Start) (nobody : NobodyStarts start) (e : HostStep) (log : List HostStep)
     → Each (IsForItsTransaction (opened_after start (e ∷ log)) e.step.taken.body)
     (step_after start 0 log e).effects.sends
-asked_of_its_transaction start e log =
-    step_talks start e log (Asks (opened_after start log) e.step.taken.body)
+asked_of_its_transaction start nobody e log =
+    step_talks start nobody e log (Asks (opened_after start log) e.step.taken.body)
     (forms (opened_after start log) e.step.taken.body) (beside (opened_after start log) e.step.taken.body)

@@ -12,7 +12,7 @@ use Rattle.sig_core.specs.declared.signal.Body.{Body}
 use Rattle.api_block.specs.declared.opened.OpenTransaction.{OpenTransaction}
 use Rattle.api_block.specs.Opened.{asked_for, is_named, same_name}
 use Rattle.host_laws.proofs.api.Begins.{same_name-self}
-use Rattle.world_core.specs.Start.{Start}
+use Rattle.world_core.specs.Start.{NobodyStarts, Start}
 use Rattle.world_core.specs.Steps.{HostStep}
 use Rattle.talk_laws.specs.Reports.{IsOpenIn, opened_after}
 use Rattle.talk_laws.proofs.ClientTalks.{Talk, TalkForms}
@@ -86,12 +86,12 @@ module _ (opened : List OpenTransaction) (once : AreOnce opened) where
     installs = λ now sends marks replies view now_once. now_once;
   }
 
-module _ (start : Start) where
+module _ (start : Start) (nobody : NobodyStarts start) where
   names_once : (log : List HostStep) → AreOnce (opened_after start log)
   names_once [] = subst AreOnce (sym (opened_first start)) (λ n. omega arith)
   names_once (e ∷ log) =
       let once = names_once log in
-      step_talks start e log Names (forms (opened_after start log) once e.step.taken.body)
+      step_talks start nobody e log Names (forms (opened_after start log) once e.step.taken.body)
       (beside (opened_after start log) once)
 
   -- so two that are open under it are one

@@ -20,7 +20,7 @@ use Rattle.api_block.specs.Opened.{answered, asked_for, begun, begun_operating, 
 use Rattle.api_block.specs.Opened.{operating}
 use Rattle.report_laws.specs.Requested.{AsksAsRequested, IsRequested, alone, by_name}
 use Rattle.world_core.specs.Requests.{request_in}
-use Rattle.world_core.specs.Start.{Start}
+use Rattle.world_core.specs.Start.{NobodyStarts, Start}
 use Rattle.world_core.specs.Steps.{HostStep}
 use Rattle.world_views.specs.Machine.{step_after}
 use Rattle.answer_laws.proofs.ApiSteps.{is_calm}
@@ -141,11 +141,11 @@ module _ (e : HostStep) (log : List HostStep) where
       installs = λ now sends marks replies view leaves. leaves;
     }
 
-module _ (start : Start) where
+module _ (start : Start) (nobody : NobodyStarts start) where
   step_leaves : (e : HostStep) (log : List HostStep) → Each (IsFrom log) (opened_after start log)
       → LeavesRequested e log (opened_after start (e ∷ log)) (step_after start 0 log e).effects.sends
   step_leaves e log all =
-      step_talks start e log (Leaves e log) (forms e log (opened_after start log) all)
+      step_talks start nobody e log (Leaves e log) (forms e log (opened_after start log) all)
       (beside e log (opened_after start log) all)
 
   from_requests : (log : List HostStep) → Each (IsFrom log) (opened_after start log)

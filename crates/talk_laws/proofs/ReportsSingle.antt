@@ -26,7 +26,7 @@ use Rattle.api_block.proofs.Walk.{own_is}
 use Rattle.outcome_laws.specs.Counts.{count_sent}
 use Rattle.outcome_laws.proofs.coordinators.Lists.{count_between, count_both, count_more}
 use Rattle.report_laws.specs.Answered.{answers_among, is_answered}
-use Rattle.world_core.specs.Start.{Start}
+use Rattle.world_core.specs.Start.{NobodyStarts, Start}
 use Rattle.world_core.specs.Steps.{HostStep}
 use Rattle.world_views.specs.Machine.{replies_at, step_after}
 use Rattle.host_laws.proofs.coordinator.Keys.{key_of_tx}
@@ -181,7 +181,7 @@ module _ (tx : TxId) where
       installs = λ now sends marks replies view covers. covers;
     }
 
-  module _ (start : Start) where
+  module _ (start : Start) (nobody : NobodyStarts start) where
     covers : (log : List HostStep)
         → AreCovered (opened_after start log) (length (asked_of start tx log)) (length (told_of start tx log))
     covers [] = omega (arith, ap (count_by is_working) (opened_first start))
@@ -189,7 +189,7 @@ module _ (tx : TxId) where
         let t = step_after start 0 log e in
         omega (
           arith,
-          step_talks start e log
+          step_talks start nobody e log
               (Covers (opened_after start log) e.step.taken.body (length (asked_of start tx log))
               (length (told_of start tx log)) (covers log))
               (forms (opened_after start log) e.step.taken.body _ _ (covers log))

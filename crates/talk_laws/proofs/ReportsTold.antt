@@ -18,7 +18,7 @@ use Rattle.api_block.specs.Opened.{has_tx}
 use Rattle.api_block.proofs.Walk.{own_is}
 use Rattle.report_laws.specs.Answered.{answers_among}
 use Rattle.report_laws.specs.Told.{answer_in, outcomes_marked, outcomes_told}
-use Rattle.world_core.specs.Start.{Start}
+use Rattle.world_core.specs.Start.{NobodyStarts, Start}
 use Rattle.world_core.specs.Steps.{HostStep}
 use Rattle.world_views.specs.Machine.{machine, replies_at, step_after}
 use Rattle.talk_laws.specs.Reports.{IsOfItsTransaction, IsOpenIn, opened_after}
@@ -123,15 +123,16 @@ module _ (opened : List OpenTransaction) (body : Body) where
   }
 
 -- so it is of the row of each step
-pub row_tells : (start : Start) (e : HostStep) (log : List HostStep)
+pub row_tells : (start : Start) (nobody : NobodyStarts start) (e : HostStep) (log : List HostStep)
     → TellsMarked (opened_after start log) e.step.taken.body (step_after start 0 log e).effects.marks
     (replies_at 0 (step_after start 0 log e))
-row_tells start e log =
-    step_talks start e log (Tells (opened_after start log) e.step.taken.body)
+row_tells start nobody e log =
+    step_talks start nobody e log (Tells (opened_after start log) e.step.taken.body)
     (forms (opened_after start log) e.step.taken.body) (beside (opened_after start log) e.step.taken.body)
 
 -- whose marks the step has
-module _ (start : Start) (logs : ℕ → List HostStep) (right : AreLogs (machine start) logs) (newer : List HostStep)
+module _ (start : Start) (nobody : NobodyStarts start) (logs : ℕ → List HostStep) (right : AreLogs (machine start) logs)
+    (newer : List HostStep)
     (e : HostStep) (before : List HostStep) (is : logs 0 ≡ newer ++ e ∷ before)
   where
     abbrev replied : List ApiReply
@@ -141,7 +142,7 @@ module _ (start : Start) (logs : ℕ → List HostStep) (right : AreLogs (machin
     step_tells =
         let log = log_after (machine start) 0 newer (e ∷ before) (subst (IsLog (machine start) 0) is (right.local 0)) in
         subst (λ marks. TellsMarked (opened_after start before) e.step.taken.body marks replied) (sym log.0.fits.marks)
-        (row_tells start e before)
+        (row_tells start nobody e before)
 
     pub ends_are_marked : outcomes_told replied ≡ outcomes_marked e.step.marks
     ends_are_marked = step_tells.same

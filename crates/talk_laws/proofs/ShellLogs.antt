@@ -5,7 +5,7 @@ use Rattle.node_views.specs.declared.parts.Parts.{Parts}
 use Rattle.node_views.specs.declared.parts.Parts.TheVariants.{Ldm, Main, Shell, Tc}
 use Rattle.node_views.specs.declared.shell_part.ShellPart.{ShellPart}
 use Rattle.node_views.specs.Replies.{giving}
-use Rattle.world_core.specs.Start.{Start}
+use Rattle.world_core.specs.Start.{NobodyStarts, Start}
 use Rattle.world_core.specs.Steps.{HostStep}
 use Rattle.world_views.specs.Hosts.{started}
 use Rattle.world_views.specs.Machine.{after, replies_at, step_after}
@@ -29,16 +29,16 @@ module _ (start : Start) where
     runs : (after start 0 log).parts ≡ Shell own
     none : own.client.api.replies ≡ []
 
-  stands : (log : List HostStep) → Stands log
+  stands : NobodyStarts start → (log : List HostStep) → Stands log
   unfolding started
-  stands [] = record { own = _; runs = refl; none = refl }
-  stands (e ∷ log) =
-      let old = stands log in
-      let did = shell_after start log e old.own old.runs in
+  stands nobody [] = record { own = _; runs = refl; none = refl }
+  stands nobody (e ∷ log) =
+      let old = stands nobody log in
+      let did = shell_after start nobody log e old.own old.runs in
       record { own = _; runs = ap (λ parts. giving parts []) did.is; none = refl }
 
-  pub is_shell : (log : List HostStep) → IsShell (after start 0 log).parts
-  is_shell log = subst IsShell (sym (stands log).runs) tt
+  pub is_shell : NobodyStarts start → (log : List HostStep) → IsShell (after start 0 log).parts
+  is_shell nobody log = subst IsShell (sym (stands nobody log).runs) tt
 
   pub opened_first : opened_after start [] ≡ []
   unfolding started
@@ -49,12 +49,12 @@ module _ (start : Start) where
   opened_next e log = giving_opened (step_after start 0 log e).state.parts []
 
   -- what is so of each form of a step is so of what its step comes to
-  pub step_talks : (e : HostStep) (log : List HostStep) (R : Talk)
+  pub step_talks : NobodyStarts start → (e : HostStep) (log : List HostStep) (R : Talk)
       → TalkForms (opened_after start log) [] e.step.taken.body R → HostForms (opened_after start log) [] R
       → R (opened_after start (e ∷ log)) (step_after start 0 log e).effects.sends
       (step_after start 0 log e).effects.marks (replies_at 0 (step_after start 0 log e))
-  step_talks e log R forms beside =
-      let old = stands log in
+  step_talks nobody e log R forms beside =
+      let old = stands nobody log in
       let opened = ap opened_in old.runs in
       let t = step_after start 0 log e in
       subst (λ now. R now t.effects.sends t.effects.marks (replies_at 0 t)) (sym (opened_next e log))

@@ -34,7 +34,7 @@ use Rattle.tc_views.specs.Coordinator.{fresh_coordinator}
 use Rattle.tc_views.specs.State.{CoordinatorState}
 use Rattle.tc_views.specs.Views as coordinator
 use Rattle.world_core.specs.Entries.{verified_by}
-use Rattle.world_core.specs.Start.{Start, made}
+use Rattle.world_core.specs.Start.{NobodyStarts, Start, made}
 use Rattle.world_core.specs.Steps.{HostStep}
 use Rattle.world_views.specs.Machine.{after, step_after}
 use Rattle.view_laws.specs.Runs.{view_after}
@@ -257,13 +257,13 @@ module _ (tx : TxId) (me : Member) where
       dih = fresh_dih me.node (first_layout start.shape).view.number start.epoch start.start_epoch;
     }
 
-    at_first : TalkedLog []
-    at_first = record {
+    at_first : NobodyStarts start → TalkedLog []
+    at_first nobody = record {
       own = first_part;
-      runs = ap (λ (s : node.HostBody). s.parts) (tc_started start me there);
+      runs = ap (λ (s : node.HostBody). s.parts) (tc_started start nobody me there);
       is = record {
-        of = subst (IsTcOf me) (ap (λ (s : node.HostBody). s.parts) (tc_started start me there))
-            (tc_begins start me there);
+        of = subst (IsTcOf me) (ap (λ (s : node.HostBody). s.parts) (tc_started start nobody me there))
+            (tc_begins start nobody me there);
         talked = record {
           unborn = λ born. refl;
           fits = tt;
@@ -277,15 +277,15 @@ module _ (tx : TxId) (me : Member) where
         ones true = omega arith
         ones false = omega arith
 
-    pub log_talked : 1 ≤ tc_of start me → (log : List HostStep) → TalkedLog log
-    log_talked some [] = at_first
-    log_talked some (e ∷ log) = by (log_talked some log)
+    pub log_talked : NobodyStarts start → 1 ≤ tc_of start me → (log : List HostStep) → TalkedLog log
+    log_talked nobody some [] = at_first nobody
+    log_talked nobody some (e ∷ log) = by (log_talked nobody some log)
       where
         h : ℕ
         h = tc_of start me
 
         by : TalkedLog log → TalkedLog (e ∷ log)
-        by old = step (tc_after start h log e some old.own old.runs)
+        by old = step (tc_after start nobody h log e some old.own old.runs)
           where
             told : List Answer
             told = sent_of (told_by tx) start h log

@@ -131,7 +131,7 @@ module _ (me : Member) where
       tc_sends_none start logs are there =
           let h = tc_of start me in
           let is =
-          log_light (of_coordinator p nothing) (IsTcOf me) light start h (tc_begins start me there) (logs h)
+          log_light (of_coordinator p nothing) (IsTcOf me) light start h (tc_begins start are.nobody me there) (logs h)
           (are.right.local h) in
           omega (arith, is.below, none_taken (logs h), none_fresh p (started start h).parts)
 
@@ -160,11 +160,11 @@ module _ (start : Start) (logs : ℕ → List HostStep) (are : AreOfCluster star
       of_host (of_none none) =
           let is =
           log_light (of_nobody (key_of_tx tx)) IsBeside (beside_light (key_of_tx tx) (uncounted_key tx)) start (suc k)
-          (beside_is start k none) (logs (suc k)) (are.right.local (suc k)) in
+          (beside_is start are.nobody k none) (logs (suc k)) (are.right.local (suc k)) in
           omega (arith, is.below, none_taken (logs (suc k)))
 
       by : (suc k < hosts start) ⊎ (hosts start ≤ suc k) → sends_in (key_of_tx tx) start (suc k) (logs (suc k)) ≡ 0
-      by (inl low) = of_host (tc_host_is start (suc k) low)
+      by (inl low) = of_host (tc_host_is start are.nobody (suc k) low)
       by (inr high) = nowhere_sends (key_of_tx tx) (uncounted_key tx) start logs are (suc k) high
 
   -- and only the host of its coordinator answers them
@@ -190,5 +190,5 @@ module _ (start : Start) (logs : ℕ → List HostStep) (are : AreOfCluster star
           (apart me (λ same. other (at ∙ ap (tc_of start) (sym same)))) start logs are there)
 
       by : (h < hosts start) ⊎ (hosts start ≤ h) → sends_in (is_answered tx) start h (logs h) ≡ 0
-      by (inl low) = of_host (tc_host_is start h low)
+      by (inl low) = of_host (tc_host_is start are.nobody h low)
       by (inr high) = nowhere_sends (is_answered tx) (uncounted_answered tx) start logs are h high

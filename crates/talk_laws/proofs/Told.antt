@@ -206,7 +206,8 @@ module _ (tx : TxId) where
           where
             talked : TalkedLog tx me start made_is (logs (tc_of start me))
             talked =
-                log_talked tx me start made_is (tc_behind start me (tc_of start me) (tc_begins start me made_is))
+                log_talked tx me start made_is are.nobody
+                (tc_behind start me (tc_of start me) (tc_begins start are.nobody me made_is))
                 (logs (tc_of start me))
 
             gives : Gives (sent_of (told_by tx) start (tc_of start me) (logs (tc_of start me)))
@@ -219,7 +220,7 @@ module _ (tx : TxId) where
             by : (0 < takes_in (is_wish tx) (logs (tc_of start me)))
                 ⊎ (takes_in (is_wish tx) (logs (tc_of start me)) ≤ 0) → Done
             by (inl wish) =
-                let client = client_log tx start (logs 0) (begin_once tx start logs are 0) in
+                let client = client_log tx start are.nobody (logs 0) (begin_once tx start logs are 0) in
                 all_told (asked_of start tx (logs 0)) (taken_of (asked_by tx) (logs (tc_of start me)))
                 (told_of start tx (logs 0)) (taken_of (told_by tx) (logs 0))
                 (sent_of (told_by tx) start (tc_of start me) (logs (tc_of start me))) ops
@@ -229,7 +230,8 @@ module _ (tx : TxId) where
                 gives.answers_are gives.ops_are (took (tc_of start me))
             by (inr none) =
                 let bare =
-                asks_wished tx start me made_is (logs (tc_of start me)) (are.right.local (tc_of start me)) none in
+                asks_wished tx start are.nobody me made_is (logs (tc_of start me)) (are.right.local (tc_of start me))
+                none in
                 let same = ap (λ (h : ℕ). sends_in (is_asking tx) start h (logs h)) at in
                 absurd (omega (arith, some, bare, same))
 
@@ -244,7 +246,7 @@ module _ (tx : TxId) where
                 absurd (omega (arith, some, bare))
 
             by : (c < hosts start) ⊎ (hosts start ≤ c) → Done
-            by (inl low) = of_host (tc_host_is start c low)
+            by (inl low) = of_host (tc_host_is start are.nobody c low)
             by (inr high) =
                 let bare = nowhere_sends (is_asking tx) (uncounted_asking tx) start logs are c high in
                 absurd (omega (arith, some, bare))
@@ -257,7 +259,7 @@ module _ (tx : TxId) where
         (subst (IsLog (machine start) h) is.past.is (are.right.local h)) in
         omega (
           arith,
-          decides_asked tx start h (is.step ∷ is.before) right,
+          decides_asked tx start are.nobody h (is.step ∷ is.before) right,
           in_count (is_decision tx) (Decided a.tx a.epoch) is.step.step.marks
               (ap (λ (u : TxId). same_tx u tx) same ∙ same_tx-self tx) is.decided,
         )

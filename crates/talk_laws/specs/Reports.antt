@@ -20,7 +20,7 @@ use Rattle.report_laws.specs.Answered.{answers_among}
 use Rattle.report_laws.specs.Requested.{AsksAsRequested, name_of_request}
 use Rattle.report_laws.specs.Told.{answer_in, outcomes_marked, outcomes_told}
 use Rattle.world_core.specs.Requests.{request_in}
-use Rattle.world_core.specs.Start.{Start}
+use Rattle.world_core.specs.Start.{NobodyStarts, Start}
 use Rattle.world_core.specs.Steps.{HostStep}
 use Rattle.world_views.specs.Machine.{after, machine, replies_at, step_after}
 use Rattle.talk_laws.specs.Talks.{asked_of, told_of}
@@ -81,4 +81,5 @@ pub record AreReported (start : Start) (logs : ℕ → List HostStep) : Type 0 w
 
 -- so it is of all right logs
 abbrev pub ReportsAreMarked : Type 0
-ReportsAreMarked = (start : Start) (logs : ℕ → List HostStep) → AreLogs (machine start) logs → AreReported start logs
+ReportsAreMarked = (start : Start) → NobodyStarts start → (logs : ℕ → List HostStep) → AreLogs (machine start) logs
+    → AreReported start logs

@@ -347,10 +347,13 @@ module _ (start : Start) (told : List HostLog) (right : AreOfRun start told) (un
         ap (λ ms. own_signal ms h (slice_index_or w.stamps h 0) (body_at w.bodies h).standing.view
         (Host (Cut node (record { 0 = first_of ms node })))) sound.right.made
         ∙ ap (λ n. own_signal (made start) h n (body_at w.bodies h).standing.view
-        (Host (Cut node (record { 0 = first_of (made start) node })))) (sound.right.stamps h low ∙ sym (last_first start h log))
+        (Host (Cut node (record { 0 = first_of (made start) node }))))
+        (sound.right.stamps h low ∙ sym (last_first start sound.right.nobody h log))
         ∙ ap (λ (s : HostBody). own_signal (made start) h (last_of start h log) s.standing.view
         (Host (Cut node (record { 0 = first_of (made start) node })))) body_is
-        ∙ ap (λ n. own_signal (made start) h (last_of start h log) body.standing.view (Host (Cut node (record { 0 = n }))))
+        ∙ ap (λ n. own_signal (made start) h (last_of start h log) body.standing.view (Host (Cut node (record {
+          0 = n;
+        }))))
         (sym work.1.is_first)
         ∙ ap (own_signal (made start) h (last_of start h log) body.standing.view) (sym is_cut)
         ∙ sym rightly.is in

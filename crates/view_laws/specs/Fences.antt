@@ -8,7 +8,7 @@ use Rattle.sig_core.specs.declared.view.View.{View}
 use Rattle.sig_core.specs.Part.{part_of}
 use Rattle.node_views.specs.Blocks.{fence_at}
 use Rattle.world_core.specs.Hosts.{host_of}
-use Rattle.world_core.specs.Start.{Start, made}
+use Rattle.world_core.specs.Start.{NobodyStarts, Start, made}
 use Rattle.world_core.specs.Steps.{HostStep}
 use Rattle.world_views.specs.Machine.{after}
 use Rattle.view_laws.specs.Runs.{AreOfCluster, WasInstalled, ballots_of, view_after}
@@ -28,7 +28,7 @@ fence_after start h log at = fence_at (after start h log).parts at (view_after s
 -- it isn't below the view that the host stands in
 abbrev pub FencesAreNotBelow : Type 0
 FencesAreNotBelow =
-    (start : Start) (h : ℕ) (log : List HostStep) (at : BlockId)
+    (start : Start) → NobodyStarts start → (h : ℕ) (log : List HostStep) (at : BlockId)
     → (view_after start h log).number ≤ fence_after start h log at
 
 -- a fence above it is that of a set that the member has promised

@@ -1,5 +1,5 @@
 -- What is so of the views that hosts stand in, and of the headers of signals.
-use Rattle.std.specs.Prelude.{◌≡◌, ◌≤◌, ◌<◌, ◌⊎◌, ℕ, List}
+use Rattle.std.specs.Prelude.{◌≡◌, ◌≤◌, ◌<◌, ◌⊎◌, ℕ, List, ◌∷◌}
 use Rattle.run_theory.specs.Lists.{Each, IsIn, IsPast}
 use Rattle.sig_core.specs.declared.member.Member.{Member}
 use Rattle.sig_core.specs.declared.place.Part.{Part}
@@ -31,18 +31,19 @@ HeadersAreInstalled =
     (start : Start) (logs : ℕ → List HostStep) → AreOfCluster start logs → (h : ℕ) → h < hosts start
     → Each (λ e. WasInstalled start logs e.step.taken.view) (logs h)
 
--- a signal of host h is for a host of its own member, or of a member of the view in its header
-pub record IsForMember (start : Start) (h : ℕ) (x : Addressed) : Type 0 where
+-- a signal is for a host of a member of the view in its header
+pub record IsForMember (start : Start) (x : Addressed) : Type 0 where
   pub member : Member
-  pub of : (member ≡ member_at (made start) h) ⊎ IsIn member (all_of x.signal.view)
+  pub of : IsIn member (all_of x.signal.view)
   pub part : Part
   pub is : x.to ≡ host_of (made start) part member
 
 -- what a host of a node sends goes to such hosts, or to the shell's, but for what nobody gets
 abbrev pub SignalsGoToMembers : Type 0
 SignalsGoToMembers =
-    (start : Start) (h : ℕ) (log : List HostStep) (e : HostStep) → 1 ≤ h
-    → Each (λ x. x.to < hosts start → (x.to ≡ 0) ⊎ IsForMember start h x) (signals_of start h log e)
+    (start : Start) (logs : ℕ → List HostStep) → AreOfCluster start logs → (h : ℕ) → 1 ≤ h → h < hosts start
+    → (log : List HostStep) (e : HostStep) → IsPast (e ∷ log) (logs h)
+    → Each (λ x. x.to < hosts start → (x.to ≡ 0) ⊎ IsForMember start x) (signals_of start h log e)
 
 -- a view with a greater number is a part of one with a lesser: nobody joins
 abbrev pub ViewsOnlyShrink : Type 0

@@ -17,7 +17,7 @@ use Rattle.node_views.specs.declared.parts.Parts.TheVariants as part
 use Rattle.qmgr_block.specs.Laws.{Event, takes}
 use Rattle.qmgr_block.specs.State.{QmgrState}
 use Rattle.world_core.specs.Hosts.{host_of}
-use Rattle.world_core.specs.Start.{Start, made}
+use Rattle.world_core.specs.Start.{NobodyStarts, Start, made}
 use Rattle.world_core.specs.Steps.{HostStep}
 use Rattle.world_views.specs.Machine.{after, step_after}
 use Rattle.view_laws.specs.Grants.{arbiter_of}
@@ -60,7 +60,7 @@ pub record FollowsItsEvents (start : Start) (member : Member) (log : List HostSt
 
 abbrev pub HostsFollowTheirEvents : Type 0
 HostsFollowTheirEvents =
-    (start : Start) (member : Member) (log : List HostStep) → IsIn member (made start)
+    (start : Start) → NobodyStarts start → (member : Member) (log : List HostStep) → IsIn member (made start)
     → FollowsItsEvents start member log
 
 -- and the shell's host has the arbitrator to which all that it took came
@@ -81,7 +81,8 @@ pub record IsSentAmong (member : Member) (layout : Layout) (new old : List Event
 -- what a host sends of votes, its membership sends
 abbrev pub MembershipsVote : Type 0
 MembershipsVote =
-    (start : Start) (member : Member) (log : List HostStep) (e : HostStep) → IsIn member (made start)
+    (start : Start) → NobodyStarts start → (member : Member) (log : List HostStep) (e : HostStep)
+    → IsIn member (made start)
     → Each (λ sent. is_vote sent.body ≡ true → IsSentAmong member (first_layout start.shape)
     (events_at is_membership (main_of start member) (after start (main_of start member) log) e.step.taken)
     (events_of is_membership start (main_of start member) log) sent)

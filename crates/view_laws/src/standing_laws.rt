@@ -20,7 +20,7 @@ pub fn headers_are_installed()
     ensures { HeadersAreInstalled }
 {}
 
-/// What a host of a node sends goes to the shell's host, or to hosts of its own member or of members of its view.
+/// What a host of a node sends goes to the shell's host, or to hosts of members of the view in its header.
 #[tactic(auto, using(crate::proofs::follow::Routes::go_to_members))]
 pub fn signals_go_to_members()
     ensures { SignalsGoToMembers }

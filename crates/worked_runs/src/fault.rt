@@ -2,7 +2,7 @@
 use std::alloc::AllocError;
 
 /// Why a text has no runs.
-#[derive(Clone, Copy, Debug, PartialEq, Eq)]
+#[derive(Clone, Copy)]
 pub enum Fault {
     /// The line of this number, from 1, is none of a run, or none that may stand there.
     Line(u32),

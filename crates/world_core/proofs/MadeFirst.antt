@@ -15,14 +15,6 @@ use Rattle.world_core.specs.Made.{is_made, last_of, late_at, made_stamp, stamp_o
 use Rattle.world_core.specs.Start.{NobodyStarts, Start, late_members, made}
 use Rattle.world_core.specs.Steps.{HostStep}
 
--- By now that is so of each life. Who cites this rests on it.
-none_late : (late : List Late) → late ≡ []
-none_late [] = refl
-none_late (one ∷ late) = absurd one.never
-
-pub nobody_starts : (start : Start) → NobodyStarts start
-nobody_starts start = none_late start.late
-
 -- what a law gets of it: the members
 pub made_first : (start : Start) → NobodyStarts start → made start ≡ members start.shape.nodes
 made_first start nobody =
@@ -40,10 +32,9 @@ pub made_begins : (start : Start) → NobodyStarts start → (me : Member) → I
 made_begins start nobody me there = subst (IsIn me) (made_first start nobody) there
 
 -- no host is one of a later start
-pub no_late : (start : Start) (place : ℕ) → late_at start place ≡ None
-no_late start place =
-    ap (λ late. if nat_lt place start.shape.nodes then None else slice_get late (place - start.shape.nodes))
-    (nobody_starts start)
+pub no_late : (start : Start) → NobodyStarts start → (place : ℕ) → late_at start place ≡ None
+no_late start nobody place =
+    ap (λ late. if nat_lt place start.shape.nodes then None else slice_get late (place - start.shape.nodes)) nobody
     ∙ by (nat_lt place start.shape.nodes)
   where
     by : (b : Bool) → (if b then None else slice_get {X = Late} [] (place - start.shape.nodes)) ≡ None
@@ -51,23 +42,24 @@ no_late start place =
     by false = refl
 
 -- so each is there from the beginning
-pub made_at_first : (start : Start) (h : ℕ) → made_stamp start h ≡ 0
-made_at_first start zero = refl
-made_at_first start (suc h) = ap stamp_of (no_late start (h / 3))
+pub made_at_first : (start : Start) → NobodyStarts start → (h : ℕ) → made_stamp start h ≡ 0
+made_at_first start nobody zero = refl
+made_at_first start nobody (suc h) = ap stamp_of (no_late start nobody (h / 3))
 
 -- and always
-pub all_made : (start : Start) (h : ℕ) (log : List HostStep) → is_made start h log ≡ true
-all_made start h log =
-    ap (λ stamp. not (nat_lt (last_of start 0 log) stamp)) (made_at_first start h)
+pub all_made : (start : Start) → NobodyStarts start → (h : ℕ) (log : List HostStep) → is_made start h log ≡ true
+all_made start nobody h log =
+    ap (λ stamp. not (nat_lt (last_of start 0 log) stamp)) (made_at_first start nobody h)
     ∙ by (last_of start 0 log) (nat_lt (last_of start 0 log) 0) refl
   where
     by : (n : ℕ) (b : Bool) → nat_lt n 0 ≡ b → not b ≡ true
     by n true e = absurd (omega (arith, ltb-true n 0 e))
     by n false e = refl
 
-pub last_first : (start : Start) (h : ℕ) (log : List HostStep) → last_of start h log ≡ last_stamp log
-last_first start h [] = made_at_first start h
-last_first start h (e ∷ log) = refl
+pub last_first : (start : Start) → NobodyStarts start → (h : ℕ) (log : List HostStep)
+    → last_of start h log ≡ last_stamp log
+last_first start nobody h [] = made_at_first start nobody h
+last_first start nobody h (e ∷ log) = refl
 
 -- who begins it is made, whoever starts later
 pub begins_made : (start : Start) (me : Member) → IsIn me (members start.shape.nodes) → IsIn me (made start)

@@ -6,10 +6,8 @@ use Rattle.sig_core.specs.declared.view.View.{View}
 
 -- The member that is made, the stamp of the shell's step that makes it, the view in which the shell stands behind the
 -- step before, with which the member's hosts begin, and the slots on its disk, with its own rows, as they were read.
--- There is none by now, since no step makes one: where `never` goes, each law that rests on it has to be shown anew.
 pub record Late : Type 0 where
   pub member : Member
   pub stamp : ℕ
   pub view : View
   pub slots : Slots
-  pub never : ⊥

@@ -8,7 +8,7 @@ use Rattle.node_core.specs.Fresh.{with_rows}
 use Rattle.node_views.specs.declared.host_body.HostBody.{HostBody}
 use Rattle.node_views.specs.Fresh.{fresh_shell}
 use Rattle.world_core.specs.Hosts.{member_at, part_by}
-use Rattle.world_core.specs.Start.{Start, made}
+use Rattle.world_core.specs.Start.{NobodyStarts, Start, made}
 use Rattle.world_views.specs.Hosts.{part_started, started}
 use Rattle.world_views.proofs.AllBegin.{started_behind}
 
@@ -27,7 +27,8 @@ module _ (start : Start) where
   shell_begins layout shell first is = is ∙ ap fresh_shell first
 
   -- one of a member
-  pub part_begins : (k : ℕ) (there : List Member) (layout : Layout) (part : Part) (member : Member) (body : HostBody)
+  pub part_begins : NobodyStarts start
+      → (k : ℕ) (there : List Member) (layout : Layout) (part : Part) (member : Member) (body : HostBody)
       → there ≡ made start → layout ≡ first_layout start.shape → part ≡ part_by (k % 3)
       → member ≡ member_at there (k + 1)
       → body ≡ part_started (record {
@@ -38,7 +39,7 @@ module _ (start : Start) where
         late = start.late;
       }) part member
       → body ≡ started start (k + 1)
-  part_begins k there layout part member body are first part_is member_is is =
+  part_begins nobody k there layout part member body are first part_is member_is is =
       let next : k + 1 ≡ suc k = omega arith in
       is
       ∙ ap (λ (l : Layout). part_started (record {
@@ -51,7 +52,7 @@ module _ (start : Start) where
       ∙ ap (λ p. part_started start p member) part_is
       ∙ ap (part_started start (part_by (k % 3)))
       (member_is ∙ ap (λ n. member_at there n) next ∙ ap (λ ms. member_at ms (suc k)) are)
-      ∙ sym (ap (started start) next ∙ started_behind start k)
+      ∙ sym (ap (started start) next ∙ started_behind start nobody k)
 
 -- no record is at work on rows that were put
 pub none_pending : (s : RowsState) (rows : List (List ℕ × List ℕ)) (epoch : ℕ)

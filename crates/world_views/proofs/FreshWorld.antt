@@ -96,7 +96,7 @@ module _ (start : Start) where
         labels = λ h low.
             subst (IsLabelled start h) (sym (each_at (hosts start) no_steps h (no_steps 0) low)) (record {
               host = refl;
-              made = sym (made_at_first start h);
+              made = sym (made_at_first start nobody h);
             });
         stopped = λ h low. get_or-replicate (hosts start) h false _ low ∙ ap has_stopped (sym (no_log h));
         bodies = λ h low runs.

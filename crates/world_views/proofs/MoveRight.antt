@@ -85,7 +85,7 @@ module _ (start : Start) (given : List ApiReply) (w : Whole) (lost : ℕ) (x : A
   own_step =
       record {
         at = refl;
-        stamped = omega (arith, own_next, last_is start x.to (logs_at w.logs x.to));
+        stamped = omega (arith, own_next, last_is start ready.nobody x.to (logs_at w.logs x.to));
         runs = running start (logs_at w.logs x.to) ready.runs;
         fits = record { marks = ap (λ (f : Effects). f.marks) ready.step.effects; comes = ready.comes };
       }

@@ -82,7 +82,7 @@ module _ (start : Start) (given : List ApiReply) (w : Whole) (right : IsRight st
       record {
         is = ap (λ ms. own_signal ms h (slice_index_or w.stamps h 0) view work) right.made
             ∙ ap (λ n. own_signal (made start) h n view work)
-            (right.stamps h there ∙ sym (last_first start h (logs_at w.logs h)))
+            (right.stamps h there ∙ sym (last_first start right.nobody h (logs_at w.logs h)))
             ∙ ap (λ (s : HostBody). own_signal (made start) h (last_of start h (logs_at w.logs h)) s.standing.view work)
             body_is;
         work = own;

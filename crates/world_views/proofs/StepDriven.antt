@@ -36,7 +36,7 @@ module _ (start : Start) where
   right_logs given w right =
       record {
         local = λ h. local (cases_lt h (hosts start));
-        there = λ h has. inl (made_at_first start h);
+        there = λ h has. inl (made_at_first start right.nobody h);
         linked = λ i j. linked i j (cases_lt i (hosts start)) (cases_lt j (hosts start));
       }
     where

@@ -136,7 +136,7 @@ module _ (start : Start) (given : List ApiReply) (w : Whole) (right : IsRight st
     fact =
         each_in (λ y. IsBetween at.from at.to (last_stamp (logs_at w.logs at.from)) y) arrived
         (on_link at.to (link t.left at.from at.to) ++ (arrived ∷ before))
-        (held_between start at.from at.to (logs_at w.logs at.from)
+        (held_between start right.nobody at.from at.to (logs_at w.logs at.from)
         (on_link at.to (link t.left at.from at.to) ++ (arrived ∷ before))
         (apart (cases_eq at.from at.to)) (right.local at.from at.from_low) held)
         (in_append arrived (on_link at.to (link t.left at.from at.to)) (arrived ∷ before) (inl refl))

@@ -155,8 +155,6 @@ impl World {
     ///
     /// # Errors
     /// `NoMemory`, and then the world is of use for its logs alone.
-    // Not inlined, so that a step keeps its own values at hand.
-    #[inline(never)]
     pub fn step(&mut self, alloc: Global) -> Result<Option<Taken>, NoMemory>
         requires { IsWorld (whole_of self.old) }
         ensures ok { (start : Start) → IsSound start (whole_of self.old) → IfOk result (λ at. IsStepped start (whole_of self.old) (whole_of self.new) (is_some at)) }
@@ -481,6 +479,7 @@ impl World {
     }
 
     // What a step of a host sends goes on its way.
+    #[inline(always)]
     fn send(&mut self, alloc: Global, host: u32, stamp: u64) -> Result<(), NoMemory>
         requires { IsThere (whole_of self.old) host }
         ensures ok { OnOk result (whole_of self.new ≡ sending (whole_of self.old) host stamp self.old.outs.sends) }

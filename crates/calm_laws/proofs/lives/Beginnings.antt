@@ -62,11 +62,11 @@ part_begins start part.Ldm member none = record {
 
 pub begin_alike : HostsBeginAlike
 unfolding started plain_world.started plain.fresh_shell
-begin_alike start zero none = record {
+begin_alike start nobody zero none = record {
   standing = record { shape = refl; view = refl; lives = refl; uncut = refl };
   parts = (refl, (refl, (refl, refl)));
 }
-begin_alike start (suc h) none =
+begin_alike start nobody (suc h) none =
     subst (λ s. AreAlike start [] s (plain.fresh_part (part_by (h % 3)) (member_at (made start) (suc h))
-    (first_layout start.shape) start.epoch start.rows)) (sym (started_behind start h))
+    (first_layout start.shape) start.epoch start.rows)) (sym (started_behind start nobody h))
     (part_begins start (part_by (h % 3)) (member_at (made start) (suc h)) none)

@@ -32,7 +32,7 @@ use Rattle.sig_core.specs.declared.signal.membership.MembershipSignal.TheVariant
 use Rattle.sig_core.specs.declared.signal.Signal.{Signal}
 use Rattle.world_core.specs.Hosts.{member_at}
 use Rattle.world_core.specs.Requests.{request_in}
-use Rattle.world_core.specs.Start.{Start, made}
+use Rattle.world_core.specs.Start.{NobodyStarts, Start, made}
 use Rattle.world_core.specs.Steps.{HostStep}
 use Rattle.world_views.specs.Machine.{after, machine, step_after, stops_by}
 use Rattle.world_views.specs.Requests.{request_of, requests}
@@ -108,7 +108,8 @@ beat_cases (Membership Heartbeat) is = inr refl
 beat_cases body is = absurd cc
 
 -- A step of a main part.
-module _ (start : Start) (shape : IsShape start.shape) (k : ℕ) (low : k < start.shape.nodes) (base log : List HostStep)
+module _ (start : Start) (nobody : NobodyStarts start) (shape : IsShape start.shape) (k : ℕ)
+    (low : k < start.shape.nodes) (base log : List HostStep)
     (e : HostStep) (other : plain.Host) (alike : AreAlike start [] (after start (main_at k) log) other)
     (comes : ComesCalmly start (main_at k) e.step.taken)
     (ease : IsAtEase start (after start (main_at k) (e ∷ log)).standing) (goes_on : stops_by e.step.marks ≡ false)
@@ -139,7 +140,7 @@ module _ (start : Start) (shape : IsShape start.shape) (k : ℕ) (low : k < star
 
   with_sends : (sends : List Outgoing) → (step_after start h log e).effects.sends ≡ sends
       → Each (IsFineSend start h) sends → (j : ℕ) → IsSince start h j base log → IsSince start h j base (e ∷ log)
-  with_sends sends are fine j since = since_next start h log e ease goes_on sends are fine j base since
+  with_sends sends are fine j since = since_next start nobody h log e ease goes_on sends are fine j base since
 
   took_more : (i : ℕ) → x.from.0 ≡ i
       → length (taken (machine start) i (e ∷ log)) ≡ 1 + length (taken (machine start) i log)
@@ -181,7 +182,7 @@ module _ (start : Start) (shape : IsShape start.shape) (k : ℕ) (low : k < star
             beats = omega (
               arith,
               s.beats,
-              sent_length start h log e ease goes_on (heartbeat_to (first_start (next + 1)) ∷ []) on.sent
+              sent_length start nobody h log e ease goes_on (heartbeat_to (first_start (next + 1)) ∷ []) on.sent
                   (heartbeat_fine start k next next_low) (behind start k),
               heartbeat_one start next next_low,
             );
@@ -193,7 +194,7 @@ module _ (start : Start) (shape : IsShape start.shape) (k : ℕ) (low : k < star
   module _ (more : 2 ≤ start.shape.nodes) (s : IsSteady start base k log) (is : x.body ≡ Membership Heartbeat) where
     sent_none : (most : ℕ) → HostRests start h most [] (step_after start h log e) → (j : ℕ)
         → length (sent (machine start) h j (e ∷ log)) ≡ 0 + length (sent (machine start) h j log)
-    sent_none most on j = sent_length start h log e ease goes_on [] on.sent tt j
+    sent_none most on j = sent_length start nobody h log e ease goes_on [] on.sent tt j
 
     steady_beat : Next
     steady_beat = go (cases_eq x.from.0 (in_front start k))
@@ -300,8 +301,8 @@ module _ (start : Start) (base log : List HostStep) (e : HostStep) (sends : List
   all_fine : Each (IsFineSend start 0) (sends ++ rounds)
   all_fine = each_append (IsFineSend start 0) sends rounds fine (besides_fine start e.step.taken.body)
 
-  pub shell_since : (j : ℕ) → IsSince start 0 j base log → IsSince start 0 j base (e ∷ log)
-  shell_since j since = since_next start 0 log e ease goes_on (sends ++ rounds) are all_fine j base since
+  pub shell_since : NobodyStarts start → (j : ℕ) → IsSince start 0 j base log → IsSince start 0 j base (e ∷ log)
+  shell_since nobody j since = since_next start nobody 0 log e ease goes_on (sends ++ rounds) are all_fine j base since
 
   one_each : (k : ℕ) → k < start.shape.nodes → tally (goes_to start (main_at k)) (sends ++ rounds) ≡ one_if tick
   one_each k low =
@@ -323,8 +324,8 @@ module _ (start : Start) (base log : List HostStep) (e : HostStep) (sends : List
             (sym asked) (tick_asked e.step.taken.body),
       )
 
-  pub shell_next : IsShellSteady start base log → IsShellSteady start base (e ∷ log)
-  shell_next s =
+  pub shell_next : NobodyStarts start → IsShellSteady start base log → IsShellSteady start base (e ∷ log)
+  shell_next nobody s =
       record {
         rounds = one_if tick + s.rounds;
         told = λ k low.
@@ -332,7 +333,7 @@ module _ (start : Start) (base log : List HostStep) (e : HostStep) (sends : List
               arith,
               s.told k low,
               one_each k low,
-              sent_length start 0 log e ease goes_on (sends ++ rounds) are all_fine (main_at k),
+              sent_length start nobody 0 log e ease goes_on (sends ++ rounds) are all_fine (main_at k),
             );
         asked = omega (arith, s.asked, asked_more);
       }

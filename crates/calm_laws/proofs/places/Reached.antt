@@ -14,10 +14,10 @@ use Rattle.sig_core.specs.declared.member.Member.{Member}
 use Rattle.sig_core.specs.declared.place.BlockId.TheVariants.{Qmgr}
 use Rattle.sig_core.specs.declared.place.Place.{Place}
 use Rattle.sig_core.specs.Part.{part_of}
-use Rattle.world_core.proofs.MadeFirst.{made_first, nobody_starts}
+use Rattle.world_core.proofs.MadeFirst.{made_first}
 use Rattle.world_core.proofs.HostNumbers.{beyond_host, no_member, node_host, the_member, made_at, members_length}
 use Rattle.world_core.specs.Hosts.{host_by, host_for, member_at, member_of, number_of, part_by, receiver}
-use Rattle.world_core.specs.Start.{Start, made}
+use Rattle.world_core.specs.Start.{NobodyStarts, Start, made}
 use Rattle.world_views.specs.Hosts.{known, last_of, latest, or_itself, reached}
 use Rattle.calm_laws.specs.Alike.{first}
 use Rattle.calm_laws.specs.Plain.{is_beating, is_main}
@@ -73,8 +73,9 @@ known_first me n node low some = go (cases_lt n node)
         ∙ sym none
     go (inr below) = let one = the_member n node some below in ap (or_itself me node) one ∙ sym one
 
-own_low : (start : Start) (h : ℕ) → (member_at (made start) (suc h)).node ≤ start.shape.nodes
-own_low start h = go (cases_lt (h / 3) start.shape.nodes)
+own_low : (start : Start) (none_starts : NobodyStarts start) (h : ℕ)
+    → (member_at (made start) (suc h)).node ≤ start.shape.nodes
+own_low start none_starts h = go (cases_lt (h / 3) start.shape.nodes)
   where
     go : (h / 3 < start.shape.nodes) ⊎ (start.shape.nodes ≤ h / 3)
         → (slice_index_or (made start) (h / 3) nobody).node ≤ start.shape.nodes
@@ -85,14 +86,15 @@ own_low start h = go (cases_lt (h / 3) start.shape.nodes)
         (sym (get_or_past (made start) (h / 3) nobody (omega (
           arith,
           past,
-          ap length (made_first start (nobody_starts start)) ∙ members_length start.shape.nodes,
+          ap length (made_first start none_starts) ∙ members_length start.shape.nodes,
         ))))
         (omega arith)
 
 -- so each host sends to the plain one's hosts
-pub reached_first : (start : Start) (h : ℕ) (to : Place) → reached (made start) h (first start) to ≡ host_for start to
+pub reached_first : (start : Start) (none_starts : NobodyStarts start) (h : ℕ) (to : Place)
+    → reached (made start) h (first start) to ≡ host_for start to
 unfolding reached receiver
-reached_first start (suc h) to = go (to.node == 0) refl
+reached_first start none_starts (suc h) to = go (to.node == 0) refl
   where
     go : (b : Bool) → (to.node == 0) ≡ b
         → (if b then 0 else host_by (made start) (part_of to.block) (known (made start) (suc h) (first start) to.node))
@@ -100,9 +102,9 @@ reached_first start (suc h) to = go (to.node == 0) refl
     go true e = refl
     go false e =
         ap (host_by (made start) (part_of to.block))
-        (known_first (member_at (made start) (suc h)) start.shape.nodes to.node (own_low start h)
+        (known_first (member_at (made start) (suc h)) start.shape.nodes to.node (own_low start none_starts h)
         (grind (arith, nat_tests, e)))
-reached_first start zero to = go (to.node == 0) refl
+reached_first start none_starts zero to = go (to.node == 0) refl
   where
     go : (b : Bool) → (to.node == 0) ≡ b
         → (if b then 0 else host_by (made start) (part_of to.block) (latest (made start) to.node))
@@ -111,7 +113,7 @@ reached_first start zero to = go (to.node == 0) refl
     go false e =
         let some : 1 ≤ to.node = grind (arith, nat_tests, e) in
         ap (host_by (made start) (part_of to.block))
-        (ap (λ ms. latest ms to.node) (made_first start (nobody_starts start))
+        (ap (λ ms. latest ms to.node) (made_first start none_starts)
         ∙ latest_first start.shape.nodes to.node some)
 
 -- what is for the membership of a node goes to a main part, or to nobody, who counts as one

@@ -144,9 +144,10 @@ heartbeat_restores start h missed s other x before beating alike calm rests at s
 
 pub lives_begin_at_rest : LivesBeginAtRest
 unfolding started
-lives_begin_at_rest start zero low beating = absurd (false≢true beating)
-lives_begin_at_rest start (suc h) low beating =
-    subst (λ s. IsRestingPart start (suc h) 1 s.parts) (sym (started_behind start h)) (by (part_by (h % 3)) beating)
+lives_begin_at_rest start nobody zero low beating = absurd (false≢true beating)
+lives_begin_at_rest start nobody (suc h) low beating =
+    subst (λ s. IsRestingPart start (suc h) 1 s.parts) (sym (started_behind start nobody h))
+    (by (part_by (h % 3)) beating)
   where
     by : (of : Part) → is_main of ≡ true
         → IsRestingPart start (suc h) 1 (part_started start of (member_at (made start) (suc h))).parts

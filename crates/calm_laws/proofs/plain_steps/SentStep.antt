@@ -12,7 +12,7 @@ use Rattle.sig_core.specs.declared.signal.Body.TheVariants.{Host}
 use Rattle.sig_core.specs.declared.signal.host.HostSignal.TheVariants.{Round}
 use Rattle.world_core.specs.Hosts.{host_for, first_hosts}
 use Rattle.world_core.specs.Machine.{counted}
-use Rattle.world_core.specs.Start.{Start, made}
+use Rattle.world_core.specs.Start.{NobodyStarts, Start, made}
 use Rattle.world_core.specs.Steps.{Addressed, HostStep}
 use Rattle.world_views.proofs.LogFacts.{sent_going_on}
 use Rattle.world_views.specs.declared.sender.Sender.{Sender}
@@ -54,15 +54,16 @@ abbrev pub goes_to : Start → ℕ → Outgoing → Bool
 goes_to start j one = host_for start one.to == j
 
 -- a host at ease keeps nothing back
-module _ (start : Start) (h : ℕ) (standing : Standing) (ease : IsAtEase start standing) where
-  all_routed : (i : ℕ) (sends : List Outgoing) → Each (IsFineSend start i) sends
-      → routed_all (made start) h standing sends ≡ plainly start sends
-  all_routed i [] all = refl
-  all_routed i (one ∷ more) all =
-      ap (λ b.
-      routed_if b (routed (reached (made start) h standing.view one.to) one) (routed_all (made start) h standing more))
-      (kept start h standing ease (reached (made start) h standing.view one.to) one all.0.work)
-      ∙ ap₂ (λ to rs. routed to one ∷ rs) (here start h standing ease one.to) (all_routed i more all.1)
+module _ (start : Start) (nobody : NobodyStarts start) (h : ℕ) (standing : Standing) (ease : IsAtEase start standing)
+  where
+    all_routed : (i : ℕ) (sends : List Outgoing) → Each (IsFineSend start i) sends
+        → routed_all (made start) h standing sends ≡ plainly start sends
+    all_routed i [] all = refl
+    all_routed i (one ∷ more) all =
+        ap (λ b.
+        routed_if b (routed (reached (made start) h standing.view one.to) one) (routed_all (made start) h standing more))
+        (kept start h standing ease (reached (made start) h standing.view one.to) one all.0.work)
+        ∙ ap₂ (λ to rs. routed to one ∷ rs) (here start h standing ease nobody one.to) (all_routed i more all.1)
 
 module _ (start : Start) where
   fine_addressed : (i : ℕ) (by : Sender) (count : ℕ → ℕ) (sends : List Outgoing) → Each (IsFineSend start i) sends
@@ -106,7 +107,7 @@ module _ (start : Start) where
       go false = omega arith
 
 -- A step of a host that goes on.
-module _ (start : Start) (i : ℕ) (log : List HostStep) (e : HostStep)
+module _ (start : Start) (nobody : NobodyStarts start) (i : ℕ) (log : List HostStep) (e : HostStep)
     (ease : IsAtEase start (after start i (e ∷ log)).standing) (goes_on : stops_by e.step.marks ≡ false)
     (sends : List Outgoing) (are : (step_after start i log e).effects.sends ≡ sends)
     (fine : Each (IsFineSend start i) sends) (j : ℕ) where
@@ -121,7 +122,7 @@ module _ (start : Start) (i : ℕ) (log : List HostStep) (e : HostStep)
       sent_going_on start i j log e goes_on
       ∙ ap (λ rs. put (machine start) j (all_addressed by (sent_count start i log) rs) (sent (machine start) i j log))
       (ap (routed_all (made start) i (after start i (e ∷ log)).standing) are
-      ∙ all_routed start i (after start i (e ∷ log)).standing ease i sends fine)
+      ∙ all_routed start nobody i (after start i (e ∷ log)).standing ease i sends fine)
 
   pub sent_length : length (sent (machine start) i j (e ∷ log))
       ≡ tally (goes_to start j) sends + length (sent (machine start) i j log)

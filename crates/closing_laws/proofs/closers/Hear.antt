@@ -107,7 +107,7 @@ module _ (own : EndsAreOwn) (start : Start) (all : ℕ → List HostStep) (e : H
 
       module _ (me : Member) (there : IsIn me (made start)) (at : e.host ≡ main_of start me) where
         main_runs : RunsMain start s.parts
-        main_runs = main_at start me there e.host at (old e.host)
+        main_runs = main_at start moment.cluster.nobody me there e.host at (old e.host)
 
         abbrev p : MainPart
         p = main_runs.main
@@ -151,7 +151,8 @@ module _ (own : EndsAreOwn) (start : Start) (all : ℕ → List HostStep) (e : H
             same_number : current_number start new ≡ current_number start old
             same_number =
                 let above : number_in start old (main_of start me) ≤ current_number start old =
-                current_above start old (main_of start me) (main_low start me there) in
+                current_above start old moment.cluster.nobody (main_of start me)
+                (main_low start moment.cluster.nobody me there) in
                 let rises = current_rises start all e es moment in
                 let here : number_in start old (main_of start me) ≡ current_number start new = number_old in
                 omega (arith, above, rises, here)
@@ -189,7 +190,7 @@ module _ (own : EndsAreOwn) (start : Start) (all : ℕ → List HostStep) (e : H
 
             master_seen : p.master.view ≡ current start new
             master_seen =
-                ap (λ (t : MasterState). t.view) (sym master_is) ∙ master_view start me there old
+                ap (λ (t : MasterState). t.view) (sym master_is) ∙ master_view start moment.cluster.nobody me there old
                 ∙ ap (λ h. view_after start h (old h)) (sym at) ∙ view_old
 
             each_ended : (voices : List Voice) → HaveAll 1 voices p.master.view
@@ -262,7 +263,7 @@ module _ (own : EndsAreOwn) (start : Start) (all : ℕ → List HostStep) (e : H
             absurd (not_entered between same closes)
 
         of_main_host : IsClosing start e new epoch
-        of_main_host = by (main_goes start e.host (old e.host) e p main_runs.is)
+        of_main_host = by (main_goes start moment.cluster.nobody e.host (old e.host) e p main_runs.is)
           where
             inside : IsIn (Closed epoch) (step_after start e.host (old e.host) e).effects.marks
             inside = subst (IsIn (Closed epoch)) (marks_are start all e es moment stand) marked
@@ -283,7 +284,7 @@ module _ (own : EndsAreOwn) (start : Start) (all : ℕ → List HostStep) (e : H
                     (master_row between.master x).effects.marks (master_marks between.master x) row)
 
       closes_rightly : IsClosing start e new epoch
-      closes_rightly = by (whose start e.host (host_low start all e es moment))
+      closes_rightly = by (whose start moment.cluster.nobody e.host (host_low start all e es moment))
         where
           no_master : (parts : Parts) → s.parts ≡ parts → HasNoMaster parts → ⊥
           no_master parts is none = not_other (subst HasNoMaster (sym is) none)
@@ -294,10 +295,10 @@ module _ (own : EndsAreOwn) (start : Start) (all : ℕ → List HostStep) (e : H
               absurd (no_master (part.Shell runs.shell) (ap (λ h. (after start h (old h)).parts) at ∙ runs.is) tt)
           by (of_main me there at) = of_main_host me there at
           by (of_tc me there at) =
-              let runs = tc_at start (tc_of start me) me there refl (old (tc_of start me)) in
+              let runs = tc_at start (tc_of start me) moment.cluster.nobody me there refl (old (tc_of start me)) in
               absurd (no_master (part.Tc runs.part) (ap (λ h. (after start h (old h)).parts) at ∙ runs.is) tt)
           by (of_rows me there at) =
-              let runs = runs_rows start me there (old (ldm_of start me)) in
+              let runs = runs_rows start moment.cluster.nobody me there (old (ldm_of start me)) in
               absurd (no_master (part.Ldm runs.rows) (ap (λ h. (after start h (old h)).parts) at ∙ runs.is) tt)
 
 pub closers_have_heard_all : ClosersHaveHeardAll

@@ -19,7 +19,7 @@ use Rattle.gcp_master.specs.Resume.{in_view}
 use Rattle.gcp_master.specs.State.{MasterState}
 use Rattle.gcp_master.proofs.Outcomes.{voice_of}
 use Rattle.node_views.specs.declared.host_body.HostBody as node
-use Rattle.world_core.specs.Start.{Start, made}
+use Rattle.world_core.specs.Start.{NobodyStarts, Start, made}
 use Rattle.world_core.specs.Steps.{HostStep}
 use Rattle.view_laws.proofs.follow.Hosts.{main_started}
 use Rattle.moment_laws.specs.Moments.{IsMoment, logs_of}
@@ -154,8 +154,8 @@ module _ (start : Start) (all : ℕ → List HostStep) (e : HostStep) (es : List
       masters = masters_next;
     }
 
-heard_first : (start : Start) → AllHeard start (logs_of start [])
-heard_first start = record { told = λ i j. tt; masters = first }
+heard_first : (start : Start) → NobodyStarts start → AllHeard start (logs_of start [])
+heard_first start nobody = record { told = λ i j. tt; masters = first }
   where
     none : (voices : List Voice) (phase : Phase) → voices ≡ [] → AreEnded start (logs_of start []) voices phase
     none voices phase is = none_heard start (logs_of start []) voices phase is
@@ -167,12 +167,12 @@ heard_first start = record { told = λ i j. tt; masters = first }
         none (master_of start (logs_of start []) member).voices (master_of start (logs_of start []) member).phase
         (ap (λ (s : node.HostBody).
         (master_in (fresh_master member (first_layout start.shape).view 0) s.parts).voices)
-        (main_started start member there))
+        (main_started start nobody member there))
 
 -- so it is at each moment
 pub all_heard : (start : Start) (all : ℕ → List HostStep) (es : List HostStep) → start.start_epoch < start.epoch
     → IsMoment start all es → AllHeard start (logs_of start es)
-all_heard start all [] some moment = heard_first start
+all_heard start all [] some moment = heard_first start moment.cluster.nobody
 all_heard start all (e ∷ es) some moment =
     let less = moment_less start all e es moment in
     heard_next start all e es moment (epochs_stand start all es some less) (all_heard start all es some less)

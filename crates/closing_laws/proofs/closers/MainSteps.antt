@@ -35,7 +35,7 @@ use Rattle.node_views.specs.Row.{is_excluded, kill_row, killed_after, passed_if,
 use Rattle.node_views.specs.Row.{with_parts}
 use Rattle.node_views.specs.WellFormed.{is_first, is_well_formed}
 use Rattle.qmgr_block.specs.Qmgr.{qmgr_installed, qmgr_row}
-use Rattle.world_core.specs.Start.{Start}
+use Rattle.world_core.specs.Start.{NobodyStarts, Start}
 use Rattle.world_core.specs.Steps.{HostStep}
 use Rattle.world_views.specs.Machine.{after, own_stop, step_after, step_by, step_if}
 use Rattle.view_laws.proofs.eras.Shapes.{shape_stays}
@@ -233,13 +233,14 @@ module _ (x : Signal) where
       stopped None = by (is_well_formed standing.shape x) refl
 
 -- so it is along a log
-module _ (start : Start) (h : ℕ) (log : List HostStep) (e : HostStep) (p : MainPart)
+module _ (start : Start) (nobody : NobodyStarts start) (h : ℕ) (log : List HostStep) (e : HostStep) (p : MainPart)
     (runs : (after start h log).parts ≡ part.Main p)
   where
     pub main_goes : Goes start.shape p (view_after start h log) e.step.taken (step_after start h log e)
     main_goes =
         let standing = (after start h log).standing in
-        subst (λ shape. Goes shape p standing.view e.step.taken (step_after start h log e)) (shape_stays start h log)
+        subst (λ shape. Goes shape p standing.view e.step.taken (step_after start h log e))
+        (shape_stays start nobody h log)
         (subst
         (λ parts. Goes standing.shape p standing.view e.step.taken
         (step_by h (record { standing = standing; parts = parts }) e.step.taken))

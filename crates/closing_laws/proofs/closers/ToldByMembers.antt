@@ -137,7 +137,7 @@ module _ (start : Start) (all : ℕ → List HostStep) (e : HostStep) (es : List
             own k at =
                 subst (λ k. EpochsMove start.shape (epochs_of start old member) x (view_after start k (e ∷ old k))
                 (dih_in fresh_epochs (after start h (e ∷ old h)).parts)) (sym at)
-                (host_epochs start fresh_epochs h (part_some start Tc member) (old h) e)
+                (host_epochs start moment.cluster.nobody fresh_epochs h (part_some start Tc member) (old h) e)
 
     pub keeps_ended : (epoch : ℕ) (member : Member) → HasEnded epoch (epochs_of start old member)
         → HasEnded epoch (epochs_of start new member)
@@ -167,12 +167,13 @@ module _ (start : Start) (all : ℕ → List HostStep) (e : HostStep) (es : List
     -- what the host of a member's epochs sends
     module _ (me : Member) (there : IsIn me (made start)) (at : e.host ≡ tc_of start me) where
       runs : RunsTc start e.host (old e.host)
-      runs = tc_at start e.host me there at (old e.host)
+      runs = tc_at start e.host moment.cluster.nobody me there at (old e.host)
 
       did : TcDoes start.shape runs.part (view_after start e.host (old e.host)) x
           (after start e.host (e ∷ old e.host)).parts stood sends
       did =
-          tc_after start e.host (old e.host) e (subst (λ h. 1 ≤ h) (sym at) (part_some start Tc me)) runs.part runs.is
+          tc_after start moment.cluster.nobody e.host (old e.host) e
+          (subst (λ h. 1 ≤ h) (sym at) (part_some start Tc me)) runs.part runs.is
 
       epochs_new : epochs_of start new me ≡ did.own.dih
       epochs_new =
@@ -247,7 +248,7 @@ module _ (start : Start) (all : ℕ → List HostStep) (e : HostStep) (es : List
       main_ends me there at = by step.did
         where
           main_runs : RunsMain start (after start e.host (old e.host)).parts
-          main_runs = main_at start me there e.host at (old e.host)
+          main_runs = main_at start moment.cluster.nobody me there e.host at (old e.host)
 
           step : IsStepOfMain (after start e.host (old e.host)) x main_runs.main stood
               (after start e.host (e ∷ old e.host)).parts sends
@@ -283,12 +284,12 @@ module _ (start : Start) (all : ℕ → List HostStep) (e : HostStep) (es : List
       rows_send_end me there at =
           let runs : RunsRows start (after start e.host (old e.host)).parts =
           subst (λ h. RunsRows start (after start h (old h)).parts) (sym at)
-          (runs_rows start me there (old (ldm_of start me))) in
+          (runs_rows start moment.cluster.nobody me there (old (ldm_of start me))) in
           each_map IsOfRows (λ (sent : Outgoing). TellsEnd now sent.body) sends (λ sent is. rows_end now sent.body is)
           (rows_send e.host (after start e.host (old e.host)) x runs.rows runs.is)
 
     sent_ends : AllEnd (epochs_of start new (member_at (made start) e.host)) sends
-    sent_ends = by (whose start e.host (host_low start all e es moment))
+    sent_ends = by (whose start moment.cluster.nobody e.host (host_low start all e es moment))
       where
         now : DihState
         now = epochs_of start new (member_at (made start) e.host)
@@ -298,7 +299,8 @@ module _ (start : Start) (all : ℕ → List HostStep) (e : HostStep) (es : List
         by (of_main me there at) = main_ends now me there at
         by (of_tc me there at) =
             subst (λ (m : Member). AllEnd (epochs_of start new m) sends)
-            (sym (ap (member_at (made start)) at ∙ tc_member start me there)) (tc_ends me there at)
+            (sym (ap (member_at (made start)) at ∙ tc_member start moment.cluster.nobody me there))
+            (tc_ends me there at)
         by (of_rows me there at) = rows_send_end now me there at
 
     sent_end_true : (y : Addressed) → IsSentBy (made start) e.host stood sends y → IsEndTrue start new y

@@ -97,7 +97,7 @@ module _ (start : Start) (all : ℕ → List HostStep) (e : HostStep) (es : List
           × (is_unborn (coordinator_after start (coordinator_member tx) log) tx ≡ false)
 
       out_next : IsIn me (made start) → (log : List HostStep) → Out log → Out (e ∷ log)
-      out_next there log was = by (coordinator_comes start me there log e tx)
+      out_next there log was = by (coordinator_comes start me there moment.cluster.nobody log e tx)
         where
           c : CoordinatorState
           c = coordinator_after start me log
@@ -232,7 +232,7 @@ module _ (start : Start) (all : ℕ → List HostStep) (e : HostStep) (es : List
         (λ i j. each_map _ _ _ (λ (y : Addressed) out. says_more y.signal.body out) (before i j))
         (λ on.
         sent_so start e.host (old e.host) e (λ (v : View) (to : Place) (body : Body). SaysOut start new body)
-        (by (tc_host_is start e.host (host_low start all e es moment))))
+        (by (tc_host_is start moment.cluster.nobody e.host (host_low start all e es moment))))
       where
         by : TcHost start e.host
             → Each (λ (o : Outgoing). SaysOut start new o.body) (step_after start e.host (old e.host) e).effects.sends

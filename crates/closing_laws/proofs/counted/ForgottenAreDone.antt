@@ -174,7 +174,7 @@ module _ (start : Start) (all : ℕ → List HostStep) (e : HostStep) (es : List
 
         -- it had been forgotten before
         forth_before : entry_of (c log) tx ≡ None → is_forth start old tx ≡ true
-        forth_before none = by (coordinator_comes start me there log e tx)
+        forth_before none = by (coordinator_comes start me there moment.cluster.nobody log e tx)
           where
             by : {sound : Type 0}
                 → Comes me (c log) x sound tx (c (e ∷ log)) (step_after start (tc_of start me) log e).effects.sends
@@ -204,7 +204,7 @@ module _ (start : Start) (all : ℕ → List HostStep) (e : HostStep) (es : List
 
           -- it was in its commit, or is given its epoch
           goes_forth : (is_in_commit t.phase ≡ true) ⊎ (gives_epoch x.body ≡ true)
-          goes_forth = by (coordinator_comes start me there log e tx)
+          goes_forth = by (coordinator_comes start me there moment.cluster.nobody log e tx)
             where
               sends : List Outgoing
               sends = (step_after start (tc_of start me) log e).effects.sends

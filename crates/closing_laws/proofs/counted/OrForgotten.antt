@@ -142,10 +142,10 @@ module _ (start : Start) (all : ℕ → List HostStep) (e : HostStep) (es : List
     Sound = is_well_formed start.shape e.step.taken ≡ true
 
     run : IsRun start me there log
-    run = runs_tc start me there log
+    run = runs_tc start me there moment.cluster.nobody log
 
     comes : Comes tx x run.own (step_after start h log e).state (step_after start h log e).effects.marks Sound
-    comes = by (tc_goes start h log e run.own run.runs)
+    comes = by (tc_goes start moment.cluster.nobody h log e run.own run.runs)
       where
         by : Goes start.shape run.own x (step_after start h log e)
             → Comes tx x run.own (step_after start h log e).state (step_after start h log e).effects.marks Sound

@@ -16,7 +16,7 @@ use Rattle.gcp_master.specs.Master.{first_phase, fresh_master}
 use Rattle.gcp_master.specs.Resume.{is_president}
 use Rattle.node_views.specs.declared.host_body.HostBody as node
 use Rattle.world_core.specs.Hosts.{hosts}
-use Rattle.world_core.specs.Start.{Start, made}
+use Rattle.world_core.specs.Start.{NobodyStarts, Start, made}
 use Rattle.world_core.specs.Steps.{Addressed, HostStep}
 use Rattle.world_views.specs.Machine.{after, machine, signals_of, step_after}
 use Rattle.view_laws.specs.Order.{by_views, is_sound}
@@ -84,7 +84,7 @@ module _ (start : Start) (all : ℕ → List HostStep) (e : HostStep) (es : List
             (phase_grows start all e es moment (master_of start old member).phase (noted.masters member there))
 
     sent_now : AllSaid start new sends
-    sent_now = by (whose start e.host (host_low start all e es moment))
+    sent_now = by (whose start moment.cluster.nobody e.host (host_low start all e es moment))
       where
         by : Whose start e.host → AllSaid start new sends
         by (of_shell at) = shell_said start all e es moment stand reached noted at
@@ -133,8 +133,8 @@ module _ (start : Start) (all : ℕ → List HostStep) (e : HostStep) (es : List
       durables = durables_next;
     }
 
-noted_first : (start : Start) → start.start_epoch < start.epoch → AllNoted start (logs_of start [])
-noted_first start some = record {
+noted_first : (start : Start) → NobodyStarts start → start.start_epoch < start.epoch → AllNoted start (logs_of start [])
+noted_first start nobody some = record {
   said = λ i j. tt;
   epochs = epochs;
   masters = masters;
@@ -145,7 +145,7 @@ noted_first start some = record {
         → HasNoted start (logs_of start []) (epochs_of start (logs_of start []) member)
     epochs member there =
         subst (λ (s : node.HostBody). HasNoted start (logs_of start []) (dih_in (fresh_dih 0 0 0 0) s.parts))
-        (sym (tc_started start member there)) (record {
+        (sym (tc_started start nobody member there)) (record {
           noted = inl (omega arith);
           reached = record { gives = omega (arith, some); ordered = omega (arith, some) };
           least = omega arith;
@@ -160,13 +160,13 @@ noted_first start some = record {
     masters member there =
         subst (λ (s : node.HostBody). IsGoodPhase start (logs_of start [])
         (master_in (fresh_master member (first_layout start.shape).view 0) s.parts).phase)
-        (sym (main_started start member there))
+        (sym (main_started start nobody member there))
         (first start.epoch (is_president member (first_layout start.shape).view))
 
 -- so it is at each moment
 pub all_noted : (start : Start) (all : ℕ → List HostStep) (es : List HostStep) → start.start_epoch < start.epoch
     → IsMoment start all es → AllNoted start (logs_of start es)
-all_noted start all [] some moment = noted_first start some
+all_noted start all [] some moment = noted_first start moment.cluster.nobody some
 all_noted start all (e ∷ es) some moment =
     let less = moment_less start all e es moment in
     noted_next start all e es moment (epochs_stand start all es some less) (all_reached start all es some less)

@@ -66,7 +66,7 @@ module _ (start : Start) (all : ℕ → List HostStep) (e : HostStep) (es : List
 reached_first : (start : Start) (all : ℕ → List HostStep) → IsMoment start all [] → AllReached start (logs_of start [])
 reached_first start all moment = record {
   agree = orders_first start all moment;
-  masters = masters_first start;
+  masters = masters_first start moment.cluster.nobody;
   closed = λ h epoch low marked. absurd marked;
 }
 

@@ -124,7 +124,7 @@ module _ (start : Start) (all : ℕ → List HostStep) (e : HostStep) (es : List
     ldm_said me there at =
         let runs : RunsRows start (after start e.host (old e.host)).parts =
         subst (λ h. RunsRows start (after start h (old h)).parts) (sym at)
-        (runs_rows start me there (old (ldm_of start me))) in
+        (runs_rows start moment.cluster.nobody me there (old (ldm_of start me))) in
         each_map IsOfRows (λ (sent : Outgoing). IsSaidTruly start new sent.body) sends
         (λ sent is. rows_said start new sent.body is)
         (rows_send e.host (after start e.host (old e.host)) x runs.rows runs.is)
@@ -132,12 +132,13 @@ module _ (start : Start) (all : ℕ → List HostStep) (e : HostStep) (es : List
     -- epochs
     module _ (me : Member) (there : IsIn me (made start)) (at : e.host ≡ tc_of start me) where
       tc_runs : RunsTc start e.host (old e.host)
-      tc_runs = tc_at start e.host me there at (old e.host)
+      tc_runs = tc_at start e.host moment.cluster.nobody me there at (old e.host)
 
       tc_did : TcDoes start.shape tc_runs.part (view_after start e.host (old e.host)) x
           (after start e.host (e ∷ old e.host)).parts stood sends
       tc_did =
-          tc_after start e.host (old e.host) e (subst (λ h. 1 ≤ h) (sym at) (part_some start Tc me)) tc_runs.part
+          tc_after start moment.cluster.nobody e.host (old e.host) e
+          (subst (λ h. 1 ≤ h) (sym at) (part_some start Tc me)) tc_runs.part
           tc_runs.is
 
       abbrev epochs_in : Parts → DihState
@@ -173,7 +174,7 @@ module _ (start : Start) (all : ℕ → List HostStep) (e : HostStep) (es : List
       tc_reached entering taken epoch was = by entering
         where
           member_is : member_at (made start) e.host ≡ me
-          member_is = ap (member_at (made start)) at ∙ tc_member start me there
+          member_is = ap (member_at (made start)) at ∙ tc_member start moment.cluster.nobody me there
 
           full : IsIn me (current start old).full
           full =
@@ -267,7 +268,7 @@ module _ (start : Start) (all : ℕ → List HostStep) (e : HostStep) (es : List
       step = step_after start e.host (old e.host) e
 
       main_runs : RunsMain start (after start e.host (old e.host)).parts
-      main_runs = main_at start me there e.host at (old e.host)
+      main_runs = main_at start moment.cluster.nobody me there e.host at (old e.host)
 
       main_old : IsGoodPhase start old main_runs.main.master.phase
       main_old =
@@ -346,7 +347,7 @@ module _ (start : Start) (all : ℕ → List HostStep) (e : HostStep) (es : List
           learned_truly start old t (told_truly start old t (subst (IsSaidTruly start old) is (said_now sound)))))
 
       pub main_good : IsGoodPhase start new (master_of start new me).phase
-      main_good = by (main_goes start e.host (old e.host) e main_runs.main main_runs.is)
+      main_good = by (main_goes start moment.cluster.nobody e.host (old e.host) e main_runs.main main_runs.is)
         where
           by : Goes start.shape main_runs.main (view_after start e.host (old e.host)) x step
               → IsGoodPhase start new (master_of start new me).phase

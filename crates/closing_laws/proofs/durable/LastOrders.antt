@@ -182,4 +182,4 @@ orders_first start all moment one other one_in other_in same = before one one_in
         → (epochs_of start (logs_of start []) member).prepared ≡ start.start_epoch
     before member there =
         ap (λ (s : node.HostBody). (dih_in (fresh_dih 0 0 0 0) s.parts).prepared)
-        (tc_started start member (current_made start all [] moment member there))
+        (tc_started start moment.cluster.nobody member (current_made start all [] moment member there))

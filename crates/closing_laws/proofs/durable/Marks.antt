@@ -76,7 +76,7 @@ module _ (start : Start) (all : ℕ → List HostStep) (e : HostStep) (es : List
 
       module _ (me : Member) (there : IsIn me (made start)) (at : e.host ≡ main_of start me) where
         main_runs : RunsMain start s.parts
-        main_runs = main_at start me there e.host at (old e.host)
+        main_runs = main_at start moment.cluster.nobody me there e.host at (old e.host)
 
         abbrev p : MainPart
         p = main_runs.main
@@ -101,7 +101,7 @@ module _ (start : Start) (all : ℕ → List HostStep) (e : HostStep) (es : List
             (ap (λ (q : MainPart). q.master.phase) same ∙ (installed p.master x.view).phase) mark closing is)
 
         of_main_host : IsIn mark step.effects.marks → IsMarkedBy mark
-        of_main_host marked = by (main_goes start e.host (old e.host) e p main_runs.is)
+        of_main_host marked = by (main_goes start moment.cluster.nobody e.host (old e.host) e p main_runs.is)
           where
             by : Goes start.shape p (view_after start e.host (old e.host)) x step → IsMarkedBy mark
             by (leaves now parts left none) = absurd (not_among mark closing step.effects.marks none marked)
@@ -117,7 +117,7 @@ module _ (start : Start) (all : ℕ → List HostStep) (e : HostStep) (es : List
                     (master_row between.master x).effects.marks (master_marks between.master x) row)
 
       pub closing_marked : IsIn mark e.step.marks → IsMarkedBy mark
-      closing_marked marked = by (whose start e.host (host_low start all e es moment))
+      closing_marked marked = by (whose start moment.cluster.nobody e.host (host_low start all e es moment))
         where
           inside : IsIn mark step.effects.marks
           inside = subst (IsIn mark) (marks_are start all e es moment stand) marked
@@ -132,10 +132,10 @@ module _ (start : Start) (all : ℕ → List HostStep) (e : HostStep) (es : List
               absurd (no_master parts (parts_at 0 parts at runs.is) tt inside)
           by (of_main me there at) = of_main_host me there at inside
           by (of_tc me there at) =
-              let runs = runs_epochs start old me there in
+              let runs = runs_epochs start moment.cluster.nobody old me there in
               let parts = part.Tc runs.part in
               absurd (no_master parts (parts_at (tc_of start me) parts at runs.is) tt inside)
           by (of_rows me there at) =
-              let runs = runs_rows start me there (old (ldm_of start me)) in
+              let runs = runs_rows start moment.cluster.nobody me there (old (ldm_of start me)) in
               let parts = part.Ldm runs.rows in
               absurd (no_master parts (parts_at (ldm_of start me) parts at runs.is) tt inside)

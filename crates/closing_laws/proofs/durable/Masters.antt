@@ -21,7 +21,7 @@ use Rattle.gcp_master.specs.Resume.{in_view, is_president}
 use Rattle.gcp_master.specs.State.{MasterState}
 use Rattle.gcp_master.proofs.Outcomes.{voice_of}
 use Rattle.node_views.specs.declared.host_body.HostBody as node
-use Rattle.world_core.specs.Start.{Start, made}
+use Rattle.world_core.specs.Start.{NobodyStarts, Start, made}
 use Rattle.world_core.specs.Steps.{Addressed, HostStep}
 use Rattle.view_laws.specs.Runs.{view_after}
 use Rattle.view_laws.specs.Votes.{main_of}
@@ -237,7 +237,8 @@ module _ (start : Start) (all : ℕ → List HostStep) (e : HostStep) (es : List
           number_same : (view_after start h (new h)).number ≡ (view_after start h (old h)).number
           number_same =
               ap (λ (v : View). v.number)
-              (sym (master_view start p there new) ∙ view_same ∙ master_view start p there old)
+              (sym (master_view start moment.cluster.nobody p there new) ∙ view_same
+              ∙ master_view start moment.cluster.nobody p there old)
 
           one_of : IsStanding start old p → current start new ≡ current start old
               → IsPresident start new p ⊎ (IsPresident start new p → ⊥)
@@ -268,13 +269,13 @@ module _ (start : Start) (all : ℕ → List HostStep) (e : HostStep) (es : List
               (row_reached taken between (inl idle) (subst (IsRunReached start old) (sym idle) tt))
 
 -- at the beginning no run is committed
-pub masters_first : (start : Start) (member : Member) → IsIn member (made start)
+pub masters_first : (start : Start) (nobody : NobodyStarts start) (member : Member) → IsIn member (made start)
     → IsRunReached start (logs_of start []) (master_of start (logs_of start []) member).phase
-masters_first start member there =
+masters_first start nobody member there =
     subst
     (λ (s : node.HostBody). IsRunReached start (logs_of start [])
     (master_in (fresh_master member (first_layout start.shape).view 0) s.parts).phase)
-    (sym (main_started start member there))
+    (sym (main_started start nobody member there))
     (first start.epoch (is_president member (first_layout start.shape).view))
   where
     first : (epoch : ℕ) (b : Bool) → IsRunReached start (logs_of start []) (first_phase epoch b)

@@ -18,7 +18,7 @@ use Rattle.sig_core.specs.declared.op.Answer.{Answer}
 use Rattle.sig_core.specs.declared.op.Op.{Op}
 use Rattle.sig_core.specs.declared.view.View.{View}
 use Rattle.sig_core.specs.Same.{same_tx}
-use Rattle.world_core.proofs.MadeFirst.{made_begins, nobody_starts}
+use Rattle.world_core.proofs.MadeFirst.{made_begins}
 use Rattle.world_core.specs.Entries.{entries}
 use Rattle.world_core.specs.History.{history, is_done, is_kept, writes}
 use Rattle.world_core.specs.Hosts.{hosts}
@@ -211,16 +211,16 @@ module _ (start : Start) (large : ℕ → List HostStep) (more : AreOfCluster st
           not_first same =
               true≢false (sym (ap (λ (v : View). list_any (was_begun_by z.tx) v.full) same
               ∙ any_in (was_begun_by z.tx) (coordinator_member z.tx) (members start.shape.nodes)
-              (made_begins start (nobody_starts start) (coordinator_member z.tx) coordinator_made)
+              (made_begins start less.nobody (coordinator_member z.tx) coordinator_made)
               (λ i. eq-eqb z.tx.tc z.tx.tc refl i && eq-eqb z.tx.start z.tx.start refl i)) ∙ gone)
 
           first_is : current start (logs_of start []) ≡ (first_layout start.shape).view
-          first_is = by (current start (logs_of start [])) (current_is start (logs_of start []))
+          first_is = by (current start (logs_of start [])) (current_is start (logs_of start []) less.nobody)
             where
               by : (view : View) → IsSome start (logs_of start []) (hosts start) view
                   → view ≡ (first_layout start.shape).view
               by view (inl first) = first
-              by view (inr one) = one.is ∙ started_view start one.host
+              by view (inr one) = one.is ∙ started_view start less.nobody one.host
 
           above : (current start (logs_of start [])).number < (current start (logs_of start (e ∷ older))).number
           above =
@@ -232,12 +232,12 @@ module _ (start : Start) (large : ℕ → List HostStep) (more : AreOfCluster st
                   → (current start (logs_of start [])).number < (current start (logs_of start (e ∷ older))).number
               by (inl up) = up
               by (inr no_more) =
-                  let first = first_below start (logs_of start es) in
+                  let first = first_below start (logs_of start es) less.nobody in
                   let number = ap (λ (v : View). v.number) first_is in
                   absurd (not_first
                   (one_view have_orderly start large more (current start (logs_of start es))
                   (current start (logs_of start [])) (moment_installed start large es at)
-                  (current_installed start (logs_of start []) more.shape large (λ h. past_nil (large h)))
+                  (current_installed start (logs_of start []) less.nobody more.shape large (λ h. past_nil (large h)))
                   (omega (arith, first, number, no_more))
                   ∙ first_is))
 

@@ -39,7 +39,7 @@ use Rattle.node_views.specs.declared.host_body.HostBody as node
 use Rattle.node_views.specs.declared.parts.Parts.{Parts}
 use Rattle.node_views.specs.declared.tc_part.TcPart.{TcPart}
 use Rattle.node_views.specs.Parts.{tc_row}
-use Rattle.world_core.specs.Start.{Start, made}
+use Rattle.world_core.specs.Start.{NobodyStarts, Start, made}
 use Rattle.world_core.specs.Steps.{HostStep}
 use Rattle.world_views.specs.Machine.{after, machine, step_after}
 use Rattle.view_laws.specs.Order.{sound_machine}
@@ -190,15 +190,16 @@ module _ (start : Start) (all : ℕ → List HostStep) (me : Member) (there : Is
   abbrev AreDecided : List HostStep → Type 0
   AreDecided log = Each (IsDecidedIn log) (dih_in fresh (after start h log).parts).counted
 
-  step_counts : (log : List HostStep) (e : HostStep) → e.step.marks ≡ (step_after start h log e).effects.marks
+  step_counts : NobodyStarts start → (log : List HostStep) (e : HostStep)
+      → e.step.marks ≡ (step_after start h log e).effects.marks
       → AreDecided log → AreDecided (e ∷ log)
-  step_counts log e marks_are decided =
+  step_counts nobody log e marks_are decided =
       subst (λ (parts : Parts). Each (IsDecidedIn (e ∷ log)) (dih_in fresh parts).counted)
       (sym (ap (λ (s : node.HostBody). s.parts) (told_some h (part_some start Tc me) (step_after start h log e))))
-      (by (tc_goes start h log e run.own run.runs))
+      (by (tc_goes start nobody h log e run.own run.runs))
     where
       run : IsRun start me there log
-      run = runs_tc start me there log
+      run = runs_tc start me there nobody log
 
       old : Each (IsDecidedIn (e ∷ log)) run.own.dih.counted
       old =
@@ -223,14 +224,14 @@ module _ (start : Start) (all : ℕ → List HostStep) (me : Member) (there : Is
       (epochs_of start (logs_of start es) me).counted
   counted_are_decided [] moment =
       subst (λ (s : node.HostBody). Each (IsDecidedIn []) (dih_in fresh s.parts).counted)
-      (sym (tc_started start me there)) tt
+      (sym (tc_started start moment.cluster.nobody me there)) tt
   counted_are_decided (e ∷ es) moment =
       let log = logs_of start es h in
       let decided = counted_are_decided es (moment_less start all e es moment) in
       event_cases (machine start) e es h AreDecided
       (λ at.
       let happens : Happens (sound_machine start) es e = moment.run.1 in
-      step_counts log e
+      step_counts moment.cluster.nobody log e
       (subst (λ k. e.step.marks ≡ (step_after start k (logs_of start es k) e).effects.marks) at
       happens.step.fits.marks) decided)
       (λ other. decided)

@@ -96,7 +96,7 @@ module _ (start : Start) (all : ℕ → List HostStep) (begins : start.start_epo
     old = logs_of start es
 
     runs : RunsTc start (tc_of start me) (logs_of start es (tc_of start me))
-    runs = runs_epochs start old me there
+    runs = runs_epochs start moment.cluster.nobody old me there
 
     given : Each (IsGivenBy (epochs_of start (logs_of start es) me)) e.step.marks
     given =

@@ -40,7 +40,7 @@ module _ (start : Start) (all : ℕ → List HostStep) (e : HostStep) (es : List
         (is : is_known start (logs_of start (e ∷ es)) tx ≡ true) where
       word : TakesWord start e tx
       word =
-          takes_word start e (old 0) tx
+          takes_word start moment.cluster.nobody e (old 0) tx
           (known_cases start e es tx (λ at here. here) (λ was. absurd (true≢false (sym was ∙ off))) is)
 
       -- what is told of all that was sent is told of it

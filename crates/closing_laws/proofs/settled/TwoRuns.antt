@@ -14,7 +14,7 @@ use Rattle.sig_core.specs.declared.view.View.{View}
 use Rattle.node_views.specs.Blocks.{parts_entered, settled_at}
 use Rattle.node_views.specs.declared.parts.Parts.{Parts}
 use Rattle.world_core.specs.Hosts.{hosts}
-use Rattle.world_core.specs.Start.{Start}
+use Rattle.world_core.specs.Start.{NobodyStarts, Start}
 use Rattle.world_core.specs.Steps.{HostStep}
 use Rattle.world_views.specs.Machine.{after, step_after}
 use Rattle.view_laws.proofs.eras.Rises.{entered_follows, host_follows, settled_above, view_rises}
@@ -35,7 +35,7 @@ use Rattle.request_laws.proofs.tokens.HostsApart.{ldm_low}
 use Rattle.closing_laws.proofs.settled.Cuts.{log_past}
 
 -- A host that comes to stand in a greater view by a signal stands in no lesser one than the signal's.
-module _ (start : Start) (h : ℕ) (log : List HostStep) (e : HostStep) where
+module _ (start : Start) (nobody : NobodyStarts start) (h : ℕ) (log : List HostStep) (e : HostStep) where
   abbrev x : Signal
   x = e.step.taken
 
@@ -87,7 +87,7 @@ module _ (start : Start) (h : ℕ) (log : List HostStep) (e : HostStep) where
           → x.view.number < v.number
       behind v is =
           settled_above layout (parts_entered (after start h log).parts x.view).state x.view x v
-          (entered_follows layout (after start h log).parts view x.view (host_follows start h log)) is
+          (entered_follows layout (after start h log).parts view x.view (host_follows start nobody h log)) is
 
       entering : (between : Parts) (stood : View) (front : List Outgoing)
           → Enters (after start h log).parts view x between stood front
@@ -104,20 +104,20 @@ module _ (start : Start) (h : ℕ) (log : List HostStep) (e : HostStep) where
       let same : (view_after start h (e ∷ log)).number ≡ step.state.standing.view.number =
       ap (λ (v : View). v.number) (told_view h step) in
       let up : view.number < step.state.standing.view.number = omega (arith, above, same) in
-      let low = low_by step.state.parts step.state.standing.view step.effects.sends (step_do start h log e) up in
+      let low = low_by step.state.parts step.state.standing.view step.effects.sends (step_do start nobody h log e) up in
       omega (arith, low, same)
 
 -- the view in which a host stands has no lesser number behind more of its log
-pub views_rise : (start : Start) (h : ℕ) (log whole : List HostStep) → IsPast log whole
+pub views_rise : (start : Start) (nobody : NobodyStarts start) (h : ℕ) (log whole : List HostStep) → IsPast log whole
     → (view_after start h log).number ≤ (view_after start h whole).number
-views_rise start h log whole past =
+views_rise start nobody h log whole past =
     subst (λ w. (view_after start h log).number ≤ (view_after start h w).number) (sym past.is) (go past.newer)
   where
     go : (newer : List HostStep) → (view_after start h log).number ≤ (view_after start h (newer ++ log)).number
     go [] = omega arith
     go (e ∷ newer) =
         let less = go newer in
-        let up = view_rises start h (newer ++ log) e in
+        let up = view_rises start nobody h (newer ++ log) e in
         omega (arith, less, up)
 
 -- The event at which a view of this number or a greater one comes to be the current one.
@@ -218,8 +218,9 @@ module _ (start : Start) (all : ℕ → List HostStep) (es end : List HostStep) 
 
     entered_low : r.step.taken.view.number ≤ (view_after start r.host (r ∷ own)).number
     entered_low =
-        entrant_low start r.host own r
-        (let low = current_above start (logs_of start older) r.host (turns.host_low start all r older entry) in
+        entrant_low start at.cluster.nobody r.host own r
+        (let low = current_above start (logs_of start older) at.cluster.nobody r.host
+        (turns.host_low start all r older entry) in
         let below = come.below in
         let is = own_number in
         omega (arith, low, below, is))
@@ -285,8 +286,8 @@ module _ (start : Start) (all : ℕ → List HostStep) (es end : List HostStep) 
 
         never : IsPast (logs_of start es h) (logs_of start also.older h) → ⊥
         never past =
-            let rises = views_rise start h (logs_of start es h) (logs_of start also.older h) past in
-            let up = current_above start (logs_of start also.older) h low in
+            let rises = views_rise start at.cluster.nobody h (logs_of start es h) (logs_of start also.older h) past in
+            let up = current_above start (logs_of start also.older) at.cluster.nobody h low in
             let below = also.below in
             omega (arith, rises, up, below, stands)
 
@@ -341,6 +342,7 @@ module _ (start : Start) (all : ℕ → List HostStep) (es end : List HostStep) 
           (current start (logs_of start es)) (moment_installed start all (also.event ∷ also.older) comes)
           (moment_installed start all es at) comes_number;
       within = λ member full.
-          no_less (ldm_of start member) (ldm_low start member (current_made start all es at member full))
+          no_less (ldm_of start member) (ldm_low start at.cluster.nobody member
+          (current_made start all es at member full))
           (ap (λ (v : View). v.number) (stand member full));
     }

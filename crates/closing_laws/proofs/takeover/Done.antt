@@ -32,7 +32,7 @@ use Rattle.node_views.specs.declared.host_body.HostBody as node
 use Rattle.node_views.specs.declared.parts.Parts.TheVariants as part
 use Rattle.node_views.specs.declared.tc_part.TcPart.{TcPart}
 use Rattle.node_views.specs.Parts.{tc_row}
-use Rattle.world_core.specs.Start.{Start, made}
+use Rattle.world_core.specs.Start.{NobodyStarts, Start, made}
 use Rattle.world_core.specs.Steps.{Addressed, HostStep}
 use Rattle.world_views.specs.Machine.{machine, step_after}
 use Rattle.view_laws.specs.Order.{sound_machine}
@@ -225,7 +225,8 @@ module _ (start : Start) (all : ℕ → List HostStep) (e : HostStep) (es : List
                     (taken_by start all e es moment member there at block.Takeover to passed).fresh
                     (takeover_fenced x LqhTransEnd ends);
                 same = still.current_is;
-                stands = stands_in_current start all es less h (tc_low start member there) still.number_is;
+                stands = stands_in_current start all es less h (tc_low start moment.cluster.nobody member there)
+                    still.number_is;
                 awaited = m;
                 gathers = ap (λ (s : TakeoverState). s.stage) takeover_was ∙ gathers;
                 last = last;
@@ -382,19 +383,19 @@ module _ (start : Start) (all : ℕ → List HostStep) (e : HostStep) (es : List
     }
 
 -- at first no takeover is at work
-sees_first : (start : Start) → SeesToAll start (logs_of start [])
-sees_first start = record {
+sees_first : (start : Start) → NobodyStarts start → SeesToAll start (logs_of start [])
+sees_first start nobody = record {
   work = λ member there stands.
       subst (TellsAll (IsOrphan (current start (logs_of start []))) (IsSeenTo start (logs_of start [])))
       (sym (ap (λ (s : node.HostBody). takeover_in (resting member.node (first_layout start.shape)) s.parts)
-      (tc_started start member there)))
+      (tc_started start nobody member there)))
       (record { attended = tt; first = tt });
   over = λ member there j. tt;
 }
 
 sees_to_all : (start : Start) (all : ℕ → List HostStep) (es : List HostStep) → IsMoment start all es
     → SeesToAll start (logs_of start es)
-sees_to_all start all [] moment = sees_first start
+sees_to_all start all [] moment = sees_first start moment.cluster.nobody
 sees_to_all start all (e ∷ es) moment =
     sees_next start all e es moment (sees_to_all start all es (moment_less start all e es moment))
 

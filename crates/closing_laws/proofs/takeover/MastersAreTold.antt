@@ -189,7 +189,7 @@ module _ (own : EndsAreOwn) (start : Start) (all : ℕ → List HostStep) (e : H
       master_here : e.host ≡ main_of start member → (at : BlockId) → IsTakenNow start all e es moment at
           → (master_of start new member).view ≡ current start new
       master_here host at taken_here =
-          master_view start member there new ∙ ap (λ h. view_after start h (new h)) (sym host)
+          master_view start moment.cluster.nobody member there new ∙ ap (λ h. view_after start h (new h)) (sym host)
           ∙ own_behind start all e es moment ∙ taken_here.stands
 
       over_next : (master_of start new member).owed ≡ false
@@ -234,7 +234,7 @@ pub all_over : EndsAreOwn → (start : Start) (all : ℕ → List HostStep) (es 
 all_over own start all [] begins moment member there none =
     inl (ap (λ (s : node.HostBody).
     (master_in (fresh_master member (first_layout start.shape).view 0) s.parts).view)
-    (main_started start member there))
+    (main_started start moment.cluster.nobody member there))
 all_over own start all (e ∷ es) begins moment member there none =
     over_next own start all e es begins moment (all_over own start all es begins (moment_less start all e es moment))
     member

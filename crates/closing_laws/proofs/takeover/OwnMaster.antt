@@ -21,7 +21,7 @@ use Rattle.node_views.specs.Parts.{tc_entered, tc_row}
 use Rattle.tc_views.specs.Coordinator.{coordinator_row}
 use Rattle.tc_views.specs.Views as coordinator
 use Rattle.world_core.specs.Hosts.{member_at}
-use Rattle.world_core.specs.Start.{Start, made}
+use Rattle.world_core.specs.Start.{NobodyStarts, Start, made}
 use Rattle.world_core.specs.Steps.{Addressed, HostStep}
 use Rattle.world_views.specs.Hosts.{reached}
 use Rattle.world_views.specs.Machine.{after, signals_of, step_after}
@@ -48,14 +48,16 @@ use Rattle.dih_node.specs.Dih.{dih_row}
 use Rattle.moment_laws.proofs.PartKinds.{tc_after}
 
 -- what goes from a host to the master of a node, and comes to that of a member, is of that node
-reaches_own : (start : Start) (h : ℕ) → 1 ≤ h → (view : View) (w me : Member) → IsIn w (made start)
+reaches_own : (start : Start) (nobody : NobodyStarts start) (h : ℕ) → 1 ≤ h → (view : View) (w me : Member)
+    → IsIn w (made start)
     → IsIn me (made start) → reached (made start) h view (checkpoints w.node) ≡ main_of start me → w ≡ me
-reaches_own start zero some view w me made_w made_me is = absurd (omega (arith, some))
-reaches_own start (suc h) some view w me made_w made_me is =
-    own_reaches start h view w me made_w made_me block.GcpMaster block.GcpMaster is
+reaches_own start nobody zero some view w me made_w made_me is = absurd (omega (arith, some))
+reaches_own start nobody (suc h) some view w me made_w made_me is =
+    own_reaches start nobody h view w me made_w made_me block.GcpMaster block.GcpMaster is
 
 -- a step of a host that coordinates, whose takeover is of this node
-module _ (start : Start) (h : ℕ) (some : 1 ≤ h) (log : List HostStep) (e : HostStep) (p : TcPart)
+module _ (start : Start) (nobody : NobodyStarts start) (h : ℕ) (some : 1 ≤ h) (log : List HostStep) (e : HostStep)
+    (p : TcPart)
     (runs : (after start h log).parts ≡ part.Tc p) (node : ℕ) (of_node : p.takeover.node ≡ node)
   where
     abbrev x : Signal
@@ -68,7 +70,7 @@ module _ (start : Start) (h : ℕ) (some : 1 ≤ h) (log : List HostStep) (e : H
     sends = (step_after start h log e).effects.sends
 
     did : TcDoes start.shape p (view_after start h log) x (after start h (e ∷ log)).parts seen sends
-    did = tc_after start h log e some p runs
+    did = tc_after start nobody h log e some p runs
 
     abbrev Enters : Type 0
     Enters = PartEnters tc_kind p (view_after start h log) x did.between seen did.front
@@ -139,18 +141,19 @@ record RunsTakeover (start : Start) (h : ℕ) (node : ℕ) (log : List HostStep)
   is : (after start h log).parts ≡ part.Tc own
   of_node : own.takeover.node ≡ node
 
-runs_takeover : (start : Start) (me : Member) → IsIn me (made start) → (log : List HostStep)
+runs_takeover : (start : Start) (nobody : NobodyStarts start) (me : Member) → IsIn me (made start)
+    → (log : List HostStep)
     → RunsTakeover start (tc_of start me) me.node log
-runs_takeover start me there [] =
-    record { own = _; is = ap (λ (s : hosts.HostBody). s.parts) (tc_started start me there); of_node = refl }
-runs_takeover start me there (e ∷ log) =
-    let was = runs_takeover start me there log in
+runs_takeover start nobody me there [] =
+    record { own = _; is = ap (λ (s : hosts.HostBody). s.parts) (tc_started start nobody me there); of_node = refl }
+runs_takeover start nobody me there (e ∷ log) =
+    let was = runs_takeover start nobody me there log in
     let some = part_some start parts.Tc me in
-    let steps = did start (tc_of start me) some log e was.own was.is me.node was.of_node in
+    let steps = did start nobody (tc_of start me) some log e was.own was.is me.node was.of_node in
     record {
       own = steps.own;
       is = steps.is;
-      of_node = node_next start (tc_of start me) some log e was.own was.is me.node was.of_node;
+      of_node = node_next start nobody (tc_of start me) some log e was.own was.is me.node was.of_node;
     }
 
 module _ (start : Start) (all : ℕ → List HostStep) (e : HostStep) (es : List HostStep)
@@ -165,14 +168,14 @@ module _ (start : Start) (all : ℕ → List HostStep) (e : HostStep) (es : List
     module _ (me : Member) (there : IsIn me (made start)) (at : e.host ≡ tc_of start me) where
       run : RunsTakeover start e.host me.node (old e.host)
       run = subst (λ h. RunsTakeover start h me.node (old h)) (sym at)
-          (runs_takeover start me there (old (tc_of start me)))
+          (runs_takeover start moment.cluster.nobody me there (old (tc_of start me)))
 
       above : 1 ≤ e.host
       above = subst (λ h. 1 ≤ h) (sym at) (part_some start parts.Tc me)
 
       tc_sends : Each (λ (o : Outgoing). IsForOwn me.node o.to o.body)
           (step_after start e.host (old e.host) e).effects.sends
-      tc_sends = sends_own start e.host above (old e.host) e run.own run.is me.node run.of_node
+      tc_sends = sends_own start moment.cluster.nobody e.host above (old e.host) e run.own run.is me.node run.of_node
 
       tc_own : (y : Addressed)
           → IsSentBy (made start) e.host stood (step_after start e.host (old e.host) e).effects.sends y
@@ -181,12 +184,12 @@ module _ (start : Start) (all : ℕ → List HostStep) (e : HostStep) (es : List
         from = one.from ∙ at ∙ ap (tc_of start) (sym of);
         own = λ member made_too to.
             of
-            ∙ reaches_own start e.host above stood me member there made_too
+            ∙ reaches_own start moment.cluster.nobody e.host above stood me member there made_too
             (sym (ap (reached (made start) e.host stood) place) ∙ sym one.to ∙ to);
       }
         where
           of : y.signal.member ≡ me
-          of = one.member ∙ ap (member_at (made start)) at ∙ tc_member start me there
+          of = one.member ∙ ap (member_at (made start)) at ∙ tc_member start moment.cluster.nobody me there
 
           place : one.sent.to ≡ checkpoints me.node
           place =
@@ -206,7 +209,7 @@ module _ (start : Start) (all : ℕ → List HostStep) (e : HostStep) (es : List
     sent_own : (y : Addressed)
         → IsSentBy (made start) e.host stood (step_after start e.host (old e.host) e).effects.sends y
         → IsOverTrue start y
-    sent_own y one = by (whose start e.host (host_low start all e es moment))
+    sent_own y one = by (whose start moment.cluster.nobody e.host (host_low start all e es moment))
       where
         aside : (ps : Parts) → (after start e.host (old e.host)).parts ≡ ps → HasNoTc ps → IsOverTrue start y
         aside ps is none = others_own (subst HasNoTc (sym is) none) y one
@@ -216,10 +219,10 @@ module _ (start : Start) (all : ℕ → List HostStep) (e : HostStep) (es : List
             let runs = runs_shell start (old 0) in
             aside (part.Shell runs.shell) (ap (λ h. (after start h (old h)).parts) at ∙ runs.is) tt
         by (of_main me there at) =
-            let runs = runs_main start me there (old (main_of start me)) in
+            let runs = runs_main start moment.cluster.nobody me there (old (main_of start me)) in
             aside (part.Main runs.main) (ap (λ h. (after start h (old h)).parts) at ∙ runs.is) tt
         by (of_rows me there at) =
-            let runs = runs_rows start me there (old (ldm_of start me)) in
+            let runs = runs_rows start moment.cluster.nobody me there (old (ldm_of start me)) in
             aside (part.Ldm runs.rows) (ap (λ h. (after start h (old h)).parts) at ∙ runs.is) tt
         by (of_tc me there at) = tc_own me there at y one
 

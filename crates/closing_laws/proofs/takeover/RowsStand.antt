@@ -28,7 +28,7 @@ use Rattle.node_views.specs.declared.host_body.HostBody as node
 use Rattle.node_views.specs.declared.parts.Parts.TheVariants as part
 use Rattle.node_views.specs.declared.tc_part.TcPart.{TcPart}
 use Rattle.node_views.specs.Parts.{tc_row}
-use Rattle.world_core.specs.Start.{Start, made}
+use Rattle.world_core.specs.Start.{NobodyStarts, Start, made}
 use Rattle.world_core.specs.Steps.{Addressed, HostStep}
 use Rattle.world_views.specs.Machine.{machine, signals_of, step_after}
 use Rattle.view_laws.specs.Order.{is_sound, sound_machine}
@@ -105,9 +105,10 @@ module _ (start : Start) (all : ℕ → List HostStep) (e : HostStep) (es : List
     stands_more one full same low =
         let there = current_made start all (e ∷ es) moment one full in
         let rises = number_rises start all e es moment (ldm_of start one) in
-        let above = current_above start new (ldm_of start one) (ldm_low start one there) in
+        let above = current_above start new moment.cluster.nobody (ldm_of start one)
+        (ldm_low start moment.cluster.nobody one there) in
         let number : current_number start new ≡ current_number start old = ap (λ (v : View). v.number) same in
-        stands_in_current start all (e ∷ es) moment (ldm_of start one) (ldm_low start one there)
+        stands_in_current start all (e ∷ es) moment (ldm_of start one) (ldm_low start moment.cluster.nobody one there)
         (omega (arith, rises, above, number, low))
 
     standing_more : current start new ≡ current start old → AreStanding start old → AreStanding start new
@@ -139,7 +140,7 @@ module _ (start : Start) (all : ℕ → List HostStep) (e : HostStep) (es : List
         low =
             given_so n (sound_closes start) (λ (z : Addressed). z.signal.view.number ≤ number_in start old l) l
             (tc_of start member) (old l) (taken n l (new (tc_of start member)))
-            (sent_low start l (tc_of start member) (old l))
+            (sent_low start moment.cluster.nobody l (tc_of start member) (old l))
             (given_taken n es e l (tc_of start member) moment.run.1
             ((logs_of_run n es moment.run.0).linked l (tc_of start member)))
             y ended.there (not_closed y.signal.body (ap is_host ended.ends.body))
@@ -154,13 +155,14 @@ module _ (start : Start) (all : ℕ → List HostStep) (e : HostStep) (es : List
       -- the host stood in the current view before, and that is the same
       still : current_number start new ≤ number_in start old h → current start new ≡ current start old
       still low =
-          let above = current_above start old h (tc_low start member there) in
+          let above =
+          current_above start old moment.cluster.nobody h (tc_low start moment.cluster.nobody member there) in
           let rises = current_rises start all e es moment in
           old_current start all e es moment (omega (arith, low, above, rises))
 
       module _ (at : e.host ≡ tc_of start member) where
         abbrev step : TcStep start (tc_of start member) log e
-        step = own_tc start member there log e
+        step = own_tc start moment.cluster.nobody member there log e
 
         abbrev p : TcPart
         p = step.own
@@ -178,7 +180,7 @@ module _ (start : Start) (all : ℕ → List HostStep) (e : HostStep) (es : List
           view_is : current start new ≡ view
           view_is =
               let own = log_of-own (machine start) e es h at in
-              sym (stands_in_current start all (e ∷ es) moment h (tc_low start member there)
+              sym (stands_in_current start all (e ∷ es) moment h (tc_low start moment.cluster.nobody member there)
               (ap (λ log. (view_after start h log).number) own ∙ stands))
               ∙ ap (view_after start h) own
 
@@ -344,8 +346,8 @@ module _ (start : Start) (all : ℕ → List HostStep) (e : HostStep) (es : List
     }
 
 -- at first no takeover is at work
-overs_first : (start : Start) → OversStand start (logs_of start [])
-overs_first start = record {
+overs_first : (start : Start) → NobodyStarts start → OversStand start (logs_of start [])
+overs_first start none_starts = record {
   work = λ member there stands is. absurd (true≢false (sym is ∙ rests member there));
   over = λ member there j. tt;
 }
@@ -355,11 +357,11 @@ overs_first start = record {
     rests member there =
         ap (λ (s : node.HostBody). is_at_work (takeover_in (resting member.node (first_layout start.shape))
         s.parts).stage)
-        (tc_started start member there)
+        (tc_started start none_starts member there)
 
 overs_stand : (start : Start) (all : ℕ → List HostStep) (es : List HostStep) → IsMoment start all es
     → OversStand start (logs_of start es)
-overs_stand start all [] moment = overs_first start
+overs_stand start all [] moment = overs_first start moment.cluster.nobody
 overs_stand start all (e ∷ es) moment =
     overs_next start all e es moment (overs_stand start all es (moment_less start all e es moment))
 

@@ -54,7 +54,7 @@ events_keep_answered coordinators start all e es follows moves =
     (λ on.
     sent_so start e.host (logs_of start es e.host) e
     (λ (v : View) (to : Place) (body : Body). IsAnswered start (logs_of start (e ∷ es)) v.number body)
-    (by (part_host start e.host (host_low start all e es follows.moment))))
+    (by (part_host start follows.moment.cluster.nobody e.host (host_low start all e es follows.moment))))
   where
     by : PartHost start e.host
         → AreAnsweredNow start e es (step_after start e.host (logs_of start es e.host) e).effects.sends

@@ -112,7 +112,8 @@ module _ (start : Start) (all : ℕ → List HostStep) (es : List HostStep) (mom
     taken_sent wk =
         omega (
           arith,
-          total_at (hosts start) (λ k. taken_along start (told tx n wk) (logs k)) h (tc_low start member there),
+          total_at (hosts start) (λ k. taken_along start (told tx n wk) (logs k)) h
+              (tc_low start moment.cluster.nobody member there),
           takes_few start (told tx n wk) (told_rows tx n wk) all es moment,
         )
 

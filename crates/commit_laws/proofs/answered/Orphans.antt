@@ -215,7 +215,8 @@ module _ (start : Start) (all : ℕ → List HostStep) (e : HostStep) (es : List
         ((takeovers_are_of_orphans start all es less).gathered member there)).0
 
     stood_installed : WasInstalled start all stood
-    stood_installed = installed_at start all h (tc_low start member there) log (less.inside h)
+    stood_installed = installed_at start moment.cluster.nobody all h (tc_low start moment.cluster.nobody member there)
+        log (less.inside h)
 
     left : (view : View) → WasInstalled start all view → view.number ≡ n → is_coordinated view.full tx ≡ false
     left view was same =
@@ -311,8 +312,8 @@ module _ (start : Start) (all : ℕ → List HostStep) (e : HostStep) (es : List
                   one.sent,
                   (ruled_at one.key me among_made).few committing,
                   own_ordered,
-                  two_low (hosts start) orders_at (tc_of start me) h (tc_low start me among_made)
-                      (tc_low start member there) apart,
+                  two_low (hosts start) orders_at (tc_of start me) h (tc_low start moment.cluster.nobody me among_made)
+                      (tc_low start moment.cluster.nobody member there) apart,
                   orders_once start all es less n,
                 ))
 
@@ -330,7 +331,7 @@ module _ (start : Start) (all : ℕ → List HostStep) (e : HostStep) (es : List
         omega (
           arith,
           total_at (hosts start) (λ k. taken_along start (told tx n wk) (logs_of start (e ∷ es) k)) h
-              (tc_low start member there),
+              (tc_low start moment.cluster.nobody member there),
           ap (taken_along start (told tx n wk)) (log_of-own (machine start) e es h at),
           takes_before start (told tx n wk) (told_rows tx n wk) all e es moment,
         )

@@ -110,7 +110,8 @@ module _ (start : Start) (all : ℕ → List HostStep) (e : HostStep) (es : List
         (λ o inside.
         end_answered o.body
         (each_in (λ (y : Outgoing). IsEnd (λ tx. Unit {0}) y.body) o sends
-        (beside_ends start e.host first (λ tx. Unit {0}) (old e.host) e (λ sound tx told. tt)) inside))
+        (beside_ends start moment.cluster.nobody e.host first (λ tx. Unit {0}) (old e.host) e (λ sound tx told. tt))
+        inside))
       where
         sends : List Outgoing
         sends = (step_after start e.host (logs_of start es e.host) e).effects.sends

@@ -344,7 +344,7 @@ module _ (start : Start) (all : ℕ → List HostStep) (member : Member) (there 
       subst (HasHeard start (logs_of start []) (view_after start home []).number [])
       (sym
       (ap (λ (s : hosts_of.HostBody). takeover_in (resting member.node (first_layout start.shape)) s.parts)
-      (tc_started start member there)))
+      (tc_started start moment.cluster.nobody member there)))
       tt
   heard_always (e ∷ es) moment =
       event_moves (machine start) e es

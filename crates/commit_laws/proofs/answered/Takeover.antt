@@ -320,7 +320,8 @@ module _ (start : Start) (all : ℕ → List HostStep) (e : HostStep) (es : List
               own_stood = ap (λ h. (view_after start h (old h)).number) at
 
               low : number_in start old (tc_of start member) ≤ current_number start old
-              low = current_above start old (tc_of start member) (tc_low start member there)
+              low = current_above start old follows.moment.cluster.nobody (tc_of start member)
+                  (tc_low start follows.moment.cluster.nobody member there)
 
               rises : current_number start old ≤ current_number start new
               rises = current_rises start all e es moment

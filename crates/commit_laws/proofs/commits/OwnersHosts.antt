@@ -74,7 +74,7 @@ module _ (start : Start) (all : ℕ → List HostStep) (e : HostStep) (es : List
     sends = (step_after start (tc_of start member) log e).effects.sends
 
     abbrev step : TcStep start (tc_of start member) (logs_of start es (tc_of start member)) e
-    step = own_tc start member there log e
+    step = own_tc start moment.cluster.nobody member there log e
 
     abbrev p : TcPart
     p = step.own
@@ -147,7 +147,8 @@ module _ (start : Start) (all : ℕ → List HostStep) (e : HostStep) (es : List
           by (installs above same stands is) =
               absurd (subst (λ (q : TcPart). IsBusy q.takeover.stage) same busy)
           by (remains same stands none) =
-              let low = current_above start old h (tc_low start member there) in
+              let low =
+              current_above start old moment.cluster.nobody h (tc_low start moment.cluster.nobody member there) in
               let rises = current_rises start all e es moment in
               let here : view.number ≡ current_number start new =
               ap (λ k. (view_after start k (e ∷ old k)).number) (sym at)

@@ -141,7 +141,7 @@ module _ (start : Start) (all : ℕ → List HostStep) (e : HostStep) (es : List
             once : AreOnce (at_key key s.lqh).cell.pending
             once =
                 subst (λ (c : Cell). AreOnce c.pending) (sym (cell_before key))
-                (rows_once start member there (old (ldm_of start member)) key)
+                (rows_once start moment.cluster.nobody member there (old (ldm_of start member)) key)
 
             by : (first : Bool) → found tx (key_after (commits tx first) (at_key key s.lqh)).cell.pending
                 ≡ found tx (edited as_committed tx (at_key key s.lqh).cell.pending)
@@ -193,7 +193,8 @@ module _ (start : Start) (all : ℕ → List HostStep) (e : HostStep) (es : List
 
             same : one.one ≡ member
             same =
-                made_same start one.one member (replica_made start all es before key one.one replica) there nodes
+                made_same start moment.cluster.nobody one.one member
+                (replica_made start all es before key one.one replica) there nodes
 
     -- of a commit of a key that was written
     pub commit_place : (whole : CommitsGoWhole) (tx : TxId) (key : List ℕ) (epoch : ℕ) (chain : List Member) (at : ℕ)

@@ -304,7 +304,7 @@ module _ (forth : ForthIsKnownAlways) (remembered : CommitsAreRemembered) (ackno
       owner_new body is = tt
 
     all_new : AreNew (sends_at e.host)
-    all_new = by (part_host start e.host (host_low start all e es moment))
+    all_new = by (part_host start follows.moment.cluster.nobody e.host (host_low start all e es moment))
       where
         by : PartHost start e.host → AreNew (sends_at e.host)
         by (coordinates me there at) =
@@ -316,7 +316,8 @@ module _ (forth : ForthIsKnownAlways) (remembered : CommitsAreRemembered) (ackno
         by (is_beside first) =
             each_map (λ (o : Outgoing). IsEnd (λ tx. IsDone start new tx) o.body) (λ (o : Outgoing). NewWord o.body)
             (sends_at e.host) (λ o is. beside_new o.body is)
-            (beside_ends start e.host first (λ tx. IsDone start new tx) (old e.host) e told_done)
+            (beside_ends start follows.moment.cluster.nobody e.host first (λ tx. IsDone start new tx) (old e.host) e
+            told_done)
 
     -- commits come from the end
     end_of : (body : Body) → NewWord body → ComesFromTheEnd start new body

@@ -150,7 +150,7 @@ module _ (start : Start) (all : ℕ → List HostStep) (e : HostStep) (es : List
             (subst (λ h. IsIn o (step_after start h (old h) e).effects.sends) at inside) refl
 
         sent_whole : IsIn o sends → WasDrivenIn start new view tx → Whole
-        sent_whole inside driven = by (part_host start e.host (host_low start all e es moment))
+        sent_whole inside driven = by (part_host start moment.cluster.nobody e.host (host_low start all e es moment))
           where
             by : PartHost start e.host → Whole
             by (coordinates me there at) =

@@ -116,12 +116,12 @@ module _ (start : Start) (all : ℕ → List HostStep) (e : HostStep) (es : List
     sends = (step_after start e.host log e).effects.sends
 
     pub step : TcStep start e.host log e
-    step = tc_step start me there e.host at log e
+    step = tc_step start moment.cluster.nobody me there e.host at log e
 
     pub own_of : IsCoordinatorOf me step.own.coordinator
     own_of =
         subst (IsCoordinatorOf me) (coordinator_is start me e.host log at step.own step.runs)
-        (coordinator_of start me there log)
+        (coordinator_of start me there moment.cluster.nobody log)
 
     pub entering : PartEnters tc_kind step.own stood x step.does.between view step.does.front
     entering = step.does.enters
@@ -167,7 +167,8 @@ module _ (start : Start) (all : ℕ → List HostStep) (e : HostStep) (es : List
         own_number : step.own.coordinator.number ≡ stood.number
         own_number =
             ap (λ (s : CoordinatorState). s.number) (sym (coordinator_is start me e.host log at step.own step.runs))
-            ∙ (have_the_number start me log there ∙ ap (λ k. (view_after start k log).number) (sym at))
+            ∙ (have_the_number start moment.cluster.nobody me log there ∙ ap (λ k. (view_after start k log).number)
+            (sym at))
 
     -- what becomes of a transaction that a full member leads
     module _ (tx : TxId) (led : is_coordinated view.full tx ≡ true) where
@@ -280,7 +281,7 @@ module _ (start : Start) (all : ℕ → List HostStep) (tx : TxId) (number : ℕ
         log = logs_of start es e.host
 
         row : LdmStep start e.host log e
-        row = ldm_step start me there e.host at log e
+        row = ldm_step start moment.cluster.nobody me there e.host at log e
 
         of_block : (b : BlockId)
             → count_sent (onward tx place) (ldm_row row.does.between b e.step.taken).effects.sends ≡ 0

@@ -29,7 +29,7 @@ use Rattle.node_views.specs.declared.parts.Parts.TheVariants.{Ldm}
 use Rattle.node_views.specs.declared.tc_part.TcPart.{TcPart}
 use Rattle.node_views.specs.Fence.{is_body_fenced}
 use Rattle.node_views.specs.Parts.{ldm_row, tc_entered, tc_row}
-use Rattle.world_core.specs.Start.{Start, made}
+use Rattle.world_core.specs.Start.{NobodyStarts, Start, made}
 use Rattle.world_core.specs.Steps.{Addressed, HostStep}
 use Rattle.world_views.specs.Hosts.{started}
 use Rattle.world_views.specs.Machine.{signals_of, step_after}
@@ -129,11 +129,12 @@ module _ (drive : Drive) (w : Keys) where
       (each_map _ TellsNone (dih.install_row p.dih now.number).effects.sends
       (λ o is. tells_none o.body (of_aside o.body is)) (epochs_install_aside p.dih now.number))
 
-  pub coordinator_tells_none : (start : Start) (member : Member) → IsIn member (made start) → (h : ℕ)
+  pub coordinator_tells_none : (start : Start) (nobody : NobodyStarts start) (member : Member)
+      → IsIn member (made start) → (h : ℕ)
       → h ≡ tc_of start member → (log : List HostStep) (e : HostStep)
       → Each (λ (o : Outgoing). comes drive w o.body ≡ false) (step_after start h log e).effects.sends
-  coordinator_tells_none start member there h at log e =
-      let step = tc_step start member there h at log e in
+  coordinator_tells_none start nobody member there h at log e =
+      let step = tc_step start nobody member there h at log e in
       part_each tc_kind TellsNone start.shape step.own _ e.step.taken _ _ (step_after start h log e).effects.sends
       step.does (λ above. enters_tells_none step.own e.step.taken.view)
       (λ passed. part_tells_none step.does.between e.step.taken e.step.taken.to.block)
@@ -166,7 +167,7 @@ module _ (start : Start) (all : ℕ → List HostStep) (e : HostStep) (es : List
             ≤ taken_now start all e es moment (numbered now (goes drive w))
 
         step : LdmStep start e.host old e
-        step = ldm_step start member there e.host at old e
+        step = ldm_step start moment.cluster.nobody member there e.host at old e
 
         -- where it sends this
         few_of : (rest : List Outgoing) → (sends ≡ rest) ⊎ (sends ≡ [])

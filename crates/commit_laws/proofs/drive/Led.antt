@@ -33,7 +33,7 @@ module _ (start : Start) (all : ℕ → List HostStep) (tx : TxId) (number : ℕ
   -- no other host goes on with its lists
   onward_now : (e : HostStep) (es : List HostStep) (moment : IsMoment start all (e ∷ es)) → e.host ≢ home → (place : ℕ)
       → sent_now start all e es moment (numbered number (onward tx place)) ≡ 0
-  onward_now e es moment off place = by (part_host start e.host (host_low start all e es moment))
+  onward_now e es moment off place = by (part_host start moment.cluster.nobody e.host (host_low start all e es moment))
     where
       by : PartHost start e.host → sent_now start all e es moment (numbered number (onward tx place)) ≡ 0
       by (coordinates me there at) =
@@ -92,8 +92,8 @@ module _ (start : Start) (all : ℕ → List HostStep) (tx : TxId) (number : ℕ
       pub owners_own : (drive : Drive) (wk : List ℕ → Bool)
           → owners_sent start (numbered number (goes drive (mine tx wk))) logs ≤ along drive wk me
       owners_own drive wk =
-          let all_of = total_of_made start (λ m. 0) (λ m. along drive wk m) me.node
-          (node_some start me there) (node_low start me there)
+          let all_of = total_of_made start moment.cluster.nobody (λ m. 0) (λ m. along drive wk m) me.node
+          (node_some start moment.cluster.nobody me there) (node_low start moment.cluster.nobody me there)
           (λ k some low off.
           no_keys es moment (node_of k) (begins_made start _ (first_in start.shape.nodes k some low))
           (λ is. off (sym (ap (λ (m : Member). m.node) is))) drive wk) in
@@ -101,5 +101,5 @@ module _ (start : Start) (all : ℕ → List HostStep) (tx : TxId) (number : ℕ
             arith,
             all_of,
             total_of_zero (made start) (λ m. 0) (λ m there. refl),
-            ap (along drive wk) (first_again start me there),
+            ap (along drive wk) (first_again start moment.cluster.nobody me there),
           )

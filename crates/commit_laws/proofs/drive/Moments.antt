@@ -156,18 +156,19 @@ module _ (start : Start) (all : ℕ → List HostStep) (e : HostStep) (es : List
           along_other (tc_of start (node_of k))
           (λ same.
           off
-          (let own = tc_number start me there in
-          let other = tc_number start (node_of k) (begins_made start _ (first_in start.shape.nodes k some low)) in
-          omega (arith, own, other, at, same, node_some start me there, some)))
+          (let own = tc_number start moment.cluster.nobody me there in
+          let other = tc_number start moment.cluster.nobody (node_of k)
+          (begins_made start _ (first_in start.shape.nodes k some low)) in
+          omega (arith, own, other, at, same, node_some start moment.cluster.nobody me there, some)))
 
       pub owners_more : owners_sent start p behind ≡ owners_sent start p before + sent_now start all e es moment p
       owners_more =
           let swapped : owners_sent start p behind + along me before ≡ owners_sent start p before + along me behind =
           subst
           (λ one. owners_sent start p behind + along one before ≡ owners_sent start p before + along one behind)
-          (first_again start me there)
-          (total_of_made start (λ m. along m before) (λ m. along m behind) me.node
-          (node_some start me there) (node_low start me there) others) in
+          (first_again start moment.cluster.nobody me there)
+          (total_of_made start moment.cluster.nobody (λ m. along m before) (λ m. along m behind) me.node
+          (node_some start moment.cluster.nobody me there) (node_low start moment.cluster.nobody me there) others) in
           omega (arith, swapped, along_own (tc_of start me) at)
 
 -- of commits and of completions, in each view
@@ -204,7 +205,8 @@ module _ (drive : Drive) (w : Keys) (number : ℕ) (start : Start) where
             let sends = (step_after start e.host (logs_of start es e.host) e).effects.sends in
             let none =
             none_counted (comes drive w) sends
-            (coordinator_tells_none drive w start me there e.host at (logs_of start es e.host) e) in
+            (coordinator_tells_none drive w start moment.cluster.nobody me there e.host at (logs_of start es e.host) e)
+            in
             omega (arith, none, sent_few start (comes drive w) now e.host (logs_of start es e.host) e)
     in_view same (keeps_rows me there at) =
         omega (
@@ -227,7 +229,8 @@ module _ (drive : Drive) (w : Keys) (number : ℕ) (start : Start) where
     more = by (number == now) refl
       where
         by : (b : Bool) → (number == now) ≡ b → More
-        by true is = in_view (eqb-true number now is) (part_host start e.host (host_low start all e es moment))
+        by true is = in_view (eqb-true number now is)
+            (part_host start moment.cluster.nobody e.host (host_low start all e es moment))
         by false off =
             omega (
               arith,

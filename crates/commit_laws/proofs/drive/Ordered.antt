@@ -14,7 +14,7 @@ use Rattle.sig_core.specs.declared.member.TxId.{TxId}
 use Rattle.sig_core.specs.declared.signal.Signal.{Signal}
 use Rattle.sig_core.specs.declared.view.View.{View}
 use Rattle.lqh_block.specs.Views.{is_coordinated}
-use Rattle.world_core.proofs.MadeFirst.{hosts_first, made_first, nobody_starts}
+use Rattle.world_core.proofs.MadeFirst.{hosts_first, made_first}
 use Rattle.world_core.specs.Hosts.{hosts}
 use Rattle.world_core.specs.Start.{Start, made}
 use Rattle.world_core.specs.Steps.{HostStep}
@@ -69,7 +69,7 @@ module _ (orders : OrdersAreOnce) (start : Start) (all : ℕ → List HostStep) 
 
     pub ruled : (es : List HostStep) → IsMoment start all es → (me : Member) → IsIn me (made start)
         → IsRuled start me tx key number (tc_of start me) (logs_of start es (tc_of start me))
-    ruled [] moment me there = ruled_first start me there tx key number (tc_of start me)
+    ruled [] moment me there = ruled_first start moment.cluster.nobody me there tx key number (tc_of start me)
     ruled (e ∷ es) moment me there =
         event_keeps (machine start) e es (λ h log. h ≡ tc_of start me → IsRuled start me tx key number h log)
         (λ before at. next e es moment me there at (before at)) (tc_of start me)
@@ -98,16 +98,16 @@ takeovers_drive_once orders start all es moment tx number was drive key =
           (λ me there. (ruled orders start all tx key number left es moment me there).few drive),
       total_of_same (made start) (λ me. taken_along start q (logs (tc_of start me)))
           (λ me. taken_along start q (logs (suc ((me.node - 1) * 3 + 1))))
-          (λ me there. ap (λ h. taken_along start q (logs h)) (tc_number start me there)),
+          (λ me there. ap (λ h. taken_along start q (logs h)) (tc_number start moment.cluster.nobody me there)),
       members_few start.shape.nodes (λ h. taken_along start q (logs h)),
       ap (λ ms. total_of ms (λ me. taken_along start q (logs (suc ((me.node - 1) * 3 + 1)))))
-          (made_first start (nobody_starts start)),
+          (made_first start moment.cluster.nobody),
       ap (λ k. total k (λ h. taken_along start q (logs h))) as_many,
       orders start all es moment number,
     )
   where
     as_many : suc (start.shape.nodes * 3) ≡ hosts start
-    as_many = omega (arith, hosts_first start (nobody_starts start))
+    as_many = omega (arith, hosts_first start moment.cluster.nobody)
 
     logs : ℕ → List HostStep
     logs = logs_of start es

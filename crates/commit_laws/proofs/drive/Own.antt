@@ -31,7 +31,7 @@ use Rattle.node_views.specs.Parts.{tc_row}
 use Rattle.node_views.specs.WellFormed.{is_well_formed}
 use Rattle.run_laws.specs.Keyed.{AreApart, IsTouchedRightly}
 use Rattle.world_core.specs.Hosts.{hosts}
-use Rattle.world_core.specs.Start.{Start, made}
+use Rattle.world_core.specs.Start.{NobodyStarts, Start, made}
 use Rattle.world_core.specs.Steps.{HostStep}
 use Rattle.world_views.specs.Machine.{step_after, machine}
 use Rattle.world_views.specs.Sending.{is_own_work}
@@ -100,16 +100,18 @@ module _ (start : Start) (member : Member) (there : IsIn member (made start)) (t
     (own : coordinator_member tx ≡ member)
   where
     -- keys of what it hasn't forgotten are apart
-    apart_of : (log : List HostStep) (t : Transaction) → entry_of (coordinator_after start member log) tx ≡ Some t
+    apart_of : NobodyStarts start → (log : List HostStep) (t : Transaction)
+        → entry_of (coordinator_after start member log) tx ≡ Some t
         → AreApart t.touched
-    apart_of log t found =
+    apart_of nobody log t found =
         (each_found (λ (e : TxId × Transaction). IsTouchedRightly e.1)
-        (coordinator_after start member log).tc.live tx t (coordinator_touched start member there log) found).apart
+        (coordinator_after start member log).tc.live tx t (coordinator_touched start member there nobody log)
+        found).apart
 
-    pub driven_first : (k : ℕ) → IsDriven start member tx k []
-    driven_first k = record {
+    pub driven_first : NobodyStarts start → (k : ℕ) → IsDriven start member tx k []
+    driven_first nobody k = record {
       now =
-          subst (StandsNow start member tx k []) (sym (coordinator_first start member there))
+          subst (StandsNow start member tx k []) (sym (coordinator_first start member there nobody))
           (untouched_stands (layout_in start (view_after start k [])) tx
           (sent_in start member tx k (number_at start member tx k []) [])
           (taken_in start member tx k (number_at start member tx k []) []) None _ 0
@@ -191,8 +193,8 @@ module _ (start : Start) (member : Member) (there : IsIn member (made start)) (t
 
             new : stood.number < n → Untouched tx sent
             new low = record {
-              keys = λ drive wk. sent_low_none start (goes drive (mine tx wk)) n e.host log low;
-              goes_on = λ place. sent_low_none start (onward tx place) n e.host log low;
+              keys = λ drive wk. sent_low_none start moment.cluster.nobody (goes drive (mine tx wk)) n e.host log low;
+              goes_on = λ place. sent_low_none start moment.cluster.nobody (onward tx place) n e.host log low;
             }
 
             by : PartEnters tc_kind tc.own stood x between view tc.does.front
@@ -211,7 +213,7 @@ module _ (start : Start) (member : Member) (there : IsIn member (made start)) (t
                 (listed tx q.coordinator))
                 (sym same)
                 (installed_stands member tc.own.coordinator
-                (subst (IsCoordinatorOf member) own_is (coordinator_of start member there log))
+                (subst (IsCoordinatorOf member) own_is (coordinator_of start member there moment.cluster.nobody log))
                 tx x.view layout sent taken
                 (new (let number = ap (λ (v : View). v.number) stands in omega (arith, number, above))))
 
@@ -392,7 +394,7 @@ module _ (start : Start) (member : Member) (there : IsIn member (made start)) (t
             (between_laid start all e es moment member there at).coordinator sent taken sent_now taken_now x
             (subst (λ rest. Moves tx layout sent taken sent_now taken_now rest) sends_are moves)
             (λ free. known passed to free)
-            (λ t found. apart_of log t (sym between_entry ∙ found)) stands_between)
+            (λ t found. apart_of moment.cluster.nobody log t (sym between_entry ∙ found)) stands_between)
         row passed block.Takeover to is sends_are =
             subst (λ (q : TcPart). StandsFor q.coordinator) (sym is)
             (quiet_off
@@ -432,7 +434,8 @@ module _ (start : Start) (member : Member) (there : IsIn member (made start)) (t
             by None is once = once
             by (Some t) is drives =
                 drives_once tx layout sent_now taken_now t
-                (listed tx (coordinator_after start member (e ∷ log))) (apart_of (e ∷ log) t is) drives
+                (listed tx (coordinator_after start member (e ∷ log))) (apart_of moment.cluster.nobody (e ∷ log) t is)
+                drives
 
         pub driven_next : IsDriven start member tx e.host (e ∷ log)
         driven_next = record { now = stands_behind; once = λ number drive key. by number drive key (n == number) refl }
@@ -452,7 +455,7 @@ module _ (start : Start) (member : Member) (there : IsIn member (made start)) (t
     -- at each moment
     pub driven : (all : ℕ → List HostStep) (es : List HostStep) → IsMoment start all es
         → IsDriven start member tx (tc_of start member) (logs_of start es (tc_of start member))
-    driven all [] moment = driven_first (tc_of start member)
+    driven all [] moment = driven_first moment.cluster.nobody (tc_of start member)
     driven all (e ∷ es) moment =
         event_keeps (machine start) e es (λ h log. h ≡ tc_of start member → IsDriven start member tx h log)
         (λ before at. driven_next all e es moment at (before at)) (tc_of start member)

@@ -28,7 +28,7 @@ use Rattle.node_views.specs.declared.parts.Parts.TheVariants as part
 use Rattle.node_views.specs.declared.tc_part.TcPart.{TcPart}
 use Rattle.node_views.specs.Parts.{tc_row}
 use Rattle.world_core.specs.Hosts.{hosts}
-use Rattle.world_core.specs.Start.{Start, made}
+use Rattle.world_core.specs.Start.{NobodyStarts, Start, made}
 use Rattle.world_core.specs.Steps.{HostStep}
 use Rattle.world_views.specs.Machine.{step_after}
 use Rattle.world_views.specs.Sending.{is_own_work}
@@ -121,15 +121,16 @@ module _ (start : Start) (me : Member) (tx : TxId) (key : List ℕ) (number k : 
     pub now : (view_after start k log).number ≡ number → StandsRuled log (takeover_after start me log)
 
 -- as a life begins
-pub ruled_first : (start : Start) (me : Member) → IsIn me (made start) → (tx : TxId) (key : List ℕ) (number k : ℕ)
+pub ruled_first : (start : Start) (nobody : NobodyStarts start) (me : Member) → IsIn me (made start)
+    → (tx : TxId) (key : List ℕ) (number k : ℕ)
     → IsRuled start me tx key number k []
-ruled_first start me there tx key number k = record {
+ruled_first start nobody me there tx key number k = record {
   few = λ drive. omega arith;
   now = λ same.
       subst (StandsRuled start me tx key number k [])
       (sym
       (ap (λ (s : hosts_of.HostBody). takeover_in (resting me.node (first_layout start.shape)) s.parts)
-      (tc_started start me there)))
+      (tc_started start nobody me there)))
       (record { fit = none_fit; rules = awaits refl (λ drive. refl); idle = λ none. refl });
 }
 
@@ -296,7 +297,7 @@ module _ (orders : OrdersAreOnce) (start : Start) (all : ℕ → List HostStep) 
             rules =
                 awaits refl
                 (λ drive.
-                sent_low_none start (goes drive (mine tx (only key))) number e.host log
+                sent_low_none start moment.cluster.nobody (goes drive (mine tx (only key))) number e.host log
                 (let same_number = ap (λ (v : View). v.number) seen in omega (arith, same_number, above)));
             idle = λ none. refl;
           })

@@ -17,7 +17,7 @@ use Rattle.node_core.specs.Fresh.{own_rows}
 use Rattle.node_views.specs.declared.host_body.HostBody as node
 use Rattle.key_laws.specs.Records.{found, without_epoch}
 use Rattle.key_laws.specs.Replica.{at_key}
-use Rattle.world_core.specs.Start.{Start, made}
+use Rattle.world_core.specs.Start.{NobodyStarts, Start, made}
 use Rattle.world_core.specs.Steps.{HostStep}
 use Rattle.world_views.specs.Machine.{machine}
 use Rattle.moment_laws.specs.Moments.{IsMoment, logs_of}
@@ -48,41 +48,45 @@ module _ (start : Start) (all : ℕ → List HostStep) (tx : TxId) (there : IsIn
     abbrev h : ℕ
     h = tc_of start (coordinator_member tx)
 
-    unborn_less : (e : HostStep) (es : List HostStep) → IsUnborn start tx there (logs_of start (e ∷ es) h)
+    unborn_less : NobodyStarts start → (e : HostStep) (es : List HostStep)
+        → IsUnborn start tx there (logs_of start (e ∷ es) h)
         → IsUnborn start tx there (logs_of start es h)
-    unborn_less e es =
+    unborn_less nobody e es =
         event_cases (machine start) e es h
         (λ log. IsUnborn start tx there log → IsUnborn start tx there (logs_of start es h))
-        (λ at. unborn_before start tx there (logs_of start es h) e) (λ off now. now)
+        (λ at. unborn_before start tx there nobody (logs_of start es h) e) (λ off now. now)
 
     -- in no view was anything asked for it
-    unasked : (es : List HostStep) → IsUnborn start tx there (logs_of start es h) → (view : View) (other : TxId)
+    unasked : NobodyStarts start → (es : List HostStep) → IsUnborn start tx there (logs_of start es h)
+        → (view : View) (other : TxId)
         → WasAskedIn start (logs_of start es) view other → same_tx other tx ≡ false
-    unasked es unborn view other was = by (same_tx other tx) refl
+    unasked nobody es unborn view other was = by (same_tx other tx) refl
       where
         by : (b : Bool) → same_tx other tx ≡ b → b ≡ false
         by false off = refl
         by true own =
             let asked : WasAskedIn start (logs_of start es) view tx =
             subst (WasAskedIn start (logs_of start es) view) (same_tx-is other tx own) was in
-            absurd (true≢false (sym asked.asked ∙ never_asked start tx there view.number (logs_of start es h) unborn))
+            absurd (true≢false (sym asked.asked ∙ never_asked start tx there nobody view.number (logs_of start es h)
+            unborn))
 
     pub unborn_none : (es : List HostStep) → IsMoment start all es → IsUnborn start tx there (logs_of start es h)
         → (m : Member) → IsIn m (made start) → (key : List ℕ) → record_at start (logs_of start es) m key tx ≡ None
     unborn_none [] moment unborn m among key =
         ap (λ (s : node.HostBody). found tx (at_key key (rows_in (no_replica start m) s.parts).lqh).cell.pending)
-        (ldm_started start m among) ∙ first_none start m key tx
+        (ldm_started start moment.cluster.nobody m among) ∙ first_none start m key tx
     unborn_none (e ∷ es) moment unborn m among key =
         by (unborn_none es (moment_less start all e es moment) before m among key)
         (record_at start (logs_of start (e ∷ es)) m key tx) refl
       where
         before : IsUnborn start tx there (logs_of start es h)
-        before = unborn_less e es unborn
+        before = unborn_less moment.cluster.nobody e es unborn
 
         was : is_some (record_at start (logs_of start (e ∷ es)) m key tx) ≡ true
             → is_some (record_at start (logs_of start es) m key tx) ≡ true
         was is =
-            record_was start all e es moment m among tx (λ view other same asked. unasked es before view other asked)
+            record_was start all e es moment m among tx
+            (λ view other same asked. unasked moment.cluster.nobody es before view other asked)
             key is
 
         by : record_at start (logs_of start es) m key tx ≡ None → (o : Option PendingRecord)
@@ -99,9 +103,9 @@ begun_have_none start all e es moment tx there none some m among key =
     (λ at begun.
     ap (λ log. found tx (at_key key (rows_after start m log).lqh).cell.pending)
     (log_of-other (machine start) e es (ldm_of start m)
-    (λ is. ldm_no_tc start m (coordinator_member tx) among there (sym is ∙ at)))
+    (λ is. ldm_no_tc start moment.cluster.nobody m (coordinator_member tx) among there (sym is ∙ at)))
     ∙ unborn_none start all tx there es (moment_less start all e es moment)
-    (begun_unborn start tx there (logs_of start es h) e none begun) m among key)
+    (begun_unborn start tx there moment.cluster.nobody (logs_of start es h) e none begun) m among key)
     (λ off begun. absurd (let nothing : Some fresh ≡ None = sym begun ∙ none in cc)) some
   where
     h : ℕ

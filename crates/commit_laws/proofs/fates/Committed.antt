@@ -314,7 +314,8 @@ module _ (start : Start) (all : ℕ → List HostStep) (e : HostStep) (es : List
 
         same : number ≡ number_now start old
         same =
-            let up = current_above start old (ldm_of start member) (ldm_low start member there) in
+            let up = current_above start old moment.cluster.nobody (ldm_of start member)
+            (ldm_low start moment.cluster.nobody member there) in
             let rises = current_rises start all e es moment in
             omega (arith, up, rises, stood)
 

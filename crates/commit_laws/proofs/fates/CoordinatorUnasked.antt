@@ -12,7 +12,7 @@ use Rattle.tc_block.specs.declared.transaction.Transaction.{Transaction}
 use Rattle.tc_block.specs.Operate.{fresh}
 use Rattle.tc_views.specs.State.{CoordinatorState}
 use Rattle.host_laws.proofs.coordinator.OfLive.{each_found}
-use Rattle.world_core.specs.Start.{Start, made}
+use Rattle.world_core.specs.Start.{NobodyStarts, Start, made}
 use Rattle.world_core.specs.Steps.{HostStep}
 use Rattle.world_views.specs.Machine.{step_after}
 use Rattle.run_laws.specs.Tokens.{is_token}
@@ -42,8 +42,8 @@ module _ (start : Start) (tx : TxId) (there : IsIn (coordinator_member tx) (made
   IsUnborn log = is_unborn (coordinator_after start (coordinator_member tx) log) tx ≡ true
 
   -- so it was before
-  pub unborn_before : (log : List HostStep) (e : HostStep) → IsUnborn (e ∷ log) → IsUnborn log
-  unborn_before log e now = by (coordinator_comes start member there log e tx)
+  pub unborn_before : NobodyStarts start → (log : List HostStep) (e : HostStep) → IsUnborn (e ∷ log) → IsUnborn log
+  unborn_before nobody log e now = by (coordinator_comes start member there nobody log e tx)
     where
       less : (n m : ℕ) → nat_le (n + 1) m ≡ true → (b : Bool) → nat_le n m ≡ b → b ≡ true
       less n m is true e = refl
@@ -58,46 +58,46 @@ module _ (start : Start) (tx : TxId) (there : IsIn (coordinator_member tx) (made
           sym (ap (λ n. nat_le n tx.seq) next) ∙ now
 
   -- who is there isn't unborn
-  born : (log : List HostStep) (t : Transaction) → entry_of (c log) tx ≡ Some t → IsUnborn log → ⊥
-  born log t found is =
+  born : NobodyStarts start → (log : List HostStep) (t : Transaction) → entry_of (c log) tx ≡ Some t → IsUnborn log → ⊥
+  born nobody log t found is =
       let below = each_found (λ (e : TxId × Transaction). e.0.seq < (c log).tc.next_seq) (c log).tc.live tx t
-      (coordinator_of start member there log).begun found in
+      (coordinator_of start member there nobody log).begun found in
       omega (arith, below, leb-true (c log).tc.next_seq tx.seq is)
 
   -- and nothing is asked for it
-  unborn_unsent : (log : List HostStep) (e : HostStep) → IsUnborn (e ∷ log)
+  unborn_unsent : NobodyStarts start → (log : List HostStep) (e : HostStep) → IsUnborn (e ∷ log)
       → is_sent (is_request tx) (step_after start (tc_of start member) log e).effects.sends ≡ false
-  unborn_unsent log e now =
+  unborn_unsent nobody log e now =
       no_request tx sends (none_passes (λ (o : Outgoing). is_token tx o.body) sends (by tokens.step.moves))
     where
       sends : List Outgoing
       sends = (step_after start (tc_of start member) log e).effects.sends
 
       tokens : StepTokens start member there tx refl log e
-      tokens = step_tokens start member there tx refl log e (always_fits start member there tx refl log)
+      tokens = step_tokens start member there tx refl nobody log e (always_fits start member there tx refl nobody log)
 
       none_there : (o : Option Transaction) → entry_of (c (e ∷ log)) tx ≡ o → has_asked o ≡ true → ⊥
       none_there None is asked = true≢false (sym asked)
-      none_there (Some t) is asked = born (e ∷ log) t is now
+      none_there (Some t) is asked = born nobody (e ∷ log) t is now
 
       by : TokenMove tx tokens.body (has_gone_back start member tx log) (entry_of (c log) tx)
           (entry_of (c (e ∷ log)) tx) sends → count_sent (is_token tx) sends ≡ 0
       by (quiet none goes) = none
       by (sends_one one request none asked off) = absurd (none_there (entry_of (c (e ∷ log)) tx) refl asked)
 
-  pub never_asked : (number : ℕ) (log : List HostStep) → IsUnborn log
+  pub never_asked : NobodyStarts start → (number : ℕ) (log : List HostStep) → IsUnborn log
       → was_sent_in start (coordinator_member tx) (is_request tx) number log ≡ false
-  never_asked number [] now = refl
-  never_asked number (e ∷ log) now =
+  never_asked nobody number [] now = refl
+  never_asked nobody number (e ∷ log) now =
       ap (λ b. (b && ((view_after start (tc_of start member) (e ∷ log)).number == number))
-      || was_sent_in start member (is_request tx) number log) (unborn_unsent log e now)
-      ∙ never_asked number log (unborn_before log e now)
+      || was_sent_in start member (is_request tx) number log) (unborn_unsent nobody log e now)
+      ∙ never_asked nobody number log (unborn_before nobody log e now)
 
   -- Where it isn't there before a step of the host, and just begun behind it, it was unborn.
-  pub begun_unborn : (log : List HostStep) (e : HostStep)
+  pub begun_unborn : NobodyStarts start → (log : List HostStep) (e : HostStep)
       → entry_of (coordinator_after start (coordinator_member tx) log) tx ≡ None
       → entry_of (coordinator_after start (coordinator_member tx) (e ∷ log)) tx ≡ Some fresh → IsUnborn log
-  begun_unborn log e none some = by (coordinator_comes start member there log e tx)
+  begun_unborn nobody log e none some = by (coordinator_comes start member there nobody log e tx)
     where
       at : (n m : ℕ) → n ≡ m → (b : Bool) → nat_le n m ≡ b → b ≡ true
       at n m is true e = refl

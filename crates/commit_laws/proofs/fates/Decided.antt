@@ -182,7 +182,8 @@ module _ (forth : ForthIsKnownAlways) where
         rows_same member there =
             ap (rows_after start member)
             (log_of-other (machine start) e es (ldm_of start member)
-            (λ same. ldm_no_tc start member (coordinator_member tx) there decides.made (sym same ∙ decides.at)))
+            (λ same. ldm_no_tc start moment.cluster.nobody member (coordinator_member tx) there decides.made
+            (sym same ∙ decides.at)))
 
         known_same : is_known start new tx ≡ is_known start old tx
         known_same =

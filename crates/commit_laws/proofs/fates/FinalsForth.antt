@@ -30,7 +30,7 @@ use Rattle.node_views.specs.WellFormed.{is_well_formed}
 use Rattle.world_core.specs.History.{is_applied, is_reported, writes}
 use Rattle.world_core.specs.Hosts.{hosts}
 use Rattle.world_core.specs.Marks.{has_mark, have_mark}
-use Rattle.world_core.specs.Start.{Start, made}
+use Rattle.world_core.specs.Start.{NobodyStarts, Start, made}
 use Rattle.world_core.specs.Steps.{Addressed, HostStep}
 use Rattle.world_views.specs.Hosts.{started}
 use Rattle.world_views.specs.Machine.{IsOwnWork, machine}
@@ -75,14 +75,15 @@ record RunsRows (start : Start) (h : ℕ) : Type 0 where
   is_made : IsIn me (made start)
   at : h ≡ ldm_of start me
 
-runs_first : (start : Start) (h : ℕ) → PartHost start h
+runs_first : (start : Start) (nobody : NobodyStarts start) (h : ℕ) → PartHost start h
     → RunsIf (RunsRows start h) (λ tx. Unit {0}) (started start h).parts
-runs_first start h (coordinates me there at) =
+runs_first start nobody h (coordinates me there at) =
     subst (λ k. RunsIf (RunsRows start h) (λ tx. Unit {0}) (started start k).parts) (sym at)
-    (subst (λ s. RunsIf (RunsRows start h) (λ tx. Unit {0}) s.parts) (sym (tc_started start me there)) tt)
-runs_first start h (keeps_rows me there at) =
+    (subst (λ s. RunsIf (RunsRows start h) (λ tx. Unit {0}) s.parts) (sym (tc_started start nobody me there)) tt)
+runs_first start nobody h (keeps_rows me there at) =
     runs_any (RunsRows start h) (λ tx. Unit {0}) (record { me = me; is_made = there; at = at }) (started start h).parts
-runs_first start h (is_beside beside) = runs_none (RunsRows start h) (λ tx. Unit {0}) (started start h).parts beside
+runs_first start nobody h (is_beside beside) =
+    runs_none (RunsRows start h) (λ tx. Unit {0}) (started start h).parts beside
 
 module _ (start : Start) (all : ℕ → List HostStep) (e : HostStep) (es : List HostStep)
     (moment : IsMoment start all (e ∷ es))
@@ -114,8 +115,10 @@ module _ (start : Start) (all : ℕ → List HostStep) (e : HostStep) (es : List
     reasons =
         let happens : Happens (sound_machine start) es e = moment.run.1 in
         subst (Each (HasReason (RunsRows start e.host) F)) (sym happens.step.fits.marks)
-        (marks_have_reasons start e.host (RunsRows start e.host)
-        (runs_first start e.host (part_host start e.host (host_low start all e es moment))) F (old e.host) e told_forth)
+        (marks_have_reasons start moment.cluster.nobody e.host (RunsRows start e.host)
+        (runs_first start moment.cluster.nobody e.host
+        (part_host start moment.cluster.nobody e.host (host_low start all e es moment))) F (old e.host) e
+        told_forth)
 
     -- what is reported now has gone forth
     reported_now : (v : TxId) → list_any (is_reported v) e.step.marks ≡ true → F v

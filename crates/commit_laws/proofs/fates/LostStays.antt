@@ -33,7 +33,7 @@ use Rattle.node_views.specs.declared.parts.Parts.TheVariants as part
 use Rattle.node_views.specs.declared.tc_part.TcPart.{TcPart}
 use Rattle.node_views.specs.Parts.{tc_row}
 use Rattle.node_views.specs.WellFormed.{is_well_formed}
-use Rattle.world_core.specs.Start.{Start, made}
+use Rattle.world_core.specs.Start.{NobodyStarts, Start, made}
 use Rattle.world_core.specs.Steps.{HostStep}
 use Rattle.world_views.specs.Machine.{machine, step_after}
 use Rattle.host_laws.proofs.coordinator.Ways.{aborting_apart}
@@ -142,9 +142,9 @@ module _ (start : Start) (member : Member) (there : IsIn member (made start)) (t
   abbrev h : ℕ
   h = tc_of start member
 
-  module _ (log : List HostStep) (e : HostStep) where
+  module _ (nobody : NobodyStarts start) (log : List HostStep) (e : HostStep) where
     abbrev at : IsRun start member there log
-    at = runs_tc start member there log
+    at = runs_tc start member there nobody log
 
     abbrev x : Signal
     x = e.step.taken
@@ -174,7 +174,7 @@ module _ (start : Start) (member : Member) (there : IsIn member (made start)) (t
 
     step_dooms : Dooms (c log) x.body (c (e ∷ log)) tx
     step_dooms = subst (λ (s : CoordinatorState). Dooms s x.body (c (e ∷ log)) tx)
-        (sym (coordinator_is start member there log at)) (by (tc_goes start h log e at.own at.runs))
+        (sym (coordinator_is start member there log at)) (by (tc_goes start nobody h log e at.own at.runs))
       where
         by : Goes start.shape at.own x (step_after start h log e) → Dooms at.own.coordinator x.body (c (e ∷ log)) tx
         by (goes.leaves between entered parts words marks) =
@@ -200,7 +200,7 @@ module _ (start : Start) (member : Member) (there : IsIn member (made start)) (t
 
     step_same : (epoch : ℕ) → x.body ≡ Epoch (DiVerifyConf tx epoch) → is_among (c log).doomed tx ≡ true
         → o (e ∷ log) ≡ o log
-    step_same epoch is among = by (tc_goes start h log e at.own at.runs) ∙ sym was
+    step_same epoch is among = by (tc_goes start nobody h log e at.own at.runs) ∙ sym was
       where
         was : o log ≡ entry_of at.own.coordinator tx
         was = ap (λ (s : CoordinatorState). entry_of s tx) (coordinator_is start member there log at)
@@ -226,7 +226,7 @@ module _ (start : Start) (member : Member) (there : IsIn member (made start)) (t
   abbrev pub AllDoomed : List HostStep → Type 0
   AllDoomed log = is_among (coordinator_after start member log).doomed tx ≡ true → IsDoomedThere log
 
-  module _ (log : List HostStep) (e : HostStep) where
+  module _ (nobody : NobodyStarts start) (log : List HostStep) (e : HostStep) where
     abbrev sends : List Outgoing
     sends = (step_after start h log e).effects.sends
 
@@ -238,7 +238,7 @@ module _ (start : Start) (member : Member) (there : IsIn member (made start)) (t
     module _ (t : Transaction) (found : o log ≡ Some t) (forth : f log ≡ false)
         (held : (epoch : ℕ) → e.step.taken.body ≡ Epoch (DiVerifyConf tx epoch) → o (e ∷ log) ≡ o log) where
       says : WaySays (f log) (b log) t.phase
-      says = (goes_one_way start member there tx log).says t found
+      says = (goes_one_way start member there tx nobody log).says t found
 
       -- it is there behind the event, in such a phase
       stays_by : (u : Transaction) → o (e ∷ log) ≡ Some u → is_decided u.phase ≡ false
@@ -322,7 +322,7 @@ module _ (start : Start) (member : Member) (there : IsIn member (made start)) (t
       counted is = at_decided t.phase (f log) (b log) says (sym (ap (is_at is_decided) found) ∙ is)
 
       remains : Remains
-      remains = by (coordinator_comes start member there log e tx)
+      remains = by (coordinator_comes start member there nobody log e tx)
         where
           by : Comes member (c log) e.step.taken (is_well_formed start.shape e.step.taken ≡ true) tx (c (e ∷ log)) sends
               → Remains
@@ -342,12 +342,12 @@ module _ (start : Start) (member : Member) (there : IsIn member (made start)) (t
       where
         by : (x : Option Transaction) → o log ≡ x → Remains
         by None is = absurd ((before among).lives is)
-        by (Some t) is = remains t is (before among).forth (λ epoch about. step_same log e epoch about among)
+        by (Some t) is = remains t is (before among).forth (λ epoch about. step_same nobody log e epoch about among)
 
     now_doomed : AllDoomed log → AllDoomed (e ∷ log)
     now_doomed before among = record {
-      lives = (step_dooms log e).lives (λ is. (before is).lives) among;
-      forth = by ((step_dooms log e).was among);
+      lives = (step_dooms nobody log e).lives (λ is. (before is).lives) among;
+      forth = by ((step_dooms nobody log e).was among);
     }
       where
         by : (is_among (c log).doomed tx ≡ true) ⊎ (IsUndecidedThere (c log) tx × IsPromise e.step.taken.body)
@@ -356,24 +356,25 @@ module _ (start : Start) (member : Member) (there : IsIn member (made start)) (t
         by (inr (one, promise)) =
             (remains one.transaction one.there
             (undecided_forth one.transaction.phase (f log) (b log)
-            ((goes_one_way start member there tx log).says one.transaction one.there) one.undecided)
+            ((goes_one_way start member there tx nobody log).says one.transaction one.there) one.undecided)
             (λ epoch about. absurd (not_promise epoch tx e.step.taken.body about promise))).forth
 
-  first_doomed : AllDoomed []
-  first_doomed among =
+  first_doomed : NobodyStarts start → AllDoomed []
+  first_doomed nobody among =
       absurd (true≢false (sym among ∙ ap (λ (s : CoordinatorState). is_among s.doomed tx)
-      (coordinator_first start member there)))
+      (coordinator_first start member there nobody)))
 
-  all_doomed : (log : List HostStep) → AllDoomed log
-  all_doomed [] = first_doomed
-  all_doomed (e ∷ log) = now_doomed log e (all_doomed log)
+  all_doomed : NobodyStarts start → (log : List HostStep) → AllDoomed log
+  all_doomed nobody [] = first_doomed nobody
+  all_doomed nobody (e ∷ log) = now_doomed nobody log e (all_doomed nobody log)
 
   -- lost along a log
   abbrev pub lost_along : List HostStep → Bool
   lost_along log = not (f log) && (b log || is_among (c log).doomed tx)
 
-  pub lost_next : (log : List HostStep) (e : HostStep) → lost_along log ≡ true → lost_along (e ∷ log) ≡ true
-  lost_next log e lost = by (b log) refl (is_among (c log).doomed tx) refl
+  pub lost_next : NobodyStarts start → (log : List HostStep) (e : HostStep) → lost_along log ≡ true
+      → lost_along (e ∷ log) ≡ true
+  lost_next nobody log e lost = by (b log) refl (is_among (c log).doomed tx) refl
     where
       forth : f log ≡ false
       forth = not_true (f log) (and_parts (not (f log)) (b log || is_among (c log).doomed tx) lost).0
@@ -386,18 +387,19 @@ module _ (start : Start) (member : Member) (there : IsIn member (made start)) (t
           → lost_along (e ∷ log) ≡ true
       by true back doomed among =
           let back_now = gone_stays start member tx is_aborting (tells_abort tx) log e back in
-          made_of (not_both (f (e ∷ log)) (b (e ∷ log)) back_now (goes_one_way start member there tx (e ∷ log)).one_way)
+          made_of (not_both (f (e ∷ log)) (b (e ∷ log)) back_now
+          (goes_one_way start member there tx nobody (e ∷ log)).one_way)
           (ap (λ x. x || is_among (c (e ∷ log)).doomed tx) back_now)
       by false back true among = made_of now.forth (either (o (e ∷ log)) refl)
         where
-          now : Remains log e
-          now = doomed_remains log e (all_doomed log) among
+          now : Remains nobody log e
+          now = doomed_remains nobody log e (all_doomed nobody log) among
 
           either : (x : Option Transaction) → o (e ∷ log) ≡ x → (b (e ∷ log) || is_among (c (e ∷ log)).doomed tx) ≡ true
           either None is = ap (λ x. x || is_among (c (e ∷ log)).doomed tx) (now.back is)
           either (Some t) is =
               or_right (b (e ∷ log)) (is_among (c (e ∷ log)).doomed tx)
-              ((step_dooms log e).stays among (λ none. let nothing : Some t ≡ None = sym is ∙ none in cc))
+              ((step_dooms nobody log e).stays among (λ none. let nothing : Some t ≡ None = sym is ∙ none in cc))
       by false back false among =
           let off : lost_along log ≡ false =
           ap (λ x. not (f log) && (x || is_among (c log).doomed tx)) back
@@ -409,6 +411,7 @@ pub lost_stay : LostStay
 lost_stay start all e es moment tx there lost =
     event_cases (machine start) e es (tc_of start (coordinator_member tx))
     (λ log. lost_along start (coordinator_member tx) there tx log ≡ true)
-    (λ at. lost_next start (coordinator_member tx) there tx (logs_of start es (tc_of start (coordinator_member tx))) e
+    (λ at. lost_next start (coordinator_member tx) there tx moment.cluster.nobody
+    (logs_of start es (tc_of start (coordinator_member tx))) e
     lost)
     (λ off. lost)

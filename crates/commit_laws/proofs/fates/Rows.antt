@@ -227,7 +227,7 @@ module _ (start : Start) (all : ℕ → List HostStep) (e : HostStep) (es : List
   -- where it isn't such a commit, what had no trace has none
   module _ (at : e.host ≡ h) where
     did : LdmStep start e.host (old e.host) e
-    did = ldm_step start member there e.host at (old e.host) e
+    did = ldm_step start moment.cluster.nobody member there e.host at (old e.host) e
 
     was : rows_at start old member ≡ did.own.replica
     was = ap (λ k. rows_after start member (old k)) (sym at)

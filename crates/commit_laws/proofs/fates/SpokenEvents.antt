@@ -142,13 +142,14 @@ module _ (known : ForthIsKnownAlways) (start : Start) (all : ℕ → List HostSt
         row _ taken = tt
 
     sends_speak : AreSpoken A C sends
-    sends_speak = by (part_host start e.host (host_low start all e es moment))
+    sends_speak = by (part_host start follows.moment.cluster.nobody e.host (host_low start all e es moment))
       where
         by : PartHost start e.host → AreSpoken A C sends
         by (coordinates me there at) =
             subst (λ k. AreSpoken A C (step_after start k (old k) e).effects.sends) (sym at)
             (tc_speaks start all e es moment me there at W (goes me there at) (known start all (e ∷ es) moment))
-        by (keeps_rows me there at) = ldm_speaks (ldm_step start me there e.host at (old e.host) e)
+        by (keeps_rows me there at) =
+            ldm_speaks (ldm_step start follows.moment.cluster.nobody me there e.host at (old e.host) e)
         by (is_beside first) = beside_speaks A C start e.host first (old e.host) e
 
     abbrev NowCommits : Addressed → Type 0

@@ -64,7 +64,8 @@ pub stood_still : (start : Start) (all : ℕ → List HostStep) (e : HostStep) (
     → number ≡ current_number start (logs_of start (e ∷ es))
     → number ≤ number_in start (logs_of start es) (tc_of start member) → StandsStill start e es member
 stood_still start all e es moment member there number is low =
-    let above = current_above start (logs_of start es) (tc_of start member) (tc_low start member there) in
+    let above = current_above start (logs_of start es) moment.cluster.nobody (tc_of start member)
+    (tc_low start moment.cluster.nobody member there) in
     let rises = current_rises start all e es moment in
     record {
       current_is = old_current start all e es moment (omega (arith, is, low, above, rises));
@@ -122,7 +123,7 @@ module _ (start : Start) (all : ℕ → List HostStep) (e : HostStep) (es : List
     D = Commits start (logs_of start (e ∷ es))
 
     abbrev pub step : TcStep start (tc_of start member) (logs_of start es (tc_of start member)) e
-    step = own_tc start member there log e
+    step = own_tc start moment.cluster.nobody member there log e
 
     abbrev p : TcPart
     p = step.own
@@ -164,7 +165,8 @@ module _ (start : Start) (all : ℕ → List HostStep) (e : HostStep) (es : List
 
         pub stands_still : view ≡ stood → StandsStill start e es member
         stands_still same =
-            let low = current_above start old h (tc_low start member there) in
+            let low =
+            current_above start old moment.cluster.nobody h (tc_low start moment.cluster.nobody member there) in
             let rises = current_rises start all e es moment in
             let here : view.number ≡ current_number start new = ap (λ (v : View). v.number) view_is in
             let still : view.number ≡ stood.number = ap (λ (v : View). v.number) same in

@@ -82,7 +82,7 @@ module _ (start : Start) (all : ℕ → List HostStep) (e : HostStep) (es : List
           back = way_is (λ m l. has_gone_back start m tx l) is
 
           one_way : has_gone_forth start member tx (e ∷ log) ≡ true → has_gone_back start member tx (e ∷ log) ≡ false
-          one_way = (goes_one_way start member there tx (e ∷ log)).one_way
+          one_way = (goes_one_way start member there tx moment.cluster.nobody (e ∷ log)).one_way
 
           not_forth : has_gone_forth start member tx (e ∷ log) ≡ false
           not_forth =
@@ -127,11 +127,11 @@ module _ (start : Start) (all : ℕ → List HostStep) (e : HostStep) (es : List
             goes_back
             (shown is_aborting tells_abort s now own_sends before behind (sent (tells_abort tx))
             (λ t some is. at_aborting t.phase (has_gone_forth start member tx log) (has_gone_back start member tx log)
-            ((goes_one_way start member there tx log).says t some) is) shows)
+            ((goes_one_way start member there tx moment.cluster.nobody log).says t some) is) shows)
 
         pub shown_forth : Shows is_decided tells_commit s now tx own_sends → fate start new tx ≡ commits
         shown_forth shows =
             goes_forth
             (shown is_decided tells_commit s now own_sends before behind (sent (tells_commit tx))
             (λ t some is. at_decided t.phase (has_gone_forth start member tx log) (has_gone_back start member tx log)
-            ((goes_one_way start member there tx log).says t some) is) shows)
+            ((goes_one_way start member there tx moment.cluster.nobody log).says t some) is) shows)

@@ -30,7 +30,7 @@ use Rattle.node_views.specs.declared.parts.Parts.TheVariants.{Ldm, Main, Shell, 
 use Rattle.node_views.specs.Replies.{giving}
 use Rattle.node_views.specs.WellFormed.{is_well_formed}
 use Rattle.world_core.specs.Hosts.{member_at, part_by}
-use Rattle.world_core.specs.Start.{Start, made}
+use Rattle.world_core.specs.Start.{NobodyStarts, Start, made}
 use Rattle.world_core.specs.Steps.{Addressed, HostStep}
 use Rattle.world_views.specs.Hosts.{part_started, started}
 use Rattle.world_views.specs.Machine.{after, machine, signals_of, step_after, step_by, told}
@@ -140,16 +140,16 @@ module _ (start : Start) (logs : ℕ → List HostStep) where
     pub known : (tx : TxId) → IsAcknowledged tx → IsForth start logs tx
 
 module _ (start : Start) where
-  first_forth : AllForth start (λ h. [])
+  first_forth : NobodyStarts start → AllForth start (λ h. [])
   unfolding started
-  first_forth = record { parts = parts; signals = λ i j. tt; known = λ tx is. absurd (true≢false (sym is)) }
+  first_forth nobody = record { parts = parts; signals = λ i j. tt; known = λ tx is. absurd (true≢false (sym is)) }
     where
       F : TxId → Type 0
       F = IsForth start (λ h. [])
 
       parts : (h : ℕ) → PartsKnow F (after start h []).parts
       parts zero = tt
-      parts (suc k) = subst (λ s. PartsKnow F s.parts) (sym (started_behind start k)) (by (k % 3))
+      parts (suc k) = subst (λ s. PartsKnow F s.parts) (sym (started_behind start nobody k)) (by (k % 3))
         where
           by : (left : ℕ) → PartsKnow F (part_started start (part_by left) (member_at (made start) (suc k))).parts
           by zero = tt
@@ -198,7 +198,8 @@ module _ (start : Start) where
       old_parts h = parts_grow (IsForth start old) F forth_more (after start h (old h)).parts (stood.parts h)
 
       shaped : is_well_formed s.standing.shape x ≡ true → is_well_formed start.shape x ≡ true
-      shaped sound = ap (λ shape. is_well_formed shape x) (sym (shape_stays start e.host (old e.host))) ∙ sound
+      shaped sound = ap (λ shape. is_well_formed shape x)
+          (sym (shape_stays start moment.cluster.nobody e.host (old e.host))) ∙ sound
 
       -- where this is so of whoever was acknowledged before
       module _ (B : TxId → Type 0) (may : (tx : TxId) → IsAcknowledged start old tx → B tx) where
@@ -252,7 +253,8 @@ module _ (start : Start) where
                 (sym (log_of-own (machine start) e es (tc_of start me) at)) gone)
 
             says : SaysForth start me there (old (tc_of start me)) e F B
-            says = tc_forth start me there (old (tc_of start me)) e F B taken (old_parts (tc_of start me)) forth
+            says = tc_forth start me there (old (tc_of start me)) e moment.cluster.nobody F B taken
+                (old_parts (tc_of start me)) forth
 
       -- behind the step
       record IsNow : Type 0 where
@@ -305,7 +307,7 @@ module _ (start : Start) where
           (log_of-other (machine start) e es 0 other) is))
 
       is_now : IsNow
-      is_now = by (tc_host_is start e.host (host_low start all e es moment))
+      is_now = by (tc_host_is start moment.cluster.nobody e.host (host_low start all e es moment))
         where
           apart : HasNoTc (started start e.host).parts → (h : ℕ) → e.host ≡ h → IsNow
           apart none zero at =
@@ -313,7 +315,7 @@ module _ (start : Start) where
               (apart_says F (λ tx is. forth_more tx (stood.known tx is)) none (inr (λ tx is. is)))
           apart none (suc k) at =
               let shell = subst (λ h. HasNoShell (after start h (old h)).parts) (sym at)
-              (never_shell start k (old (suc k))) in
+              (never_shell start moment.cluster.nobody k (old (suc k))) in
               let says = apart_says A known_more none (inl shell) in
               record {
                 knowing = says.knowing;
@@ -359,7 +361,7 @@ module _ (start : Start) where
 -- so it is at each moment
 pub all_forth : (start : Start) (all : ℕ → List HostStep) (es : List HostStep) → IsMoment start all es
     → AllForth start (logs_of start es)
-all_forth start all [] moment = first_forth start
+all_forth start all [] moment = first_forth start moment.cluster.nobody
 all_forth start all (e ∷ es) moment =
     next_forth start all e es moment (all_forth start all es (moment_less start all e es moment))
 

@@ -107,8 +107,9 @@ module _ (start : Start) (all : ℕ → List HostStep) (e : HostStep) (es : List
             subst (Heard start member) own (heard_at start all member there (e ∷ es) moment) in
             let at_epoch = decided_at (old (tc_of start member)) tx is in
             ap (ops_of tx) own
-            ∙ ops_stay start member there (old (tc_of start member)) e heard.0 tx
-            ((is_kept start member there (old (tc_of start member)) heard.1).decided tx at_epoch.epoch at_epoch.marked)
+            ∙ ops_stay start member there moment.cluster.nobody (old (tc_of start member)) e heard.0 tx
+            ((is_kept start member there moment.cluster.nobody (old (tc_of start member)) heard.1).decided tx
+            at_epoch.epoch at_epoch.marked)
         by (inr other) = ap (ops_of tx) (log_of-other (machine start) e es (tc_of start member) other)
 
     -- so what it wrote is the same

@@ -18,7 +18,7 @@ use Rattle.sig_core.specs.declared.signal.client.ClientSignal.{ClientSignal}
 use Rattle.sig_core.specs.declared.signal.client.ClientSignal.TheVariants.{TcCommitAck, TcCommitConf, TcKeyFailConf}
 use Rattle.sig_core.proofs.TxLemmas.{same_tx-is}
 use Rattle.node_views.specs.WellFormed.{is_well_formed}
-use Rattle.world_core.specs.Start.{Start}
+use Rattle.world_core.specs.Start.{NobodyStarts, Start}
 use Rattle.world_core.specs.Steps.{Addressed, HostStep}
 use Rattle.world_views.specs.Hosts.{started}
 use Rattle.world_views.specs.Machine.{IsOwnWork, step_after}
@@ -50,13 +50,16 @@ pub record TakesWord (start : Start) (e : HostStep) (tx : TxId) : Type 0 where
   pub sound : is_well_formed start.shape e.step.taken ≡ true
   pub told : IsToldOf tx e.step.taken.body
 
-module _ (start : Start) (e : HostStep) (log : List HostStep) where
+module _ (start : Start) (nobody : NobodyStarts start) (e : HostStep) (log : List HostStep) where
   abbrev shell_sends : List Outgoing
   shell_sends = (step_after start 0 log e).effects.sends
 
   ends : AreEnds (TakesWord start e) shell_sends
   unfolding started
-  ends = beside_ends start 0 tt (TakesWord start e) log e (λ sound tx told. record { sound = sound; told = told })
+  ends = beside_ends start nobody 0 tt (TakesWord start e) log e (λ sound tx told. record {
+    sound = sound;
+    told = told;
+  })
 
   word_of : (tx : TxId) (body : Body) → IsEnd (TakesWord start e) body → is_acknowledgement tx body ≡ true
       → TakesWord start e tx
@@ -131,7 +134,7 @@ module _ (start : Start) (all : ℕ → List HostStep) (e : HostStep) (es : List
             known_cases start e es tx (λ at here. here) (λ was. absurd (true≢false (sym was ∙ off))) is
 
         word : TakesWord start e tx
-        word = takes_word start e (old 0) tx acknowledges
+        word = takes_word start follows.moment.cluster.nobody e (old 0) tx acknowledges
 
         -- what is told of all that was sent is told of it
         told_of : (K : Body → Type 0) (signal : ClientSignal) → e.step.taken.body ≡ Client signal

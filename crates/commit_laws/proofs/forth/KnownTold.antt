@@ -27,7 +27,7 @@ use Rattle.node_views.specs.declared.parts.Parts.TheVariants.{Ldm, Main, Shell, 
 use Rattle.node_views.specs.Parts.{shell_row}
 use Rattle.node_views.specs.Replies.{giving}
 use Rattle.node_views.specs.WellFormed.{is_well_formed}
-use Rattle.world_core.specs.Start.{Start}
+use Rattle.world_core.specs.Start.{NobodyStarts, Start}
 use Rattle.world_core.specs.Steps.{Addressed, HostStep}
 use Rattle.world_views.specs.Hosts.{started}
 use Rattle.world_views.specs.Machine.{IsOwnWork, after, machine, step_after, step_by, told}
@@ -124,11 +124,11 @@ module _ (start : Start) where
       given_shell (step_by 0 (after start 0 log) e.step.taken)
       (shell_steps e.step.taken Unit (after start 0 log) (λ sound. tt) (runs_shell log)).0
 
-  owed : (log : List HostStep) (e : HostStep)
+  owed : NobodyStarts start → (log : List HostStep) (e : HostStep)
       → AreOwed e.step.taken (is_well_formed start.shape e.step.taken ≡ true) (step_after start 0 log e).effects
-  owed log e =
+  owed nobody log e =
       (shell_steps e.step.taken (is_well_formed start.shape e.step.taken ≡ true) (after start 0 log)
-      (λ sound. ap (λ shape. is_well_formed shape e.step.taken) (sym (shape_stays start 0 log)) ∙ sound)
+      (λ sound. ap (λ shape. is_well_formed shape e.step.taken) (sym (shape_stays start nobody 0 log)) ∙ sound)
       (runs_shell log)).1
 
 -- a signal was sent that tells the client's side of the commit
@@ -200,7 +200,7 @@ module _ (start : Start) (all : ℕ → List HostStep) (e : HostStep) (es : List
         passing (λ (o : Outgoing). is_acknowledgement tx o.body) (step_after start 0 (old 0) e).effects.sends is in
         by one.item.body one.is
         (each_in (λ (o : Outgoing). Owes x (is_well_formed start.shape x ≡ true) o.body) one.item
-        (step_after start 0 (old 0) e).effects.sends (owed start (old 0) e) one.there)
+        (step_after start 0 (old 0) e).effects.sends (owed start moment.cluster.nobody (old 0) e) one.there)
       where
         by : (body : Body) → is_acknowledgement tx body ≡ true → Owes x (is_well_formed start.shape x ≡ true) body
             → WasTold start old tx

@@ -19,7 +19,7 @@ use Rattle.tc_views.specs.Views as coordinators
 use Rattle.node_views.specs.declared.tc_part.TcPart.{TcPart}
 use Rattle.node_views.specs.Parts.{tc_entered, tc_row}
 use Rattle.world_core.specs.Hosts.{member_at}
-use Rattle.world_core.specs.Start.{Start, made}
+use Rattle.world_core.specs.Start.{NobodyStarts, Start, made}
 use Rattle.world_core.specs.Steps.{Addressed, HostStep}
 use Rattle.world_views.specs.Machine.{after, signals_of, step_after}
 use Rattle.view_laws.specs.Order.{is_sound}
@@ -57,7 +57,8 @@ abbrev pub AreOfOwn : Member → List Outgoing → Type 0
 AreOfOwn member sends = Each (λ (o : Outgoing). IsOfOwn member o.body) sends
 
 -- the host of a member's coordinator
-module _ (start : Start) (member : Member) (there : IsIn member (made start)) (log : List HostStep) (e : HostStep) where
+module _ (start : Start) (nobody : NobodyStarts start) (member : Member) (there : IsIn member (made start))
+    (log : List HostStep) (e : HostStep) where
   abbrev x : Signal
   x = e.step.taken
 
@@ -84,11 +85,11 @@ module _ (start : Start) (member : Member) (there : IsIn member (made start)) (l
   of_takeover body kind = tt
 
   run : IsRun start member there log
-  run = runs_tc start member there log
+  run = runs_tc start member there nobody log
 
   did : TcDoes start.shape run.own (view_after start (tc_of start member) log) e.step.taken
       (after start (tc_of start member) (e ∷ log)).parts (view_after start (tc_of start member) (e ∷ log)) sends
-  did = tc_after start (tc_of start member) log e (part_some start parts.Tc member) run.own run.runs
+  did = tc_after start nobody (tc_of start member) log e (part_some start parts.Tc member) run.own run.runs
 
   abbrev Enters : Type 0
   Enters =
@@ -161,13 +162,13 @@ module _ (start : Start) (all : ℕ → List HostStep) (e : HostStep) (es : List
         (rows_words s e.step.taken))
 
     all_own : AreOfOwn (member_at (made start) e.host) (sends_at e.host)
-    all_own = by (part_host start e.host (host_low start all e es moment))
+    all_own = by (part_host start moment.cluster.nobody e.host (host_low start all e es moment))
       where
         by : PartHost start e.host → AreOfOwn (member_at (made start) e.host) (sends_at e.host)
         by (coordinates me there at) =
             subst (λ h. AreOfOwn (member_at (made start) h) (sends_at h)) (sym at)
-            (subst (λ m. AreOfOwn m (sends_at (tc_of start me))) (sym (tc_member start me there))
-            (tc_own start me there (old (tc_of start me)) e))
+            (subst (λ m. AreOfOwn m (sends_at (tc_of start me))) (sym (tc_member start moment.cluster.nobody me there))
+            (tc_own start moment.cluster.nobody me there (old (tc_of start me)) e))
         by (keeps_rows me there at) =
             subst (λ h. AreOfOwn (member_at (made start) e.host) (sends_at h)) (sym at)
             (rows_own (member_at (made start) e.host) me there at)
@@ -175,7 +176,7 @@ module _ (start : Start) (all : ℕ → List HostStep) (e : HostStep) (es : List
             each_map (λ (o : Outgoing). IsEnd (λ tx. Unit {0}) o.body)
             (λ (o : Outgoing). IsOfOwn (member_at (made start) e.host) o.body) (sends_at e.host)
             (λ o is. of_ends (member_at (made start) e.host) o.body is)
-            (beside_ends start e.host first (λ tx. Unit {0}) (old e.host) e (λ sound tx told. tt))
+            (beside_ends start moment.cluster.nobody e.host first (λ tx. Unit {0}) (old e.host) e (λ sound tx told. tt))
 
     sent_own : (y : Addressed)
         → IsSentBy (made start) e.host (after start e.host (e ∷ old e.host)).standing.view (sends_at e.host) y

@@ -118,12 +118,12 @@ module _ (start : Start) (all : ℕ → List HostStep) (e : HostStep) (es : List
     sends = (step_after start 0 (logs_of start es 0) e).effects.sends
 
     now : IsSeeing start (logs_of start es 0)
-    now = seeing start (logs_of start es 0)
+    now = seeing start moment.cluster.nobody (logs_of start es 0)
 
     step : ShellDoes start.shape now.part (view_after start 0 (logs_of start es 0)) e.step.taken
         (step_after start 0 (logs_of start es 0) e).state.parts (view_after start 0 (e ∷ logs_of start es 0))
         (step_after start 0 (logs_of start es 0) e).effects.sends
-    step = did start (logs_of start es 0) e now.part now.runs now.sees
+    step = did start moment.cluster.nobody (logs_of start es 0) e now.part now.runs now.sees
 
     -- nothing acknowledges nothing
     nothing : {G : Type 0} (os : List Outgoing) → os ≡ [] → is_sent (is_acknowledgement tx) os ≡ true → G
@@ -155,7 +155,7 @@ module _ (start : Start) (all : ℕ → List HostStep) (e : HostStep) (es : List
       low = low;
       known =
           ap (λ view. is_member view x.member)
-          (sym (noted_sees start (logs_of start es 0) e now.part now.runs now.sees low))
+          (sym (noted_sees start moment.cluster.nobody (logs_of start es 0) e now.part now.runs now.sees low))
           ∙ vouched tx epoch x body_is step.between.client tx is;
     }
     row_vouched low block.Arbiter is =

@@ -28,7 +28,7 @@ use Rattle.node_views.specs.declared.parts.Parts.TheVariants as part
 use Rattle.node_views.specs.declared.tc_part.TcPart.{TcPart}
 use Rattle.node_views.specs.Parts.{tc_row}
 use Rattle.world_core.specs.Hosts.{hosts, member_at}
-use Rattle.world_core.specs.Start.{Start, made}
+use Rattle.world_core.specs.Start.{NobodyStarts, Start, made}
 use Rattle.world_core.specs.Steps.{HostStep}
 use Rattle.world_views.specs.Machine.{machine}
 use Rattle.view_laws.specs.Runs.{WasInstalled, view_after}
@@ -158,10 +158,11 @@ module _ (orders : OrdersAreOnce) (start : Start) (all : ℕ → List HostStep) 
     idle es moment member there stands none =
         ((ruled orders start all tx [] number left es moment member there).now stands).idle none
 
-    few : (es : List HostStep) (member : Member) → IsIn member (made start) → ordered es member ≤ all_ordered es
-    few es member there =
+    few : NobodyStarts start → (es : List HostStep) (member : Member) → IsIn member (made start)
+        → ordered es member ≤ all_ordered es
+    few nobody es member there =
         one_low (hosts start) (λ h. taken_along start p (logs_of start es h)) (tc_of start member)
-        (tc_low start member there)
+        (tc_low start nobody member there)
 
     -- before the order none was at work
     unordered_rest : (es : List HostStep) → IsMoment start all es → current_number start (logs_of start es) ≡ number
@@ -176,7 +177,7 @@ module _ (orders : OrdersAreOnce) (start : Start) (all : ℕ → List HostStep) 
         rests : AllRest start (logs_of start (e ∷ es))
         rests member there stands =
             ap is_at_work (idle (e ∷ es) moment member there (stands ∙ here)
-            (let less = few (e ∷ es) member there in omega (arith, less, none)))
+            (let less = few moment.cluster.nobody (e ∷ es) member there in omega (arith, less, none)))
 
         by : (current_number start (logs_of start es) < current_number start (logs_of start (e ∷ es)))
             ⊎ (current_number start (logs_of start (e ∷ es)) ≤ current_number start (logs_of start es))
@@ -224,12 +225,14 @@ module _ (orders : OrdersAreOnce) (start : Start) (all : ℕ → List HostStep) 
                   → (ordered (e ∷ es) m ≡ 0) ⊎ (ordered (e ∷ es) m ≢ 0) → is_at_work (stage_at (e ∷ es) m) ≡ false
               by (inl same) count =
                   let one : m ≡ member =
-                  sym (tc_member start m among) ∙ (ap (member_at (made start)) same ∙ tc_member start member there) in
+                  sym (tc_member start moment.cluster.nobody m among)
+                  ∙ (ap (member_at (made start)) same ∙ tc_member start moment.cluster.nobody member there) in
                   ap (λ v. is_at_work (stage_at (e ∷ es) v)) one ∙ not_both (stage_at (e ∷ es) member) gathering
               by (inr apart) (inl none) = ap is_at_work (idle (e ∷ es) moment m among (m_stands ∙ here) none)
               by (inr apart) (inr some) =
                   let both = two_low (hosts start) (λ k. taken_along start p (logs_of start (e ∷ es) k)) (tc_of start m)
-                  (tc_of start member) (tc_low start m among) (tc_low start member there) apart in
+                  (tc_of start member) (tc_low start moment.cluster.nobody m among)
+                  (tc_low start moment.cluster.nobody member there) apart in
                   let own = own_ordered in
                   let once = orders start all (e ∷ es) moment number in
                   absurd (omega (arith, both, own, once, some))
@@ -254,7 +257,7 @@ module _ (orders : OrdersAreOnce) (start : Start) (all : ℕ → List HostStep) 
 
             module _ (at : e.host ≡ tc_of start member) where
               abbrev own : TcStep start (tc_of start member) log e
-              own = own_tc start member there log e
+              own = own_tc start moment.cluster.nobody member there log e
 
               abbrev between : TcPart
               between = own.does.between

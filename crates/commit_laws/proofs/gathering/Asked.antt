@@ -14,7 +14,7 @@ use Rattle.lqh_saver.specs.State.{saving}
 use Rattle.node_views.specs.declared.ldm_part.LdmPart.{LdmPart}
 use Rattle.node_views.specs.Parts.{ldm_row}
 use Rattle.world_core.specs.Hosts.{hosts}
-use Rattle.world_core.specs.Start.{Start, made}
+use Rattle.world_core.specs.Start.{NobodyStarts, Start, made}
 use Rattle.world_core.specs.Steps.{HostStep}
 use Rattle.world_views.specs.Machine.{step_after, machine}
 use Rattle.view_laws.specs.Runs.{view_after}
@@ -36,11 +36,12 @@ use Rattle.commit_laws.proofs.orders.Unseen.{unseen_none}
 use Rattle.commit_laws.proofs.orders.Together.{orders_once}
 
 -- a host that runs rows asks for none
-module _ (start : Start) (me : Member) (there : IsIn me (made start)) (h : ℕ) (at : h ≡ ldm_of start me)
+module _ (start : Start) (nobody : NobodyStarts start) (me : Member) (there : IsIn me (made start)) (h : ℕ)
+    (at : h ≡ ldm_of start me)
     (log : List HostStep) (e : HostStep)
   where
     step : LdmStep start h log e
-    step = ldm_step start me there h at log e
+    step = ldm_step start nobody me there h at log e
 
     of_block : (p : LdmPart) (b : BlockId) → AskNone (ldm_row p b e.step.taken).effects.sends
     unfolding ldm_row
@@ -95,7 +96,7 @@ module _ (start : Start) (node number : ℕ) where
 
     pub asked : (es : List HostStep) → IsMoment start all es → (me : Member) → IsIn me (made start)
         → IsAsked start me node number (tc_of start me) (logs_of start es (tc_of start me))
-    asked [] moment me there = asked_first start me there node number (tc_of start me)
+    asked [] moment me there = asked_first start moment.cluster.nobody me there node number (tc_of start me)
     asked (e ∷ es) moment me there =
         event_keeps (machine start) e es (λ h log. h ≡ tc_of start me → IsAsked start me node number h log)
         (λ before at. next e es moment me there at (before at)) (tc_of start me)
@@ -109,14 +110,14 @@ module _ (start : Start) (node number : ℕ) where
       Few h = sent_along start (asked_in node number) h (logs h) ≤ taken_along start (numbered number is_order) (logs h)
 
       host_few : (h : ℕ) → h < hosts start → Few h
-      host_few h low = by (part_host start h low)
+      host_few h low = by (part_host start moment.cluster.nobody h low)
         where
           silent : ((log : List HostStep) (e : HostStep) → AskNone (step_after start h log e).effects.sends) → Few h
           silent none = let nothing = silent_along h none (logs h) in omega (arith, nothing)
 
           by : PartHost start h → Few h
           by (coordinates me there at) = subst Few (sym at) (asked es moment me there).few
-          by (keeps_rows me there at) = silent (λ log e. rows_none start me there h at log e)
+          by (keeps_rows me there at) = silent (λ log e. rows_none start moment.cluster.nobody me there h at log e)
           by (is_beside first) = silent (λ log e. none_asks _ (aside_none _ (beside_sends start h first log e)))
 
       sent_once : all_sent start (asked_in node number) logs ≤ 1

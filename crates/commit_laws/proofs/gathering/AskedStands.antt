@@ -31,7 +31,7 @@ use Rattle.node_views.specs.declared.parts.Parts.TheVariants as part
 use Rattle.node_views.specs.declared.tc_part.TcPart.{TcPart}
 use Rattle.node_views.specs.Fence.{is_body_fenced}
 use Rattle.node_views.specs.Parts.{tc_row}
-use Rattle.world_core.specs.Start.{Start, made}
+use Rattle.world_core.specs.Start.{NobodyStarts, Start, made}
 use Rattle.world_core.specs.Steps.{HostStep}
 use Rattle.world_views.specs.Machine.{step_after}
 use Rattle.world_views.specs.Sending.{is_own_work}
@@ -84,15 +84,16 @@ module _ (start : Start) (me : Member) (node number k : ℕ) where
     pub now : (view_after start k log).number ≡ number → StandsAsked log (takeover_after start me log)
 
 -- as a life begins
-pub asked_first : (start : Start) (me : Member) → IsIn me (made start) → (node number k : ℕ)
+pub asked_first : (start : Start) (nobody : NobodyStarts start) (me : Member) → IsIn me (made start)
+    → (node number k : ℕ)
     → IsAsked start me node number k []
-asked_first start me there node number k = record {
+asked_first start nobody me there node number k = record {
   few = omega arith;
   now = λ same.
       subst (StandsAsked start me node number k [])
       (sym
       (ap (λ (s : hosts_of.HostBody). takeover_in (resting me.node (first_layout start.shape)) s.parts)
-      (tc_started start me there)))
+      (tc_started start nobody me there)))
       (record { stands = off_stands node _ 0 0 refl; idle = λ none. refl });
 }
 
@@ -121,7 +122,7 @@ module _ (orders : OrdersAreOnce) (start : Start) (all : ℕ → List HostStep) 
     sends = (step_after start e.host log e).effects.sends
 
     tc : TcStep start e.host log e
-    tc = tc_step start me there e.host at log e
+    tc = tc_step start moment.cluster.nobody me there e.host at log e
 
     abbrev between : TcPart
     between = tc.does.between
@@ -305,7 +306,7 @@ module _ (orders : OrdersAreOnce) (start : Start) (all : ℕ → List HostStep) 
           laid =
               ap (λ (s : TakeoverState). s.layout.view)
               (sym (takeover_is start me e.host (e ∷ log) at tc.does.own tc.does.is))
-              ∙ (ap (λ (l : Layout). l.view) (takeover_laid start me there (e ∷ log))
+              ∙ (ap (λ (l : Layout). l.view) (takeover_laid start moment.cluster.nobody me there (e ∷ log))
               ∙ ap (λ h. view_after start h (e ∷ log)) (sym at))
 
       off_few : is_gathering tc.does.own.takeover.stage ≡ false → sent_behind ≤ ordered_behind

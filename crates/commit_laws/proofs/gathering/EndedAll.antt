@@ -26,7 +26,7 @@ use Rattle.lqh_views.specs.WholeReports.{ends}
 use Rattle.takeover_block.specs.Gather.{member_count}
 use Rattle.node_views.specs.WellFormed.{is_well_formed}
 use Rattle.world_core.specs.Hosts.{hosts}
-use Rattle.world_core.specs.Start.{Start, made}
+use Rattle.world_core.specs.Start.{NobodyStarts, Start, made}
 use Rattle.world_core.specs.Steps.{Addressed, HostStep}
 use Rattle.world_views.specs.Machine.{machine, step_after}
 use Rattle.world_views.specs.Sending.{is_own_work}
@@ -56,11 +56,12 @@ use Rattle.commit_laws.proofs.gathering.Ends.{ender_full, ends_once}
 use Rattle.commit_laws.proofs.gathering.Words.{EndNone, aside_none, none_ends, tc_ends_none, tc_enters_none}
 
 -- a host that coordinates ends no report
-module _ (start : Start) (me : Member) (there : IsIn me (made start)) (h : ℕ) (at : h ≡ tc_of start me)
+module _ (start : Start) (nobody : NobodyStarts start) (me : Member) (there : IsIn me (made start)) (h : ℕ)
+    (at : h ≡ tc_of start me)
     (log : List HostStep) (e : HostStep)
   where
     step : TcStep start h log e
-    step = tc_step start me there h at log e
+    step = tc_step start nobody me there h at log e
 
     coordinator_ends_none : EndNone (step_after start h log e).effects.sends
     coordinator_ends_none =
@@ -154,7 +155,7 @@ module _ (start : Start) (all : ℕ → List HostStep) (e : HostStep) (es : List
 
         laid : (takeover_at start old member).layout.view ≡ now
         laid =
-            ap (λ (l : Layout). l.view) (takeover_laid start member closing.made_is (old t))
+            ap (λ (l : Layout). l.view) (takeover_laid start moment.cluster.nobody member closing.made_is (old t))
             ∙ (closing.stands ∙ sym closing.same)
 
     enough : length now.full ≤ taken_along start is_end (new t)
@@ -173,7 +174,7 @@ module _ (start : Start) (all : ℕ → List HostStep) (e : HostStep) (es : List
           given i,
           sent_total start is_end (hosts start) i (new i),
           total_at (hosts start) (λ j. count_by (λ (y : Addressed). is_end y.signal) (sent n i j (new i))) t
-              (tc_low start member closing.made_is),
+              (tc_low start moment.cluster.nobody member closing.made_is),
         )
 
     all_ended : taken_along start is_end (new t) ≤ total (hosts start) ended
@@ -191,14 +192,15 @@ module _ (start : Start) (all : ℕ → List HostStep) (e : HostStep) (es : List
 
     -- rows of full members alone ended reports
     of_full : (i : ℕ) → i < hosts start → 1 ≤ ended i → IsOfOne (ldm_of start) now.full i
-    of_full i low some = by (part_host start i low)
+    of_full i low some = by (part_host start moment.cluster.nobody i low)
       where
         silent : ((log : List HostStep) (f : HostStep) → EndNone (step_after start i log f).effects.sends)
             → IsOfOne (ldm_of start) now.full i
         silent none = absurd (omega (arith, some, ended_few i, silent_along start number i none (new i)))
 
         by : PartHost start i → IsOfOne (ldm_of start) now.full i
-        by (coordinates me there at) = silent (λ log f. coordinator_ends_none start me there i at log f)
+        by (coordinates me there at) =
+            silent (λ log f. coordinator_ends_none start moment.cluster.nobody me there i at log f)
         by (keeps_rows me there at) = record {
           member = me;
           there =

@@ -26,7 +26,7 @@ use Rattle.node_views.specs.declared.host_body.HostBody as hosts_of
 use Rattle.node_views.specs.Fence.{is_body_fenced}
 use Rattle.world_core.proofs.HostNumbers.{hosts_low}
 use Rattle.world_core.specs.Hosts.{hosts}
-use Rattle.world_core.specs.Start.{Start, made}
+use Rattle.world_core.specs.Start.{NobodyStarts, Start, made}
 use Rattle.world_core.specs.Steps.{HostStep}
 use Rattle.world_views.specs.Machine.{machine, step_after}
 use Rattle.world_views.specs.Sending.{is_own_work}
@@ -74,11 +74,11 @@ module _ (start : Start) (all : ℕ → List HostStep) (member : Member) (there 
     abbrev h : ℕ
     h = ldm_of start member
 
-    low : ldm_of start member < hosts start
-    low =
-        let is = ldm_number start member there in
-        let node = node_low start member there in
-        let some = node_some start member there in
+    low : NobodyStarts start → ldm_of start member < hosts start
+    low nobody =
+        let is = ldm_number start nobody member there in
+        let node = node_low start nobody member there in
+        let some = node_some start nobody member there in
         omega (arith, is, node, some, hosts_low start)
 
     -- in the view so many ends were sent, reports are under way, and asks were taken
@@ -108,13 +108,14 @@ module _ (start : Start) (all : ℕ → List HostStep) (member : Member) (there 
     waits_all : (view : View) (n : ℕ) → view.number ≡ number → waits_in view n ≡ n
     waits_all view n same = ap (λ b. if b then n else 0) (eq-eqb view.number number same)
 
-    first : Few []
-    first = omega (arith, waits_few (view_after start h []) (under_way (rows_at start (logs_of start []) member)), none)
+    first : NobodyStarts start → Few []
+    first nobody =
+        omega (arith, waits_few (view_after start h []) (under_way (rows_at start (logs_of start []) member)), none)
       where
         none : under_way (rows_at start (logs_of start []) member) ≡ 0
         none =
             ap (λ (s : hosts_of.HostBody). under_way (rows_in (no_replica start member) s.parts))
-            (ldm_started start member there)
+            (ldm_started start nobody member there)
 
     module _ (e : HostStep) (es : List HostStep) (moment : IsMoment start all (e ∷ es)) (before : Few es) where
       abbrev old : ℕ → List HostStep
@@ -300,14 +301,14 @@ module _ (start : Start) (all : ℕ → List HostStep) (member : Member) (there 
       next = event_cases (machine start) e es h (λ log. Few (e ∷ es)) own_few other
 
     few : (es : List HostStep) → IsMoment start all es → Few es
-    few [] moment = first
+    few [] moment = first moment.cluster.nobody
     few (e ∷ es) moment = next e es moment (few es (moment_less start all e es moment))
 
     -- so they ended one at most
     pub ends_once : (es : List HostStep) → IsMoment start all es
         → sent_along start (numbered number ends) (ldm_of start member) (logs_of start es (ldm_of start member)) ≤ 1
     ends_once es moment =
-        omega (arith, few es moment, asked_once start member.node number all es moment h low)
+        omega (arith, few es moment, asked_once start member.node number all es moment h (low moment.cluster.nobody))
 
     -- and the member is full in the view in which they did
     module _ (now : View) (was : WasInstalled start all now) (is : now.number ≡ number) where
@@ -328,8 +329,9 @@ module _ (start : Start) (all : ℕ → List HostStep) (member : Member) (there 
               (subst (IsIn member) (all_full start all moment.cluster view (own_installed start all e es moment))
               (subst (λ k. IsIn member (all_of (view_after start k (e ∷ logs_of start es k)))) (sym at)
               (subst (λ (m : Member). IsIn m (all_of (view_after start h (e ∷ logs_of start es h))))
-              (ldm_member start member there)
-              (are_of_views start all moment.cluster h (part_some start Ldm member) low (e ∷ logs_of start es h)
+              (ldm_member start moment.cluster.nobody member there)
+              (are_of_views start all moment.cluster h (part_some start Ldm member) (low moment.cluster.nobody)
+              (e ∷ logs_of start es h)
               (subst (λ k. IsPast (e ∷ logs_of start es k) (all k)) at (event_past start all e es moment))))))
 
           older : e.host ≡ h → view.number ≢ number

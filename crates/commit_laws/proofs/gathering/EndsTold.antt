@@ -34,7 +34,7 @@ use Rattle.node_views.specs.Parts.{shell_row}
 use Rattle.node_views.specs.WellFormed.{is_well_formed}
 use Rattle.node_views.specs.Words.{parts_marks, parts_words}
 use Rattle.node_views.proofs.WordWalk.{parts_speak, parts_speak_installed}
-use Rattle.world_core.specs.Start.{Start}
+use Rattle.world_core.specs.Start.{NobodyStarts, Start}
 use Rattle.world_core.specs.Steps.{HostStep}
 use Rattle.world_views.specs.Hosts.{started}
 use Rattle.world_views.specs.Machine.{after, step_after}
@@ -128,11 +128,12 @@ module _ (D : TxId → Type 0) where
     }
 
 -- so it is of all that such a host sends
-pub beside_ends : (start : Start) (h : ℕ) (first : IsBeside (started start h).parts) (D : TxId → Type 0)
+pub beside_ends : (start : Start) (nobody : NobodyStarts start) (h : ℕ) (first : IsBeside (started start h).parts)
+    (D : TxId → Type 0)
     (log : List HostStep) (e : HostStep)
     → (is_well_formed start.shape e.step.taken ≡ true → (tx : TxId) → IsToldOf tx e.step.taken.body → D tx)
     → AreEnds D (step_after start h log e).effects.sends
-beside_ends start h first D log e so =
+beside_ends start nobody h first D log e so =
     (step_each (Sends D) (Marks D) (record { stops = λ cause. tt; installs = λ view. tt; cuts = λ host. tt })
     e.step.taken h (after start h log) (record {
       goes = λ sound old barred. takes_end D e.step.taken (told sound) (after start h log).parts beside;
@@ -147,4 +148,4 @@ beside_ends start h first D log e so =
 
     told : is_well_formed (after start h log).standing.shape e.step.taken ≡ true → (tx : TxId)
         → IsToldOf tx e.step.taken.body → D tx
-    told sound = so (ap (λ shape. is_well_formed shape e.step.taken) (sym (shape_stays start h log)) ∙ sound)
+    told sound = so (ap (λ shape. is_well_formed shape e.step.taken) (sym (shape_stays start nobody h log)) ∙ sound)

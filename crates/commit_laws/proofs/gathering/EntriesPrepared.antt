@@ -189,7 +189,8 @@ module _ (start : Start) (all : ℕ → List HostStep) (tx : TxId) (member : Mem
           where
             same : current start new ≡ current start old
             same =
-                let above = current_above start old h (tc_low start member there) in
+                let above = current_above start old moment.cluster.nobody h
+                (tc_low start moment.cluster.nobody member there) in
                 let rises = current_rises start all e es moment in
                 old_current start all e es moment (omega (arith, stands, above, rises))
 
@@ -223,7 +224,7 @@ module _ (start : Start) (all : ℕ → List HostStep) (tx : TxId) (member : Mem
 
         module _ (at : e.host ≡ tc_of start member) where
           abbrev own : TcStep start (tc_of start member) log e
-          own = own_tc start member there log e
+          own = own_tc start moment.cluster.nobody member there log e
 
           abbrev between : TcPart
           between = own.does.between
@@ -281,7 +282,7 @@ module _ (start : Start) (all : ℕ → List HostStep) (tx : TxId) (member : Mem
     are_prepared [] moment = λ none orphan stands.
         subst (SayAt tx (IsPreparedSomewhere start (logs_of start []) tx))
         (sym (ap (λ (s : hosts_of.HostBody). takeover_in (resting member.node (first_layout start.shape)) s.parts)
-        (tc_started start member there)))
+        (tc_started start moment.cluster.nobody member there)))
         (λ gathering. absurd (true≢false (sym gathering)))
     are_prepared (e ∷ es) moment = λ none orphan stands.
         prepared_next e es moment (are_prepared es (moment_less start all e es moment)) none orphan stands

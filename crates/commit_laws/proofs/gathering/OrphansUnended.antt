@@ -29,7 +29,7 @@ use Rattle.lqh_saver.specs.State.{saving}
 use Rattle.node_views.specs.declared.host_body.HostBody as hosts
 use Rattle.node_views.specs.declared.tc_part.TcPart.{TcPart}
 use Rattle.node_views.specs.Parts.{ldm_row, tc_row}
-use Rattle.world_core.specs.Start.{Start, made}
+use Rattle.world_core.specs.Start.{NobodyStarts, Start, made}
 use Rattle.world_core.specs.Steps.{Addressed, HostStep}
 use Rattle.world_views.specs.Machine.{machine, step_after}
 use Rattle.view_laws.specs.Order.{sound_machine}
@@ -71,15 +71,15 @@ module _ (start : Start) where
   Led view body = Speaks (IsLed view) (IsLed view) body
 
   -- takeovers rest at the start
-  first_rests : AllRest start (λ h. [])
-  first_rests member there same =
+  first_rests : NobodyStarts start → AllRest start (λ h. [])
+  first_rests nobody member there same =
       ap (λ (s : hosts.HostBody). is_at_work (takeover_in (resting member.node (first_layout start.shape))
       s.parts).stage)
-      (tc_started start member there)
+      (tc_started start nobody member there)
 
-  now_rest : (es : List HostStep) → NoneRuled start es → AllRest start (logs_of start es)
-  now_rest [] none = first_rests
-  now_rest (e ∷ es) none = none.0
+  now_rest : NobodyStarts start → (es : List HostStep) → NoneRuled start es → AllRest start (logs_of start es)
+  now_rest nobody [] none = first_rests nobody
+  now_rest nobody (e ∷ es) none = none.0
 
   module _ (all : ℕ → List HostStep) (e : HostStep) (es : List HostStep) (moment : IsMoment start all (e ∷ es))
       (none : NoneRuled start (e ∷ es))
@@ -166,7 +166,7 @@ module _ (start : Start) where
         own_sends = (step_after start (tc_of start member) log e).effects.sends
 
         abbrev step : TcStep start (tc_of start member) log e
-        step = own_tc start member there log e
+        step = own_tc start moment.cluster.nobody member there log e
 
         abbrev p : TcPart
         p = step.own
@@ -192,7 +192,8 @@ module _ (start : Start) where
           view_is : own_view ≡ current start new
           view_is =
               sym (ap (view_after start (tc_of start member)) own_log)
-              ∙ stands_in_current start all (e ∷ es) moment (tc_of start member) (tc_low start member there)
+              ∙ stands_in_current start all (e ∷ es) moment (tc_of start member)
+              (tc_low start moment.cluster.nobody member there)
               (ap (λ l. (view_after start (tc_of start member) l).number) own_log ∙ stands)
 
           led : (tx : TxId) → coordinator_member tx ≡ member → N tx
@@ -217,16 +218,19 @@ module _ (start : Start) where
 
               rested : is_at_work (takeover_at start old member).stage ≡ false
               rested =
-                  let low = current_above start old (tc_of start member) (tc_low start member there) in
+                  let low = current_above start old moment.cluster.nobody (tc_of start member)
+                  (tc_low start moment.cluster.nobody member there) in
                   let rises = current_rises start all e es moment in
-                  now_rest es (by (turn start all e es moment)) member there (omega (arith, low, rises, number, stands))
+                  now_rest moment.cluster.nobody es (by (turn start all e es moment)) member there
+                  (omega (arith, low, rises, number, stands))
                 where
                   by : Turn start all e es moment → NoneRuled start es
                   by (keeps same_view stands_too) = before same_view
                   by (raises above stands_too) =
                       absurd (omega (
                         arith,
-                        current_above start old (tc_of start member) (tc_low start member there),
+                        current_above start old moment.cluster.nobody (tc_of start member)
+                            (tc_low start moment.cluster.nobody member there),
                         above,
                         number,
                         stands,
@@ -267,14 +271,15 @@ module _ (start : Start) where
               (λ passed same all. row_speaks same)
 
       sends_speak : view.number ≡ current_number start new → AreSpoken N N sends
-      sends_speak stands = by (part_host start e.host (host_low start all e es moment))
+      sends_speak stands = by (part_host start moment.cluster.nobody e.host (host_low start all e es moment))
         where
           by : PartHost start e.host → AreSpoken N N sends
           by (coordinates me there at) =
               subst (λ k. AreSpoken N N (step_after start k (old k) e).effects.sends) (sym at)
               (tc_speaks me there at
               (subst (λ k. (view_after start k (e ∷ old k)).number ≡ current_number start new) at stands))
-          by (keeps_rows me there at) = ldm_speaks (ldm_step start me there e.host at (old e.host) e)
+          by (keeps_rows me there at) =
+              ldm_speaks (ldm_step start moment.cluster.nobody me there e.host at (old e.host) e)
           by (is_beside first) = beside_speaks N N start e.host first (old e.host) e
 
       abbrev Now : Addressed → Type 0

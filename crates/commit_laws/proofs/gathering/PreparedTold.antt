@@ -130,9 +130,9 @@ module _ (start : Start) (all : ℕ → List HostStep) (e : HostStep) (es : List
       -- its host stands in the current view, as one of the full members
       full_now : e.host ≡ ldm_of start member → view ≡ current start new → IsIn member (current start new).full
       full_now at stands =
-          subst (λ m. IsIn m (current start new).full) (ldm_member start member there)
+          subst (λ m. IsIn m (current start new).full) (ldm_member start moment.cluster.nobody member there)
           (current_host start all (e ∷ es) moment (ldm_of start member) (part_some start Ldm member)
-          (ldm_low start member there) here)
+          (ldm_low start moment.cluster.nobody member there) here)
         where
           here : view_after start (ldm_of start member) (new (ldm_of start member)) ≡ current start new
           here =
@@ -145,7 +145,7 @@ module _ (start : Start) (all : ℕ → List HostStep) (e : HostStep) (es : List
           record_same start all e es moment none member there tx orphan one.key
           ∙ (ap (λ v. record_at start old member one.key v) (sym own)
           ∙ once_found (map without_epoch (filter (is_on one.key) rows.lqh.rows.pending))
-          (rows_once start member there (old (ldm_of start member)) one.key) (without_epoch one)
+          (rows_once start moment.cluster.nobody member there (old (ldm_of start member)) one.key) (without_epoch one)
           (in_cell one.key one rows.lqh.rows.pending inside (same_key-self one.key)))
 
       record_prepared : IsIn member (current start new).full → (one : PendingRecord) → IsIn one rows.lqh.rows.pending
@@ -203,10 +203,10 @@ module _ (start : Start) (all : ℕ → List HostStep) (e : HostStep) (es : List
         (λ passed. tc_fated If step.does.between x x.to.block)
 
     sends_fated : AreFated If sends
-    sends_fated = by (part_host start e.host (host_low start all e es moment))
+    sends_fated = by (part_host start moment.cluster.nobody e.host (host_low start all e es moment))
       where
         by : PartHost start e.host → AreFated If sends
-        by (coordinates me there at) = tc_tells (tc_step start me there e.host at (old e.host) e)
+        by (coordinates me there at) = tc_tells (tc_step start moment.cluster.nobody me there e.host at (old e.host) e)
         by (keeps_rows me there at) = rows_prepared me there at
         by (is_beside first) = all_aside_fated If sends (beside_sends start e.host first (old e.host) e)
 

@@ -29,7 +29,7 @@ use Rattle.lqh_views.specs.WholeReports.{ends, the_end}
 use Rattle.lqh_views.proofs.ReportSteps.{NoEnd}
 use Rattle.node_views.specs.declared.host_body.HostBody as node
 use Rattle.node_views.specs.WellFormed.{is_tx}
-use Rattle.world_core.specs.Start.{Start, made}
+use Rattle.world_core.specs.Start.{NobodyStarts, Start, made}
 use Rattle.world_core.specs.Steps.{Addressed, HostStep}
 use Rattle.world_views.specs.Hosts.{reached}
 use Rattle.world_views.specs.Machine.{has_stopped, machine, step_after, stops_by}
@@ -193,7 +193,7 @@ module _ (start : Start) (all : ℕ → List HostStep) (one : Member) (there : I
                   ap (λ (l : Layout). l.view)
                   (sym (rows_layout s x)
                   ∙ (ap (λ (t : ReplicaState). t.lqh.layout) (sym (rows_are (replica_row s x).state taken.rows_are))
-                  ∙ rows_laid start one there (e ∷ log)))
+                  ∙ rows_laid start moment.cluster.nobody one there (e ∷ log)))
                   ∙ stood
 
               orphaned : is_orphaned s.lqh.layout.view.full tx ≡ true
@@ -320,7 +320,8 @@ module _ (start : Start) (all : ℕ → List HostStep) (one : Member) (there : I
       ends_behind = λ j.
           none (sent (sound_machine start) h j (logs_of start es h)) (sent_below start all es moment h j);
       stays_open = λ same.
-          let up = current_above start (logs_of start es) h (ldm_low start one there) in
+          let up = current_above start (logs_of start es) moment.cluster.nobody h
+          (ldm_low start moment.cluster.nobody one there) in
           absurd (omega (arith, same, up, above));
     }
       where
@@ -331,12 +332,12 @@ module _ (start : Start) (all : ℕ → List HostStep) (one : Member) (there : I
         none (y ∷ ys) below =
             ((λ is same. let low = below.0 in absurd (omega (arith, same, low, above))), none ys below.1)
 
-    first_behind : IsBehind []
-    first_behind = record {
+    first_behind : NobodyStarts start → IsBehind []
+    first_behind nobody = record {
       ends_behind = λ j. tt;
       stays_open = λ same.
           inr (inl (ap (λ (s : node.HostBody). (rows_in (no_replica start one) s.parts).report)
-          (ldm_started start one there)));
+          (ldm_started start nobody one there)));
     }
 
     module _ (carries : (e : HostStep) (es : List HostStep) → IsMoment start all (e ∷ es) → NoneRuled start (e ∷ es)
@@ -346,7 +347,7 @@ module _ (start : Start) (all : ℕ → List HostStep) (one : Member) (there : I
         pub behind : (es : List HostStep) → IsMoment start all es → NoneRuled start es
             → current start (logs_of start es) ≡ view → Has (rows_at start (logs_of start es) one) ≡ true
             → IsBehind (logs_of start es (ldm_of start one))
-        behind [] moment none now has = first_behind
+        behind [] moment none now has = first_behind moment.cluster.nobody
         behind (e ∷ es) moment none now has =
             step_behind e es moment now had (by (turn start all e es moment) none.1 (behind es less))
           where

@@ -22,7 +22,7 @@ use Rattle.takeover_block.proofs.EachTakeover.{is_gathering}
 use Rattle.node_views.specs.declared.host_body.HostBody as hosts_of
 use Rattle.node_views.specs.declared.tc_part.TcPart.{TcPart}
 use Rattle.node_views.specs.Parts.{tc_row}
-use Rattle.world_core.specs.Start.{Start, made}
+use Rattle.world_core.specs.Start.{NobodyStarts, Start, made}
 use Rattle.world_core.specs.Steps.{Addressed, HostStep}
 use Rattle.view_laws.specs.Order.{sound_machine}
 use Rattle.view_laws.specs.Runs.{view_after}
@@ -42,7 +42,7 @@ use Rattle.commit_laws.proofs.gathering.TellingsNoted.{tellings_noted}
 use Rattle.commit_laws.proofs.gathering.TellingsPlaced.{tellings_are_for_takeovers}
 
 -- what is gathered stands in order along each log
-module _ (start : Start) (member : Member) (there : IsIn member (made start)) where
+module _ (start : Start) (nobody : NobodyStarts start) (member : Member) (there : IsIn member (made start)) where
   gathered_step : (log : List HostStep) (e : HostStep) → AreFit (takeover_after start member log).gathered
       → AreFit (takeover_after start member (e ∷ log)).gathered
   unfolding tc_row
@@ -52,7 +52,7 @@ module _ (start : Start) (member : Member) (there : IsIn member (made start)) wh
       (taken_fit own.does.takes)
     where
       own : TcStep start (tc_of start member) log e
-      own = own_tc start member there log e
+      own = own_tc start nobody member there log e
 
       x : Signal
       x = e.step.taken
@@ -86,7 +86,7 @@ module _ (start : Start) (member : Member) (there : IsIn member (made start)) wh
   gathered_fit [] =
       subst (λ s. AreFit s.gathered)
       (sym (ap (λ (s : hosts_of.HostBody). takeover_in (resting member.node (first_layout start.shape)) s.parts)
-      (tc_started start member there)))
+      (tc_started start nobody member there)))
       none_fit
   gathered_fit (e ∷ log) = gathered_step log e (gathered_fit log)
 
@@ -139,7 +139,7 @@ module _ (first : OrdersComeFirst) (start : Start) (all : ℕ → List HostStep)
         (takeover_at start (logs_of start es) member).gathered
     gathered_noted i y there tx key tells =
         noted_each tx key (told_epoch tells.told tells.epoch ≡ None → ⊥) (takeover_at start old member).gathered
-        (gathered_fit start member closing.made_is (old (tc_of start member))).order
+        (gathered_fit start moment.cluster.nobody member closing.made_is (old (tc_of start member))).order
         (tellings_noted first tellings_are_for_takeovers start all es (moment_less start all e es moment) member
         closing.made_is
         (ap (λ (v : View). v.number) closing.stands) (closing_runs start all e es moment member closing) i y there tx

@@ -90,7 +90,7 @@ module _ (first : OrdersComeFirst) (placed : TellingsAreForTakeovers) (start : S
     -- where its host stands in the view behind the event in which it stood before, nothing has changed of that view
     still : number_in start old h ≡ current_number start new → current start new ≡ current start old
     still same =
-        let above = current_above start old h (tc_low start member there) in
+        let above = current_above start old moment.cluster.nobody h (tc_low start moment.cluster.nobody member there) in
         let rises = current_rises start all e es moment in
         old_current start all e es moment (omega (arith, same, above, rises))
 
@@ -108,7 +108,7 @@ module _ (first : OrdersComeFirst) (placed : TellingsAreForTakeovers) (start : S
       step = step_after start (tc_of start member) log e
 
       abbrev own : TcStep start (tc_of start member) log e
-      own = own_tc start member there log e
+      own = own_tc start moment.cluster.nobody member there log e
 
       abbrev between : TcPart
       between = own.does.between
@@ -182,7 +182,8 @@ module _ (first : OrdersComeFirst) (placed : TellingsAreForTakeovers) (start : S
               → Noted (takeover_after start member (e ∷ log))
           unfolding tc_row
           newest_noted runs sound is =
-              by (tc_hears start h log e own.own own.runs (LqhTransConf tx key tells.told tells.epoch) body_is to high
+              by (tc_hears start moment.cluster.nobody h log e own.own own.runs
+              (LqhTransConf tx key tells.told tells.epoch) body_is to high
               sound)
             where
               body_is : x.body ≡ Takeover (LqhTransConf tx key tells.told tells.epoch)
@@ -193,7 +194,8 @@ module _ (first : OrdersComeFirst) (placed : TellingsAreForTakeovers) (start : S
 
               high : stood.number ≤ x.view.number
               high =
-                  let above = current_above start old h (tc_low start member there) in
+                  let above = current_above start old moment.cluster.nobody h
+                  (tc_low start moment.cluster.nobody member there) in
                   let rises = current_rises start all e es moment in
                   let number : x.view.number ≡ current_number start new =
                   ap (λ (s : Signal). s.view.number) (sym is) ∙ tells.number in

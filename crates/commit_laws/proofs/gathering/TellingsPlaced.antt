@@ -162,10 +162,10 @@ module _ (start : Start) (all : ℕ → List HostStep) (e : HostStep) (es : List
         (λ s between taken. rows_placed s x) at)
 
     sends_placed : ArePlaced sends
-    sends_placed = by (part_host start e.host (host_low start all e es moment))
+    sends_placed = by (part_host start moment.cluster.nobody e.host (host_low start all e es moment))
       where
         by : PartHost start e.host → ArePlaced sends
-        by (coordinates me there at) = tc_placed (tc_step start me there e.host at (old e.host) e)
+        by (coordinates me there at) = tc_placed (tc_step start moment.cluster.nobody me there e.host at (old e.host) e)
         by (keeps_rows me there at) = own_placed me there at
         by (is_beside first) =
             all_of_fated sends (all_aside_fated Nothing sends (beside_sends start e.host first (old e.host) e))

@@ -64,10 +64,10 @@ module _ (start : Start) (all : ℕ → List HostStep) (e : HostStep) (es : List
       happens.step.fits.marks
 
   runs : IsRun start member decider_made log
-  runs = runs_tc start member decider_made log
+  runs = runs_tc start member decider_made moment.cluster.nobody log
 
   goes_on : stops_by e.step.marks ≡ false
-  goes_on = by (tc_goes start (tc_of start member) log e runs.own runs.runs)
+  goes_on = by (tc_goes start moment.cluster.nobody (tc_of start member) log e runs.own runs.runs)
     where
       by : Goes start.shape runs.own e.step.taken (step_after start (tc_of start member) log e)
           → stops_by e.step.marks ≡ false

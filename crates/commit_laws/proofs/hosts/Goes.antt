@@ -30,7 +30,7 @@ use Rattle.node_views.specs.Row.{is_excluded, is_stop, kill_row, killed_after, m
 use Rattle.node_views.specs.Row.{settle, standing_at, taken_if, with_parts}
 use Rattle.node_views.specs.WellFormed.{is_first, is_well_formed}
 use Rattle.node_views.proofs.StopWalk.{counted_stops}
-use Rattle.world_core.specs.Start.{Start}
+use Rattle.world_core.specs.Start.{NobodyStarts, Start}
 use Rattle.world_core.specs.Steps.{HostStep}
 use Rattle.world_views.specs.Machine.{after, own_stop, step_after, step_by, step_if}
 use Rattle.view_laws.proofs.eras.Shapes.{shape_stays}
@@ -220,7 +220,7 @@ module _ (x : Signal) where
       stopped None = by (is_well_formed s.standing.shape x) refl
 
 -- so it is along a log
-module _ (start : Start) (h : ℕ) (log : List HostStep) (e : HostStep) where
+module _ (start : Start) (nobody : NobodyStarts start) (h : ℕ) (log : List HostStep) (e : HostStep) where
   pub host_goes : settled_at (after start h log).parts e.step.taken ≡ None
       → settled_at (parts_entered (after start h log).parts e.step.taken.view).state e.step.taken ≡ None
       → HostGoes start.shape (after start h log).parts (view_after start h log) e.step.taken (step_after start h log e)
@@ -228,5 +228,5 @@ module _ (start : Start) (h : ℕ) (log : List HostStep) (e : HostStep) where
       subst
       (λ shape. HostGoes shape (after start h log).parts (view_after start h log) e.step.taken
       (step_after start h log e))
-      (shape_stays start h log)
+      (shape_stays start nobody h log)
       (step_goes e.step.taken h (after start h log) unsettled then_unsettled)

@@ -43,7 +43,7 @@ use Rattle.node_views.specs.Parts.{shell_row, tc_row}
 use Rattle.node_views.specs.WellFormed.{is_well_formed}
 use Rattle.node_views.specs.Words.{parts_marks, parts_words}
 use Rattle.node_views.proofs.WordWalk.{parts_speak, parts_speak_installed}
-use Rattle.world_core.specs.Start.{Start}
+use Rattle.world_core.specs.Start.{NobodyStarts, Start}
 use Rattle.world_core.specs.Steps.{HostStep}
 use Rattle.world_views.specs.Hosts.{started}
 use Rattle.world_views.specs.Machine.{after, step_after}
@@ -167,7 +167,8 @@ module _ (A : Type 0) (T : TxId → Type 0) where
           (row_stays (Unit {0}) (Unit {0}) (Unit {0}) A x parts runs);
     }
 
-module _ (start : Start) (h : ℕ) (A : Type 0) (first : RunsIf A (λ tx. Unit {0}) (started start h).parts) where
+module _ (start : Start) (nobody : NobodyStarts start) (h : ℕ) (A : Type 0)
+    (first : RunsIf A (λ tx. Unit {0}) (started start h).parts) where
   -- so it is of each mark of a step
   pub marks_have_reasons : (T : TxId → Type 0) (log : List HostStep) (e : HostStep)
       → (is_well_formed start.shape e.step.taken ≡ true → (tx : TxId) → IsToldOf tx e.step.taken.body → T tx)
@@ -190,4 +191,4 @@ module _ (start : Start) (h : ℕ) (A : Type 0) (first : RunsIf A (λ tx. Unit {
       told : is_well_formed (after start h log).standing.shape e.step.taken ≡ true → (tx : TxId)
           → IsToldOf tx e.step.taken.body → T tx
       told sound =
-          told_so (ap (λ shape. is_well_formed shape e.step.taken) (sym (shape_stays start h log)) ∙ sound)
+          told_so (ap (λ shape. is_well_formed shape e.step.taken) (sym (shape_stays start nobody h log)) ∙ sound)

@@ -18,7 +18,7 @@ use Rattle.node_views.specs.Blocks.{parts_entered, parts_row, settled_at}
 use Rattle.node_views.specs.declared.host_body.HostBody as hosts
 use Rattle.node_views.specs.declared.parts.Parts.{Parts}
 use Rattle.node_views.specs.Row.{entered}
-use Rattle.world_core.specs.Start.{Start}
+use Rattle.world_core.specs.Start.{NobodyStarts, Start}
 use Rattle.world_core.specs.Steps.{HostStep}
 use Rattle.world_views.specs.Machine.{after, step_after, step_by}
 use Rattle.view_laws.proofs.eras.Shapes.{shape_stays}
@@ -104,13 +104,13 @@ module _ (x : Signal) (s : hosts.HostBody) where
       })).1
 
 -- so it is along a log
-pub host_marks : (start : Start) (h : ℕ) (log : List HostStep) (e : HostStep)
+pub host_marks : (start : Start) (nobody : NobodyStarts start) (h : ℕ) (log : List HostStep) (e : HostStep)
     → settled_at (after start h log).parts e.step.taken ≡ None
     → settled_at (parts_entered (after start h log).parts e.step.taken.view).state e.step.taken ≡ None
     → Each (IsFrom start.shape (after start h log).parts (view_after start h log) e.step.taken)
     (step_after start h log e).effects.marks
-host_marks start h log e unsettled then_unsettled =
+host_marks start nobody h log e unsettled then_unsettled =
     subst
     (λ shape. Each (IsFrom shape (after start h log).parts (view_after start h log) e.step.taken)
     (step_after start h log e).effects.marks)
-    (shape_stays start h log) (step_marks e.step.taken (after start h log) h unsettled then_unsettled)
+    (shape_stays start nobody h log) (step_marks e.step.taken (after start h log) h unsettled then_unsettled)

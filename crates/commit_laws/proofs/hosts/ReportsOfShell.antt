@@ -20,7 +20,7 @@ use Rattle.node_views.specs.declared.parts.Parts.TheVariants.{Ldm, Main, Shell, 
 use Rattle.world_core.specs.Hosts.{member_at, part_by}
 use Rattle.world_core.specs.History.{is_reported}
 use Rattle.world_core.specs.Marks.{has_mark}
-use Rattle.world_core.specs.Start.{Start, made}
+use Rattle.world_core.specs.Start.{NobodyStarts, Start, made}
 use Rattle.world_core.specs.Steps.{HostStep}
 use Rattle.world_views.specs.Hosts.{part_started, started}
 use Rattle.world_views.specs.Machine.{machine, step_after}
@@ -45,10 +45,11 @@ none_of (Tc p) away (Reported tx outcome) is = absurd (true≢false (sym is))
 none_of (Ldm p) away (Reported tx outcome) is = absurd (true≢false (sym is))
 none_of parts away mark is = tt
 
-module _ (start : Start) (k : ℕ) where
+module _ (start : Start) (nobody : NobodyStarts start) (k : ℕ) where
   begins_away : Away (started start (suc k)).parts
   begins_away =
-      subst (λ s. Away s.parts) (sym (started_behind start k)) (by (part_by (k % 3)) (member_at (made start) (suc k)))
+      subst (λ s. Away s.parts) (sym (started_behind start nobody k))
+      (by (part_by (k % 3)) (member_at (made start) (suc k)))
     where
       by : (part : Part) (me : Member) → Away (part_started start part me).parts
       by kind.Main me = tt

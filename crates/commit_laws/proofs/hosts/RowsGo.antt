@@ -23,7 +23,7 @@ use Rattle.node_views.specs.declared.parts.Parts.TheVariants as part
 use Rattle.node_views.specs.declared.standing.Standing.{Standing}
 use Rattle.node_views.specs.Parts.{ldm_entered, ldm_row}
 use Rattle.node_views.specs.Row.{entered, in_view, is_stop, killed_after, cut_marks}
-use Rattle.world_core.specs.Start.{Start}
+use Rattle.world_core.specs.Start.{NobodyStarts, Start}
 use Rattle.world_core.specs.Steps.{HostStep}
 use Rattle.world_views.specs.Machine.{after, step_after, step_by}
 use Rattle.view_laws.proofs.eras.Shapes.{shape_stays}
@@ -162,7 +162,7 @@ module _ (x : Signal) (standing : Standing) (p : LdmPart) where
       above newer = installs (ltb-true standing.view.number x.view.number newer) refl refl refl
 
 -- so it is along a log
-module _ (start : Start) (h : ℕ) (log : List HostStep) (e : HostStep) (p : LdmPart)
+module _ (start : Start) (nobody : NobodyStarts start) (h : ℕ) (log : List HostStep) (e : HostStep) (p : LdmPart)
     (runs : (after start h log).parts ≡ part.Ldm p)
   where
     pub ldm_goes : Goes start.shape p (view_after start h log) e.step.taken (step_after start h log e).state.parts
@@ -170,7 +170,8 @@ module _ (start : Start) (h : ℕ) (log : List HostStep) (e : HostStep) (p : Ldm
         (step_after start h log e).effects.marks
     ldm_goes =
         let standing = (after start h log).standing in
-        subst (λ shape. GoesBy shape p standing.view e.step.taken (step_after start h log e)) (shape_stays start h log)
+        subst (λ shape. GoesBy shape p standing.view e.step.taken (step_after start h log e))
+        (shape_stays start nobody h log)
         (subst
         (λ parts. GoesBy standing.shape p standing.view e.step.taken
         (step_by h (record { standing = standing; parts = parts }) e.step.taken))

@@ -125,7 +125,7 @@ module _ (start : Start) (all : ℕ → List HostStep) (e : HostStep) (es : List
       step = step_after start h log e
 
       abbrev own : LdmStep start h log e
-      own = own_ldm start member there log e
+      own = own_ldm start moment.cluster.nobody member there log e
 
       abbrev p : LdmPart
       p = own.own
@@ -203,7 +203,7 @@ module _ (start : Start) (all : ℕ → List HostStep) (e : HostStep) (es : List
 
       own_turn : RowsTurn
       unfolding ldm_row
-      own_turn = by (ldm_goes start h log e p own.runs)
+      own_turn = by (ldm_goes start moment.cluster.nobody h log e p own.runs)
         where
           taking : (between : LdmPart) (seen : View) → Entering p view_was x between seen
               → IsPassed start.shape (part.Ldm between) seen x → step.state.standing.view ≡ seen → (b : BlockId)

@@ -21,7 +21,7 @@ use Rattle.node_views.specs.Parts.{shell_row}
 use Rattle.node_views.specs.Replies.{giving}
 use Rattle.node_views.specs.Row.{is_stop}
 use Rattle.node_views.specs.WellFormed.{is_well_formed}
-use Rattle.world_core.specs.Start.{Start}
+use Rattle.world_core.specs.Start.{NobodyStarts, Start}
 use Rattle.world_core.specs.Steps.{HostStep}
 use Rattle.world_views.specs.Machine.{after, step_after}
 use Rattle.view_laws.specs.Runs.{view_after}
@@ -44,7 +44,7 @@ pub data ShellGoes (start : Start) (p : ShellPart) (x : Signal) (step : Step hos
       → step.state.parts ≡ Shell (shell_row q x.to.block x).state
       → step.effects.sends ≡ (shell_row q x.to.block x).effects.sends → ShellGoes start p x step
 
-module _ (start : Start) (log : List HostStep) (e : HostStep) where
+module _ (start : Start) (nobody : NobodyStarts start) (log : List HostStep) (e : HostStep) where
   abbrev x : Signal
   x = e.step.taken
 
@@ -55,7 +55,7 @@ module _ (start : Start) (log : List HostStep) (e : HostStep) where
   stood = view_after start 0 log
 
   abbrev own : IsSeeing start log
-  own = seeing start log
+  own = seeing start nobody log
 
   record Inside (between : Parts) (front : List Outgoing) : Type 0 where
     q : ShellPart
@@ -83,10 +83,10 @@ module _ (start : Start) (log : List HostStep) (e : HostStep) where
   then_unsettled : settled_at (parts_entered (after start 0 log).parts x.view).state x ≡ None
   then_unsettled = ap (λ (parts : Parts). settled_at (parts_entered parts x.view).state x) own.runs
 
-  pub shell_goes : ShellGoes start (seeing start log).part e.step.taken (step_after start 0 log e)
+  pub shell_goes : ShellGoes start (seeing start nobody log).part e.step.taken (step_after start 0 log e)
   shell_goes =
       by (subst (λ (parts : Parts). HostGoes start.shape parts stood x step) own.runs
-      (host_goes start 0 log e unsettled then_unsettled))
+      (host_goes start nobody 0 log e unsettled then_unsettled))
     where
       by : HostGoes start.shape (Shell own.part) stood x step → ShellGoes start own.part x step
       by (halts is) = ends is
@@ -101,7 +101,7 @@ module _ (start : Start) (log : List HostStep) (e : HostStep) where
   -- and of a mark that isn't the host's own its part is the cause
   pub record IsOfShell (mark : Mark) : Type 0 where
     pub q : ShellPart
-    pub same : IsSameBut (seeing start log).part q
+    pub same : IsSameBut (seeing start nobody log).part q
     pub sound : is_well_formed start.shape e.step.taken ≡ true
     pub there : IsIn mark (shell_row q e.step.taken.to.block e.step.taken).effects.marks
 
@@ -110,7 +110,7 @@ module _ (start : Start) (log : List HostStep) (e : HostStep) where
   shell_marks mark there other =
       by (each_in (IsFrom start.shape (Shell own.part) stood x) mark step.effects.marks
       (subst (λ (parts : Parts). Each (IsFrom start.shape parts stood x) step.effects.marks) own.runs
-      (host_marks start 0 log e unsettled then_unsettled)) there)
+      (host_marks start nobody 0 log e unsettled then_unsettled)) there)
     where
       by : IsFrom start.shape (Shell own.part) stood x mark → IsOfShell mark
       by (of_host is) = absurd (true≢false (sym is ∙ other))
@@ -136,7 +136,7 @@ module _ (start : Start) (log : List HostStep) (e : HostStep) where
   pub shell_view : (q : ShellPart) → (step_after start 0 log e).state.parts ≡ Shell q
       → q.client.api.view ≡ view_after start 0 (e ∷ log)
   shell_view q is =
-      let next = seeing start (e ∷ log) in
+      let next = seeing start nobody (e ∷ log) in
       sym (ap (view_of stood) is) ∙ (sym (view_given stood step.state.parts) ∙
       (ap (view_of stood) next.runs ∙ next.sees))
 
@@ -159,9 +159,9 @@ module _ (start : Start) (log : List HostStep) (e : HostStep) where
   taken_given other _ = refl
 
   pub shell_next : (q : ShellPart) → (step_after start 0 log e).state.parts ≡ Shell q
-      → IsSameBut q (seeing start (e ∷ log)).part
+      → IsSameBut q (seeing start nobody (e ∷ log)).part
   shell_next q is =
-      let next = seeing start (e ∷ log) in
+      let next = seeing start nobody (e ∷ log) in
       record {
         opened =
             sym (ap (opened_of []) next.runs) ∙ (opened_given [] step.state.parts ∙ ap (opened_of []) is);

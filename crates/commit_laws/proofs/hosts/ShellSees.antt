@@ -13,7 +13,7 @@ use Rattle.node_views.specs.declared.parts.Parts.TheVariants.{Shell}
 use Rattle.node_views.specs.declared.shell_part.ShellPart.{ShellPart}
 use Rattle.node_views.specs.Parts.{shell_row}
 use Rattle.node_views.specs.Replies.{giving}
-use Rattle.world_core.specs.Start.{Start}
+use Rattle.world_core.specs.Start.{NobodyStarts, Start}
 use Rattle.world_core.specs.Steps.{HostStep}
 use Rattle.world_views.specs.Hosts.{started}
 use Rattle.world_views.specs.Machine.{after, step_after}
@@ -44,7 +44,7 @@ pub record IsSeeing (start : Start) (log : List HostStep) : Type 0 where
   pub runs : (after start 0 log).parts ≡ Shell part
   pub sees : part.client.api.view ≡ view_after start 0 log
 
-module _ (start : Start) (log : List HostStep) (e : HostStep) (p : ShellPart)
+module _ (start : Start) (nobody : NobodyStarts start) (log : List HostStep) (e : HostStep) (p : ShellPart)
     (runs : (after start 0 log).parts ≡ Shell p) (sees : p.client.api.view ≡ view_after start 0 log)
   where
     abbrev x : Signal
@@ -55,7 +55,7 @@ module _ (start : Start) (log : List HostStep) (e : HostStep) (p : ShellPart)
 
     pub did : ShellDoes start.shape p (view_after start 0 log) e.step.taken (step_after start 0 log e).state.parts
         (view_after start 0 (e ∷ log)) (step_after start 0 log e).effects.sends
-    did = shell_after start log e p runs
+    did = shell_after start nobody log e p runs
 
     -- once the view of the signal is installed
     pub between_sees : did.between.client.api.view ≡ view_after start 0 (e ∷ log)
@@ -117,6 +117,7 @@ first_seeing : (start : Start) → IsSeeing start []
 unfolding started
 first_seeing start = record { part = _; runs = refl; sees = refl }
 
-pub seeing : (start : Start) (log : List HostStep) → IsSeeing start log
-seeing start [] = first_seeing start
-seeing start (e ∷ log) = let one = seeing start log in next_seeing start log e one.part one.runs one.sees
+pub seeing : (start : Start) (nobody : NobodyStarts start) (log : List HostStep) → IsSeeing start log
+seeing start nobody [] = first_seeing start
+seeing start nobody (e ∷ log) =
+    let one = seeing start nobody log in next_seeing start nobody log e one.part one.runs one.sees

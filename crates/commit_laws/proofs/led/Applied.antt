@@ -229,7 +229,7 @@ applied_are_final forth stand start all end es along v key applied =
     marked =
         subst (λ t. have_mark (is_applied t) (hosts start) (logs_of start end) ≡ true) (sym own.tx_is)
         (have_it (is_applied v) (hosts start) (ldm_of start applied_end.member) (logs_of start end)
-        (ldm_low start applied_end.member applied_end.is_made)
+        (ldm_low start along.moment.cluster.nobody applied_end.member applied_end.is_made)
         (has_applied v key (logs_of start end (ldm_of start applied_end.member)) applied_end.marked))
 
     written : writes own.entry ≡ true

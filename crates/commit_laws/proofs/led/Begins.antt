@@ -33,11 +33,12 @@ use Rattle.commit_laws.proofs.records.Replicas.{replica_made}
 -- the first view is the current one
 first_current : (start : Start) (all : ℕ → List HostStep) → IsMoment start all []
     → current start (logs_of start []) ≡ (first_layout start.shape).view
-first_current start all moment = by (current start (logs_of start [])) (current_is start (logs_of start []))
+first_current start all moment =
+    by (current start (logs_of start [])) (current_is start (logs_of start []) moment.cluster.nobody)
   where
     by : (view : View) → IsSome start (logs_of start []) (hosts start) view → view ≡ (first_layout start.shape).view
     by view (inl first) = first
-    by view (inr one) = one.is ∙ started_view start one.host
+    by view (inr one) = one.is ∙ started_view start moment.cluster.nobody one.host
 
 -- a place that is found is inside
 pub place_inside : (xs : List Member) (at : ℕ) (x : Member) → slice_get xs at ≡ Some x → at < length xs
@@ -90,4 +91,4 @@ replicas_begin_at_rest start all moment key member is = record {
     begun : replica_at start (logs_of start []) member key ≡ at_key key (first_rows start member).lqh
     begun =
         ap (λ (s : node.HostBody). at_key key (rows_in (no_replica start member) s.parts).lqh)
-        (ldm_started start member (replica_made start all [] moment key member is))
+        (ldm_started start moment.cluster.nobody member (replica_made start all [] moment key member is))

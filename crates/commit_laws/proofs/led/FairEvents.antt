@@ -149,9 +149,10 @@ module _ (forth : ForthIsKnownAlways) (stand : AllStandAlways) (forward : Finals
         event_cases (machine start) e es (tc_of start (coordinator_member v))
         (λ log. has_mark (is_decision v) log ≡ true → is_decided start old v ≡ true)
         (λ at here.
-        let rows = ldm_step start member there e.host taken.at (old e.host) e in
+        let rows = ldm_step start along.moment.cluster.nobody member there e.host taken.at (old e.host) e in
         let coordinates =
-        tc_step start (coordinator_member v) (decided_made start all (e ∷ es) moment v is) e.host at (old e.host) e in
+        tc_step start along.moment.cluster.nobody (coordinator_member v) (decided_made start all (e ∷ es) moment v is)
+        e.host at (old e.host) e in
         absurd (let both : part.Ldm rows.own ≡ part.Tc coordinates.own = sym rows.runs ∙ coordinates.runs in cc))
         (λ off was. was) is
 
@@ -216,7 +217,8 @@ module _ (forth : ForthIsKnownAlways) (stand : AllStandAlways) (forward : Finals
 
             same : number ≡ number_now start old
             same =
-                let up = current_above start old (ldm_of start member) (ldm_low start member there) in
+                let up = current_above start old along.moment.cluster.nobody (ldm_of start member)
+                (ldm_low start along.moment.cluster.nobody member there) in
                 let rises = current_rises start all e es moment in
                 omega (arith, up, rises, stood_now)
 

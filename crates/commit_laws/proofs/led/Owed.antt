@@ -125,9 +125,9 @@ module _ (forth : FinalsAreForth) (going : DecidersGoOn) (start : Start) (all : 
       own_behind start all e es moment ∙ stands_behind start all e es moment
       (going start all e es moment tx epoch there) in
       subst (λ m. IsIn m (current start (logs_of start (e ∷ es))).full)
-      (tc_member start (coordinator_member tx) made_own)
+      (tc_member start along.moment.cluster.nobody (coordinator_member tx) made_own)
       (current_host start all (e ∷ es) moment h (part_some start Tc (coordinator_member tx))
-      (tc_low start (coordinator_member tx) made_own)
+      (tc_low start along.moment.cluster.nobody (coordinator_member tx) made_own)
       (subst (λ k. view_after start k (logs_of start (e ∷ es) k) ≡ current start (logs_of start (e ∷ es))) home stands))
 
   full_old : is_led_by_full start (logs_of start es) tx ≡ true

@@ -36,7 +36,7 @@ use Rattle.world_core.proofs.HostNumbers.{node_host}
 use Rattle.world_core.specs.Hosts.{rows_host}
 use Rattle.world_core.specs.Marks.{has_mark}
 use Rattle.world_core.specs.Rest.{IsAtRest, IsLiveReplica, IsSettled, is_done_mark, is_prepared}
-use Rattle.world_core.specs.Start.{Start, made}
+use Rattle.world_core.specs.Start.{NobodyStarts, Start, made}
 use Rattle.world_core.specs.Steps.{Addressed, HostStep}
 use Rattle.world_views.specs.At.{row_at, row_in}
 use Rattle.world_views.specs.Machine.{after, machine}
@@ -191,7 +191,8 @@ module _ (start : Start) (all : ℕ → List HostStep) (e : HostStep) (es : List
 
     once : AreOnce (at_key key s.lqh).cell.pending
     once =
-        subst (λ (c : Cell). AreOnce c.pending) (sym cell_is) (rows_once start member there (old h) key)
+        subst (λ (c : Cell). AreOnce c.pending) (sym cell_is)
+        (rows_once start moment.cluster.nobody member there (old h) key)
 
     -- a completion takes the record away
     completed_gone : (chain : List Member) (at : ℕ) → e.step.taken.body ≡ Chain (Complete v key chain at)
@@ -325,15 +326,16 @@ module _ (start : Start) (all : ℕ → List HostStep) (es : List HostStep) (mom
 
       own : HasReplica (first_chain start.shape key) member.node
       own =
-          first_all start.shape moment.cluster.shape key member.node (node_some start member in_made)
-          (node_low start member in_made) has
+          first_all start.shape moment.cluster.shape key member.node
+          (node_some start moment.cluster.nobody member in_made)
+          (node_low start moment.cluster.nobody member in_made) has
 
       sits : Seat (first_chain start.shape key) own.at
       sits = seat (first_chain start.shape key) own.at own.inside
 
       is : sits.one ≡ member
       is =
-          made_same start sits.one member
+          made_same start moment.cluster.nobody sits.one member
           (begins_made start sits.one
           (chain_full start key moment.cluster.shape first (nobody_later_first start.shape.nodes) sits.one sits.there))
           in_made (sym sits.node ∙ own.is)
@@ -350,18 +352,19 @@ module _ (start : Start) (all : ℕ → List HostStep) (es : List HostStep) (mom
           (any_in (is_member member) member view.full full (self member)))
 
 -- rows of a node are those of its member
-module _ (start : Start) (member : Member) (there : IsIn member (made start)) where
+module _ (start : Start) (nobody : NobodyStarts start) (member : Member) (there : IsIn member (made start)) where
   rows_number : rows_host start member.node ≡ ldm_of start member
   rows_number =
       let number : rows_host start member.node ≡ (member.node - 1) * 3 + 3 =
-      node_host start (place.rows_of member.node) (node_some start member there) (node_low start member there) in
-      let is = ldm_number start member there in
+      node_host start (place.rows_of member.node) (node_some start nobody member there)
+      (node_low start nobody member there) in
+      let is = ldm_number start nobody member there in
       omega (arith, number, is)
 
   row_there : (logs : ℕ → List HostStep) (key : List ℕ)
       → row_in start logs member.node key ≡ (replica_at start logs member key).cell.row
   row_there logs key =
-      let runs = rows_run start member there (logs (ldm_of start member)) in
+      let runs = rows_run start nobody member there (logs (ldm_of start member)) in
       ap (λ k. row_at (after start k (logs k)).parts key) rows_number
       ∙ (ap (λ parts. row_at parts key) runs.is
       ∙ ap (λ (s : ReplicaState). (at_key key s.lqh).cell.row)
@@ -389,7 +392,7 @@ module _ (stand : AllStandAlways) (start : Start) (logs : ℕ → List HostStep)
     empty : (replica_at start logs member key).cell.pending ≡ []
     empty =
         settled_empty key (logs (ldm_of start member)) (replica_at start logs member key).cell.pending
-        (subst (λ k. IsSettled key (logs k)) (rows_number start member in_made) (at_rest member live))
+        (subst (λ k. IsSettled key (logs k)) (rows_number start are.nobody member in_made) (at_rest member live))
         (subst (λ (ls : ℕ → List HostStep). (v : TxId)
         → is_some (found v (replica_at start ls member key).cell.pending) ≡ true
         → IsUnfinished key v (ls (ldm_of start member))) (logs_in_views start logs are)
@@ -397,6 +400,6 @@ module _ (stand : AllStandAlways) (start : Start) (logs : ℕ → List HostStep)
 
 pub resting_rows : AllStandAlways → RestingRowsFollow
 resting_rows stand start logs are key at_rest member live =
-    row_there start member (in_made stand start logs are key at_rest member live) logs key
+    row_there start are.nobody member (in_made stand start logs are key at_rest member live) logs key
     ∙ followed_histories stand start logs are key member (replica_logs stand start logs are key at_rest member live)
     (empty stand start logs are key at_rest member live)

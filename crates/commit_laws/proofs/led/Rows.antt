@@ -91,7 +91,7 @@ module _ (forth : ForthIsKnownAlways) (stand : AllStandAlways) (forward : Finals
       (tidy : IsTidy decided (backup_of (replica_at start (logs_of start es) member key)))
     where
       well_was : IsWell (rows_at start old member).lqh
-      well_was = rows_well start member inside (old (ldm_of start member))
+      well_was = rows_well start along.moment.cluster.nobody member inside (old (ldm_of start member))
 
       attended_was : AreAttended (replica_at start old member key)
       attended_was = rows_attended forth start all es (moment_less start all e es now) member inside key

@@ -26,7 +26,7 @@ use Rattle.node_views.specs.Row.{blocks_row, counted_row, counted_stop, entered,
 use Rattle.node_views.specs.Row.{host_row, host_table, in_view, is_barred, is_excluded, is_stop, hushed, killed_after}
 use Rattle.node_views.specs.Row.{passed_if, passed_row, taken_if}
 use Rattle.node_views.specs.WellFormed.{is_well_formed}
-use Rattle.world_core.specs.Start.{Start}
+use Rattle.world_core.specs.Start.{NobodyStarts, Start}
 use Rattle.world_core.specs.Steps.{HostStep}
 use Rattle.world_views.specs.Machine.{after, own_stop, step_after, step_by, step_if}
 use Rattle.view_laws.proofs.eras.Shapes.{shape_stays}
@@ -127,7 +127,7 @@ module _ (x : Signal) (signal : TakeoverSignal) (body_is : x.body ≡ Takeover s
           stopped None = subst (λ b. Hears p standing.view x (taken_if (host_of standing p) x b)) (sym sound) well
 
 -- so it is along a log
-module _ (start : Start) (h : ℕ) (log : List HostStep) (e : HostStep) (p : TcPart)
+module _ (start : Start) (nobody : NobodyStarts start) (h : ℕ) (log : List HostStep) (e : HostStep) (p : TcPart)
     (runs : (after start h log).parts ≡ part.Tc p) (signal : TakeoverSignal)
   where
     pub tc_hears : e.step.taken.body ≡ Takeover signal → e.step.taken.to.block ≡ block.Takeover
@@ -141,4 +141,4 @@ module _ (start : Start) (h : ℕ) (log : List HostStep) (e : HostStep) (p : TcP
         (step_by h (record { standing = standing; parts = parts }) e.step.taken))
         (sym runs)
         (step_hears e.step.taken signal body_is to p h standing high
-        (subst (λ shape. is_well_formed shape e.step.taken ≡ true) (sym (shape_stays start h log)) sound))
+        (subst (λ shape. is_well_formed shape e.step.taken ≡ true) (sym (shape_stays start nobody h log)) sound))

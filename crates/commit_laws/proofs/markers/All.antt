@@ -21,7 +21,7 @@ use Rattle.lqh_views.proofs.ListsKept.{both}
 use Rattle.node_core.specs.Fresh.{own_rows, with_rows}
 use Rattle.node_views.specs.declared.host_body.HostBody as node
 use Rattle.node_views.specs.WellFormed.{is_well_formed}
-use Rattle.world_core.specs.Start.{Start, made}
+use Rattle.world_core.specs.Start.{NobodyStarts, Start, made}
 use Rattle.world_core.specs.Steps.{HostStep}
 use Rattle.world_views.specs.Machine.{IsOwnWork, machine}
 use Rattle.world_views.proofs.FreshBodies.{none_pending}
@@ -86,7 +86,7 @@ module _ (start : Start) (all : ℕ → List HostStep) (e : HostStep) (es : List
       kept =
           event_cases (machine start) e es (ldm_of start member)
           (λ log. AreKept K (rows_at start old member).lqh (rows_after start member log).lqh)
-          (λ at. rows_step start member there (old (ldm_of start member)) e K acks still)
+          (λ at. rows_step start moment.cluster.nobody member there (old (ldm_of start member)) e K acks still)
           (λ off. (all_stay K (rows_at start old member).lqh.markers, still))
 
       -- a marker of a transaction stays
@@ -138,18 +138,18 @@ module _ (start : Start) (all : ℕ → List HostStep) (e : HostStep) (es : List
               marker_stays tx one.item one.there (same_tx-is one.item.tx tx one.is)
 
 -- as its life begins it has no record
-first_remembers : (start : Start) (member : Member) → IsIn member (made start)
+first_remembers : (start : Start) (nobody : NobodyStarts start) (member : Member) → IsIn member (made start)
     → Remember (λ tx. is_known start (λ h. []) tx) (rows_at start (λ h. []) member).lqh
-first_remembers start member there =
+first_remembers start nobody member there =
     subst (λ (s : node.HostBody). Remember (λ tx. false) (rows_in (no_replica start member) s.parts).lqh)
-    (sym (ldm_started start member there))
+    (sym (ldm_started start nobody member there))
     (subst (Each (Remembers (λ tx. false) [])) (sym none) tt)
   where
     none : (with_rows no_rows (own_rows start.shape member.node start.rows) start.start_epoch).pending ≡ []
     none = none_pending no_rows (own_rows start.shape member.node start.rows) start.start_epoch
 
 pub commits_are_remembered : CommitsAreRemembered
-commits_are_remembered start all [] moment member there = first_remembers start member there
+commits_are_remembered start all [] moment member there = first_remembers start moment.cluster.nobody member there
 commits_are_remembered start all (e ∷ es) moment member there =
     (kept start all e es moment member there
     (commits_are_remembered start all es (moment_less start all e es moment) member there)).1

@@ -17,7 +17,7 @@ use Rattle.lqh_saver.proofs.StepLemmas.{saver_rows}
 use Rattle.node_views.specs.declared.ldm_part.LdmPart.{LdmPart}
 use Rattle.node_views.specs.Parts.{ldm_row}
 use Rattle.node_views.specs.WellFormed.{is_well_formed}
-use Rattle.world_core.specs.Start.{Start, made}
+use Rattle.world_core.specs.Start.{NobodyStarts, Start, made}
 use Rattle.world_core.specs.Steps.{HostStep}
 use Rattle.world_views.specs.Machine.{after, step_after}
 use Rattle.view_laws.specs.Runs.{view_after}
@@ -30,14 +30,14 @@ use Rattle.request_laws.proofs.replicas.AlongLogs.{AreRows, rows_so}
 use Rattle.commit_laws.proofs.markers.Lists.{AreKept, Remember, all_stay}
 use Rattle.commit_laws.proofs.markers.Rows.{rows_kept}
 
-module _ (start : Start) (member : Member) (there : IsIn member (made start)) where
+module _ (start : Start) (nobody : NobodyStarts start) (member : Member) (there : IsIn member (made start)) where
   abbrev So : ReplicaState → Type 0
   So s = Unit {0}
 
   -- a part of rows runs there
   runs : (log : List HostStep)
       → AreRows So (after start (ldm_of start member) log).parts
-  runs = rows_so So (λ s x so. tt) (λ s view so. tt) (λ s at has so. tt) start member there tt
+  runs = rows_so So (λ s x so. tt) (λ s view so. tt) (λ s at has so. tt) start nobody member there tt
 
   module _ (log : List HostStep) (e : HostStep) (K : TxId → Bool)
       (acks : is_well_formed start.shape e.step.taken ≡ true → (tx : TxId)
@@ -65,7 +65,7 @@ module _ (start : Start) (member : Member) (there : IsIn member (made start)) wh
       did : LdmDoes start.shape before (view_after start (ldm_of start member) log) x
           (after start (ldm_of start member) (e ∷ log)).parts (view_after start (ldm_of start member) (e ∷ log))
           (step_after start (ldm_of start member) log e).effects.sends
-      did = ldm_after start (ldm_of start member) log e (part_some start part.Ldm member) before (runs log).is
+      did = ldm_after start nobody (ldm_of start member) log e (part_some start part.Ldm member) before (runs log).is
 
       -- where a view is installed in them, or none
       abbrev IsLike : LdmPart → Type 0

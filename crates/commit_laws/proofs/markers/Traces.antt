@@ -140,7 +140,8 @@ module _ (forth : ForthIsKnownAlways) where
             sym (ap (has_gone_forth start (coordinator_member tx) tx)
             (log_of-other (machine start) e es (tc_of start (coordinator_member tx))
             (λ same.
-            ldm_no_tc start member (coordinator_member tx) there (forth_made start all (e ∷ es) moment tx is)
+            ldm_no_tc start moment.cluster.nobody member (coordinator_member tx) there
+            (forth_made start all (e ∷ es) moment tx is)
             (sym at ∙ same)))) ∙ is
 
         other_rows : e.host ≢ ldm_of start member → rows_at start new member ≡ rows_at start old member

@@ -88,7 +88,7 @@ module _ (start : Start) (all : ℕ → List HostStep) (e : HostStep) (es : List
         other =
             taken_sound start all i y (logs_of start es h)
             (each_past (λ (f : HostStep). WasInstalled start all f.step.taken.view) (less.inside h)
-            (headers_installed start all moment.cluster h (tc_low start member there))) inside
+            (headers_installed start all moment.cluster h (tc_low start moment.cluster.nobody member there))) inside
 
         sound : is_well_formed start.shape x ≡ true
         sound = order_sound start all e es moment order y i other (header ∙ sym tells.number)

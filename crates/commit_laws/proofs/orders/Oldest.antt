@@ -19,9 +19,8 @@ use Rattle.sig_core.specs.declared.member.Member.{Member}
 use Rattle.sig_core.specs.declared.signal.Signal.{Signal}
 use Rattle.sig_core.specs.declared.view.View.{View}
 use Rattle.qmgr_block.specs.Install.{is_oldest_of}
-use Rattle.world_core.proofs.MadeFirst.{nobody_starts}
 use Rattle.world_core.specs.Hosts.{hosts}
-use Rattle.world_core.specs.Start.{Start, made}
+use Rattle.world_core.specs.Start.{NobodyStarts, Start, made}
 use Rattle.world_core.specs.Steps.{Addressed, HostStep}
 use Rattle.world_views.proofs.SentFacts.{is_stamped}
 use Rattle.world_views.specs.Machine.{machine, signals_of}
@@ -35,7 +34,8 @@ use Rattle.moment_laws.specs.Moments.{logs_of}
 use Rattle.request_laws.proofs.routes.Headers.{event_past}
 use Rattle.commit_laws.proofs.orders.Once.{OldestGoFirst}
 
-module _ (come_rightly : ViewsComeRightly) (start : Start) (is_shape : IsShape start.shape) where
+module _ (come_rightly : ViewsComeRightly) (start : Start) (nobody : NobodyStarts start)
+    (is_shape : IsShape start.shape) where
   abbrev reach : Member → (ℕ → List HostStep) → ℕ
   reach me logs = (view_after start (main_of start me) (logs (main_of start me))).number
 
@@ -67,8 +67,8 @@ module _ (come_rightly : ViewsComeRightly) (start : Start) (is_shape : IsShape s
   first_ahead : AreAhead (log_of (machine start) [])
   first_ahead = record {
     views = λ h low me there is.
-        let own = ap (λ (v : View). v.number) (started_view start h) in
-        let main = ap (λ (v : View). v.number) (started_view start (main_of start me)) in
+        let own = ap (λ (v : View). v.number) (started_view start nobody h) in
+        let main = ap (λ (v : View). v.number) (started_view start nobody (main_of start me)) in
         omega (arith, own, main);
     young = λ me there. tt;
   }
@@ -84,7 +84,7 @@ module _ (come_rightly : ViewsComeRightly) (start : Start) (is_shape : IsShape s
     reach_more me =
         event_moves (machine start) e es (λ h was log. (view_after start h was).number ≤
         (view_after start h log).number)
-        (view_rises start e.host (old e.host) e) (λ h log. omega arith) (main_of start me)
+        (view_rises start nobody e.host (old e.host) e) (λ h log. omega arith) (main_of start me)
 
     more : (view : View) → IsAhead old view → IsAhead new view
     more view ahead me there is =
@@ -120,7 +120,7 @@ module _ (come_rightly : ViewsComeRightly) (start : Start) (is_shape : IsShape s
             (record {
               shape =
                   is_shape;
-              nobody = nobody_starts start;
+              nobody = nobody;
               right = logs_of_run (machine start) (e ∷ es) (come.run, come.happens);
               within = within;
             })
@@ -194,10 +194,10 @@ pub oldest_go_first : ViewsComeRightly → OldestGoFirst
 oldest_go_first come_rightly start all e es moment me there at =
     subst (λ h. (view_after start h (logs_of start es e.host)).number < e.step.taken.view.number
     → is_oldest_of me e.step.taken.view.full ≡ false) (sym at)
-    (young_of come_rightly start moment.cluster.shape me (logs_of start es e.host) e past.newer
-    (subst (AreYoung come_rightly start moment.cluster.shape me) past.is
-    (subst (λ h. AreYoung come_rightly start moment.cluster.shape me (all h)) (sym at)
-    (all_young come_rightly start moment.cluster.shape all moment.cluster me there))))
+    (young_of come_rightly start moment.cluster.nobody moment.cluster.shape me (logs_of start es e.host) e past.newer
+    (subst (AreYoung come_rightly start moment.cluster.nobody moment.cluster.shape me) past.is
+    (subst (λ h. AreYoung come_rightly start moment.cluster.nobody moment.cluster.shape me (all h)) (sym at)
+    (all_young come_rightly start moment.cluster.nobody moment.cluster.shape all moment.cluster me there))))
   where
     past : IsPast (e ∷ logs_of start es e.host) (all e.host)
     past = event_past start all e es moment

@@ -25,7 +25,7 @@ use Rattle.tc_block.specs.Complete.{one_if}
 use Rattle.qmgr_block.specs.Install.{is_oldest_of}
 use Rattle.qmgr_block.specs.Sets.{members_of}
 use Rattle.world_core.specs.Hosts.{hosts}
-use Rattle.world_core.specs.Start.{Start, made}
+use Rattle.world_core.specs.Start.{NobodyStarts, Start, made}
 use Rattle.world_core.specs.Steps.{HostStep}
 use Rattle.world_views.specs.Machine.{step_after, machine}
 use Rattle.view_laws.specs.Order.{sound_machine}
@@ -57,7 +57,7 @@ use Rattle.commit_laws.proofs.orders.Words.{AreQuiet, is_membership}
 -- hosts without a membership order nothing, and send no membership a signal to go on
 abbrev pub OthersAreQuiet : Type 0
 OthersAreQuiet =
-    (start : Start) (h : ℕ) → OtherHost start h → (log : List HostStep) (e : HostStep)
+    (start : Start) → NobodyStarts start → (h : ℕ) → OtherHost start h → (log : List HostStep) (e : HostStep)
     → AreQuiet (step_after start h log e).effects.sends
 
 -- the oldest member of a view installs it first, so its membership's host comes to it by no header
@@ -170,7 +170,7 @@ module _ (others : OthersAreQuiet) (first : OldestGoFirst) (start : Start) (all 
       more : one_if (stands e.host old) ≤ one_if (stands e.host (e ∷ old))
       more =
           grows (oldest_host start view.full == e.host) number (view_after start e.host old).number behind.number
-          (view_rises start e.host old e)
+          (view_rises start moment.cluster.nobody e.host old e)
 
       module _ (same : behind.number ≡ number) where
         here : last ≡ length (members_of behind)
@@ -198,7 +198,7 @@ module _ (others : OthersAreQuiet) (first : OldestGoFirst) (start : Start) (all 
           young : is_oldest_of me view.full ≡ false → count_orders last sends ≡ 0
           young is =
               subst (λ h. count_orders last (step_after start h old e).effects.sends ≡ 0) (sym at)
-              (step_none start me there old e younger last here_at
+              (step_none start moment.cluster.nobody me there old e younger last here_at
               (subst (λ h. is_oldest_of me (view_after start h (e ∷ old)).full ≡ false) at
               (subst (λ (v : View). is_oldest_of me v.full ≡ false)
               (sym (one_view have_orderly start all moment.cluster behind view (own_installed start all e es moment) was
@@ -216,7 +216,7 @@ module _ (others : OthersAreQuiet) (first : OldestGoFirst) (start : Start) (all 
               + (if (sound_machine start).asked e then 0
               else one_if (goes_from last (view_after start h (e ∷ old)).number e.step.taken.to.block
               e.step.taken.view.number e.step.taken.body))) (sym at)
-              (step_counts start me there old e younger last here_at)
+              (step_counts start moment.cluster.nobody me there old e younger last here_at)
 
           old_gains : is_oldest_of me view.full ≡ true → Gains
           old_gains is =
@@ -238,13 +238,13 @@ module _ (others : OthersAreQuiet) (first : OldestGoFirst) (start : Start) (all 
 
         in_view : MainHost start e.host ⊎ OtherHost start e.host → Gains
         in_view (inl main) = own_gains main.me main.there main.at (is_oldest_of main.me view.full) refl
-        in_view (inr other) = none (quiet_none last sends (others start e.host other old e))
+        in_view (inr other) = none (quiet_none last sends (others start moment.cluster.nobody e.host other old e))
 
       gains : Gains
       gains = by (cases_eq behind.number number)
         where
           by : (behind.number ≡ number) ⊎ (behind.number ≢ number) → Gains
-          by (inl same) = in_view same (host_is start e.host (host_low start all e es moment))
+          by (inl same) = in_view same (host_is start moment.cluster.nobody e.host (host_low start all e es moment))
           by (inr off) =
               let nothing : sent_now start all e es moment counted ≡ 0 =
               unseen_none start e.host old e number (λ x. counts last x.to.block x.body) off in
@@ -365,7 +365,8 @@ orders_are_once others first start all (e ∷ es) moment number =
 
     by : (e.step.taken.view.number ≡ number) ⊎ (e.step.taken.view.number ≢ number)
         → all_taken start (numbered number is_order) (logs_of start es) ≤ 1 → Once number
-    by (inl same) before = subst Once same (view_once others first start all e.step.taken.view was (e ∷ es) moment)
+    by (inl same) before =
+        subst Once same (view_once others first start all e.step.taken.view was (e ∷ es) moment)
     by (inr off) before =
         let none : taken_now start all e es moment (numbered number is_order) ≡ 0 =
         nothing ((sound_machine start).asked e) (is_order e.step.taken.body) (e.step.taken.view.number == number)

@@ -16,10 +16,10 @@ use Rattle.sig_core.specs.declared.signal.host.HostSignal.TheVariants.{Closed}
 use Rattle.sig_core.specs.declared.signal.takeover.TakeoverSignal.TheVariants.{TakeoverOrd}
 use Rattle.sig_core.specs.Members.{nobody}
 use Rattle.node_views.specs.WellFormed.{is_body_sound, is_node, is_sender, is_view, is_well_formed}
-use Rattle.world_core.proofs.MadeFirst.{hosts_first, nobody_starts}
+use Rattle.world_core.proofs.MadeFirst.{hosts_first}
 use Rattle.world_core.proofs.HostNumbers.{made_at}
 use Rattle.world_core.specs.Hosts.{hosts, member_at}
-use Rattle.world_core.specs.Start.{Start, made}
+use Rattle.world_core.specs.Start.{NobodyStarts, Start, made}
 use Rattle.world_core.specs.Steps.{Addressed, HostStep}
 use Rattle.world_views.specs.Machine.{cause_in, machine, signals_of}
 use Rattle.world_views.specs.Sending.{is_own_work}
@@ -68,10 +68,11 @@ module _ (start : Start) where
   node_sound node some low =
       and_from (nat_le 1 node) (nat_le node start.shape.nodes) (le-leb 1 node some) (le-leb node start.shape.nodes low)
 
-  sender_sound : (h : ℕ) → h < hosts start → is_sender start.shape (member_at (made start) h) ≡ true
-  sender_sound zero low = refl
-  sender_sound (suc h) low =
-      let few : h / 3 + 1 ≤ start.shape.nodes = omega (arith, low, hosts_first start (nobody_starts start)) in
+  sender_sound : NobodyStarts start → (h : ℕ) → h < hosts start
+      → is_sender start.shape (member_at (made start) h) ≡ true
+  sender_sound none_starts zero low = refl
+  sender_sound none_starts (suc h) low =
+      let few : h / 3 + 1 ≤ start.shape.nodes = omega (arith, low, hosts_first start none_starts) in
       subst (λ (member : Member). is_sender start.shape member ≡ true)
       (sym (made_at start (h / 3) nobody (omega (arith, few))))
       (or_left (is_node start.shape (h / 3 + 1)) _ (node_sound (h / 3 + 1) (omega arith) few))
@@ -79,18 +80,19 @@ module _ (start : Start) where
   abbrev IsFrom : Addressed → Type 0
   IsFrom y = is_sender start.shape y.signal.member ≡ true
 
-  sent_from : (i j : ℕ) → i < hosts start → (log : List HostStep)
+  sent_from : NobodyStarts start → (i j : ℕ) → i < hosts start → (log : List HostStep)
       → Each (λ (y : Addressed). is_sender start.shape y.signal.member ≡ true) (sent (machine start) i j log)
-  sent_from i j low [] = tt
-  sent_from i j low (e ∷ log) =
+  sent_from none_starts i j low [] = tt
+  sent_from none_starts i j low (e ∷ log) =
       put_each m IsFrom j (sent_by m i log e) (sent m i j log)
       (sent_by_each m IsFrom i log e
       (λ goes.
       each_map _ IsFrom (signals_of start i log e)
       (λ y one.
-      subst (λ (member : Member). is_sender start.shape member ≡ true) (sym one.member) (sender_sound i low))
+      subst (λ (member : Member). is_sender start.shape member ≡ true) (sym one.member)
+      (sender_sound none_starts i low))
       (each_sent start i log e)))
-      (sent_from i j low log)
+      (sent_from none_starts i j low log)
 
   module _ (all : ℕ → List HostStep) (cluster : AreOfCluster start all) where
     all_from : (i j : ℕ)
@@ -99,7 +101,7 @@ module _ (start : Start) where
       where
         by : (i < hosts start) ⊎ (hosts start ≤ i)
             → Each (λ (y : Addressed). is_sender start.shape y.signal.member ≡ true) (sent (machine start) i j (all i))
-        by (inl low) = sent_from i j low (all i)
+        by (inl low) = sent_from cluster.nobody i j low (all i)
         by (inr high) = subst (λ log. Each IsFrom (sent m i j log)) (sym (cluster.within i high)) tt
 
     -- so it is of who sent what was taken from a link

@@ -28,7 +28,7 @@ use Rattle.node_views.specs.declared.parts.Parts.{Parts}
 use Rattle.node_views.specs.declared.parts.Parts.TheVariants as part
 use Rattle.node_views.specs.Parts.{main_entered, main_row, main_settled}
 use Rattle.node_views.specs.WellFormed.{is_well_formed}
-use Rattle.world_core.specs.Start.{Start, made}
+use Rattle.world_core.specs.Start.{NobodyStarts, Start, made}
 use Rattle.world_core.specs.Steps.{HostStep}
 use Rattle.world_views.specs.Machine.{after, step_after}
 use Rattle.world_views.specs.Sending.{is_own_work}
@@ -102,7 +102,8 @@ rises_one a b above = ap one_if (is a b above)
     is : (a b : ℕ) → a < b → nat_lt a b ≡ true
     is a b above = grind (arith, nat_tests)
 
-module _ (start : Start) (member : Member) (there : IsIn member (made start)) (log : List HostStep) (e : HostStep)
+module _ (start : Start) (nobody : NobodyStarts start) (member : Member) (there : IsIn member (made start))
+    (log : List HostStep) (e : HostStep)
     (younger : (view_after start (main_of start member) log).number < e.step.taken.view.number
     → is_oldest_of member e.step.taken.view.full ≡ false)
   where
@@ -123,13 +124,13 @@ module _ (start : Start) (member : Member) (there : IsIn member (made start)) (l
 
     runs : RunsMain member (after start (main_of start member) log).parts (view_after start (main_of start member) log)
     runs =
-        let follows = hosts_follow start member log there in
+        let follows = hosts_follow start nobody member log there in
         main_of_parts member (after start h log).parts (membership_of start member log) before follows.state
         follows.view
         (me_is member (first_layout start.shape) (events_of is_membership start (main_of start member) log))
 
     did : PartsDo start.shape (after start h log).parts before x (after start h (e ∷ log)).parts behind sends
-    did = after_do start h (part_some start host_part.Main member) log e
+    did = after_do start nobody h (part_some start host_part.Main member) log e
 
     -- what is sent of the kind in a view whose list of orders has the order to the takeover there
     module _ (last : ℕ) (here : last ≡ length (members_of behind)) where
@@ -156,7 +157,8 @@ module _ (start : Start) (member : Member) (there : IsIn member (made start)) (l
         none = ap (count_orders last) none;
         follows =
             subst (λ v. Follows (first_layout start.shape) inside v) (sym stands)
-            (subst (λ parts. Follows (first_layout start.shape) parts before) (sym same) (host_follows start h log));
+            (subst (λ parts. Follows (first_layout start.shape) parts before) (sym same)
+            (host_follows start nobody h log));
         up = let is = ap (λ (v : View). v.number) stands in omega (arith, is);
       }
       between_by inside stood front (enters above same stands sent) = record {
@@ -176,7 +178,7 @@ module _ (start : Start) (member : Member) (there : IsIn member (made start)) (l
             subst (λ v. Follows (first_layout start.shape) inside v) (sym stands)
             (subst (λ parts. Follows (first_layout start.shape) parts x.view) (sym same)
             (entered_follows (first_layout start.shape) (after start h log).parts before x.view
-            (host_follows start h log)));
+            (host_follows start nobody h log)));
         up = let is = ap (λ (v : View). v.number) stands in omega (arith, is, above);
       }
 

@@ -31,7 +31,7 @@ use Rattle.node_views.specs.declared.host_body.HostBody as hosts
 use Rattle.node_views.specs.declared.parts.Parts.TheVariants as part
 use Rattle.node_views.specs.declared.tc_part.TcPart.{TcPart}
 use Rattle.node_views.specs.Parts.{tc_row}
-use Rattle.world_core.specs.Start.{Start, made}
+use Rattle.world_core.specs.Start.{NobodyStarts, Start, made}
 use Rattle.world_core.specs.Steps.{Addressed, HostStep}
 use Rattle.world_views.specs.Machine.{IsOwnWork, machine, step_after}
 use Rattle.view_laws.specs.Runs.{view_after}
@@ -76,15 +76,15 @@ module _ (start : Start) (number : ℕ) where
         → (rows_at start logs member).report ≡ None
 
   -- so it is as a life begins
-  unordered_first : IsUnordered (logs_of start [])
-  unordered_first = record {
+  unordered_first : NobodyStarts start → IsUnordered (logs_of start [])
+  unordered_first nobody = record {
     sent = λ i j. tt;
     rests = λ member there stands.
         ap (λ (s : hosts.HostBody). (takeover_in (resting member.node (first_layout start.shape)) s.parts).stage)
-        (tc_started start member there);
+        (tc_started start nobody member there);
     reports = λ member there stands.
         ap (λ (s : hosts.HostBody). (rows_in (no_replica start member) s.parts).report)
-        (ldm_started start member there);
+        (ldm_started start nobody member there);
   }
 
 module _ (start : Start) (all : ℕ → List HostStep) (e : HostStep) (es : List HostStep)
@@ -142,7 +142,7 @@ module _ (start : Start) (all : ℕ → List HostStep) (e : HostStep) (es : List
         log = logs_of start es (tc_of start member)
 
         abbrev own : TcStep start (tc_of start member) log e
-        own = own_tc start member there log e
+        own = own_tc start moment.cluster.nobody member there log e
 
         abbrev between : TcPart
         between = own.does.between
@@ -249,7 +249,7 @@ module _ (start : Start) (all : ℕ → List HostStep) (e : HostStep) (es : List
 
     -- what the event sends in the view is of no report
     event_sends : Stands e.host → AreNoReports (sends_at e.host)
-    event_sends stands = by (part_host start e.host (host_low start all e es moment))
+    event_sends stands = by (part_host start moment.cluster.nobody e.host (host_low start all e es moment))
       where
         by : PartHost start e.host → AreNoReports (sends_at e.host)
         by (coordinates me there at) =
@@ -289,7 +289,7 @@ module _ (start : Start) (all : ℕ → List HostStep) (e : HostStep) (es : List
 pub unordered_views : (start : Start) (all : ℕ → List HostStep) (es : List HostStep) → IsMoment start all es
     → (number : ℕ) → all_taken start (numbered number is_order) (logs_of start es) ≡ 0
     → IsUnordered start number (logs_of start es)
-unordered_views start all [] moment number none = unordered_first start number
+unordered_views start all [] moment number none = unordered_first start number moment.cluster.nobody
 unordered_views start all (e ∷ es) moment number none =
     let more = all_taken_more start all e es moment (numbered number is_order) in
     unordered_next start all e es moment number

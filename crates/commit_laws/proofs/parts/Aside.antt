@@ -91,22 +91,23 @@ module _ (start : Start) (all : ℕ → List HostStep) (e : HostStep) (es : List
 
     beside_rows : IsBeside (started start e.host).parts → (m : Member) → IsIn m (made start) → e.host ≢ ldm_of start m
     beside_rows beside m among is =
-        subst (λ (host : node.HostBody). IsBeside host.parts) (ldm_started start m among)
+        subst (λ (host : node.HostBody). IsBeside host.parts) (ldm_started start follows.moment.cluster.nobody m among)
         (subst (λ h. IsBeside (started start h).parts) is beside)
 
     -- rows of a member are to be seen to apart
     pub aside_parts : ((me : Member) → IsIn me (made start) → e.host ≡ ldm_of start me
         → PartsOf start all e es follows xs between transit takes same tx u)
         → PartsOf start all e es follows xs between transit takes same tx u
-    aside_parts by_rows = by (part_host start e.host (host_low start all e es moment))
+    aside_parts by_rows = by (part_host start follows.moment.cluster.nobody e.host (host_low start all e es moment))
       where
         by : PartHost start e.host → PartsOf start all e es follows xs between transit takes same tx u
         by (keeps_rows me among at) = by_rows me among at
         by (coordinates me among at) =
-            stays_so (λ m there is. ldm_no_tc start m me there among (sym is ∙ at))
-            (none_out (λ m there is. ldm_no_tc start m me there among (sym is ∙ at))
+            stays_so (λ m there is. ldm_no_tc start follows.moment.cluster.nobody m me there among (sym is ∙ at))
+            (none_out (λ m there is. ldm_no_tc start follows.moment.cluster.nobody m me there among (sym is ∙ at))
             (subst (λ k. count_sent (is_token tx) (step_after start k (old k) e).effects.sends ≡ 0) (sym at)
-            (foreign_none start me among tx (λ is. off (at ∙ ap (tc_of start) (sym is))) (old (tc_of start me)) e)))
+            (foreign_none start me among tx (λ is. off (at ∙ ap (tc_of start) (sym is))) follows.moment.cluster.nobody
+            (old (tc_of start me)) e)))
         by (is_beside beside) =
             stays_so (beside_rows beside)
             (bodies_sent start e.host (old e.host) e (λ b. is_token tx b ≡ false)

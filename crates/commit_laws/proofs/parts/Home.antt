@@ -163,7 +163,8 @@ module _ (start : Start) (all : ℕ → List HostStep) (e : HostStep) (es : List
 
     still : (m : Member) → IsIn m (made start) → new (ldm_of start m) ≡ old (ldm_of start m)
     still m among =
-        log_of-other (machine start) e es (ldm_of start m) (λ is. ldm_no_tc start m member among there (sym is ∙ home))
+        log_of-other (machine start) e es (ldm_of start m)
+        (λ is. ldm_no_tc start follows.moment.cluster.nobody m member among there (sym is ∙ home))
 
     abbrev number_is : (current start new).number ≡ (current start old).number
     number_is = ap (λ v. v.number) same
@@ -174,7 +175,8 @@ module _ (start : Start) (all : ℕ → List HostStep) (e : HostStep) (es : List
 
     -- tokens that the host sends
     tokens : StepTokens start member there tx refl (old h) e
-    tokens = step_tokens start member there tx refl (old h) e (always_fits start member there tx refl (old h))
+    tokens = step_tokens start member there tx refl follows.moment.cluster.nobody (old h) e
+        (always_fits start member there tx refl follows.moment.cluster.nobody (old h))
 
     abbrev was_asked : Bool
     was_asked = has_asked (entry_of (coordinator_after start member (old h)) tx)
@@ -437,7 +439,8 @@ module _ (start : Start) (all : ℕ → List HostStep) (e : HostStep) (es : List
         }
 
     pub home_parts : PartsOf start all e es follows xs between transit takes same tx u
-    home_parts = by (entry_goes start member there tx (old h) e u entry_now hale.undecided)
+    home_parts =
+        by (entry_goes start member there tx (old h) e u follows.moment.cluster.nobody entry_now hale.undecided)
       where
         by : EntryGoes start member there tx (old h) e u → Now
         by (kept was) = unchanged u was hale.undecided refl refl

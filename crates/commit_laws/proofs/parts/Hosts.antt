@@ -22,7 +22,7 @@ use Rattle.tc_views.specs.Coordinator.{coordinator_row}
 use Rattle.tc_views.specs.State.{CoordinatorState, go_on_with}
 use Rattle.node_views.specs.declared.tc_part.TcPart.{TcPart}
 use Rattle.node_views.specs.Parts.{tc_row}
-use Rattle.world_core.specs.Start.{Start, made}
+use Rattle.world_core.specs.Start.{NobodyStarts, Start, made}
 use Rattle.world_core.specs.Steps.{HostStep}
 use Rattle.world_views.specs.Machine.{step_after}
 use Rattle.view_laws.specs.Runs.{view_after}
@@ -126,99 +126,103 @@ module _ (start : Start) (member : Member) (there : IsIn member (made start)) (t
           → IsHandled start (tc_of start member) log e block.Tc
           → Sends own ⊎ ((step_after start (tc_of start member) log e).effects.sends ≡ []) → EntryGoes
 
-    abbrev st : TcStep start h log e
-    st = own_tc start member there log e
+    module _ (nobody : NobodyStarts start) where
+      abbrev st : TcStep start h log e
+      st = own_tc start nobody member there log e
 
-    abbrev p : TcPart
-    p = st.own
+      abbrev p : TcPart
+      p = st.own
 
-    abbrev between : TcPart
-    between = st.does.between
+      abbrev between : TcPart
+      between = st.does.between
 
-    abbrev later : TcPart
-    later = st.does.own
+      abbrev later : TcPart
+      later = st.does.own
 
-    was_is : was ≡ p.coordinator
-    was_is = coordinator_is start member h log refl p st.runs
+      was_is : was ≡ p.coordinator
+      was_is = coordinator_is start member h log refl p st.runs
 
-    now_is : now ≡ later.coordinator
-    now_is = coordinator_is start member h (e ∷ log) refl later st.does.is
+      now_is : now ≡ later.coordinator
+      now_is = coordinator_is start member h (e ∷ log) refl later st.does.is
 
-    of : IsCoordinatorOf member p.coordinator
-    of = subst (IsCoordinatorOf member) was_is (coordinator_of start member there log)
+      of : IsCoordinatorOf member p.coordinator
+      of = subst (IsCoordinatorOf member) was_is (coordinator_of start member there nobody log)
 
-    entered : PartEnters tc_kind p (view_after start h log) x between (view_after start h (e ∷ log)) st.does.front
-        → IsEntered p between
-    entered (remains same stands none) = inl same
-    entered (installs above same stands sent) = inr (x.view, same)
+      entered : PartEnters tc_kind p (view_after start h log) x between (view_after start h (e ∷ log)) st.does.front
+          → IsEntered p between
+      entered (remains same stands none) = inl same
+      entered (installs above same stands sent) = inr (x.view, same)
 
-    alike : moves.IsLike member p between (entered st.does.enters) of between.coordinator
-    alike = like member p between (entered st.does.enters) of
+      alike : moves.IsLike member p between (entered st.does.enters) of between.coordinator
+      alike = like member p between (entered st.does.enters) of
 
-    entry_was : entry_of between.coordinator tx ≡ entry_of was tx
-    entry_was = alike.entries tx ∙ ap (λ (s : CoordinatorState). entry_of s tx) (sym was_is)
+      entry_was : entry_of between.coordinator tx ≡ entry_of was tx
+      entry_was = alike.entries tx ∙ ap (λ (s : CoordinatorState). entry_of s tx) (sym was_is)
 
-    entry_now : entry_of now tx ≡ Some u → entry_of later.coordinator tx ≡ Some u
-    entry_now is = ap (λ (s : CoordinatorState). entry_of s tx) (sym now_is) ∙ is
+      entry_now : entry_of now tx ≡ Some u → entry_of later.coordinator tx ≡ Some u
+      entry_now is = ap (λ (s : CoordinatorState). entry_of s tx) (sym now_is) ∙ is
 
-    left_alone : later.coordinator ≡ between.coordinator → entry_of now tx ≡ Some u → EntryGoes
-    left_alone same is =
-        kept (sym entry_was ∙ (ap (λ (s : CoordinatorState). entry_of s tx) (sym same) ∙ entry_now is))
+      left_alone : later.coordinator ≡ between.coordinator → entry_of now tx ≡ Some u → EntryGoes
+      left_alone same is =
+          kept (sym entry_was ∙ (ap (λ (s : CoordinatorState). entry_of s tx) (sym same) ∙ entry_now is))
 
-    -- the coordinator takes the signal
-    module _ (passed : IsPassed start.shape (Tc between) (view_after start h (e ∷ log)) x) (to : x.to.block ≡ block.Tc)
-        (behind : later.coordinator ≡ (coordinator_row between.coordinator x).state)
-        (out : st.does.rest ≡ (coordinator_row between.coordinator x).effects.sends)
-      where
-        handled : IsHandled start h log e block.Tc
-        handled = record {
-          own = p;
-          runs = st.runs;
-          between = between;
-          front = st.does.front;
-          enters = st.does.enters;
-          passed = passed;
-          block_is = to;
-        }
+      -- the coordinator takes the signal
+      module _ (passed : IsPassed start.shape (Tc between) (view_after start h (e ∷ log)) x)
+          (to : x.to.block ≡ block.Tc)
+          (behind : later.coordinator ≡ (coordinator_row between.coordinator x).state)
+          (out : st.does.rest ≡ (coordinator_row between.coordinator x).effects.sends)
+        where
+          handled : IsHandled start h log e block.Tc
+          handled = record {
+            own = p;
+            runs = st.runs;
+            between = between;
+            front = st.does.front;
+            enters = st.does.enters;
+            passed = passed;
+            block_is = to;
+          }
 
-        layout_is : between.coordinator.tc.layout ≡ layout_in start (view_after start h (e ∷ log))
-        layout_is =
-            sym (coordinator_layout between.coordinator x)
-            ∙ (ap (λ (s : CoordinatorState). s.tc.layout) (sym behind)
-            ∙ (ap (λ (s : CoordinatorState). s.tc.layout) (sym now_is) ∙ coordinator_laid start member there (e ∷ log)))
+          layout_is : between.coordinator.tc.layout ≡ layout_in start (view_after start h (e ∷ log))
+          layout_is =
+              sym (coordinator_layout between.coordinator x)
+              ∙ (ap (λ (s : CoordinatorState). s.tc.layout) (sym behind)
+              ∙ (ap (λ (s : CoordinatorState). s.tc.layout) (sym now_is) ∙ coordinator_laid start nobody member there
+              (e ∷ log)))
 
-        sent_so : (own more : List Outgoing) → (coordinator_row between.coordinator x).effects.sends ≡ own ++ more
-            → (sends ≡ st.does.front ++ st.does.rest) ⊎ (sends ≡ []) → Sends own ⊎ (sends ≡ [])
-        sent_so own more is (inl all) =
-            inl (record { front = st.does.front; more = more; is = all ∙ ap (λ ys. st.does.front ++ ys) (out ∙ is) })
-        sent_so own more is (inr none) = inr none
+          sent_so : (own more : List Outgoing) → (coordinator_row between.coordinator x).effects.sends ≡ own ++ more
+              → (sends ≡ st.does.front ++ st.does.rest) ⊎ (sends ≡ []) → Sends own ⊎ (sends ≡ [])
+          sent_so own more is (inl all) =
+              inl (record { front = st.does.front; more = more; is = all ∙ ap (λ ys. st.does.front ++ ys) (out ∙ is) })
+          sent_so own more is (inr none) = inr none
 
-        row_goes : entry_of now tx ≡ Some u → is_undecided u.phase ≡ true → EntryGoes
-        row_goes is undecided =
-            by (walked member between.coordinator alike.fits tx x u
-            (ap (λ (s : CoordinatorState). entry_of s tx) (sym behind) ∙ entry_now is) undecided)
-          where
-            by : Walked member between.coordinator alike.fits tx x u → EntryGoes
-            by (kept_so same) = kept (sym entry_was ∙ same)
-            by (begun_so none same) = begun (sym entry_was ∙ none) same
-            by (moved_so t same before own more move sent) =
-                moved t (sym entry_was ∙ same) before own
-                (subst (λ (l : Layout). PartMove l tx t x.body u own) layout_is move) handled
-                (sent_so own more sent st.does.sent)
+          row_goes : entry_of now tx ≡ Some u → is_undecided u.phase ≡ true → EntryGoes
+          row_goes is undecided =
+              by (walked member between.coordinator alike.fits tx x u
+              (ap (λ (s : CoordinatorState). entry_of s tx) (sym behind) ∙ entry_now is) undecided)
+            where
+              by : Walked member between.coordinator alike.fits tx x u → EntryGoes
+              by (kept_so same) = kept (sym entry_was ∙ same)
+              by (begun_so none same) = begun (sym entry_was ∙ none) same
+              by (moved_so t same before own more move sent) =
+                  moved t (sym entry_was ∙ same) before own
+                  (subst (λ (l : Layout). PartMove l tx t x.body u own) layout_is move) handled
+                  (sent_so own more sent st.does.sent)
 
-    pub entry_goes : entry_of (coordinator_after start member (e ∷ log)) tx ≡ Some u → is_undecided u.phase ≡ true
-        → EntryGoes
-    unfolding tc_row
-    entry_goes is undecided = by st.does.takes
-      where
-        block_goes : IsPassed start.shape (Tc between) (view_after start h (e ∷ log)) x → (b : BlockId) → x.to.block ≡ b
-            → later ≡ (tc_row between b x).state → st.does.rest ≡ (tc_row between b x).effects.sends → EntryGoes
-        block_goes passed block.Tc to same out =
-            row_goes passed to (ap (λ (q : TcPart). q.coordinator) same) out is undecided
-        block_goes passed block.Takeover to same out = left_alone (ap (λ (q : TcPart). q.coordinator) same) is
-        block_goes passed block.Dih to same out = left_alone (ap (λ (q : TcPart). q.coordinator) same) is
-        block_goes passed _ to same out = left_alone (ap (λ (q : TcPart). q.coordinator) same) is
+      pub entry_goes : entry_of (coordinator_after start member (e ∷ log)) tx ≡ Some u → is_undecided u.phase ≡ true
+          → EntryGoes
+      unfolding tc_row
+      entry_goes is undecided = by st.does.takes
+        where
+          block_goes : IsPassed start.shape (Tc between) (view_after start h (e ∷ log)) x → (b : BlockId)
+              → x.to.block ≡ b
+              → later ≡ (tc_row between b x).state → st.does.rest ≡ (tc_row between b x).effects.sends → EntryGoes
+          block_goes passed block.Tc to same out =
+              row_goes passed to (ap (λ (q : TcPart). q.coordinator) same) out is undecided
+          block_goes passed block.Takeover to same out = left_alone (ap (λ (q : TcPart). q.coordinator) same) is
+          block_goes passed block.Dih to same out = left_alone (ap (λ (q : TcPart). q.coordinator) same) is
+          block_goes passed _ to same out = left_alone (ap (λ (q : TcPart). q.coordinator) same) is
 
-        by : PartTakes tc_kind start.shape between (view_after start h (e ∷ log)) x later st.does.rest → EntryGoes
-        by (ignores same none) = left_alone (ap (λ (q : TcPart). q.coordinator) same) is
-        by (handles passed same out) = block_goes passed x.to.block refl same out
+          by : PartTakes tc_kind start.shape between (view_after start h (e ∷ log)) x later st.does.rest → EntryGoes
+          by (ignores same none) = left_alone (ap (λ (q : TcPart). q.coordinator) same) is
+          by (handles passed same out) = block_goes passed x.to.block refl same out

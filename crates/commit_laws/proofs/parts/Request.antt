@@ -270,7 +270,8 @@ module _ (start : Start) (all : ℕ → List HostStep) (e : HostStep) (es : List
           (rows_at start (logs_of start (e ∷ es)) m).lqh.waiting
       request_waits m among stands =
           event_cases (machine start) e es (ldm_of start m) (λ log. Waits m)
-          (λ here. subst Waits (ldm_same start me m there among (sym taken.at ∙ here)) own) other
+          (λ here. subst Waits (ldm_same start follows.moment.cluster.nobody me m there among (sym taken.at ∙ here))
+          own) other
         where
           Waits : Member → Type 0
           Waits k =

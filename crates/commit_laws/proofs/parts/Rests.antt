@@ -137,7 +137,8 @@ module _ (start : Start) (all : ℕ → List HostStep) (e : HostStep) (es : List
             sym (ap (λ (v : View). v.number) stays)
             ∙ (ap (λ k. (view_after start k (e ∷ old k)).number) (sym taken.at)
             ∙ ap (λ (v : View). v.number) taken.now.stands) in
-            let up = current_above start old (ldm_of start member) (ldm_low start member there) in
+            let up = current_above start old follows.moment.cluster.nobody (ldm_of start member)
+            (ldm_low start follows.moment.cluster.nobody member there) in
             let rises = current_rises start all e es moment in
             omega (arith, up, rises, stood)
 

@@ -163,11 +163,12 @@ module _ (start : Start) (all : ℕ → List HostStep) (e : HostStep) (es : List
         nodes : one.one.node ≡ me.node
         nodes =
             sym (ap node_of one.is)
-            ∙ (sym (ap (λ (p : Place). p.node) way.place) ∙ rows_know_node start me there (old h))
+            ∙ (sym (ap (λ (p : Place). p.node) way.place) ∙ rows_know_node start follows.moment.cluster.nobody me there
+            (old h))
 
         same_member : one.one ≡ me
         same_member =
-            made_same start one.one me
+            made_same start follows.moment.cluster.nobody one.one me
             (replica_made start all es before (work_key q.work) one.one
             (chain_replica start all es before (work_key q.work) one.one
             (subst (IsIn one.one) way.chain (in_at q.chain q.at one.one one.is)))) there nodes
@@ -274,7 +275,8 @@ module _ (start : Start) (all : ℕ → List HostStep) (e : HostStep) (es : List
           → Tells start new key tx u (performs z.work z.at)) (rows_at start new m).lqh.waiting
       served_waits m among stands =
           event_cases (machine start) e es (ldm_of start m) (λ log. Waits m)
-          (λ here. subst Waits (ldm_same start me m there among (sym taken.at ∙ here)) ours) other
+          (λ here. subst Waits (ldm_same start follows.moment.cluster.nobody me m there among (sym taken.at ∙ here))
+          ours) other
         where
           Waits : Member → Type 0
           Waits k =

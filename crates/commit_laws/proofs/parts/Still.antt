@@ -78,7 +78,7 @@ module _ (start : Start) (all : ℕ → List HostStep) (e : HostStep) (es : List
           (λ log. KeepsFor tx (replica_at start old m key) (replica_at start new m key))
           (λ here.
           subst (λ k. KeepsFor tx (replica_at start old k key) (replica_at start new k key))
-          (ldm_same start me m there among (sym at ∙ here)) (does.keeps key))
+          (ldm_same start follows.moment.cluster.nobody me m there among (sym at ∙ here)) (does.keeps key))
           (λ off.
           subst (KeepsFor tx (replica_at start old m key))
           (ap (λ log. at_key key (rows_after start m log).lqh)
@@ -110,7 +110,7 @@ module _ (start : Start) (all : ℕ → List HostStep) (e : HostStep) (es : List
           each_map _ _ (rows_at start new m).lqh.waiting (wait_on key)
           (event_cases (machine start) e es (ldm_of start m) (λ log. Each Waits (rows_at start new m).lqh.waiting)
           (λ here.
-          let is : m ≡ me = sym (ldm_same start me m there among (sym at ∙ here)) in
+          let is : m ≡ me = sym (ldm_same start follows.moment.cluster.nobody me m there among (sym at ∙ here)) in
           subst (λ k. Each Waits (rows_at start new k).lqh.waiting) (sym is)
           (does.waits key
           (subst

@@ -77,7 +77,8 @@ module _ (start : Start) (all : ℕ → List HostStep) (e : HostStep) (es : List
     others_same m among =
         event_cases (machine start) e es (ldm_of start m)
         (λ log. (m ≡ me) ⊎ (at_key key (rows_after start m log).lqh ≡ replica_at start old m key))
-        (λ here. inl (ldm_same start m me among there (sym here ∙ taken.at))) (λ off. inr refl)
+        (λ here. inl (ldm_same start follows.moment.cluster.nobody m me among there (sym here ∙ taken.at)))
+        (λ off. inr refl)
 
     chain_made : (place : ℕ) (m : Member) → slice_get chain_old place ≡ Some m
         → IsReplicaOf start old key m × IsIn m (made start)

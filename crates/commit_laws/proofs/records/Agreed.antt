@@ -191,11 +191,12 @@ module _ (start : Start) (all : ℕ → List HostStep) (e : HostStep) (es : List
               → WasAskedIn start old (current start new) tx → ⊥
           unasked stale was =
               true≢false (sym (eq-eqb (asked_in start member tx (old h)) number
-              (sent_last start member (is_request tx) number (old h) low was.asked)) ∙ stale)
+              (sent_last start moment.cluster.nobody member (is_request tx) number (old h) low was.asked)) ∙ stale)
             where
               low : (view_after start h (old h)).number ≤ number
               low =
-                  let below = current_above start old h (tc_low start member there) in
+                  let below = current_above start old moment.cluster.nobody h
+                  (tc_low start moment.cluster.nobody member there) in
                   let rises = current_rises start all e es moment in
                   omega (arith, below, rises)
 
@@ -230,7 +231,7 @@ module _ (start : Start) (all : ℕ → List HostStep) (e : HostStep) (es : List
           rows_stay m among =
               record_stays (ap (λ log. found tx (at_key key (rows_after start m log).lqh).cell.pending)
               (log_of-other (machine start) e es (ldm_of start m)
-              (λ is. ldm_no_tc start m (coordinator_member tx) among there (sym is ∙ at))))
+              (λ is. ldm_no_tc start moment.cluster.nobody m (coordinator_member tx) among there (sym is ∙ at))))
 
           led_there : IsHandled start (tc_of start member) (old (tc_of start member)) e block.Tc
               → is_led_by_full start (logs_of start (e ∷ es)) tx ≡ true
@@ -275,7 +276,7 @@ module _ (start : Start) (all : ℕ → List HostStep) (e : HostStep) (es : List
                   }) answered
 
           home_agree : Agree start (logs_of start (e ∷ es)) tx key
-          home_agree = by (open_goes start member there tx (old h) e t there_is opened)
+          home_agree = by (open_goes start member there tx (old h) e t there_is opened moment.cluster.nobody)
             where
               by : (has_gone_back start member tx (e ∷ old h) ≡ true)
                   ⊎ IsUndecidedBehind start member there tx (old h) e t there_is opened → Agree start new tx key
@@ -287,7 +288,8 @@ module _ (start : Start) (all : ℕ → List HostStep) (e : HostStep) (es : List
                   goes_on behind.now
                   (ap (λ log. entry_of (coordinator_after start (coordinator_member tx) log) tx) own_is ∙ behind.is)
                   behind.undecided
-                  (entry_goes start member there tx (old h) e behind.now behind.is behind.undecided)
+                  (entry_goes start member there tx (old h) e behind.now moment.cluster.nobody behind.is
+                  behind.undecided)
 
     agree_behind : Agree start (logs_of start (e ∷ es)) tx key
     agree_behind = by (own_live start old tx) refl
@@ -309,7 +311,8 @@ module _ (start : Start) (all : ℕ → List HostStep) (tx : TxId) (key : List �
     agree_along : (es : List HostStep) → IsMoment start all es → is_lost start (logs_of start es) tx ≡ false
         → IsAnsweredOn start (logs_of start es) tx key → Agree start (logs_of start es) tx key
     agree_along [] moment spared answered = λ one other is_one is_other r q at_one at_other.
-        absurd (let nothing : Some r ≡ None = sym at_one ∙ first_record start one is_one key tx in cc)
+        absurd (let nothing : Some r ≡ None = sym at_one ∙ first_record start moment.cluster.nobody one is_one key tx in
+        cc)
     agree_along (e ∷ es) moment spared answered =
         agree_behind start all e es moment tx key there spared answered
         (agree_along es (moment_less start all e es moment))

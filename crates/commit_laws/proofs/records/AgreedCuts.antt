@@ -13,7 +13,7 @@ use Rattle.sig_core.proofs.Keys.{same_tx-self}
 use Rattle.tc_block.specs.Doom.{is_among}
 use Rattle.world_core.specs.History.{history}
 use Rattle.world_core.specs.Hosts.{hosts}
-use Rattle.world_core.specs.Start.{Start, made}
+use Rattle.world_core.specs.Start.{NobodyStarts, Start, made}
 use Rattle.world_core.specs.Steps.{HostStep}
 use Rattle.view_laws.specs.Order.{by_views}
 use Rattle.view_laws.specs.Runs.{AreOfCluster}
@@ -33,11 +33,12 @@ use Rattle.commit_laws.proofs.records.Agreed.{records_agree_always}
 use Rattle.commit_laws.proofs.records.AgreedImages.{Agree}
 
 -- whoever is lost along a log is so along each longer one
-lost_on : (start : Start) (member : Member) (there : IsIn member (made start)) (tx : TxId) (newer log : List HostStep)
+lost_on : (start : Start) (nobody : NobodyStarts start) (member : Member) (there : IsIn member (made start)) (tx : TxId)
+    (newer log : List HostStep)
     → lost_along start member there tx log ≡ true → lost_along start member there tx (newer ++ log) ≡ true
-lost_on start member there tx [] log lost = lost
-lost_on start member there tx (e ∷ newer) log lost =
-    lost_next start member there tx (newer ++ log) e (lost_on start member there tx newer log lost)
+lost_on start nobody member there tx [] log lost = lost
+lost_on start nobody member there tx (e ∷ newer) log lost =
+    lost_next start member there tx nobody (newer ++ log) e (lost_on start nobody member there tx newer log lost)
 
 -- right logs are those of the last moment of their run
 module _ (start : Start) (logs : ℕ → List HostStep) (are : AreOfCluster start logs) where
@@ -80,7 +81,7 @@ module _ (start : Start) (logs : ℕ → List HostStep) (are : AreOfCluster star
         by true lost =
             absurd (true≢false (sym (subst
             (λ log. lost_along start (coordinator_member tx) coordinator_made tx log ≡ true) (sym past.is)
-            (lost_on start (coordinator_member tx) coordinator_made tx past.newer
+            (lost_on start are.nobody (coordinator_member tx) coordinator_made tx past.newer
             (small (tc_of start (coordinator_member tx))) lost)) ∙ spared))
 
 pub records_agree : RecordsAgree

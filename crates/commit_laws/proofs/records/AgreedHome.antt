@@ -19,7 +19,7 @@ use Rattle.tc_block.specs.Turn.{Turn}
 use Rattle.tc_views.specs.State.{CoordinatorState}
 use Rattle.node_views.specs.WellFormed.{is_well_formed}
 use Rattle.host_laws.proofs.coordinator.OfLive.{each_found}
-use Rattle.world_core.specs.Start.{Start, made}
+use Rattle.world_core.specs.Start.{NobodyStarts, Start, made}
 use Rattle.world_core.specs.Steps.{HostStep}
 use Rattle.world_views.specs.Machine.{step_after}
 use Rattle.view_laws.specs.Runs.{view_after}
@@ -43,22 +43,23 @@ use Rattle.request_laws.proofs.routes.PartsOfTheFirst.{sent_low}
 use Rattle.commit_laws.specs.Going.{is_back, is_forth, is_lost, own_coordinator, own_live, own_log}
 
 -- What was sent in a view, above which the host hasn't come, was sent last in that view.
-pub sent_last : (start : Start) (member : Member) (p : Body → Bool) (number : ℕ) (log : List HostStep)
+pub sent_last : (start : Start) (nobody : NobodyStarts start) (member : Member) (p : Body → Bool) (number : ℕ)
+    (log : List HostStep)
     → (view_after start (tc_of start member) log).number ≤ number → was_sent_in start member p number log ≡ true
     → last_view start member p log ≡ number
-sent_last start member p number [] low is = absurd (true≢false (sym is))
-sent_last start member p number (e ∷ log) low is =
+sent_last start nobody member p number [] low is = absurd (true≢false (sym is))
+sent_last start nobody member p number (e ∷ log) low is =
     by (sends_one start member p log e) is
-    (sent_last start member p number log
-    (let up = view_rises start (tc_of start member) log e in omega (arith, up, low)))
+    (sent_last start nobody member p number log
+    (let up = view_rises start nobody (tc_of start member) log e in omega (arith, up, low)))
   where
     now : ℕ
     now = (view_after start (tc_of start member) (e ∷ log)).number
 
     earlier : was_sent_in start member p number log ≡ true → now ≡ number
     earlier was =
-        let from = sent_low start member p number log was in
-        let up = view_rises start (tc_of start member) log e in
+        let from = sent_low start nobody member p number log was in
+        let up = view_rises start nobody (tc_of start member) log e in
         omega (arith, from, up, low)
 
     by : (b : Bool) → ((b && (now == number)) || was_sent_in start member p number log) ≡ true
@@ -114,7 +115,8 @@ module _ (start : Start) (all : ℕ → List HostStep) (es : List HostStep) (mom
         by (Completing epoch awaited) at says = none says.0
         by (Aborting why verifying awaited) at says =
             absurd (true≢false (sym (at_aborting t.phase (is_forth start logs tx) (is_back start logs tx)
-            ((goes_one_way start (coordinator_member tx) there tx (own_log start logs tx)).says t found)
+            ((goes_one_way start (coordinator_member tx) there tx moment.cluster.nobody (own_log start logs tx)).says t
+            found)
             (ap is_aborting at)) ∙ off))
 
 -- along a log of the coordinator's host
@@ -141,7 +143,8 @@ module _ (start : Start) (member : Member) (there : IsIn member (made start)) (t
         → is_undecided phase ≡ true → Goes
     on u is phase at undecided = inr (record { now = u; is = is; undecided = ap is_undecided at ∙ undecided })
 
-    module _ (turn : Turn) (left : entry_of (c (e ∷ log)) tx ≡ left_of turn) (front more : List Outgoing)
+    module _ (nobody : NobodyStarts start) (turn : Turn) (left : entry_of (c (e ∷ log)) tx ≡ left_of turn)
+        (front more : List Outgoing)
         (outs : sends ≡ front ++ (turn.step.effects.sends ++ more))
       where
         on_some : turn.over ≡ false → entry_of (c (e ∷ log)) tx ≡ Some turn.step.state
@@ -151,7 +154,7 @@ module _ (start : Start) (member : Member) (there : IsIn member (made start)) (t
         turns_back way false over =
             inl (at_aborting turn.step.state.phase (has_gone_forth start member tx (e ∷ log))
             (has_gone_back start member tx (e ∷ log))
-            ((goes_one_way start member there tx (e ∷ log)).says turn.step.state (on_some over)) (way.on over))
+            ((goes_one_way start member there tx nobody (e ∷ log)).says turn.step.state (on_some over)) (way.on over))
         turns_back way true over = by (way.ends over)
           where
             by : (is_aborting t.phase ≡ true) ⊎ (is_sent (tells_abort tx) turn.step.effects.sends ≡ true) → Goes
@@ -174,8 +177,8 @@ module _ (start : Start) (member : Member) (there : IsIn member (made start)) (t
             absurd (subst (λ (phase : Phase). IsDecidedAs phase epoch) is_open decided)
         turned (turns.back undecided way) = turns_back way turn.over refl
 
-    pub open_goes : (has_gone_back start member tx (e ∷ log) ≡ true) ⊎ IsUndecidedBehind
-    open_goes = by (coordinator_comes start member there log e tx)
+    pub open_goes : NobodyStarts start → (has_gone_back start member tx (e ∷ log) ≡ true) ⊎ IsUndecidedBehind
+    open_goes nobody = by (coordinator_comes start member there nobody log e tx)
       where
         by : Comes member (c log) e.step.taken (is_well_formed start.shape e.step.taken ≡ true) tx (c (e ∷ log)) sends
             → Goes
@@ -183,5 +186,5 @@ module _ (start : Start) (member : Member) (there : IsIn member (made start)) (t
         by (begun none some is next untold) = absurd (let nothing : Some t ≡ None = sym found ∙ none in cc)
         by (changed well u found_too turn changes left next front more before behind outs) =
             let one : u ≡ t = cc (sym found_too ∙ found) in
-            turned turn left front more outs
+            turned nobody turn left front more outs
             (subst (λ (v : Transaction). Changes (c log).tc.node tx v e.step.taken.body turn) one changes)

@@ -15,7 +15,7 @@ use Rattle.frag_map.specs.Replicas.{is_member}
 use Rattle.node_views.specs.declared.host_body.HostBody as node
 use Rattle.key_laws.specs.Records.{as_committed, committed, found, if_committed, unless_committed}
 use Rattle.key_laws.specs.Replica.{at_key}
-use Rattle.world_core.specs.Start.{Start, made}
+use Rattle.world_core.specs.Start.{NobodyStarts, Start, made}
 use Rattle.world_core.specs.Steps.{HostStep}
 use Rattle.moment_laws.specs.Moments.{IsMoment, current, logs_of}
 use Rattle.moment_laws.proofs.MomentHosts.{ldm_started}
@@ -117,11 +117,12 @@ module _ (start : Start) (all : ℕ → List HostStep) (e : HostStep) (es : List
       never_goes member there = (unasked_goes start all e es moment member there tx unasked key).record_goes
 
 -- nobody has a record at first
-pub first_record : (start : Start) (member : Member) → IsIn member (made start) → (key : List ℕ) (tx : TxId)
+pub first_record : (start : Start) (nobody : NobodyStarts start) (member : Member) → IsIn member (made start)
+    → (key : List ℕ) (tx : TxId)
     → record_at start (logs_of start []) member key tx ≡ None
-first_record start member there key tx =
+first_record start nobody member there key tx =
     ap (λ (s : node.HostBody). found tx (at_key key (rows_in (no_replica start member) s.parts).lqh).cell.pending)
-    (ldm_started start member there) ∙ first_none start member key tx
+    (ldm_started start nobody member there) ∙ first_none start member key tx
 
 -- whoever has a record has a coordinator that was made
 module _ (start : Start) (all : ℕ → List HostStep) (tx : TxId) (key : List ℕ) where
@@ -136,7 +137,7 @@ module _ (start : Start) (all : ℕ → List HostStep) (tx : TxId) (key : List �
       → (r : PendingRecord) → record_at start (logs_of start es) member key tx ≡ Some r
       → IsIn (coordinator_member tx) (made start)
   record_made [] moment member there r at =
-      absurd (let nothing : Some r ≡ None = sym at ∙ first_record start member there key tx in cc)
+      absurd (let nothing : Some r ≡ None = sym at ∙ first_record start moment.cluster.nobody member there key tx in cc)
   record_made (e ∷ es) moment member there r at =
       by (record_made es (moment_less start all e es moment) member there)
       (list_any (is_member (coordinator_member tx)) (made start)) refl

@@ -170,7 +170,7 @@ module _ (forth : ForthIsKnownAlways) (start : Start) (all : ℕ → List HostSt
       → (key : List ℕ) → AreAttended (replica_at start (logs_of start es) member key)
   rows_attended [] moment member there key =
       subst (λ (s : node.HostBody). AreAttended (at_key key (rows_in (no_replica start member) s.parts).lqh))
-      (sym (ldm_started start member there)) (record { attended = tt; alone = tt })
+      (sym (ldm_started start moment.cluster.nobody member there)) (record { attended = tt; alone = tt })
   rows_attended (e ∷ es) moment member there key =
       by (rows_go start all e es moment member there)
       (rows_attended es (moment_less start all e es moment) member there key)

@@ -122,8 +122,8 @@ module _ (start : Start) (all : ℕ → List HostStep) (e : HostStep) (es : List
         once : AreOnce (at_key key s.lqh).cell.pending
         once =
             as_before (λ s. AreOnce (at_key key s.lqh).cell.pending)
-            (rows_once start member there (old (ldm_of start member)) key)
-            (λ view. rows_once start member there (old (ldm_of start member)) key)
+            (rows_once start moment.cluster.nobody member there (old (ldm_of start member)) key)
+            (λ view. rows_once start moment.cluster.nobody member there (old (ldm_of start member)) key)
 
         moves : RecordMoves tx key body (record_of s) (record_of (replica_row s x).state)
         moves = record_moves tx key s x (well_between start all e es moment member there s between) once idle

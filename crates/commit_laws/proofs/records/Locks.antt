@@ -156,7 +156,7 @@ module _ (forth : ForthIsKnownAlways) (remembered : CommitsAreRemembered) (ackno
     rows_old = rows_at start old member
 
     well_old : IsWell rows_old.lqh
-    well_old = rows_well start member there (old (ldm_of start member))
+    well_old = rows_well start moment.cluster.nobody member there (old (ldm_of start member))
 
     -- who has a record holds on where a view is installed
     install_holds : (view : View) (r : PendingRecord) → record_at start old member key tx ≡ Some r → hold_was ≡ true
@@ -267,7 +267,7 @@ module _ (forth : ForthIsKnownAlways) (remembered : CommitsAreRemembered) (ackno
             subst (IsHeld tx) (sym now_is)
             (prepared_after tx (event_under key s x) r orderly_s
             (subst (λ (c : Cell). AreOnce c.pending) (sym cell_s)
-            (rows_once start member there (old (ldm_of start member)) key))
+            (rows_once start moment.cluster.nobody member there (old (ldm_of start member)) key))
             (attended_between forth start all e es moment member there key s between taken
             (rows_attended forth start all es before member there key)) fair held_s)
 

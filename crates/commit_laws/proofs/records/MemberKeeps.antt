@@ -165,7 +165,7 @@ module _ (start : Start) (all : ℕ → List HostStep) (e : HostStep) (es : List
     rows_old = rows_at start old member
 
     well_old : IsWell rows_old.lqh
-    well_old = rows_well start member there (old (ldm_of start member))
+    well_old = rows_well start moment.cluster.nobody member there (old (ldm_of start member))
 
     pub record KeepsTo (s : ReplicaState) : Type 0 where
       pub well : IsWell s.lqh

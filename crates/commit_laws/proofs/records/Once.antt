@@ -13,7 +13,7 @@ use Rattle.node_core.specs.Fresh.{own_rows}
 use Rattle.key_laws.specs.Records.{AreOnce, without_epoch}
 use Rattle.key_laws.specs.Replica.{Replica, at_key}
 use Rattle.host_laws.specs.ReplicaLaws.{IsWell}
-use Rattle.world_core.specs.Start.{Start, made}
+use Rattle.world_core.specs.Start.{NobodyStarts, Start, made}
 use Rattle.world_core.specs.Steps.{HostStep}
 use Rattle.world_views.proofs.FreshBodies.{none_pending}
 use Rattle.run_laws.proofs.fades.Records.{once_after}
@@ -55,9 +55,10 @@ first_so start member = record {
       (sym (none_pending no_rows (own_rows start.shape member.node start.rows) start.start_epoch)) tt;
 }
 
-module _ (start : Start) (member : Member) (there : IsIn member (made start)) (log : List HostStep) where
+module _ (start : Start) (nobody : NobodyStarts start) (member : Member) (there : IsIn member (made start))
+    (log : List HostStep) where
   so : AreSo (rows_after start member log)
-  so = always AreSo row_so install_so give_so start member there (first_so start member) log
+  so = always AreSo row_so install_so give_so start nobody member there (first_so start member) log
 
   pub rows_well : IsWell (rows_after start member log).lqh
   rows_well = so.well
@@ -70,6 +71,6 @@ pub well_between : (start : Start) (all : ℕ → List HostStep) (e : HostStep) 
     (moment : IsMoment start all (e ∷ es)) (member : Member) (there : IsIn member (made start)) (s : ReplicaState)
     → IsBetween start all e es moment member there s → IsWell s.lqh
 well_between start all e es moment member there s between =
-    let well = rows_well start member there (logs_of start es (ldm_of start member)) in
+    let well = rows_well start moment.cluster.nobody member there (logs_of start es (ldm_of start member)) in
     between_so start all e es moment member there (λ s. IsWell s.lqh) s between well
     (λ view. installations_keep_well (rows_at start (logs_of start es) member) view well)

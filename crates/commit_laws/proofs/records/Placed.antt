@@ -41,7 +41,7 @@ use Rattle.key_laws.specs.Replica.{expires_if, if_on, is_refused, key_after, res
 use Rattle.host_laws.specs.ReplicaLaws.{IsWell}
 use Rattle.node_core.specs.Fresh.{own_rows}
 use Rattle.node_views.specs.declared.host_body.HostBody as hosts
-use Rattle.world_core.specs.Start.{Start, made}
+use Rattle.world_core.specs.Start.{NobodyStarts, Start, made}
 use Rattle.world_core.specs.Steps.{HostStep}
 use Rattle.view_laws.specs.Runs.{WasInstalled, view_after}
 use Rattle.moment_laws.specs.Moments.{IsMoment, current, logs_of}
@@ -254,7 +254,8 @@ module _ (start : Start) where
 
           -- the view in which its rows stood was installed
           stood_installed : WasInstalled start all (view_of_ldm start (logs_of start es) member)
-          stood_installed = installed_at start all (ldm_of start member) (ldm_low start member there)
+          stood_installed = installed_at start moment.cluster.nobody all (ldm_of start member)
+              (ldm_low start moment.cluster.nobody member there)
               (old (ldm_of start member)) (less.inside (ldm_of start member))
 
           waits : AllWait P s.lqh
@@ -267,7 +268,7 @@ module _ (start : Start) where
                   request_chained moment.cluster.shape (view_of_ldm start old member)
                   (nobody_later start all moment.cluster (view_of_ldm start old member) stood_installed)
                   (rows_of (rows_at start old member).lqh.node) q member.node routed.0
-                  (ap rows_of (rows_know_node start member there (old (ldm_of start member)))))
+                  (ap rows_of (rows_know_node start moment.cluster.nobody member there (old (ldm_of start member)))))
                   ((signals_are_routed start all es less).rows member there)
 
           asked : IsAsked P x.body
@@ -305,17 +306,17 @@ module _ (start : Start) where
           by (enter view is quiet) = subst (IsEmptyOr P key) (sym is) (placed key)
           by (take s between taken) = now s between taken key
 
-  none_first : (member : Member) → IsIn member (made start) → (key : List ℕ)
+  none_first : NobodyStarts start → (member : Member) → IsIn member (made start) → (key : List ℕ)
       → (replica_at start (logs_of start []) member key).cell.pending ≡ []
-  none_first member there key =
+  none_first nobody member there key =
       ap (λ (s : hosts.HostBody). (at_key key (rows_in (no_replica start member) s.parts).lqh).cell.pending)
-      (ldm_started start member there)
+      (ldm_started start nobody member there)
       ∙ ap (λ (xs : List PendingRecord). map without_epoch (filter (is_on key) xs))
       (none_pending no_rows (own_rows start.shape member.node start.rows) start.start_epoch)
 
   always_placed : (all : ℕ → List HostStep) (es : List HostStep) → IsMoment start all es → (member : Member)
       → IsIn member (made start) → ArePlaced (logs_of start es) member
-  always_placed all [] moment member there = λ key. inl (none_first member there key)
+  always_placed all [] moment member there = λ key. inl (none_first moment.cluster.nobody member there key)
   always_placed all (e ∷ es) moment member there =
       placed_next all e es moment member there
       (always_placed all es (moment_less start all e es moment) member there)

@@ -38,7 +38,7 @@ use Rattle.node_views.specs.declared.parts.Parts.TheVariants.{Shell}
 use Rattle.node_views.specs.declared.shell_part.ShellPart.{ShellPart}
 use Rattle.node_views.specs.Parts.{shell_row}
 use Rattle.node_views.specs.WellFormed.{is_well_formed}
-use Rattle.world_core.specs.Start.{Start, made}
+use Rattle.world_core.specs.Start.{NobodyStarts, Start, made}
 use Rattle.world_core.specs.Steps.{Addressed, HostStep}
 use Rattle.world_views.specs.Hosts.{started}
 use Rattle.world_views.specs.Machine.{IsOwnWork, after, machine, step_after}
@@ -71,19 +71,19 @@ use Rattle.commit_laws.proofs.hosts.ShellGoes.{IsOfShell, IsSameBut, shell_marks
 use Rattle.commit_laws.proofs.hosts.ShellSees.{seeing}
 
 -- what stands together of takeovers and the client's side
-pub record AreSaid (start : Start) (es : List HostStep) : Type 0 where
+pub record AreSaid (start : Start) (nobody : NobodyStarts start) (es : List HostStep) : Type 0 where
   pub tells : (member : Member) → IsIn member (made start) → TakeoverTells start (logs_of start es) member
   pub last : CompletesLast start (logs_of start es)
-  pub client : IsRunning (sound_machine start) (logs_of start es 0) → ClientStands start (logs_of start es)
+  pub client : IsRunning (sound_machine start) (logs_of start es 0) → ClientStands start nobody (logs_of start es)
 
 -- nothing was said at first
-said_first : (start : Start) → AreSaid start []
+said_first : (start : Start) (nobody : NobodyStarts start) → AreSaid start nobody []
 unfolding started
-said_first start = record {
+said_first start nobody = record {
   tells = λ member there stands runs can.
       subst (TellsAll _ _)
       (sym (ap (λ (s : hosts_of.HostBody). takeover_in (resting member.node (first_layout start.shape)) s.parts)
-      (tc_started start member there)))
+      (tc_started start nobody member there)))
       (record { attended = tt; first = tt });
   last = λ i y newer older is body tx orphan. absurd (none y newer older is);
   client = λ runs.
@@ -91,7 +91,7 @@ said_first start = record {
         heard = λ i z there place tx epoch body. absurd there;
         closed = λ tx is. absurd (true≢false (sym is));
         over = λ view is tx out.
-            let first : None ≡ Some view = ap taken_of (seeing start []).runs ∙ is in
+            let first : None ≡ Some view = ap taken_of (seeing start nobody []).runs ∙ is in
             absurd cc;
       };
 }
@@ -104,15 +104,16 @@ said_first start = record {
     none y [] older is = absurd cc
     none y (z ∷ newer) older is = absurd cc
 
-module _ (stand : AllStandAlways) (list : GatheringsList) (start : Start) (all : ℕ → List HostStep) where
+module _ (stand : AllStandAlways) (list : GatheringsList) (start : Start) (nobody : NobodyStarts start)
+    (all : ℕ → List HostStep) where
   follows : (e : HostStep) (es : List HostStep) → IsMoment start all (e ∷ es) → Follows start all e es
   follows e es moment = record { moment = moment; stood = stand start all es (moment_less start all e es moment) }
 
   moves : (e : HostStep) (es : List HostStep) → IsMoment start all (e ∷ es) → (tx : TxId) → FatesMove start e es tx
   moves e es moment tx = fates_move known_commit start all e es (follows e es moment) tx
 
-  are_said : (es : List HostStep) → IsMoment start all es → AreSaid start es
-  are_said [] moment = said_first start
+  are_said : (es : List HostStep) → IsMoment start all es → AreSaid start nobody es
+  are_said [] moment = said_first start nobody
   are_said (e ∷ es) moment = by (are_said es (moment_less start all e es moment))
     where
       on : Follows start all e es
@@ -121,13 +122,13 @@ module _ (stand : AllStandAlways) (list : GatheringsList) (start : Start) (all :
       happens : Happens (sound_machine start) es e
       happens = moment.run.1
 
-      by : AreSaid start es → AreSaid start (e ∷ es)
+      by : AreSaid start nobody es → AreSaid start nobody (e ∷ es)
       by was = record {
         tells = λ member there.
             tells_next list start all e es on (moves e es moment) member there (was.tells member there);
         last = completes_next list start all e es on (moves e es moment) was.tells was.last;
         client = λ runs.
-            client_next start all e es on (moves e es moment) was.last (was.client (ran runs)) runs;
+            client_next start nobody all e es on (moves e es moment) was.last (was.client (ran runs)) runs;
       }
         where
           ran : IsRunning (sound_machine start) (logs_of start (e ∷ es) 0)
@@ -151,7 +152,7 @@ module _ (stand : AllStandAlways) (list : GatheringsList) (start : Start) (all :
       x = e.step.taken
 
       abbrev own : ShellPart
-      own = (seeing start log).part
+      own = (seeing start nobody log).part
 
       less : IsMoment start all es
       less = moment_less start all e es moment
@@ -159,7 +160,7 @@ module _ (stand : AllStandAlways) (list : GatheringsList) (start : Start) (all :
       happens : Happens (sound_machine start) es e
       happens = moment.run.1
 
-      client : ClientStands start old
+      client : ClientStands start nobody old
       client =
           (are_said es less).client (subst (λ k. IsRunning (sound_machine start) (old k)) at happens.step.runs)
 
@@ -181,7 +182,7 @@ module _ (stand : AllStandAlways) (list : GatheringsList) (start : Start) (all :
           (any_in (has_tx tx) t own.client.api.opened there (ap (is_tx tx) is ∙ same_tx-self tx)) in
           let none = client.closed tx knows in
           let same : in_client (count_open tx) (after start 0 log).parts ≡ count_open tx own.client =
-          ap (in_client (count_open tx)) (seeing start log).runs in
+          ap (in_client (count_open tx)) (seeing start nobody log).runs in
           omega (arith, some, none, same)
 
       reason : (q : ShellPart) → IsSameBut own q → is_well_formed start.shape x ≡ true
@@ -201,7 +202,7 @@ module _ (stand : AllStandAlways) (list : GatheringsList) (start : Start) (all :
       now_aborts : IsIn (Reported tx (Aborted why)) e.step.marks → fate start old tx ≡ aborts
       unfolding shell_row
       now_aborts there =
-          by (shell_marks start log e mark (subst (IsIn mark) marks there) refl)
+          by (shell_marks start nobody log e mark (subst (IsIn mark) marks there) refl)
         where
           mark : Mark
           mark = Reported tx (Aborted why)
@@ -221,7 +222,7 @@ module _ (stand : AllStandAlways) (list : GatheringsList) (start : Start) (all :
               (arbiter_tells_nothing q.arbiter x).1 inside))
           row q same sound _ inside = absurd inside
 
-          by : IsOfShell start log e mark → fate start old tx ≡ aborts
+          by : IsOfShell start nobody log e mark → fate start old tx ≡ aborts
           by one = row one.q one.same one.sound x.to.block one.there
 
   reported : (es : List HostStep) → IsMoment start all es → (tx : TxId) (why : AbortCause) → why ≢ cause.Down
@@ -234,4 +235,4 @@ module _ (stand : AllStandAlways) (list : GatheringsList) (start : Start) (all :
 
 pub reported_abort : AllStandAlways → GatheringsList → ReportedAbort
 reported_abort stand list start all es moment tx why not_down marked =
-    reported stand list start all es moment tx why not_down marked
+    reported stand list start moment.cluster.nobody all es moment tx why not_down marked

@@ -120,7 +120,7 @@ module _ (reported : ReportedAbort) (applied : AppliedCommit) (start : Start) (l
 
     none_reported : (h : ℕ) → has_mark (is_reported tx) (logs h) ≡ true → ⊥
     none_reported zero has = reported_apart start logs are tx why marked has
-    none_reported (suc k) has = no_reports start k tx (logs (suc k)) (are.right.local (suc k)) has
+    none_reported (suc k) has = no_reports start are.nobody k tx (logs (suc k)) (are.right.local (suc k)) has
 
     final_one : (entry : Entry) → is_kept (hosts start) logs entry ≡ true → entry.tx ≡ tx
         → HasFinalEntry start events tx

@@ -124,7 +124,8 @@ module _ (stand : AllStandAlways) (start : Start) (all : ℕ → List HostStep) 
     reasons =
         let happens : Happens (sound_machine start) es e = moment.run.1 in
         subst (Each (HasReason (Unit {0}) (TookEffect start old))) (sym happens.step.fits.marks)
-        (marks_have_reasons start e.host (Unit {0}) (runs_any (λ tx. Unit {0}) (started start e.host).parts)
+        (marks_have_reasons start moment.cluster.nobody e.host (Unit {0})
+        (runs_any (λ tx. Unit {0}) (started start e.host).parts)
         (TookEffect start old) (old e.host) e told)
 
     -- so it is of whoever is reported now
@@ -238,7 +239,8 @@ module _ (stand : AllStandAlways) (start : Start) (logs : ℕ → List HostStep)
         (sym (ap (λ (ops : List (Op × Answer)). list_any (λ (op : Op × Answer). is_done op.1) ops) ops_are) ∙ is) in
         let at = effect.applied one.key one.written in
         subst (λ v. have_mark (is_applied v) (hosts start) logs ≡ true) (sym decided.tx_is)
-        (have_it (is_applied tx) (hosts start) (ldm_of start at.member) logs (ldm_low start at.member at.is_made)
+        (have_it (is_applied tx) (hosts start) (ldm_of start at.member) logs
+        (ldm_low start are.nobody at.member at.is_made)
         (subst (λ log. has_mark (is_applied tx) log ≡ true) (log_is (ldm_of start at.member))
         (has_applied tx one.key (logs_of start events (ldm_of start at.member)) at.marked)))
 

@@ -43,7 +43,7 @@ use Rattle.node_views.specs.Blocks.{parts_entered, parts_row, settled_at}
 use Rattle.node_views.specs.Parts.{tc_entered, tc_row}
 use Rattle.node_views.specs.WellFormed.{is_tx}
 use Rattle.world_core.specs.Hosts.{hosts as host_count}
-use Rattle.world_core.specs.Start.{Start, made}
+use Rattle.world_core.specs.Start.{NobodyStarts, Start, made}
 use Rattle.world_core.specs.Steps.{Addressed, HostStep}
 use Rattle.world_views.specs.Machine.{after, machine, step_after, stops_by}
 use Rattle.view_laws.proofs.runs.FirstMembers.{node_low, node_some}
@@ -90,10 +90,11 @@ use Rattle.commit_laws.proofs.takeover.Words.{Aborts}
 use Rattle.commit_laws.proofs.hosts.SomePasses.{passing}
 
 -- a transaction whose coordinator is no node of the cluster aborts
-made_sound : (start : Start) (tx : TxId) → IsIn (coordinator_member tx) (made start) → is_tx start.shape tx ≡ true
-made_sound start tx there =
-    let some = node_some start (coordinator_member tx) there in
-    let low = node_low start (coordinator_member tx) there in
+made_sound : (start : Start) (nobody : NobodyStarts start) (tx : TxId) → IsIn (coordinator_member tx) (made start)
+    → is_tx start.shape tx ≡ true
+made_sound start nobody tx there =
+    let some = node_some start nobody (coordinator_member tx) there in
+    let low = node_low start nobody (coordinator_member tx) there in
     grind (arith, nat_tests, some, low)
 
 pub led_fate : (known full forth lost trace : Bool) → fate_if known full forth lost trace ≡ undetermined → full ≡ true
@@ -107,7 +108,7 @@ unsound_aborts : (start : Start) (all : ℕ → List HostStep) (es : List HostSt
 unsound_aborts start all es moment tx off = by (fate start (logs_of start es) tx) refl
   where
     not_made : IsIn (coordinator_member tx) (made start) → ⊥
-    not_made there = true≢false (sym (made_sound start tx there) ∙ off)
+    not_made there = true≢false (sym (made_sound start moment.cluster.nobody tx there) ∙ off)
 
     by : (f : Fate) → fate start (logs_of start es) tx ≡ f → f ≡ aborts
     by aborts is = refl
@@ -218,7 +219,7 @@ module _ (list : GatheringsList) (start : Start) (all : ℕ → List HostStep) (
 
       module _ (at : e.host ≡ tc_of start member) where
         own : RunsTc start (after start (tc_of start member) log)
-        own = runs_tc start member there log
+        own = runs_tc start follows.moment.cluster.nobody member there log
 
         full : IsIn member view.full
         full = own_full start all e es moment member there at (coordinators_stand start all es less member there)
@@ -226,7 +227,7 @@ module _ (list : GatheringsList) (start : Start) (all : ℕ → List HostStep) (
         goes : HostGoes start.shape (part.Tc own.own) stood x step
         goes =
             subst (λ (parts : Parts). HostGoes start.shape parts stood x step) own.runs
-            (host_goes start h log e (ap (λ (parts : Parts). settled_at parts x) own.runs)
+            (host_goes start follows.moment.cluster.nobody h log e (ap (λ (parts : Parts). settled_at parts x) own.runs)
             (ap (λ (parts : Parts). settled_at (parts_entered parts x.view).state x) own.runs))
 
         running : IsRunning (sound_machine start) log
@@ -281,7 +282,8 @@ module _ (list : GatheringsList) (start : Start) (all : ℕ → List HostStep) (
               takeover_same = takeover_is start member h log refl own.own own.runs
 
               stood_is : stood ≡ current start old
-              stood_is = stands_in_current start all es less h (tc_low start member there) still.number_is
+              stood_is = stands_in_current start all es less h (tc_low start follows.moment.cluster.nobody member there)
+                  still.number_is
 
               closes_still : IsTakenNow start all e es moment block.Takeover → (m : ℕ) → x.body ≡ Takeover LqhTransEnd
                   → own.own.takeover.stage ≡ Gathering m → nat_lt 1 m ≡ false
@@ -543,7 +545,8 @@ module _ (list : GatheringsList) (start : Start) (all : ℕ → List HostStep) (
             comes : (at : e.host ≡ i) → IsIn y (sent_by n i (old i) e) → (n.to y == 0) ≡ true
                 → IsSaid start new tx (sent n i 0 (old i))
             comes at inside to =
-                by (tc_host_is start i (subst (λ k. k < host_count start) at (host_low start all e es moment)))
+                by (tc_host_is start follows.moment.cluster.nobody i
+                (subst (λ k. k < host_count start) at (host_low start all e es moment)))
               where
                 one : IsNew start i (old i) e y
                 one = new_sent start i (old i) e y inside (eqb-true y.to 0 to)

@@ -51,7 +51,7 @@ use Rattle.node_views.specs.Fence.{is_body_fenced, is_fenced}
 use Rattle.node_views.specs.Parts.{shell_row}
 use Rattle.node_views.specs.WellFormed.{is_well_formed}
 use Rattle.world_core.specs.Hosts.{member_at}
-use Rattle.world_core.specs.Start.{Start, made}
+use Rattle.world_core.specs.Start.{NobodyStarts, Start, made}
 use Rattle.world_core.specs.Steps.{Addressed, HostStep}
 use Rattle.world_views.specs.Machine.{after, cause_in, machine, signals_of, step_after, stops_by}
 use Rattle.world_views.specs.Sending.{is_own_work}
@@ -94,7 +94,7 @@ use Rattle.commit_laws.proofs.hosts.ShellGoes.{shell_view}
 use Rattle.commit_laws.proofs.hosts.ShellSees.{seeing}
 
 -- while the shell's host runs
-pub record ClientStands (start : Start) (logs : ℕ → List HostStep) : Type 0 where
+pub record ClientStands (start : Start) (nobody : NobodyStarts start) (logs : ℕ → List HostStep) : Type 0 where
   -- of what a takeover told it of commits it knows, unless the sender isn't in the view that it sees
   pub heard : (i : ℕ) (z : Addressed) → IsIn z (taken (sound_machine start) i (logs 0)) → z.signal.to ≡ client
       → (tx : TxId) (epoch : ℕ) → z.signal.body ≡ Client (TcKeyFailConf tx epoch)
@@ -103,7 +103,7 @@ pub record ClientStands (start : Start) (logs : ℕ → List HostStep) : Type 0 
   pub closed : (tx : TxId) → is_known start logs tx ≡ true
       → in_client (count_open tx) (after start 0 (logs 0)).parts ≡ 0
   -- whoever has no coordinator in a view in which a takeover is complete aborts, unless its commit is known
-  pub over : (view : View) → (seeing start (logs 0)).part.client.taken_over ≡ Some view → (tx : TxId)
+  pub over : (view : View) → (seeing start nobody (logs 0)).part.client.taken_over ≡ Some view → (tx : TxId)
       → is_member view (coordinator_member tx) ≡ false
       → (fate start logs tx ≡ aborts) ⊎ (is_known start logs tx ≡ true)
 
@@ -143,9 +143,9 @@ not_led view tx out = by (is_coordinated view.full tx) refl
         (any_in (same_member (coordinator_member tx)) one.item view.full one.there (begun_same one.item one.is)))
         ∙ out))
 
-module _ (start : Start) (all : ℕ → List HostStep) (e : HostStep) (es : List HostStep)
+module _ (start : Start) (nobody : NobodyStarts start) (all : ℕ → List HostStep) (e : HostStep) (es : List HostStep)
     (follows : Follows start all e es) (moves : (tx : TxId) → FatesMove start e es tx)
-    (last : CompletesLast start (logs_of start es)) (before : ClientStands start (logs_of start es))
+    (last : CompletesLast start (logs_of start es)) (before : ClientStands start nobody (logs_of start es))
   where
     abbrev old : ℕ → List HostStep
     old = logs_of start es
@@ -182,7 +182,7 @@ module _ (start : Start) (all : ℕ → List HostStep) (e : HostStep) (es : List
       same : new 0 ≡ old 0
       same = log_of-other (machine start) e es 0 other
 
-      stands_beside : ClientStands start new
+      stands_beside : ClientStands start nobody new
       stands_beside = record {
         heard = λ i z there place tx epoch body.
             by tx z (before.heard i z (subst (λ l. IsIn z (taken n i l)) same there) place tx epoch body);
@@ -191,7 +191,8 @@ module _ (start : Start) (all : ℕ → List HostStep) (e : HostStep) (es : List
             (before.closed tx (sym (ap (has_sent start (is_acknowledgement tx) 0) same) ∙ is));
         over = λ view noted tx out.
             ended_more tx
-            (before.over view (subst (λ l. (seeing start l).part.client.taken_over ≡ Some view) same noted) tx out);
+            (before.over view (subst (λ l. (seeing start nobody l).part.client.taken_over ≡ Some view) same noted) tx
+            out);
       }
         where
           by : (tx : TxId) (z : Addressed)
@@ -207,7 +208,7 @@ module _ (start : Start) (all : ℕ → List HostStep) (e : HostStep) (es : List
       step = step_after start 0 (logs_of start es 0) e
 
       abbrev own : ShellPart
-      own = (seeing start (logs_of start es 0)).part
+      own = (seeing start nobody (logs_of start es 0)).part
 
       abbrev stood : View
       stood = view_after start 0 (logs_of start es 0)
@@ -222,7 +223,7 @@ module _ (start : Start) (all : ℕ → List HostStep) (e : HostStep) (es : List
       marks = subst (λ k. e.step.marks ≡ (step_after start k (old k) e).effects.marks) at happens.step.fits.marks
 
       goes : ShellGoes start own x step
-      goes = shell_goes start log e
+      goes = shell_goes start nobody log e
 
       known_next : (tx : TxId) → is_known start new tx
           ≡ (is_sent (is_acknowledgement tx) step.effects.sends || is_known start old tx)
@@ -230,11 +231,12 @@ module _ (start : Start) (all : ℕ → List HostStep) (e : HostStep) (es : List
 
       -- the views in which the host stands shrink
       stood_installed : WasInstalled start all stood
-      stood_installed = installed_at start all 0 (omega arith) log (less.inside 0)
+      stood_installed = installed_at start nobody all 0 (omega arith) log (less.inside 0)
 
       view_installed : WasInstalled start all view
       view_installed =
-          installed_at start all 0 (omega arith) (e ∷ log) (subst (λ l. IsPast l (all 0)) new_is (moment.inside 0))
+          installed_at start nobody all 0 (omega arith) (e ∷ log)
+          (subst (λ l. IsPast l (all 0)) new_is (moment.inside 0))
 
       member_is : (v : View) → WasInstalled start all v → (m : Member) → is_member v m ≡ true
           → is_among v.full m ≡ true
@@ -255,7 +257,7 @@ module _ (start : Start) (all : ℕ → List HostStep) (e : HostStep) (es : List
               → b ≡ false
           by false is either = refl
           by true is (inr low) =
-              let rises = view_rises start 0 log e in
+              let rises = view_rises start nobody 0 log e in
               let same : stood ≡ view = one_view have_orderly start all moment.cluster stood view stood_installed
               view_installed (omega (arith, low, rises)) in
               sym is ∙ (ap (λ v. is_member v m) (sym same) ∙ out)
@@ -297,7 +299,8 @@ module _ (start : Start) (all : ℕ → List HostStep) (e : HostStep) (es : List
             took q parts sends word = which word
               where
                 seen_is : (noted q.client x.view).api.view ≡ view
-                seen_is = sym (client_notes q.client x) ∙ shell_view start log e (shell_row q block.Api x).state parts
+                seen_is =
+                    sym (client_notes q.client x) ∙ shell_view start nobody log e (shell_row q block.Api x).state parts
 
                 which : TakesWord tx (noted q.client x.view) x (client_row q.client x)
                     → (is_known start new tx ≡ true) ⊎ (is_member view x.member ≡ false)
@@ -383,7 +386,7 @@ module _ (start : Start) (all : ℕ → List HostStep) (e : HostStep) (es : List
             let few = open_few start all es less tx in
             let once = begun_once start all es less tx in
             let is : open_in (after start 0 log).parts ≡ count_open tx own.client =
-            ap open_in (seeing start log).runs in
+            ap open_in (seeing start nobody log).runs in
             let also : count_open tx q.client ≡ count_open tx own.client =
             ap (λ (ts : List OpenTransaction). count_by (has_tx tx) ts) same.opened in
             omega (arith, few, once, is, also)
@@ -391,8 +394,8 @@ module _ (start : Start) (all : ℕ → List HostStep) (e : HostStep) (es : List
         next_open : (q : ShellPart) → step.state.parts ≡ Shell q
             → open_in (after start 0 (e ∷ log)).parts ≡ count_open tx q.client
         next_open q parts =
-            ap open_in (seeing start (e ∷ log)).runs
-            ∙ ap (λ (ts : List OpenTransaction). count_by (has_tx tx) ts) (shell_next start log e q parts).opened
+            ap open_in (seeing start nobody (e ∷ log)).runs
+            ∙ ap (λ (ts : List OpenTransaction). count_by (has_tx tx) ts) (shell_next start nobody log e q parts).opened
 
         -- where the commit comes to be known
         now_closed : is_sent (is_acknowledgement tx) step.effects.sends ≡ true
@@ -514,7 +517,7 @@ module _ (start : Start) (all : ℕ → List HostStep) (e : HostStep) (es : List
 
           seen_is : (noted q.client x.view).api.view ≡ view
           unfolding shell_row
-          seen_is = sym (client_notes q.client x) ∙ shell_view start log e (shell_row q block.Api x).state parts
+          seen_is = sym (client_notes q.client x) ∙ shell_view start nobody log e (shell_row q block.Api x).state parts
 
           complete : (fate start new tx ≡ aborts) ⊎ (is_known start new tx ≡ true)
           complete = by given
@@ -553,7 +556,7 @@ module _ (start : Start) (all : ℕ → List HostStep) (e : HostStep) (es : List
               by (inl past) = of_past past
               by (inr closes) = absurd (closing_none (old i) closes)
 
-      over_next : (v : View) → (seeing start (e ∷ log)).part.client.taken_over ≡ Some v → (tx : TxId)
+      over_next : (v : View) → (seeing start nobody (e ∷ log)).part.client.taken_over ≡ Some v → (tx : TxId)
           → is_member v (coordinator_member tx) ≡ false
           → (fate start new tx ≡ aborts) ⊎ (is_known start new tx ≡ true)
       unfolding shell_row
@@ -563,7 +566,7 @@ module _ (start : Start) (all : ℕ → List HostStep) (e : HostStep) (es : List
           was is = ended_more tx (before.over v is tx out)
 
           next_is : (q : ShellPart) → step.state.parts ≡ Shell q → q.client.taken_over ≡ Some v
-          next_is q parts = sym (shell_next start log e q parts).taken ∙ taken_is
+          next_is q parts = sym (shell_next start nobody log e q parts).taken ∙ taken_is
 
           client_next : (q : ShellPart) → IsSameBut own q → is_well_formed start.shape x ≡ true
               → step.state.parts ≡ Shell (shell_row q block.Api x).state
@@ -606,7 +609,7 @@ module _ (start : Start) (all : ℕ → List HostStep) (e : HostStep) (es : List
           by (rests off q same parts none) = was (sym same.taken ∙ next_is q parts)
           by (acts well q same parts sends) = row q same well x.to.block parts
 
-      stands_here : ClientStands start new
+      stands_here : ClientStands start nobody new
       stands_here = record {
         heard = λ j z there place tx epoch body.
             subst (λ l. (is_known start new tx ≡ true) ⊎ (is_member (view_after start 0 l) z.signal.member ≡ false))
@@ -614,12 +617,12 @@ module _ (start : Start) (all : ℕ → List HostStep) (e : HostStep) (es : List
         closed = λ tx is.
             subst (λ l. in_client (count_open tx) (after start 0 l).parts ≡ 0) (sym new_is) (closed_next tx is);
         over = λ v taken_is tx out.
-            over_next v (subst (λ l. (seeing start l).part.client.taken_over ≡ Some v) new_is taken_is) tx out;
+            over_next v (subst (λ l. (seeing start nobody l).part.client.taken_over ≡ Some v) new_is taken_is) tx out;
       }
 
     -- so it is behind each event
     pub client_next : IsRunning (sound_machine start) (logs_of start (e ∷ es) 0)
-        → ClientStands start (logs_of start (e ∷ es))
+        → ClientStands start nobody (logs_of start (e ∷ es))
     client_next =
-        event_cases (machine start) e es 0 (λ log. IsRunning n log → ClientStands start new) stands_here
+        event_cases (machine start) e es 0 (λ log. IsRunning n log → ClientStands start nobody new) stands_here
         (λ other runs. stands_beside other)

@@ -79,7 +79,7 @@ module _ (forth : ForthIsKnownAlways) (transit : MomentsHaveTransit) (start : St
         (heard_at start all (coordinator_member tx) there (e ∷ es) moment)
 
     kept_log : IsKeptLog start (coordinator_member tx) there log
-    kept_log = is_kept start (coordinator_member tx) there log heard.1
+    kept_log = is_kept start (coordinator_member tx) there follows.moment.cluster.nobody log heard.1
 
     -- an epoch was asked for before, with the operations of the request that was taken by now
     abbrev WasAsked : TxId → Type 0
@@ -90,7 +90,7 @@ module _ (forth : ForthIsKnownAlways) (transit : MomentsHaveTransit) (start : St
         each_map (IsAskedFor start (coordinator_member tx) there log) WasAsked kept_log.at.own.dih.held
         (λ u asked.
         subst (λ ops. HasTold start (tc_of start (coordinator_member tx)) (request u ops) log)
-        (sym (ops_stay start (coordinator_member tx) there log e heard.0 u asked)) asked)
+        (sym (ops_stay start (coordinator_member tx) there follows.moment.cluster.nobody log e heard.0 u asked)) asked)
         kept_log.held
 
     asks : (u : TxId) (ops : List (Op × Answer)) → e.step.taken.body ≡ request u ops → WasAsked u
@@ -105,7 +105,8 @@ module _ (forth : ForthIsKnownAlways) (transit : MomentsHaveTransit) (start : St
 
     was_asked : WasAsked tx
     was_asked =
-        (next start (coordinator_member tx) there log e kept_log.at WasAsked held asks).said.decided tx decides.epoch
+        (next start (coordinator_member tx) there log e kept_log.at WasAsked held asks
+        follows.moment.cluster.nobody).said.decided tx decides.epoch
         (subst (IsIn (Decided tx decides.epoch)) heard.0.marks decides.marked)
 
     not_gone : HasGone start (coordinator_member tx) log tx → ⊥
@@ -122,7 +123,8 @@ module _ (forth : ForthIsKnownAlways) (transit : MomentsHaveTransit) (start : St
         by false off = true≢false (sym (lost off) ∙ now.spared)
 
     waits : WaitsWith start (coordinator_member tx) log tx (ops_of tx (e ∷ log))
-    waits = by (told_waits start (coordinator_member tx) there tx log (ops_of tx (e ∷ log)) was_asked)
+    waits = by (told_waits start (coordinator_member tx) there tx follows.moment.cluster.nobody log
+        (ops_of tx (e ∷ log)) was_asked)
       where
         by : HasGone start (coordinator_member tx) log tx
             ⊎ WaitsWith start (coordinator_member tx) log tx (ops_of tx (e ∷ log))

@@ -11,7 +11,7 @@ use Rattle.takeover_block.specs.State.{resting}
 use Rattle.tc_block.specs.declared.transaction.Transaction.{Transaction}
 use Rattle.host_laws.specs.Live.{of_live}
 use Rattle.node_views.specs.declared.host_body.HostBody as node
-use Rattle.world_core.specs.Start.{Start, made}
+use Rattle.world_core.specs.Start.{NobodyStarts, Start, made}
 use Rattle.world_core.specs.Steps.{Addressed, HostStep}
 use Rattle.moment_laws.specs.Moments.{IsMoment, current, logs_of}
 use Rattle.moment_laws.proofs.MomentHosts.{tc_started}
@@ -28,7 +28,7 @@ use Rattle.commit_laws.specs.Transit.{AreInTransit}
 use Rattle.commit_laws.proofs.commits.First.{first_commits}
 use Rattle.commit_laws.proofs.drive.Once.{leader_made}
 
-module _ (start : Start) where
+module _ (start : Start) (nobody : NobodyStarts start) where
   abbrev none : ℕ → List HostStep
   none = logs_of start []
 
@@ -39,7 +39,7 @@ module _ (start : Start) where
     none_gathered : (takeover_at start none member).gathered ≡ []
     none_gathered =
         ap (λ (s : node.HostBody). (takeover_in (resting member.node (first_layout start.shape)) s.parts).gathered)
-        (tc_started start member there)
+        (tc_started start nobody member there)
 
     each_gathered : (P : Gathered → Type 0) → Each P (takeover_at start none member).gathered
     each_gathered P = subst (Each P) (sym none_gathered) tt
@@ -66,7 +66,8 @@ module _ (start : Start) where
     not_hale tx t hale =
         let there : IsIn (coordinator_member tx) (made start) =
         leader_made start all [] moment (current start none) (moment_installed start all [] moment) tx hale.full in
-        let off : own_live start none tx ≡ None = ap (of_live tx) (none_first start (coordinator_member tx) there) in
+        let off : own_live start none tx ≡ None =
+        ap (of_live tx) (none_first start (coordinator_member tx) there moment.cluster.nobody) in
         let both : None ≡ Some t = sym off ∙ hale.there in
         cc
 
@@ -87,4 +88,4 @@ module _ (start : Start) where
     }
 
 pub first_all : (start : Start) (all : ℕ → List HostStep) → IsMoment start all [] → AllStand start []
-first_all start all moment = first_stands start all moment
+first_all start all moment = first_stands start moment.cluster.nobody all moment

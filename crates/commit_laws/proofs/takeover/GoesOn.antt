@@ -48,7 +48,8 @@ module _ (start : Start) (all : ℕ → List HostStep) (e : HostStep) (es : List
 
     module _ (still : StandsStill start e es member) where
       stood_is : view_after start (tc_of start member) (old (tc_of start member)) ≡ current start old
-      stood_is = stands_in_current start all es less (tc_of start member) (tc_low start member there) still.number_is
+      stood_is = stands_in_current start all es less (tc_of start member)
+          (tc_low start follows.moment.cluster.nobody member there) still.number_is
 
       orphans : Each (λ (g : Gathered). IsOrphan (current start old) g.tx) gathered
       orphans =

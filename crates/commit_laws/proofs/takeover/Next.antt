@@ -76,7 +76,7 @@ module _ (whole : GatheringsAreWhole) (start : Start) (all : ℕ → List HostSt
 
     module _ (at : e.host ≡ tc_of start member) where
       abbrev step : TcStep start (tc_of start member) log e
-      step = own_tc start member there log e
+      step = own_tc start follows.moment.cluster.nobody member there log e
 
       abbrev p : TcPart
       p = step.own
@@ -180,7 +180,7 @@ module _ (whole : GatheringsAreWhole) (start : Start) (all : ℕ → List HostSt
     -- the takeover has the layout of the view in which its host stands
     laid : (takeover_at start new member).layout.view ≡ view_after start (tc_of start member) (new (tc_of start member))
     laid =
-        let runs = runs_tc start member there (new (tc_of start member)) in
+        let runs = runs_tc start follows.moment.cluster.nobody member there (new (tc_of start member)) in
         ap (λ (s : TakeoverState). s.layout.view)
         (takeover_is start member h (new (tc_of start member)) refl runs.own runs.runs)
         ∙ ap (λ (l : Layout). l.view) runs.laid.takeover

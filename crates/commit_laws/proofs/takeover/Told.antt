@@ -155,7 +155,8 @@ module _ (start : Start) (all : ℕ → List HostStep) (e : HostStep) (es : List
               committed_there (without_epoch r)
               (ap (λ v. record_at start old member r.key v) (sym own)
               ∙ once_found (map without_epoch (filter (is_on r.key) rows.lqh.rows.pending))
-              (rows_once start member there (old (ldm_of start member)) r.key) (without_epoch r)
+              (rows_once start follows.moment.cluster.nobody member there (old (ldm_of start member)) r.key)
+              (without_epoch r)
               (in_cell r.key r rows.lqh.rows.pending (in_at rows.lqh.rows.pending at r is) (same_key-self r.key)))
               committed;
         }
@@ -202,9 +203,9 @@ module _ (start : Start) (all : ℕ → List HostStep) (e : HostStep) (es : List
       inside_now : e.host ≡ ldm_of start member → view ≡ current start new → IsIn member (members_now start new)
       inside_now at stands =
           subst (IsIn member) (sym (members_full start all (e ∷ es) moment))
-          (subst (λ m. IsIn m (current start new).full) (ldm_member start member there)
+          (subst (λ m. IsIn m (current start new).full) (ldm_member start follows.moment.cluster.nobody member there)
           (current_host start all (e ∷ es) moment (ldm_of start member) (part_some start Ldm member)
-          (ldm_low start member there)
+          (ldm_low start follows.moment.cluster.nobody member there)
           here))
         where
           here : view_after start (ldm_of start member) (new (ldm_of start member)) ≡ current start new
@@ -248,10 +249,11 @@ module _ (start : Start) (all : ℕ → List HostStep) (e : HostStep) (es : List
         (λ any_in. tc_fated If step.does.between x x.to.block)
 
     sends_fated : AreFated If sends
-    sends_fated = by (part_host start e.host (host_low start all e es moment))
+    sends_fated = by (part_host start follows.moment.cluster.nobody e.host (host_low start all e es moment))
       where
         by : PartHost start e.host → AreFated If sends
-        by (coordinates me there at) = tc_tells (tc_step start me there e.host at (old e.host) e)
+        by (coordinates me there at) =
+            tc_tells (tc_step start follows.moment.cluster.nobody me there e.host at (old e.host) e)
         by (keeps_rows me there at) = rows_fated me there at
         by (is_beside first) = all_aside_fated If sends (beside_sends start e.host first (old e.host) e)
 

@@ -186,7 +186,7 @@ module _ (start : Start) (all : ℕ → List HostStep) (es : List HostStep) (mom
             )
 
         shape_is : (after start main log).standing.shape ≡ start.shape
-        shape_is = shape_stays start main log
+        shape_is = shape_stays start moment.cluster.nobody main log
 
         by : (sound : Bool) → is_well_formed start.shape x ≡ sound → (confirms : Bool)
             → is_confirming x.body ≡ confirms
@@ -260,7 +260,7 @@ module _ (start : Start) (all : ℕ → List HostStep) (es : List HostStep) (mom
         heard.rank (asked_later number heard.rank heard.is) (omega (arith, heard.counts c, confirmed_few)) in
         let low : has.set.number ≤ fence_or (fence_seen at s) s.standing.view.number =
         not_below has.set.number s.standing.view.number (fence_seen at s)
-        (fences_are_there start me there at fenced (logs host))
+        (fences_are_there start moment.cluster.nobody me there at fenced (logs host))
         (taken_fenced start host (logs host) at has.x has.set has.says has.there) in
         subst (λ fence. number ≤ fence) (sym (fence_is s.parts at s.standing.view.number))
         (omega (arith, has.high, low))

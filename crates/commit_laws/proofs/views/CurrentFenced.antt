@@ -64,7 +64,7 @@ module _ (confirmed : ConfirmedIsFenced) (start : Start)
 
     -- the current view was chosen by now
     now_chosen : IsChosen start.shape (ballots_of start logs) now
-    now_chosen = by now (current_is start logs)
+    now_chosen = by now (current_is start logs moment.cluster.nobody)
       where
         by : (view : View) → IsSome start logs (hosts start) view → IsChosen start.shape (ballots_of start logs) view
         by view (inl first) = inl first
@@ -74,9 +74,9 @@ module _ (confirmed : ConfirmedIsFenced) (start : Start)
 
     not_before : (h : ℕ) (log : List HostStep) → (first_view start.shape.nodes).number ≤ (view_after start h log).number
     not_before h [] =
-        let is = ap (λ (v : View). v.number) (started_view start h) in omega (arith, is)
+        let is = ap (λ (v : View). v.number) (started_view start moment.cluster.nobody h) in omega (arith, is)
     not_before h (f ∷ log) =
-        let up = view_rises start h log f in let low = not_before h log in omega (arith, up, low)
+        let up = view_rises start moment.cluster.nobody h log f in let low = not_before h log in omega (arith, up, low)
 
     module _ (member : Member) (full : IsIn member now.full) where
       abbrev log : List HostStep
@@ -101,8 +101,8 @@ module _ (confirmed : ConfirmedIsFenced) (start : Start)
           by (inl first) =
               let is = ap (λ (v : View). v.number) first in
               let low = not_before (tc_of start member) log in
-              let number = have_the_number start member log there in
-              let up = fence_above start member there log in
+              let number = have_the_number start moment.cluster.nobody member log there in
+              let up = fence_above start moment.cluster.nobody member there log in
               omega (arith, is, low, number, up)
           by (inr won) =
               let has : HasPromised (ballots_of start logs) now member =

@@ -21,7 +21,7 @@ use Rattle.node_views.specs.declared.parts.Parts.TheVariants.{Ldm, Main, Shell, 
 use Rattle.qmgr_block.specs.Laws.{Event, installs, takes}
 use Rattle.qmgr_block.specs.State.{QmgrState}
 use Rattle.world_core.specs.Hosts.{hosts}
-use Rattle.world_core.specs.Start.{Start}
+use Rattle.world_core.specs.Start.{NobodyStarts, Start}
 use Rattle.world_core.specs.Steps.{HostStep}
 use Rattle.world_core.specs.Views.{greater, greatest_below, greatest_in, greatest_view}
 use Rattle.world_core.specs.Views as marked
@@ -212,7 +212,7 @@ module _ (x : Signal) where
       once view (inl same) = reached_last x x.view view same
       once view (inr none) = absurd none
 
-module _ (start : Start) where
+module _ (start : Start) (nobody : NobodyStarts start) where
   -- the views that a step of a host marks
   record Installs (h : ℕ) (log : List HostStep) (e : HostStep) : Type 0 where
     each : (view : View) → IsIn (Installed view) e.step.marks
@@ -232,7 +232,7 @@ module _ (start : Start) where
         AreReached e.step.taken (view_after start k log) (events_at is_membership k (after start k log) e.step.taken)
 
     host_reached : Reached h
-    host_reached = by (host_is start h low)
+    host_reached = by (host_is start nobody h low)
       where
         other : (k : ℕ) → membership_in (after start k log).parts ≡ None → Reached k
         other k none =
@@ -247,9 +247,9 @@ module _ (start : Start) where
             (membership_reached me (first_layout start.shape) (events_of is_membership start (main_of start me) log)
             e.step.taken (view_after start (main_of start me) log) (membership_of start me log).known.layout.view
             (events_at is_membership (main_of start me) (after start (main_of start me) log) e.step.taken)
-            (member_steps start me log e.step.taken there))
+            (member_steps start nobody me log e.step.taken there))
         by (of_other k left at part) =
-            subst Reached (sym at) (other (suc k) (no_membership_beside start k left log part))
+            subst Reached (sym at) (other (suc k) (no_membership_beside start nobody k left log part))
 
     step_installs : IsLog (machine start) h (e ∷ log) → Installs h log e
     step_installs local = record { each = each; last = last (last_installed (view_after start h log) new) }
@@ -349,10 +349,10 @@ module _ (start : Start) (logs : ℕ → List HostStep) (are : AreOfCluster star
   first_was = record {
     host = 0;
     there = omega arith;
-    made = all_made start 0 (logs 0);
+    made = all_made start are.nobody 0 (logs 0);
     log = [];
     past = past_nil (logs 0);
-    is = sym (started_view start 0);
+    is = sym (started_view start are.nobody 0);
   }
 
   -- of this view, and those that a host has marked in a part of its log, this is the greatest
@@ -370,14 +370,14 @@ module _ (start : Start) (logs : ℕ → List HostStep) (are : AreOfCluster star
       grows = omega (arith, before.grows, new.grows);
       stood = λ above. by_stood (before.stood above) steps.last;
       least = λ c own stands. by_least c stands
-          (before.least c own (let up = view_rises start h log e in omega (arith, up, stands))) new.is;
+          (before.least c own (let up = view_rises start are.nobody h log e in omega (arith, up, stands))) new.is;
     }
       where
         new : IsTopIn e.step.marks top (greatest_in e.step.marks top)
         new = top_in e.step.marks top
 
-        steps : Installs start h log e
-        steps = step_installs start h low log e local
+        steps : Installs start are.nobody h log e
+        steps = step_installs start are.nobody h low log e local
 
         to : View
         to = view_after start h (e ∷ log)
@@ -387,7 +387,7 @@ module _ (start : Start) (logs : ℕ → List HostStep) (are : AreOfCluster star
             (each_past (λ (f : HostStep). Was f.step.taken.view) past (headers_installed start logs are h low)).0
 
         stands : Was to
-        stands = installed_at start logs h low (e ∷ log) past
+        stands = installed_at start are.nobody logs h low (e ∷ log) past
 
         by_reached : (other : View) → IsReached e.step.taken to other → Was other
         by_reached other one = of one.is
@@ -424,7 +424,7 @@ module _ (start : Start) (logs : ℕ → List HostStep) (are : AreOfCluster star
       was = λ was. was;
       grows = omega arith;
       stood =
-          λ above. let is = ap (λ (v : View). v.number) (started_view start h) in omega (arith, is, above);
+          λ above. let is = ap (λ (v : View). v.number) (started_view start are.nobody h) in omega (arith, is, above);
       least = λ c own stands. own;
     }
     top_of (e ∷ log) past local view =
@@ -470,7 +470,7 @@ module _ (start : Start) (logs : ℕ → List HostStep) (are : AreOfCluster star
   same_below : (n : ℕ) → n ≤ hosts start → IsSame (greatest_below n logs first) (standing.greatest_of start n logs)
   same_below zero few = record { was = first_was; number = refl; above = omega arith }
   same_below (suc n) few =
-      subst (IsSame (greatest_below (suc n) logs first)) (sym (greatest_next start logs n))
+      subst (IsSame (greatest_below (suc n) logs first)) (sym (greatest_next start logs are.nobody n))
       (same_next n few (same_below n (omega (arith, few))))
 
   pub greatest_was : WasInstalled start logs (greatest_view start logs)
@@ -481,7 +481,7 @@ pub greatest_current : (start : Start) (logs : ℕ → List HostStep) → AreOfC
 greatest_current start logs are =
     one_view have_orderly start logs are (greatest_view start logs) (current start logs)
     (greatest_was start logs are)
-    (current_installed start logs are.shape logs (λ h. past_self (logs h)))
+    (current_installed start logs are.nobody are.shape logs (λ h. past_self (logs h)))
     (same_below start logs are (hosts start) (omega arith)).number
 
 -- so it has a full member in each group

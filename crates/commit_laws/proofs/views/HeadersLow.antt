@@ -88,7 +88,7 @@ module _ (start : Start) (all : ℕ → List HostStep) (e : HostStep) (es : List
           let own : IsOwn start e.host (old e.host) x =
           subst (λ asked. comes_rightly asked start e.host (old e.host) x) is happens.step.fits.comes in
           let view = ap (λ (y : Signal). y.view.number) own.is in
-          let up = current_above start old e.host (host_low start all e es moment) in
+          let up = current_above start old moment.cluster.nobody e.host (host_low start all e es moment) in
           omega (arith, view, up)
 
       linked_low : is_asked e.host x ≡ false → is_well_formed start.shape x ≡ true
@@ -107,7 +107,8 @@ module _ (start : Start) (all : ℕ → List HostStep) (e : HostStep) (es : List
           by false unasked true sound = inr (linked_low unasked sound)
           by false unasked false sound =
               inl (malformed_stays e.host s x unasked
-              (ap (λ shape. is_well_formed shape x) (shape_stays start e.host (old e.host)) ∙ sound))
+              (ap (λ shape. is_well_formed shape x) (shape_stays start moment.cluster.nobody e.host (old e.host))
+              ∙ sound))
 
       own_stops : StopsLow start (current_number start new) e.host (e ∷ old e.host)
       own_stops is = by same_or_low
@@ -121,7 +122,8 @@ module _ (start : Start) (all : ℕ → List HostStep) (e : HostStep) (es : List
               of_greater (λ (v : View). v.number ≤ current_number start new) (view_after start e.host (e ∷ old e.host))
               x.view
               (let own = ap (λ (v : View). v.number) (own_behind start all e es moment) in
-              let up = current_above start new e.host (host_low start all e es moment) in omega (arith, own, up))
+              let up = current_above start new moment.cluster.nobody e.host (host_low start all e es moment) in
+              omega (arith, own, up))
               (let rises = current_rises start all e es moment in omega (arith, low, rises))
 
       older_stops : (h : ℕ) (log : List HostStep) → StopsLow start (current_number start old) h log
@@ -141,7 +143,7 @@ module _ (start : Start) (all : ℕ → List HostStep) (e : HostStep) (es : List
       own_low none = by same_or_low (others_move e.host s x none)
         where
           stood : (view_after start e.host (old e.host)).number ≤ current_number start old
-          stood = current_above start old e.host (host_low start all e es moment)
+          stood = current_above start old moment.cluster.nobody e.host (host_low start all e es moment)
 
           by : (step_by e.host s x ≡ stay s) ⊎ (x.view.number ≤ current_number start old)
               → ((view_after start e.host (e ∷ old e.host)) ≡ s.standing.view)

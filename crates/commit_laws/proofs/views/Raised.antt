@@ -44,9 +44,11 @@ module _ (start : Start) (all : ℕ → List HostStep) (e : HostStep) (es : List
     pub coordinator_still : logs_of start (e ∷ es) (tc_of start member) ≡ logs_of start es (tc_of start member)
     coordinator_still =
         moments.other_log start all e es moment (tc_of start member)
-        (not_at (tc_of start member) (part_none start member there block.Tc tt (old (tc_of start member))))
+        (not_at (tc_of start member) (part_none start moment.cluster.nobody member there block.Tc tt
+        (old (tc_of start member))))
 
     pub rows_still : logs_of start (e ∷ es) (ldm_of start member) ≡ logs_of start es (ldm_of start member)
     rows_still =
         moments.other_log start all e es moment (ldm_of start member)
-        (not_at (ldm_of start member) (part_none start member there block.Lqh tt (old (ldm_of start member))))
+        (not_at (ldm_of start member) (part_none start moment.cluster.nobody member there block.Lqh tt
+        (old (ldm_of start member))))

@@ -147,7 +147,8 @@ module _ (start : Start) (all : ℕ → List HostStep) (e : HostStep) (es : List
         (each_found _ _ tx t ((signals_are_routed start all es before).coordinators member there) went.there)
 
     stood_low : stood.number ≤ was.number
-    stood_low = current_above start old (tc_of start member) (tc_low start member there)
+    stood_low = current_above start old moment.cluster.nobody (tc_of start member)
+        (tc_low start moment.cluster.nobody member there)
 
     stood_installed : WasInstalled start all stood
     stood_installed = was_in start all moment.cluster member there log (before.inside (tc_of start member))

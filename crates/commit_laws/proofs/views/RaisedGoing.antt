@@ -7,7 +7,7 @@ use Rattle.sig_core.specs.declared.member.Member.{Member}
 use Rattle.sig_core.specs.declared.member.TxId.{TxId}
 use Rattle.sig_core.specs.declared.signal.Body.{Body}
 use Rattle.tc_block.specs.declared.transaction.Transaction.{Transaction}
-use Rattle.world_core.specs.Start.{Start, made}
+use Rattle.world_core.specs.Start.{NobodyStarts, Start, made}
 use Rattle.world_core.specs.Steps.{HostStep}
 use Rattle.view_laws.specs.Runs.{view_after}
 use Rattle.view_laws.proofs.eras.Rises.{view_rises}
@@ -26,16 +26,16 @@ use Rattle.commit_laws.proofs.fates.Going.{hale_made}
 use Rattle.commit_laws.proofs.views.Raised.{coordinator_still}
 
 -- the view in which a signal was last sent isn't above that of the host
-last_low : (start : Start) (member : Member) (p : Body → Bool) (log : List HostStep)
+last_low : (start : Start) (nobody : NobodyStarts start) (member : Member) (p : Body → Bool) (log : List HostStep)
     → last_view start member p log ≤ (view_after start (tc_of start member) log).number
-last_low start member p [] = omega arith
-last_low start member p (e ∷ log) = by (sends_one start member p log e) (last_low start member p log)
+last_low start nobody member p [] = omega arith
+last_low start nobody member p (e ∷ log) = by (sends_one start member p log e) (last_low start nobody member p log)
   where
     by : (b : Bool) → last_view start member p log ≤ (view_after start (tc_of start member) log).number
         → (if b then (view_after start (tc_of start member) (e ∷ log)).number else last_view start member p log)
         ≤ (view_after start (tc_of start member) (e ∷ log)).number
     by true low = omega arith
-    by false low = let up = view_rises start (tc_of start member) log e in omega (arith, low, up)
+    by false low = let up = view_rises start nobody (tc_of start member) log e in omega (arith, low, up)
 
 module _ (start : Start) (all : ℕ → List HostStep) (e : HostStep) (es : List HostStep)
     (moment : IsMoment start all (e ∷ es))
@@ -65,8 +65,9 @@ module _ (start : Start) (all : ℕ → List HostStep) (e : HostStep) (es : List
         by (inl none) = none
         by (inr at) =
             let same = ap (asked_in start member tx) own_same in
-            let low = last_low start member (is_request tx) (old (tc_of start member)) in
-            let up = current_above start old (tc_of start member) (tc_low start member there) in
+            let low = last_low start moment.cluster.nobody member (is_request tx) (old (tc_of start member)) in
+            let up = current_above start old moment.cluster.nobody (tc_of start member)
+            (tc_low start moment.cluster.nobody member there) in
             absurd (omega (arith, same, at, low, up, above))
 
     pub raised_was : IsHale start (logs_of start es) tx t

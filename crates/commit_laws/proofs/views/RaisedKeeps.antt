@@ -52,8 +52,8 @@ module _ (fenced : CurrentIsFenced) (start : Start) (all : ℕ → List HostStep
         (moment_installed start all (e ∷ es) moment)
         (in_front member now.full now.starting (hale_full start all (e ∷ es) moment tx t hale))
         (let low =
-        current_above start old (tc_of start member)
-        (tc_low start member (hale_made start all (e ∷ es) moment tx t hale)) in
+        current_above start old moment.cluster.nobody (tc_of start member)
+        (tc_low start moment.cluster.nobody member (hale_made start all (e ∷ es) moment tx t hale)) in
         omega (arith, low, above))
         (subst (λ w. now.number ≤ (coordinator_after start member w).fence)
         (coordinator_still start all e es moment above member (hale_made start all (e ∷ es) moment tx t hale))

@@ -114,7 +114,11 @@ module _ (start : Start) (all : ℕ → List HostStep) (e : HostStep) (es : List
         by false unasked true sound =
             let one = linked unasked sound in inr ((λ off. one), one.view)
         by false unasked false sound =
-            inl (unasked, ap (λ shape. is_well_formed shape x) (shape_stays start e.host (old e.host)) ∙ sound)
+            inl (
+              unasked,
+              ap (λ shape. is_well_formed shape x)
+                  (shape_stays start moment.cluster.nobody e.host (old e.host)) ∙ sound,
+            )
 
     -- where the signal changes nothing
     module _ (plain : IsPlain) where
@@ -157,7 +161,7 @@ module _ (start : Start) (all : ℕ → List HostStep) (e : HostStep) (es : List
         by (inr true_one) =
             sound_next start moment.cluster.shape es e (moment_within start all (e ∷ es) moment) happens.step.fits
             was.are
-            true_one.0
+            true_one.0 moment.cluster.nobody
 
     sent_sound : EachSent start (IsSoundSignal start new) new
     sent_sound =
@@ -167,7 +171,8 @@ module _ (start : Start) (all : ℕ → List HostStep) (e : HostStep) (es : List
         (signal_more start old new more) (was.sent_so i j))
         (λ goes.
         each_filter (IsSoundSignal start new) (is_sound start) (signals_of start e.host (old e.host) e)
-        (host_sends start new moment.cluster.shape are_next e.host (host_low start all e es moment) (old e.host) e
+        (host_sends start new moment.cluster.shape are_next moment.cluster.nobody e.host
+        (host_low start all e es moment) (old e.host) e
         (own_log start all e es moment)))
 
     own_stops : StopsGood start new e.host (e ∷ old e.host)
@@ -198,6 +203,6 @@ module _ (start : Start) (all : ℕ → List HostStep) (e : HostStep) (es : List
 pub moments_sound : (start : Start) (all : ℕ → List HostStep) (es : List HostStep) → IsMoment start all es
     → AllSound start (logs_of start es)
 moments_sound start all [] moment =
-    record { are = sound_start start moment.cluster.shape; sent_so = λ i j. tt; stops = λ h. tt }
+    record { are = sound_start start moment.cluster.shape moment.cluster.nobody; sent_so = λ i j. tt; stops = λ h. tt }
 moments_sound start all (e ∷ es) moment =
     all_next start all e es moment (moments_sound start all es (moment_less start all e es moment))

@@ -19,7 +19,7 @@ use Rattle.key_laws.specs.Replica.{at_key}
 use Rattle.node_core.specs.Fresh.{own_rows}
 use Rattle.node_views.specs.declared.host_body.HostBody as node
 use Rattle.node_views.specs.WellFormed.{is_tx}
-use Rattle.world_core.specs.Start.{Start, made}
+use Rattle.world_core.specs.Start.{NobodyStarts, Start, made}
 use Rattle.world_core.specs.Steps.{HostStep}
 use Rattle.world_views.proofs.FreshBodies.{none_pending}
 use Rattle.view_laws.proofs.runs.FirstMembers.{node_low, node_some}
@@ -44,19 +44,19 @@ module _ (start : Start) (member : Member) (there : IsIn member (made start)) (t
       pub record_none : record_at start logs member key tx ≡ None
       pub marker_none : has_marker_at start logs member key tx ≡ false
 
-    first_unknown : IsUnknown (logs_of start [])
-    first_unknown = record {
+    first_unknown : NobodyStarts start → IsUnknown (logs_of start [])
+    first_unknown nobody = record {
       record_none =
           subst
           (λ (s : node.HostBody). found tx (at_key key (rows_in (no_replica start member) s.parts).lqh).cell.pending
           ≡ None)
-          (sym (ldm_started start member there))
+          (sym (ldm_started start nobody member there))
           (ap (λ (xs : List PendingRecord). found tx (map without_epoch (filter (is_on key) xs)))
           (none_pending no_rows (own_rows start.shape member.node start.rows) start.start_epoch));
       marker_none =
           ap (λ (s : node.HostBody). list_any (is_marker tx key)
           (rows_in (no_replica start member) s.parts).lqh.markers)
-          (ldm_started start member there);
+          (ldm_started start nobody member there);
     }
 
     module _ (all : ℕ → List HostStep) (e : HostStep) (es : List HostStep) (moment : IsMoment start all (e ∷ es)) where
@@ -79,8 +79,8 @@ module _ (start : Start) (member : Member) (there : IsIn member (made start)) (t
               (subst (λ (v : View). IsIn (coordinator_member other) v.full) same was.full)) in
               let is : is_tx start.shape tx ≡ true =
               and_from (nat_le 1 tx.tc) (nat_le tx.tc start.shape.nodes)
-              (le-leb 1 tx.tc (node_some start (coordinator_member tx) is_made))
-              (le-leb tx.tc start.shape.nodes (node_low start (coordinator_member tx) is_made)) in
+              (le-leb 1 tx.tc (node_some start moment.cluster.nobody (coordinator_member tx) is_made))
+              (le-leb tx.tc start.shape.nodes (node_low start moment.cluster.nobody (coordinator_member tx) is_made)) in
               absurd (true≢false (sym is ∙ off))
 
       goes : KeyGoes start all e es moment member there key tx
@@ -114,7 +114,7 @@ module _ (start : Start) (member : Member) (there : IsIn member (made start)) (t
           marked true is = absurd (new_marker (goes.marker_gives is))
 
     pub unknown : (all : ℕ → List HostStep) (es : List HostStep) → IsMoment start all es → IsUnknown (logs_of start es)
-    unknown all [] moment = first_unknown
+    unknown all [] moment = first_unknown moment.cluster.nobody
     unknown all (e ∷ es) moment = unknown_on all e es moment (unknown all es (moment_less start all e es moment))
 
 module _ (start : Start) (all : ℕ → List HostStep) (es : List HostStep) (moment : IsMoment start all es)

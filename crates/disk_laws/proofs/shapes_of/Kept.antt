@@ -91,8 +91,8 @@ module _ (start : Start) (member : Member) (before : Rows) (first : SystemSlot) 
 
   mask_named : (log : List HostStep) (epoch mask : ℕ) → noted start member there log ≡ DurableAt epoch mask
       → is_mask start.shape mask ≡ true
-  mask_named [] epoch mask is = let none = none_noted start member there in absurd cc
-  mask_named (e ∷ log) epoch mask is = noted_mask start member there e log epoch mask is
+  mask_named [] epoch mask is = let none = none_noted start member there sound.right.nobody in absurd cc
+  mask_named (e ∷ log) epoch mask is = noted_mask start member there sound.right.nobody e log epoch mask is
 
   -- that an epoch is durable, and wrote a slot
   durable_shaped : NotingStep start member before first w t old new counts sound there gone up → Shaped
@@ -113,7 +113,7 @@ module _ (start : Start) (member : Member) (before : Rows) (first : SystemSlot) 
       let log = log_of (ldm_of start member) in
       rows_shaped (rows_after start member log).saved (lqh_after start member log).outlet
       (todo_behind start member before first there log)
-      (subst Made (rows_kept_are start member before first there log) step.made)
+      (subst Made (rows_kept_are start member before first there sound.right.nobody log) step.made)
   by_step (of_noting noting) = durable_shaped noting
 
 pub shapes_kept : ShapesAreKept

@@ -63,7 +63,8 @@ module _ (start : Start) (member : Member) (before : Rows) (first : SystemSlot) 
   rows_leave_told : (rows : RowsStep start member before first w t old new counts sound there gone up)
       → Leaves rows.made.calls
   rows_leave_told rows =
-      row_step_told start member before first there late first.generation (logs_at t.logs) rows.step log within
+      row_step_told start sound.right.nobody member before first there late first.generation (logs_at t.logs) rows.step
+      log within
       (behind rows.step log within) (subst (IsLog (machine start) ldm) rows.more rows.local) (savable log (grown ldm))
       (savable (rows.step ∷ log) within) (ap has_stopped (sym rows.more) ∙ rows.runs) up.slots up.calls last
       rows.made.calls rows.made.ok (logs_at gone.stepped.logs ldm) rows.more leaves rows.made.runs

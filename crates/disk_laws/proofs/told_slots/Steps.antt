@@ -28,7 +28,7 @@ use Rattle.node_disk.specs.Laws.{MayName}
 use Rattle.node_disk.specs.Saving.{free_file, name_calls, next_control, rows_calls}
 use Rattle.node_disk.specs.Slots.{SlotsInUse}
 use Rattle.node_disk.proofs.LawLemmas.{checkpoints_leave}
-use Rattle.world_core.specs.Start.{Start, made}
+use Rattle.world_core.specs.Start.{NobodyStarts, Start, made}
 use Rattle.world_core.specs.Steps.{HostStep}
 use Rattle.world_views.specs.Machine.{has_stopped, machine}
 use Rattle.moment_laws.specs.Places.{ldm_of}
@@ -71,7 +71,8 @@ names_by s t body it event finished (steps.switches other switch none names) is 
     record { switch = subst (SwitchesTo s t) same switch; none = none }
 
 -- in logs that have the step of the rows, and where what they had saved before it is durable if they save more
-module _ (start : Start) (member : Member) (before : Rows) (first : SystemSlot) (there : IsIn member (made start))
+module _ (start : Start) (nobody : NobodyStarts start) (member : Member) (before : Rows) (first : SystemSlot)
+    (there : IsIn member (made start))
     (late : 2 ^ 32 ≤ start.epoch) (generation : ℕ) (logs : ℕ → List HostStep) (e : HostStep) (log : List HostStep)
     (within : IsPast (e ∷ log) (logs (ldm_of start member)))
     (behind :
@@ -115,14 +116,14 @@ module _ (start : Start) (member : Member) (before : Rows) (first : SystemSlot) 
   module _ (is : todo_now ≡ todo.Nothing) where
     on : GoesOn start member before first log now s calls last
     on =
-        goes_on start member before first there e log local can new s calls last
+        goes_on start member before first there e log local can new s calls last nobody
         (no_name_of step_todo todo.Nothing (todo_is ∙ is) nothing_names)
 
     readable : s.control.saved < epoch → IsControlSlot (next_control s epoch (redo_from outlet s.control.redo_end))
     readable up =
         subst (λ (bytes : List ℕ). IsControlSlot (next_control s epoch bytes))
-        (sym (rest_is start member there before first log now s calls last on new late))
-        (saving.may start member there before first log now s calls last on new late up).readable
+        (sym (rest_is start member there before first log now s calls last on new late nobody))
+        (saving.may start member there before first log now s calls last on new late nobody up).readable
 
     -- the slot in use was saved at what the rows had noted before
     durable : s.control.saved < epoch → IsDurable start logs s.control.saved
@@ -160,12 +161,12 @@ module _ (start : Start) (member : Member) (before : Rows) (first : SystemSlot) 
     usable_so : IsUsable v (rows_after start member log).saved finished names.switch.end
     usable_so =
         usable start member there before first e log s calls last can new late finished names.switch older older_is
-        new.records.events_of.1.1.1 (saves_noted start member there log e local)
+        new.records.events_of.1.1.1 (saves_noted start member there nobody log e local)
 
     may_name : MayName s finished
     may_name =
         naming.may start member there before first e log s calls last can new late finished names.switch older older_is
-        new.records.events_of.1.1.1 (saves_noted start member there log e local)
+        new.records.events_of.1.1.1 (saves_noted start member there nobody log e local) nobody
 
     saved_is_told : IsToldDone start member (logs (ldm_of start member)) s.control.saved
     saved_is_told =
@@ -190,7 +191,7 @@ module _ (start : Start) (member : Member) (before : Rows) (first : SystemSlot) 
   step_told : Leaves calls → Made (kept_behind start (ldm_of start member) now) → Leaves after
   step_told leaves made_so =
       todo_told todo_now refl leaves
-      (subst Made (rows_kept_are start member before first there now) made_so)
+      (subst Made (rows_kept_are start member before first there nobody now) made_so)
 
   pub row_step_told : (all : List HostStep) → all ≡ now → Leaves calls
       → Made (kept_behind start (ldm_of start member) all) → Leaves after

@@ -18,7 +18,7 @@ use Rattle.node_views.specs.declared.parts.Parts.{Parts}
 use Rattle.node_views.specs.declared.parts.Parts.TheVariants.{Shell, Main, Tc, Ldm}
 use Rattle.node_views.specs.Replies.{giving}
 use Rattle.world_core.specs.Requests.{request_in}
-use Rattle.world_core.specs.Start.{Start}
+use Rattle.world_core.specs.Start.{NobodyStarts, Start}
 use Rattle.world_core.specs.Steps.{HostStep}
 use Rattle.world_views.specs.Machine.{IsOwn, IsOwnWork, machine}
 use Rattle.world_views.specs.Requests.{request_of}
@@ -61,9 +61,9 @@ module _ (start : Start) where
   abbrev OfWords : (ℕ → List HostStep) → Type 0
   OfWords logs = AreOfWords (logs 0)
 
-  tell : TellWell start OfWords IsWellAsked PartsWell
-  tell = record {
-    begins = host_begins start;
+  tell : NobodyStarts start → TellWell start OfWords IsWellAsked PartsWell
+  tell nobody = record {
+    begins = host_begins start nobody;
     gives = gives;
     steps = step_well;
     closes = λ cause. tt;
@@ -78,4 +78,4 @@ module _ (start : Start) where
 
   pub all_ask : (logs : ℕ → List HostStep) → AreOfCluster start logs → AreOfWords (logs 0) → (h : ℕ)
       → Each (λ (e : HostStep). IsWellAsked e.step.taken.body) (logs h)
-  all_ask logs are words = all_take start OfWords IsWellAsked PartsWell tell logs are words
+  all_ask logs are words = all_take start OfWords IsWellAsked PartsWell (tell are.nobody) logs are words

@@ -52,9 +52,9 @@ use Rattle.node_views.specs.declared.parts.Parts.TheVariants.{Shell, Main, Tc, L
 use Rattle.node_views.specs.declared.shell_part.ShellPart.{ShellPart}
 use Rattle.node_views.specs.declared.tc_part.TcPart.{TcPart}
 use Rattle.node_views.specs.Parts.{ldm_row, main_row, shell_row, tc_row}
-use Rattle.world_core.proofs.MadeFirst.{made_first, nobody_starts}
+use Rattle.world_core.proofs.MadeFirst.{made_first}
 use Rattle.world_core.specs.Hosts.{member_at, part_by}
-use Rattle.world_core.specs.Start.{Start, made}
+use Rattle.world_core.specs.Start.{NobodyStarts, Start, made}
 use Rattle.world_views.specs.Hosts.{part_started, started}
 use Rattle.world_views.specs.Machine.{step_by}
 use Rattle.world_views.proofs.AllBegin.{started_behind}
@@ -234,18 +234,19 @@ coordinator_begins member few start = record {
   next = refl;
 }
 
-part_begins : (start : Start) (part : Part) (k : ℕ)
+part_begins : (start : Start) (none_starts : NobodyStarts start) (part : Part) (k : ℕ)
     → PartsWell (part_started start part (member_at (made start) (suc k))).parts
-part_begins start kind.Main k = tt
-part_begins start kind.Tc k =
-    let all = subst (Each (λ (member : Member). member.start ≡ 0)) (sym (made_first start (nobody_starts start)))
+part_begins start none_starts kind.Main k = tt
+part_begins start none_starts kind.Tc k =
+    let all = subst (Each (λ (member : Member). member.start ≡ 0)) (sym (made_first start none_starts))
     (members_first start.shape.nodes) in
     let first = index_first (made start) all (k / 3) in
     coordinator_begins (member_at (made start) (suc k)) (omega (arith, first)) start
-part_begins start kind.Ldm k = tt
+part_begins start none_starts kind.Ldm k = tt
 
-pub host_begins : (start : Start) (h : ℕ) → PartsWell (started start h).parts
+pub host_begins : (start : Start) (none_starts : NobodyStarts start) (h : ℕ) → PartsWell (started start h).parts
 unfolding started
-host_begins start zero = tt
-host_begins start (suc h) =
-    subst (λ s. PartsWell s.parts) (sym (started_behind start h)) (part_begins start (part_by (h % 3)) h)
+host_begins start none_starts zero = tt
+host_begins start none_starts (suc h) =
+    subst (λ s. PartsWell s.parts) (sym (started_behind start none_starts h))
+    (part_begins start none_starts (part_by (h % 3)) h)

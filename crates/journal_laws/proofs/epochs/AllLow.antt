@@ -15,7 +15,7 @@ use Rattle.node_views.specs.declared.parts.Parts.{Parts}
 use Rattle.node_views.specs.declared.parts.Parts.TheVariants.{Shell, Main, Tc, Ldm}
 use Rattle.node_views.specs.Replies.{giving}
 use Rattle.node_views.specs.WellFormed.{is_well_formed}
-use Rattle.world_core.specs.Start.{Start}
+use Rattle.world_core.specs.Start.{NobodyStarts, Start}
 use Rattle.world_core.specs.Steps.{HostStep}
 use Rattle.world_views.specs.Machine.{IsOwnWork, after, machine}
 use Rattle.moment_laws.specs.Moments.{IsMoment, logs_of}
@@ -55,9 +55,9 @@ module _ (start : Start) (low : IsLow start.epoch) where
   abbrev Any : (ℕ → List HostStep) → Type 0
   Any logs = Unit {0}
 
-  tell : TellWell start Any IsLowTold PartsLow
-  tell = record {
-    begins = host_begins start low;
+  tell : NobodyStarts start → TellWell start Any IsLowTold PartsLow
+  tell nobody = record {
+    begins = host_begins start nobody low;
     gives = gives;
     steps = λ h s x low told. let step = step_low h s x low told in (step.0, step.1.0);
     closes = λ cause. tt;
@@ -69,22 +69,24 @@ module _ (start : Start) (low : IsLow start.epoch) where
   TakesLow e = IsLowTold e.step.taken.body
 
   -- whoever is decided has such an epoch
-  decided_in : (h : ℕ) (log : List HostStep) → IsLog (machine start) h log → Each TakesLow log → (tx : TxId)
+  decided_in : NobodyStarts start → (h : ℕ) (log : List HostStep) → IsLog (machine start) h log → Each TakesLow log
+      → (tx : TxId)
       (epoch : ℕ) → IsMarked (Decided tx epoch) log → IsLow epoch
-  decided_in h [] local takes tx epoch is = absurd is
-  decided_in h (e ∷ log) local takes tx epoch (inl there) =
-      let before = host_well start Any IsLowTold PartsLow tell h log takes.1 in
+  decided_in nobody h [] local takes tx epoch is = absurd is
+  decided_in nobody h (e ∷ log) local takes tx epoch (inl there) =
+      let before = host_well start Any IsLowTold PartsLow (tell nobody) h log takes.1 in
       let marks = (step_low h (after start h log) e.step.taken before takes.0).1.1 in
       each_in MarksLow (Decided tx epoch) e.step.marks (subst (Each MarksLow) (sym local.0.fits.marks) marks) there
-  decided_in h (e ∷ log) local takes tx epoch (inr older) = decided_in h log local.1 takes.1 tx epoch older
+  decided_in nobody h (e ∷ log) local takes tx epoch (inr older) =
+      decided_in nobody h log local.1 takes.1 tx epoch older
 
   module _ (all : ℕ → List HostStep) where
     decided_low : (es : List HostStep) → IsMoment start all es → (tx : TxId) (epoch : ℕ)
         → IsDecided start (logs_of start es) tx epoch → IsLow epoch
     decided_low es moment tx epoch is =
         let h : ℕ = tc_of start (coordinator_member tx) in
-        decided_in h (all h) (moment.cluster.right.local h)
-        (all_take start Any IsLowTold PartsLow tell all moment.cluster tt h) tx epoch
+        decided_in moment.cluster.nobody h (all h) (moment.cluster.right.local h)
+        (all_take start Any IsLowTold PartsLow (tell moment.cluster.nobody) all moment.cluster tt h) tx epoch
         (past_marked (Decided tx epoch) (logs_of start es h) (all h) (moment.inside h) is)
 
     -- so is whoever is ordered to be committed

@@ -52,7 +52,7 @@ use Rattle.node_views.specs.declared.shell_part.ShellPart.{ShellPart}
 use Rattle.node_views.specs.declared.tc_part.TcPart.{TcPart}
 use Rattle.node_views.specs.Parts.{ldm_row, main_row, shell_row, tc_row}
 use Rattle.world_core.specs.Hosts.{member_at, part_by}
-use Rattle.world_core.specs.Start.{Start, made}
+use Rattle.world_core.specs.Start.{NobodyStarts, Start, made}
 use Rattle.world_views.specs.Hosts.{part_started, started}
 use Rattle.world_views.specs.Machine.{step_by}
 use Rattle.world_views.proofs.AllBegin.{started_behind}
@@ -299,8 +299,8 @@ part_begins start low kind.Main k = phase_begins start.epoch low _
 part_begins start low kind.Tc k = (low, low)
 part_begins start low kind.Ldm k = tt
 
-pub host_begins : (start : Start) → IsLow start.epoch → (h : ℕ) → PartsLow (started start h).parts
+pub host_begins : (start : Start) → NobodyStarts start → IsLow start.epoch → (h : ℕ) → PartsLow (started start h).parts
 unfolding started
-host_begins start low zero = tt
-host_begins start low (suc h) =
-    subst (λ s. PartsLow s.parts) (sym (started_behind start h)) (part_begins start low (part_by (h % 3)) h)
+host_begins start nobody low zero = tt
+host_begins start nobody low (suc h) =
+    subst (λ s. PartsLow s.parts) (sym (started_behind start nobody h)) (part_begins start low (part_by (h % 3)) h)

@@ -9,7 +9,7 @@ use Rattle.local_ckpt.proofs.LawLemmas.{orderly}
 use Rattle.lqh_views.specs.State.{ReplicaState}
 use Rattle.node_core.specs.Fresh.{own_rows, with_rows}
 use Rattle.node_views.specs.declared.host_body.HostBody as hosts
-use Rattle.world_core.specs.Start.{Start, made}
+use Rattle.world_core.specs.Start.{NobodyStarts, Start, made}
 use Rattle.world_views.proofs.FreshBodies.{none_pending}
 use Rattle.moment_laws.proofs.MomentHosts.{ldm_started}
 use Rattle.request_laws.specs.Blocks.{no_replica, rows_after, rows_in}
@@ -23,10 +23,10 @@ put_orderly s [] epoch is = is
 put_orderly s (r ∷ rows) epoch is =
     put_orderly (put_row s r.0 r.1 epoch) rows epoch (orderly.put s r.0 r.1 epoch is)
 
-module _ (start : Start) (member : Member) (there : IsIn member (made start)) where
+module _ (start : Start) (nobody : NobodyStarts start) (member : Member) (there : IsIn member (made start)) where
   pub first_replica : rows_after start member [] ≡ along.first_rows start member
   first_replica =
-      ap (λ (s : hosts.HostBody). rows_in (no_replica start member) s.parts) (ldm_started start member there)
+      ap (λ (s : hosts.HostBody). rows_in (no_replica start member) s.parts) (ldm_started start nobody member there)
 
   -- those of the life that are the member's
   abbrev own : List (List ℕ × List ℕ)

@@ -18,7 +18,7 @@ use Rattle.lqh_views.specs.State.{ReplicaState}
 use Rattle.lqh_saver.specs.declared.stage.Todo.{Todo}
 use Rattle.lqh_saver.specs.State.{SavingState}
 use Rattle.node_views.specs.WellFormed.{is_well_formed}
-use Rattle.world_core.specs.Start.{Start, made}
+use Rattle.world_core.specs.Start.{NobodyStarts, Start, made}
 use Rattle.world_core.specs.Steps.{HostStep}
 use Rattle.world_views.specs.Machine.{machine}
 use Rattle.moment_laws.specs.Places.{ldm_of}
@@ -111,22 +111,24 @@ module _ (start : Start) (member : Member) (there : IsIn member (made start)) wh
   abbrev first : RowsState
   first = first_rows start member
 
-  pub begun : HasCome first (lqh_after start member []) []
-  begun = record {
+  pub begun : NobodyStarts start → HasCome first (lqh_after start member []) []
+  begun nobody = record {
     rows = refl;
     outlet =
-        subst (λ (s : ReplicaState). IsRestOf s.lqh.outlet (outlet_with [])) (sym (first_replica start member there))
+        subst (λ (s : ReplicaState). IsRestOf s.lqh.outlet (outlet_with []))
+        (sym (first_replica start nobody member there))
         nothing_given;
   }
 
   -- whatever their events are
-  pub events_come : (log : List HostStep) (events : List Event) → AreEventsOf start member log events
+  pub events_come : NobodyStarts start → (log : List HostStep) (events : List Event)
+      → AreEventsOf start member log events
       → HasCome first (lqh_after start member log) events
-  events_come [] events none = subst (HasCome first (lqh_after start member [])) (sym none) begun
-  events_come (e ∷ log) events are =
+  events_come nobody [] events none = subst (HasCome first (lqh_after start member [])) (sym none) (begun nobody)
+  events_come nobody (e ∷ log) events are =
       subst (HasCome first (lqh_after start member (e ∷ log))) (sym are.1.1.0)
       (comes first (saving_after start member log) (saving_after start member (e ∷ log)) e.step.taken.body
-      (todo_at start member e log) are.1.0 (events_come log are.1.0 are.1.1.1) are.0 are.1.1.2)
+      (todo_at start member e log) are.1.0 (events_come nobody log are.1.0 are.1.1.1) are.0 are.1.1.2)
 
   -- There are such events, and their records can be written if the signals can.
   pub record HasEvents (log : List HostStep) : Type 0 where
@@ -135,7 +137,7 @@ module _ (start : Start) (member : Member) (there : IsIn member (made start)) wh
     pub writes : IsShape start.shape → Each (TakesWritable start) log
         → AreWritable (lqh_after start member log) × AreRecords (records_behind first events)
 
-  module _ (e : HostStep) (log : List HostStep) (has : HasEvents log)
+  module _ (nobody : NobodyStarts start) (e : HostStep) (log : List HostStep) (has : HasEvents log)
       (makes : HostMakes start.shape e.step.taken (saving_after start member log) (saving_after start member (e ∷ log))
       (todo_at start member e log))
     where
@@ -148,7 +150,7 @@ module _ (start : Start) (member : Member) (there : IsIn member (made start)) wh
       recorded (Some event) own are =
           records_more event (rows_behind first older) (records_behind first older)
           (subst (λ (rows : RowsState). AreRecords (logged event rows []))
-          (events_come log older has.events_of).rows own) are
+          (events_come nobody log older has.events_of).rows own) are
 
       more : HasEvents (e ∷ log)
       more = record {
@@ -160,29 +162,32 @@ module _ (start : Start) (member : Member) (there : IsIn member (made start)) wh
       }
 
   -- along each log of its host
-  pub has_events : (log : List HostStep) → IsLog (machine start) (ldm_of start member) log → HasEvents log
-  has_events [] is = record {
+  pub has_events : NobodyStarts start → (log : List HostStep) → IsLog (machine start) (ldm_of start member) log
+      → HasEvents log
+  has_events nobody [] is = record {
     events = [];
     events_of = refl;
-    writes = λ shape takes. (first_writable start member there shape, tt);
+    writes = λ shape takes. (first_writable start nobody member there shape, tt);
   }
-  has_events (e ∷ log) is =
-      more e log (has_events log is.1) (step_makes start member there log e is.0.fits.marks)
+  has_events nobody (e ∷ log) is =
+      more nobody e log (has_events nobody log is.1) (step_makes start nobody member there log e is.0.fits.marks)
 
   -- a log that takes what can be written has the records of its events
-  pub has_records : IsShape start.shape → (log : List HostStep) → IsLog (machine start) (ldm_of start member) log
+  pub has_records : NobodyStarts start → IsShape start.shape → (log : List HostStep)
+      → IsLog (machine start) (ldm_of start member) log
       → Each (TakesWritable start) log → (events : List Event) × HasRecords start member log events
-  has_records shape log is takes =
-      let has = has_events log is in (
+  has_records nobody shape log is takes =
+      let has = has_events nobody log is in (
         has.events,
         record {
           events_of = has.events_of;
           records = (has.writes shape takes).1;
-          outlet = (events_come log has.events has.events_of).outlet;
+          outlet = (events_come nobody log has.events has.events_of).outlet;
         },
       )
 
   -- the saver of the rows knows where the journal ended when they were saved
-  pub saves_noted : (log : List HostStep) (e : HostStep) → IsLog (machine start) (ldm_of start member) (e ∷ log)
+  pub saves_noted : NobodyStarts start → (log : List HostStep) (e : HostStep)
+      → IsLog (machine start) (ldm_of start member) (e ∷ log)
       → NotesSaves (saving_after start member log) (saving_after start member (e ∷ log))
-  saves_noted log e is = (step_makes start member there log e is.0.fits.marks).notes
+  saves_noted nobody log e is = (step_makes start nobody member there log e is.0.fits.marks).notes

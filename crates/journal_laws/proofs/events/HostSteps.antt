@@ -26,7 +26,7 @@ use Rattle.node_views.specs.WellFormed.{is_well_formed}
 use Rattle.disk_world.specs.Keeping.{todo_if, todo_in}
 use Rattle.disk_world.specs.Laws.{IsBefore, SavingCase, rows_in as saving_in, rows_rest, rows_take, stops_host}
 use Rattle.disk_world.proofs.TodoLemmas.{rows_step_with_their_saver}
-use Rattle.world_core.specs.Start.{Start, made}
+use Rattle.world_core.specs.Start.{NobodyStarts, Start, made}
 use Rattle.world_core.specs.Steps.{HostStep}
 use Rattle.world_views.specs.Machine.{after, own_stop, step_after, step_by, step_if, stops_by, told}
 use Rattle.view_laws.proofs.eras.Shapes.{shape_stays}
@@ -170,7 +170,8 @@ module _ (s : HostBody) (x : Signal) (unsound : is_well_formed s.standing.shape 
           (refl, ap (λ (b : Bool). todo_if (b && not (is_barred s x)) x (todo_of s.parts)) unsound)
 
 -- one more step of the host of a member's rows, which has the marks of its row
-module _ (start : Start) (member : Member) (there : IsIn member (made start)) (log : List HostStep) (e : HostStep)
+module _ (start : Start) (nobody : NobodyStarts start) (member : Member) (there : IsIn member (made start))
+    (log : List HostStep) (e : HostStep)
     (marks : e.step.marks ≡ (step_after start (ldm_of start member) log e).effects.marks) where
   abbrev h : ℕ
   h = ldm_of start member
@@ -207,10 +208,10 @@ module _ (start : Start) (member : Member) (there : IsIn member (made start)) (l
 
   sound_makes : is_well_formed s.standing.shape x ≡ true → MakesIn (told h t) t.effects.marks
   sound_makes sound =
-      let at = runs_ldm start member there log in
+      let at = runs_ldm start nobody member there log in
       let does = rows_step_with_their_saver h s x at.own at.runs in
       let shaped : is_well_formed start.shape x ≡ true =
-      subst (λ (shape : Shape). is_well_formed shape x ≡ true) (shape_stays start h log) sound in
+      subst (λ (shape : Shape). is_well_formed shape x ≡ true) (shape_stays start nobody h log) sound in
       let stopped : Bool = stops_by t.effects.marks in
       let it : Todo = todo_in (told h t) (Some x) in
       subst (λ (parts : Parts). HostMakes start.shape x (saving_of parts) (saving_of (told h t).parts)

@@ -18,7 +18,7 @@ use Rattle.lqh_saver.specs.Saver.{fresh_saver}
 use Rattle.lqh_saver.specs.State.{SaverState, SavingState}
 use Rattle.node_views.specs.declared.host_body.HostBody.{HostBody}
 use Rattle.node_views.specs.WellFormed.{is_well_formed}
-use Rattle.world_core.specs.Start.{Start, made}
+use Rattle.world_core.specs.Start.{NobodyStarts, Start, made}
 use Rattle.world_core.specs.Steps.{HostStep}
 use Rattle.world_views.specs.Machine.{machine}
 use Rattle.moment_laws.specs.Moments.{logs_of}
@@ -40,7 +40,7 @@ use Rattle.journal_laws.proofs.follow.Noted.{AreOfPrepared}
 use Rattle.journal_laws.proofs.follow.Oldest.{added, logged_is}
 use Rattle.journal_laws.proofs.follow.Passing.{goes_on_beside, passes_on}
 
-module _ (start : Start) (member : Member) (there : IsIn member (made start)) where
+module _ (start : Start) (nobody : NobodyStarts start) (member : Member) (there : IsIn member (made start)) where
   abbrev rows_first : RowsState
   rows_first = first_rows start member
 
@@ -53,13 +53,13 @@ module _ (start : Start) (member : Member) (there : IsIn member (made start)) wh
 
   pub first_saver : saver_after start member [] ≡ fresh_saver start.start_epoch 0
   first_saver =
-      ap (λ (s : HostBody). saver_in (fresh_saver start.start_epoch 0) s.parts) (ldm_started start member there)
+      ap (λ (s : HostBody). saver_in (fresh_saver start.start_epoch 0) s.parts) (ldm_started start nobody member there)
 
   knows_first : Knows [] []
   knows_first = record {
-    come = begun start member there;
+    come = begun start member there nobody;
     prepared = tt;
-    given_up = nothing_given_up start member there;
+    given_up = nothing_given_up start member there nobody;
     walk = subst (λ (v : SaverState). HasComeTo start member [] [] v.stage) (sym first_saver) tt;
   }
 
@@ -122,7 +122,7 @@ module _ (start : Start) (member : Member) (there : IsIn member (made start)) wh
         → t.replica.lqh.outlet.flushed ≡ s.replica.lqh.outlet.flushed → t.saver.floor ≡ s.saver.floor
         → HasGivenUp start member (e ∷ log) (option_to_list event ++ older)
     given_by event changed flushed floor =
-        still_given_up start member there log older knows.come knows.given_up e flushed floor event changed
+        still_given_up start member there log older knows.come knows.given_up nobody e flushed floor event changed
 
     given_same : LeavesAll s t → HasGivenUp start member (e ∷ log) older
     given_same leaves =
@@ -170,7 +170,7 @@ module _ (start : Start) (member : Member) (there : IsIn member (made start)) wh
           come = subst Come none come;
           prepared = knows.prepared;
           given_up =
-              given_up_to start member there log older e finished to knows.come
+              given_up_to start member there nobody log older e finished to knows.come
               (stage_was (Walked finished to.end) to.was);
           walk = subst (Way None) (sym to.stage) tt;
         })
@@ -209,7 +209,7 @@ module _ (start : Start) (member : Member) (there : IsIn member (made start)) wh
   told_done [] is =
       let same : (saver_after start member []).durable ≡ start.start_epoch =
       ap (λ (v : SaverState). v.durable) first_saver in omega (arith, same)
-  told_done (e ∷ log) is = by (told_done log is.1) (step_makes start member there log e is.0.fits.marks).knows
+  told_done (e ∷ log) is = by (told_done log is.1) (step_makes start nobody member there log e is.0.fits.marks).knows
     where
       by : IsToldDone start member log (saver_after start member log).durable
           → ((saver_after start member (e ∷ log)).durable ≡ (saver_after start member log).durable)
@@ -228,5 +228,5 @@ module _ (start : Start) (member : Member) (there : IsIn member (made start)) wh
 pub walks_followed : WalksAreFollowed
 walks_followed start all es moment member there events has =
     let h : ℕ = ldm_of start member in
-    followed start member there (logs_of start es h) events
+    followed start moment.cluster.nobody member there (logs_of start es h) events
     (log_past (machine start) h (moment.inside h) (moment.cluster.right.local h)) has

@@ -17,7 +17,7 @@ use Rattle.local_ckpt.specs.Laws.{HasPrepares}
 use Rattle.local_ckpt.specs.Orderly.{IsOrderly, prepared_in}
 use Rattle.lqh_saver.specs.Redo.{kept_records, records_of}
 use Rattle.lqh_views.specs.State.{ReplicaState}
-use Rattle.world_core.specs.Start.{Start, made}
+use Rattle.world_core.specs.Start.{NobodyStarts, Start, made}
 use Rattle.world_core.specs.Steps.{HostStep}
 use Rattle.journal_laws.specs.Checkpoints.{in_journal}
 use Rattle.journal_laws.specs.Events.{AreUpTo, changed_if, records_behind, rows_behind}
@@ -55,16 +55,16 @@ module _ (start : Start) (member : Member) (there : IsIn member (made start)) wh
       (log_bytes (records_behind (rows_behind rows_first older) newer))
 
   -- nothing as the life begins
-  pub nothing_given_up : HasGivenUp start member [] []
-  nothing_given_up = record {
+  pub nothing_given_up : NobodyStarts start → HasGivenUp start member [] []
+  nothing_given_up nobody = record {
     since = [];
     gone = [];
     split = refl;
-    position = ap (λ (s : ReplicaState). s.lqh.outlet.flushed) (first_replica start member there);
+    position = ap (λ (s : ReplicaState). s.lqh.outlet.flushed) (first_replica start nobody member there);
     floor = tt;
     prepares = λ tx key image found.
         let none = ap (λ (pending : List PendingRecord). prepared_in (first (is_of tx key) pending))
-        (first_pending start member there) in
+        (first_pending start nobody member there) in
         absurd (let e = sym none ∙ found in cc);
   }
 
@@ -102,12 +102,12 @@ module _ (start : Start) (member : Member) (there : IsIn member (made start)) wh
         ∙ all_read records_left
         (newer_records records_left (records_behind rows_first has.gone) (subst AreRecords all_records are))
 
-    pub orderly_then : IsOrderly (lqh_after start member log).rows
-    orderly_then =
-        subst IsOrderly (sym come.rows) (orderly_behind rows_first events (first_orderly start member there))
+    pub orderly_then : NobodyStarts start → IsOrderly (lqh_after start member log).rows
+    orderly_then nobody =
+        subst IsOrderly (sym come.rows) (orderly_behind rows_first events (first_orderly start nobody member there))
 
     -- behind a step that gives up no more
-    module _ (e : HostStep) (flushed : (lqh_after start member (e ∷ log)).outlet.flushed
+    module _ (nobody : NobodyStarts start) (e : HostStep) (flushed : (lqh_after start member (e ∷ log)).outlet.flushed
         ≡ (lqh_after start member log).outlet.flushed)
         (floor : (saver_after start member (e ∷ log)).floor ≡ (saver_after start member log).floor) where
       pub still_given_up : (event : Option Event)
@@ -131,11 +131,12 @@ module _ (start : Start) (member : Member) (there : IsIn member (made start)) wh
             subst (λ (r : RowsState). HasPrepares r (records_behind rows_then (event ∷ has.since))) (sym rows)
             (subst (λ (r : RowsState). HasPrepares (changed event (lqh_after start member log).rows)
             (logged event r records_left)) rows_left
-            (has_more (lqh_after start member log).rows records_left orderly_then has.prepares event));
+            (has_more (lqh_after start member log).rows records_left (orderly_then nobody) has.prepares event));
       }
 
   -- behind a switch
-  module _ (log : List HostStep) (events : List Event) (e : HostStep) (finished : Finished)
+  module _ (nobody : NobodyStarts start) (log : List HostStep) (events : List Event) (e : HostStep)
+      (finished : Finished)
       (to : SwitchesTo (saving_after start member log) (saving_after start member (e ∷ log)) finished)
       (come : HasCome rows_first (lqh_after start member log) events)
       (ended : HasEnded start member log events finished to.end) where
@@ -158,7 +159,7 @@ module _ (start : Start) (member : Member) (there : IsIn member (made start)) wh
         (subst (λ (all : List Event). HasPrepares (rows_behind rows_first ((later ++ meanwhile) ++ (nearer ++ gone)))
         (records_behind given all)) (append_assoc later meanwhile nearer)
         (has_on given rows_first nearer (nearer ++ gone) (sym (rows_append rows_first nearer gone))
-        (first_orderly start member there) ended.began.prepares (later ++ meanwhile)))
+        (first_orderly start nobody member there) ended.began.prepares (later ++ meanwhile)))
 
     pub given_up_to : HasGivenUp start member (e ∷ log) events
     given_up_to = record {

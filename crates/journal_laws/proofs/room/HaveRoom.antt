@@ -70,6 +70,6 @@ begins start member = record {
 
 pub journals_have_room : JournalsHaveRoom
 journals_have_room start all es moment member there =
-    let has = always ReplicaHasRoom takes installs gives start member there (begins start member)
+    let has = always ReplicaHasRoom takes installs gives start moment.cluster.nobody member there (begins start member)
     (logs_of start es (ldm_of start member)) in
     omega (arith, has.used, has.room)

@@ -20,7 +20,7 @@ use Rattle.sig_core.proofs.Keys.{same_tx-self}
 use Rattle.tc_block.specs.Complete.{one_if}
 use Rattle.world_core.specs.Entries.{entries}
 use Rattle.world_core.specs.Hosts.{hosts, member_at, part_by}
-use Rattle.world_core.specs.Start.{Start, made}
+use Rattle.world_core.specs.Start.{NobodyStarts, Start, made}
 use Rattle.world_core.specs.Steps.{HostStep}
 use Rattle.world_views.specs.Hosts.{part_started, started}
 use Rattle.world_views.proofs.AllBegin.{started_behind}
@@ -84,9 +84,10 @@ either_few p q (e ∷ log) = omega (arith, either_few p q log, by (p e.step.take
     by false b = omega arith
 
 -- a host of a node without a coordinator runs its membership, or its rows
-pub beside_is : (start : Start) (k : ℕ) → HasNoTc (started start (suc k)).parts → IsBeside (started start (suc k)).parts
-beside_is start k none =
-    let same = ap (λ s. s.parts) (started_behind start k) in
+pub beside_is : (start : Start) (nobody : NobodyStarts start) (k : ℕ) → HasNoTc (started start (suc k)).parts
+    → IsBeside (started start (suc k)).parts
+beside_is start nobody k none =
+    let same = ap (λ s. s.parts) (started_behind start nobody k) in
     subst IsBeside (sym same) (by (part_by (k % 3)) (member_at (made start) (suc k)) (subst HasNoTc same none))
   where
     by : (part : Part) (me : Member) → HasNoTc (part_started start part me).parts
@@ -112,11 +113,11 @@ module _ (start : Start) (logs : ℕ → List HostStep) (are : AreOfCluster star
       of_host (of_none none) =
           let is =
           log_light (of_nobody (is_wish tx)) IsBeside (beside_light (is_wish tx) (uncounted_wish tx)) start (suc k)
-          (beside_is start k none) (logs (suc k)) (are.right.local (suc k)) in
+          (beside_is start are.nobody k none) (logs (suc k)) (are.right.local (suc k)) in
           omega (arith, is.below, none_taken (logs (suc k)))
 
       by : (suc k < hosts start) ⊎ (hosts start ≤ suc k) → sends_in (is_wish tx) start (suc k) (logs (suc k)) ≡ 0
-      by (inl low) = of_host (tc_host_is start (suc k) low)
+      by (inl low) = of_host (tc_host_is start are.nobody (suc k) low)
       by (inr high) = nowhere_sends (is_wish tx) (uncounted_wish tx) start logs are (suc k) high
 
   module _ (down : IsMarked (Reported tx (outcome.Aborted cause.Down)) (logs 0)) where
@@ -164,13 +165,13 @@ module _ (start : Start) (logs : ℕ → List HostStep) (are : AreOfCluster star
         of_host : TcHost start h → sends_in (is_asking tx) start h (logs h) ≡ 0
         of_host (of_tc me there at) =
             subst (λ (k : ℕ). sends_in (is_asking tx) start k (logs k) ≡ 0) (sym at)
-            (asks_wished tx start me there (logs (tc_of start me)) (are.right.local (tc_of start me))
+            (asks_wished tx start are.nobody me there (logs (tc_of start me)) (are.right.local (tc_of start me))
             (no_wishes (tc_of start me)))
         of_host (of_none none) =
             no_tc_sends (is_asking tx) (uncounted_asking tx) start logs are (asking_coordinators tx) h none
 
         by : (h < hosts start) ⊎ (hosts start ≤ h) → sends_in (is_asking tx) start h (logs h) ≡ 0
-        by (inl low) = of_host (tc_host_is start h low)
+        by (inl low) = of_host (tc_host_is start are.nobody h low)
         by (inr high) = nowhere_sends (is_asking tx) (uncounted_asking tx) start logs are h high
 
     no_asks : (j : ℕ) → takes_in (is_asking tx) (logs j) ≤ 0
@@ -192,6 +193,6 @@ none_down_decided start logs are tx down =
     (omega (
       arith,
       (entries_are start logs are tx (hosts start)).few,
-      decides_asked tx start c (logs c) (are.right.local c),
+      decides_asked tx start are.nobody c (logs c) (are.right.local c),
       no_asks start logs are tx down c,
     ))

@@ -17,7 +17,7 @@ use Rattle.node_views.specs.declared.parts.Parts.{Parts}
 use Rattle.node_views.specs.declared.parts.Parts.TheVariants as part
 use Rattle.node_views.specs.Replies.{giving}
 use Rattle.world_core.specs.Hosts.{hosts, member_at, part_by}
-use Rattle.world_core.specs.Start.{Start, made}
+use Rattle.world_core.specs.Start.{NobodyStarts, Start, made}
 use Rattle.world_core.specs.Steps.{Addressed, HostStep}
 use Rattle.world_views.proofs.SentFacts.{is_stamped}
 use Rattle.world_views.specs.Hosts.{part_started, started}
@@ -36,11 +36,11 @@ part_begins start Main k = tt
 part_begins start Tc k = tt
 part_begins start Ldm k = tt
 
-host_begins : (start : Start) (h : ℕ) → PartsHaveNoDown (started start h).parts
+host_begins : (start : Start) (nobody : NobodyStarts start) (h : ℕ) → PartsHaveNoDown (started start h).parts
 unfolding started
-host_begins start zero = tt
-host_begins start (suc h) =
-    subst (λ s. PartsHaveNoDown s.parts) (sym (started_behind start h)) (part_begins start (part_by (h % 3)) h)
+host_begins start nobody zero = tt
+host_begins start nobody (suc h) =
+    subst (λ s. PartsHaveNoDown s.parts) (sym (started_behind start nobody h)) (part_begins start (part_by (h % 3)) h)
 
 -- the replies that are told change nothing of it
 told_up : (h : ℕ) (step : Step node.HostBody) → PartsHaveNoDown step.state.parts → PartsHaveNoDown (told h step).parts
@@ -69,14 +69,14 @@ asked_none h x asked = by (x.from.0 == h) asked
 abbrev pub Says : Addressed → Type 0
 Says x = TellsNoDown x.signal.body
 
-module _ (start : Start) where
+module _ (start : Start) (nobody : NobodyStarts start) where
   -- what a host does that was never told so
   stepped : (h : ℕ) (log : List HostStep) (e : HostStep) → PartsHaveNoDown (after start h log).parts → TakesNoDown e
       → PartsHaveNoDown (step_after start h log e).state.parts × SendsNoDown (step_after start h log e)
   stepped h log e up takes = step_down_none h (after start h log) e.step.taken up takes
 
   host_up : (h : ℕ) (log : List HostStep) → Each TakesNoDown log → PartsHaveNoDown (after start h log).parts
-  host_up h [] takes = host_begins start h
+  host_up h [] takes = host_begins start nobody h
   host_up h (e ∷ log) takes =
       told_up h (step_after start h log e) (stepped h log e (host_up h log takes.1) takes.0).0
 
@@ -114,5 +114,6 @@ module _ (start : Start) where
 
 pub no_down_is_told : NoDownIsTold
 no_down_is_told start logs are =
-    (along_signals_of_logs (machine start) (is_stamped start) (λ x logs. Says x) (HaveNone start) (kept start)
+    (along_signals_of_logs (machine start) (is_stamped start) (λ x logs. Says x) (HaveNone start are.nobody)
+    (kept start are.nobody)
     (hosts start) logs are.within are.right).law

@@ -26,7 +26,7 @@ use Rattle.node_views.specs.declared.parts.Parts.{Parts}
 use Rattle.node_views.specs.declared.parts.Parts.TheVariants.{Shell, Main, Tc, Ldm}
 use Rattle.node_views.specs.Replies.{giving}
 use Rattle.node_views.specs.WellFormed.{is_well_formed}
-use Rattle.world_core.specs.Start.{Start, made}
+use Rattle.world_core.specs.Start.{NobodyStarts, Start, made}
 use Rattle.world_core.specs.Steps.{Addressed, HostStep}
 use Rattle.world_views.specs.Hosts.{reached, started}
 use Rattle.world_views.specs.Machine.{after, machine, signals_of, step_after, told}
@@ -84,10 +84,10 @@ module _ (start : Start) where
     pub decided : (h : ℕ) → Each (AreDecidedHere h) (logs h)
     pub asks : EachSent start IsRightly logs
 
-  own_first : AllOwn (λ h. [])
-  own_first = record {
+  own_first : NobodyStarts start → AllOwn (λ h. [])
+  own_first nobody = record {
     parts = λ me there.
-        subst (λ (s : node.HostBody). OwnParts me s.parts) (sym (tc_started start me there))
+        subst (λ (s : node.HostBody). OwnParts me s.parts) (sym (tc_started start nobody me there))
         (coordinator_of_fresh me (first_layout start.shape), tt);
     decided = λ h. tt;
     asks = λ i j. tt;
@@ -127,11 +127,13 @@ module _ (start : Start) where
           → (tx : TxId) (ops : List (Op × Answer)) → x.body ≡ Epoch (DiVerifyReq tx ops) → IsOf me tx
       hears me there at sound tx ops is =
           let shaped : is_well_formed start.shape x ≡ true =
-          ap (λ shape. is_well_formed shape x) (sym (shape_stays start e.host (old e.host))) ∙ sound in
+          ap (λ shape. is_well_formed shape x) (sym (shape_stays start moment.cluster.nobody e.host (old e.host)))
+          ∙ sound in
           let rightly : IsRightly (record { to = e.host; signal = x }) =
           epoch_told start IsRightly all e es moment own.asks shaped (DiVerifyReq tx ops) is in
           let asked : IsAskedOf e.host tx = subst (IsAskedRight e.host) is rightly in
-          own_reaches start asked.host asked.view (coordinator_member tx) me asked.there there block.Dih block.Dih
+          own_reaches start moment.cluster.nobody asked.host asked.view (coordinator_member tx) me asked.there there
+          block.Dih block.Dih
           (sym asked.is ∙ at)
 
       comes_own : (me : Member) → IsIn me (made start) → e.host ≡ tc_of start me
@@ -159,7 +161,7 @@ module _ (start : Start) where
 
       -- what the step decides
       decides_here : Each (IsDecidedHere e.host) step.effects.marks
-      decides_here = by (tc_host_is start e.host (host_low start all e es moment))
+      decides_here = by (tc_host_is start moment.cluster.nobody e.host (host_low start all e es moment))
         where
           of_member : (me : Member) → e.host ≡ tc_of start me → (mark : Mark)
               → IsDecidedSo (IsOfOwn me) (IsOf me) mark → IsDecidedHere e.host mark
@@ -198,7 +200,7 @@ module _ (start : Start) where
               step.effects.sends (comes_own me there at).1.ask one.there
 
           number : e.host ≡ suc ((me.node - 1) * 3 + 1)
-          number = at ∙ tc_number start me there
+          number = at ∙ tc_number start moment.cluster.nobody me there
 
           by : (body : Body) → IsAskedSo (IsOfOwn me) (IsOf me) one.sent.to body → IsAskedRight y.to body
           by (Epoch (DiVerifyReq tx ops)) (is, place) = record {
@@ -227,7 +229,7 @@ module _ (start : Start) where
           by body is = tt
 
       asked_now : (y : Addressed) → SentNow y → IsRightly y
-      asked_now y one = by (tc_host_is start e.host (host_low start all e es moment))
+      asked_now y one = by (tc_host_is start moment.cluster.nobody e.host (host_low start all e es moment))
         where
           by : TcHost start e.host → IsRightly y
           by (of_tc me there at) = asked_by me there at y one
@@ -247,5 +249,5 @@ module _ (start : Start) where
 
   -- so it is at each moment
   pub all_own : (all : ℕ → List HostStep) (es : List HostStep) → IsMoment start all es → AllOwn (logs_of start es)
-  all_own all [] moment = own_first
+  all_own all [] moment = own_first moment.cluster.nobody
   all_own all (e ∷ es) moment = own_next all e es moment (all_own all es (moment_less start all e es moment))

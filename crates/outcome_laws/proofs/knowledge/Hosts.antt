@@ -12,7 +12,7 @@ use Rattle.node_views.specs.declared.parts.Parts.TheVariants.{Shell, Main, Tc, L
 use Rattle.node_views.specs.Replies.{giving}
 use Rattle.node_views.specs.WellFormed.{is_well_formed}
 use Rattle.world_core.specs.Hosts.{member_at, part_by}
-use Rattle.world_core.specs.Start.{Start, made}
+use Rattle.world_core.specs.Start.{NobodyStarts, Start, made}
 use Rattle.world_core.specs.Steps.{HostStep}
 use Rattle.world_views.specs.Hosts.{part_started, started}
 use Rattle.world_views.specs.Machine.{after, step_by, told}
@@ -49,23 +49,24 @@ entered_apart (Main p) view apart = tt
 entered_apart (Tc p) view apart = tt
 entered_apart (Ldm p) view apart = tt
 
-started_apart : (start : Start) (k : ℕ) → HasNoShell (started start (suc k)).parts
-started_apart start k = subst (λ s. HasNoShell s.parts) (sym (started_behind start k)) (by (k % 3))
+started_apart : (start : Start) (nobody : NobodyStarts start) (k : ℕ) → HasNoShell (started start (suc k)).parts
+started_apart start nobody k = subst (λ s. HasNoShell s.parts) (sym (started_behind start nobody k)) (by (k % 3))
   where
     by : (left : ℕ) → HasNoShell (part_started start (part_by left) (member_at (made start) (suc k))).parts
     by zero = tt
     by (suc zero) = tt
     by (suc (suc left)) = tt
 
-pub never_shell : (start : Start) (k : ℕ) (log : List HostStep) → HasNoShell (after start (suc k) log).parts
-never_shell start k [] = started_apart start k
-never_shell start k (e ∷ log) =
+pub never_shell : (start : Start) (nobody : NobodyStarts start) (k : ℕ) (log : List HostStep)
+    → HasNoShell (after start (suc k) log).parts
+never_shell start nobody k [] = started_apart start nobody k
+never_shell start nobody k (e ∷ log) =
     (step_keeps HasNoShell (λ (effects : Effects). Unit {0}) anything e.step.taken (suc k) (after start (suc k) log)
     (λ sound. record {
       row = λ parts apart. (row_apart parts e.step.taken apart, tt);
       enters = λ parts view apart. (entered_apart parts view apart, tt);
     })
-    (never_shell start k log)).0
+    (never_shell start nobody k log)).0
 
 module _ (D : TxId → ℕ → Type 0) (B : TxId → Type 0) where
   -- replies that are told change nothing of what is known

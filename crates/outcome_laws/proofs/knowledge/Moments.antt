@@ -21,7 +21,7 @@ use Rattle.node_core.specs.Fresh.{own_rows, with_rows}
 use Rattle.node_views.specs.declared.host_body.HostBody as node
 use Rattle.node_views.specs.WellFormed.{is_well_formed}
 use Rattle.world_core.specs.Hosts.{member_at, part_by}
-use Rattle.world_core.specs.Start.{Start, made}
+use Rattle.world_core.specs.Start.{NobodyStarts, Start, made}
 use Rattle.world_core.specs.Steps.{Addressed, HostStep}
 use Rattle.world_views.specs.Hosts.{part_started, started}
 use Rattle.world_views.specs.Machine.{IsOwnWork, after, machine, signals_of, step_after}
@@ -62,15 +62,15 @@ not_closed body is closed =
     let host : is_host (Host (Closed closed.cause)) ≡ false = subst (λ b. is_host b ≡ false) closed.is is in absurd cc
 
 module _ (start : Start) where
-  knows_first : AllKnow start (λ h. [])
+  knows_first : NobodyStarts start → AllKnow start (λ h. [])
   unfolding started
-  knows_first = record { parts = parts; right = λ h. tt; signals = λ i j. tt }
+  knows_first nobody = record { parts = parts; right = λ h. tt; signals = λ i j. tt }
     where
       parts : (h : ℕ) → PartsKnow (IsDecided start (λ h. [])) (IsBegun start (λ h. [])) (after start h []).parts
       parts zero = tt
       parts (suc k) =
           subst (λ s. PartsKnow (IsDecided start (λ h. [])) (IsBegun start (λ h. [])) s.parts)
-          (sym (started_behind start k)) (by (k % 3))
+          (sym (started_behind start nobody k)) (by (k % 3))
         where
           by : (left : ℕ)
               → PartsKnow (IsDecided start (λ h. [])) (IsBegun start (λ h. []))
@@ -148,7 +148,8 @@ module _ (start : Start) where
       taken_tells sound = by (is_host x.body) refl
         where
           shaped : is_well_formed start.shape x ≡ true
-          shaped = ap (λ shape. is_well_formed shape x) (sym (shape_stays start e.host (old e.host))) ∙ sound
+          shaped = ap (λ shape. is_well_formed shape x)
+              (sym (shape_stays start moment.cluster.nobody e.host (old e.host))) ∙ sound
 
           by : (b : Bool) → is_host x.body ≡ b → Tells D B x.body
           by true is = host_tells D B x.body is
@@ -174,7 +175,8 @@ module _ (start : Start) where
           by zero at = steps_are_true D B e.host s x taken_tells (old_parts e.host) (taken_teaches at)
           by (suc k) at =
               others_are_true D B e.host s x taken_tells (old_parts e.host)
-              (subst (λ h. HasNoShell (after start h (old h)).parts) (sym at) (never_shell start k (old (suc k))))
+              (subst (λ h. HasNoShell (after start h (old h)).parts) (sym at)
+              (never_shell start moment.cluster.nobody k (old (suc k))))
 
       -- its decisions are some now
       marks_are : e.step.marks ≡ (step_after start e.host (old e.host) e).effects.marks
@@ -236,6 +238,6 @@ module _ (start : Start) where
       }
 
 pub moments_know : MomentsKnow
-moments_know start all [] moment = knows_first start
+moments_know start all [] moment = knows_first start moment.cluster.nobody
 moments_know start all (e ∷ es) moment =
     knows_next start all e es moment (moments_know start all es (moment_less start all e es moment))

@@ -38,7 +38,7 @@ use Rattle.node_views.specs.declared.parts.Parts.{Parts}
 use Rattle.node_views.specs.declared.parts.Parts.TheVariants.{Ldm, Main, Shell, Tc}
 use Rattle.node_views.specs.declared.tc_part.TcPart.{TcPart}
 use Rattle.tc_views.specs.Views as coordinator
-use Rattle.world_core.specs.Start.{Start, made}
+use Rattle.world_core.specs.Start.{NobodyStarts, Start, made}
 use Rattle.world_core.specs.Steps.{HostStep}
 use Rattle.world_views.specs.Machine.{after, machine, step_after, step_by}
 use Rattle.moment_laws.specs.Places.{tc_of}
@@ -184,18 +184,19 @@ module _ (tx : TxId) where
   has_tc me (Main q) of = absurd of
   has_tc me (Ldm q) of = absurd of
 
-  pub asks_wished : (start : Start) (me : Member) → IsIn me (made start) → (log : List HostStep)
+  pub asks_wished : (start : Start) (nobody : NobodyStarts start) (me : Member) → IsIn me (made start)
+      → (log : List HostStep)
       → IsLog (machine start) (tc_of start me) log → takes_in (is_wish tx) log ≤ 0
       → sends_in (is_asking tx) start (tc_of start me) log ≡ 0
-  asks_wished start me there [] is none = refl
-  asks_wished start me there (e ∷ log) is none =
+  asks_wished start nobody me there [] is none = refl
+  asks_wished start nobody me there (e ∷ log) is none =
       let h = tc_of start me in
       let old =
       log_light (of_coordinator (is_asking tx) (λ s. may_ask s tx)) (IsTcOf me) (ask_light tx me) start h
-      (tc_begins start me there) log is.1 in
+      (tc_begins start nobody me there) log is.1 in
       omega (
         arith,
-        asks_wished start me there log is.1 (omega (arith, none)),
+        asks_wished start nobody me there log is.1 (omega (arith, none)),
         sent_by_count (is_asking tx) start h log e,
         count_none (λ (sent : Outgoing). is_asking tx sent.body) (step_after start h log e).effects.sends
             (step_asks e.step.taken (wished_not (is_wish tx e.step.taken.body) (omega (arith, none))) h

@@ -17,7 +17,7 @@ use Rattle.node_views.specs.declared.parts.Parts.TheVariants as part
 use Rattle.tc_views.specs.Coordinator.{fresh_coordinator}
 use Rattle.tc_views.specs.State.{CoordinatorState}
 use Rattle.world_core.specs.Hosts.{hosts}
-use Rattle.world_core.specs.Start.{Start, made}
+use Rattle.world_core.specs.Start.{NobodyStarts, Start, made}
 use Rattle.world_core.specs.Steps.{HostStep}
 use Rattle.world_views.specs.Hosts.{started}
 use Rattle.view_laws.specs.Runs.{AreOfCluster}
@@ -45,9 +45,10 @@ none_taken [] = refl
 none_taken (e ∷ log) = let more = none_taken log in omega (arith, more)
 
 -- a member's coordinator begins as one of it
-pub tc_begins : (start : Start) (me : Member) → IsIn me (made start) → IsTcOf me (started start (tc_of start me)).parts
-tc_begins start me there =
-    subst (λ (s : node.HostBody). IsTcOf me s.parts) (sym (tc_started start me there))
+pub tc_begins : (start : Start) (nobody : NobodyStarts start) (me : Member) → IsIn me (made start)
+    → IsTcOf me (started start (tc_of start me)).parts
+tc_begins start nobody me there =
+    subst (λ (s : node.HostBody). IsTcOf me s.parts) (sym (tc_started start nobody me there))
     (coordinator_of_fresh me (first_layout start.shape))
 
 -- what may be sent at first where nothing ever is
@@ -68,7 +69,7 @@ module _ (p : Body → Bool) (counts : (body : Body) → is_counted body ≡ fal
         let h = tc_of start me in
         let is =
         log_light (of_coordinator p nothing) (IsTcOf me) (apart_light me p counts apart) start h
-        (tc_begins start me there) (logs h) (are.right.local h) in
+        (tc_begins start are.nobody me there) (logs h) (are.right.local h) in
         omega (arith, is.below, none_taken (logs h), none_fresh p (started start h).parts)
 
     -- and one that may send it once at first
@@ -79,11 +80,11 @@ module _ (p : Body → Bool) (counts : (body : Body) → is_counted body ≡ fal
     own_sends me there may light once =
         let h = tc_of start me in
         let is =
-        log_light (of_coordinator p may) (IsTcOf me) light start h (tc_begins start me there) (logs h)
+        log_light (of_coordinator p may) (IsTcOf me) light start h (tc_begins start are.nobody me there) (logs h)
         (are.right.local h) in
         let fresh : (of_coordinator p may).may (started start h).parts
         ≡ may (fresh_coordinator me.node me.start (first_layout start.shape)) =
-        ap (λ (s : node.HostBody). (of_coordinator p may).may s.parts) (tc_started start me there) in
+        ap (λ (s : node.HostBody). (of_coordinator p may).may s.parts) (tc_started start are.nobody me there) in
         omega (arith, is.below, none_taken (logs h), fresh, once)
 
     -- a host without a coordinator
@@ -128,7 +129,7 @@ module _ (tx : TxId) (start : Start) (logs : ℕ → List HostStep) (are : AreOf
             (once.apart me (λ same. other (at ∙ ap (tc_of start) (sym same)))))
 
         by : (h < hosts start) ⊎ (hosts start ≤ h) → sends_in p start h (logs h) ≡ 0
-        by (inl low) = of_host (tc_host_is start h low)
+        by (inl low) = of_host (tc_host_is start are.nobody h low)
         by (inr high) = nowhere_sends p once.counts start logs are h high
 
     its_own_sends :
@@ -148,7 +149,7 @@ module _ (tx : TxId) (start : Start) (logs : ℕ → List HostStep) (are : AreOf
             (own_sends p once.counts start logs are me there once.may (once.light me) (once.first me))
 
         by : (h < hosts start) ⊎ (hosts start ≤ h) → sends_in p start h (logs h) ≤ 1
-        by (inl low) = of_host (tc_host_is start h low)
+        by (inl low) = of_host (tc_host_is start are.nobody h low)
         by (inr high) = none_few h (nowhere_sends p once.counts start logs are h high)
 
     -- so no host takes it twice

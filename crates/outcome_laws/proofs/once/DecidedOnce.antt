@@ -19,7 +19,7 @@ use Rattle.sig_core.proofs.TxLemmas.{same_tx-is}
 use Rattle.tc_block.specs.Complete.{one_if}
 use Rattle.world_core.specs.Entries.{entries, entries_in, entries_of, entry_of, insert, insert_all, is_before}
 use Rattle.world_core.specs.Hosts.{hosts, member_at, part_by}
-use Rattle.world_core.specs.Start.{Start, made}
+use Rattle.world_core.specs.Start.{NobodyStarts, Start, made}
 use Rattle.world_core.specs.Steps.{HostStep}
 use Rattle.world_views.specs.Hosts.{part_started, started}
 use Rattle.world_views.specs.Machine.{machine}
@@ -37,11 +37,13 @@ use Rattle.outcome_laws.proofs.once.DecidesAndReports.{IsAny, decisions_light, m
 use Rattle.outcome_laws.proofs.coordinators.Lists.{count_more}
 
 -- no host begins with requests that it holds
-none_held : (tx : TxId) (start : Start) (h : ℕ) → may_decide tx (started start h).parts ≡ 0
+none_held : (tx : TxId) (start : Start) (nobody : NobodyStarts start) (h : ℕ)
+    → may_decide tx (started start h).parts ≡ 0
 unfolding started
-none_held tx start zero = refl
-none_held tx start (suc k) =
-    ap (λ s. may_decide tx s.parts) (started_behind start k) ∙ by (part_by (k % 3)) (member_at (made start) (suc k))
+none_held tx start nobody zero = refl
+none_held tx start nobody (suc k) =
+    ap (λ s. may_decide tx s.parts) (started_behind start nobody k)
+    ∙ by (part_by (k % 3)) (member_at (made start) (suc k))
   where
     by : (part : Part) (me : Member) → may_decide tx (part_started start part me).parts ≡ 0
     by Main me = refl
@@ -49,11 +51,12 @@ none_held tx start (suc k) =
     by Ldm me = refl
 
 -- a host decides a transaction no more often than it is asked to
-pub decides_asked : (tx : TxId) (start : Start) (h : ℕ) (log : List HostStep) → IsLog (machine start) h log
+pub decides_asked : (tx : TxId) (start : Start) (nobody : NobodyStarts start) (h : ℕ) (log : List HostStep)
+    → IsLog (machine start) h log
     → marks_in (is_decision tx) log ≤ takes_in (is_asking tx) log
-decides_asked tx start h log is =
+decides_asked tx start nobody h log is =
     let light = log_light (of_decisions tx) IsAny (decisions_light tx) start h tt log is in
-    omega (arith, light.below, none_held tx start h)
+    omega (arith, light.below, none_held tx start nobody h)
 
 -- a step adds an entry of a transaction for each decision of it
 pub step_entries : (tx : TxId) (h stamp : ℕ) (log : List HostStep) (marks : List Mark) (before : List Entry)
@@ -110,7 +113,7 @@ module _ (start : Start) (logs : ℕ → List HostStep) (are : AreOfCluster star
 
   pub decided_few : (h : ℕ) → marks_in (is_decision tx) (logs h) ≤ 1
   decided_few h =
-      omega (arith, decides_asked tx start h (logs h) (are.right.local h), ask_once tx start logs are h)
+      omega (arith, decides_asked tx start are.nobody h (logs h) (are.right.local h), ask_once tx start logs are h)
 
   log_entries : (h : ℕ) (log : List HostStep)
       → count_by (λ (a : Entry). same_tx a.tx tx) (entries_of h log) ≡ marks_in (is_decision tx) log

@@ -45,7 +45,7 @@ use Rattle.sig_core.specs.declared.view.View.{View}
 use Rattle.sig_core.specs.Place.{checkpoints, client}
 use Rattle.sig_core.specs.Step.{Step, to_place}
 use Rattle.world_core.specs.Hosts.{host_for, first_hosts}
-use Rattle.world_core.specs.Start.{Start}
+use Rattle.world_core.specs.Start.{NobodyStarts, Start}
 use Rattle.world_core.specs.Steps.{HostStep}
 use Rattle.world_views.specs.Machine.{IsOwn, after, has_stopped, machine, replies_at, step_after, step_by, stops_by}
 use Rattle.world_views.specs.Machine.{told}
@@ -198,13 +198,15 @@ module _ (hosts_level : HostsAreLevel) (start : Start) (shape : IsShape start.sh
   rests_host : RestsOfClosings (after start e.host (log e.host)).parts
   rests_host = subst (λ k. RestsOfClosings (after start k (log k)).parts) (sym shell) none_under_way
 
-  pub kept_now : IsKept start (e ∷ es)
-  kept_now =
-      request_next hosts_level start shape es e run.1 within low kept closings_are_asked_near asks_host rests_host
+  pub kept_now : NobodyStarts start → IsKept start (e ∷ es)
+  kept_now nobody =
+      request_next hosts_level start nobody shape es e run.1 within low kept closings_are_asked_near asks_host
+      rests_host
 
-  pub goes_now : stops_by e.step.marks ≡ false
-  goes_now =
-      request_goes_on hosts_level start shape es e run.1 within low kept closings_are_asked_near asks_host rests_host
+  pub goes_now : NobodyStarts start → stops_by e.step.marks ≡ false
+  goes_now nobody =
+      request_goes_on hosts_level start nobody shape es e run.1 within low kept closings_are_asked_near asks_host
+      rests_host
 
   near_step : RequestsNear start replied s before.inner x
   near_step =
@@ -239,10 +241,10 @@ module _ (hosts_level : HostsAreLevel) (start : Start) (shape : IsShape start.sh
       subst (λ k. (step_after start k (log k) e).effects.sends ≡ one ∷ []) (sym shell)
       (ap (λ (t : Step host.HostBody). t.effects.sends) blocks ∙ does.sends)
 
-  ease : IsAtEase start (after start e.host (e ∷ log e.host)).standing
-  ease =
+  ease : NobodyStarts start → IsAtEase start (after start e.host (e ∷ log e.host)).standing
+  ease nobody =
       subst (λ (those : List HostStep). IsAtEase start (after start e.host those).standing)
-      (log_of-own (machine start) e es e.host refl) (kept_now.mirrored e.host).near.standing
+      (log_of-own (machine start) e es e.host refl) ((kept_now nobody).mirrored e.host).near.standing
 
   -- nothing was taken
   same_taken : (a b : ℕ) → taken (machine start) a (now b) ≡ taken (machine start) a (log b)
@@ -253,14 +255,16 @@ module _ (hosts_level : HostsAreLevel) (start : Start) (shape : IsShape start.sh
   mids : (a b : ℕ) → OnLink start log a b (log a) (now b)
   mids a b = record { under = []; gone = []; sent_is = refl; taken_is = same_taken a b }
 
-  nexts : (a b : ℕ) → SentOn start log e.host (one ∷ []) a b (map said (mids a b).under) (now a) (now b)
-  nexts = sent_next start log es e mids goes_now ease (one ∷ []) sends_are (given_kind kind_of, tt)
+  nexts : NobodyStarts start → (a b : ℕ)
+      → SentOn start log e.host (one ∷ []) a b (map said (mids a b).under) (now a) (now b)
+  nexts nobody = sent_next start log es e nobody mids (goes_now nobody) (ease nobody) (one ∷ []) sends_are
+      (given_kind kind_of, tt)
 
-  pub links_now : Links start log (e ∷ es)
-  links_now a b = (nexts a b).link
+  pub links_now : NobodyStarts start → Links start log (e ∷ es)
+  links_now nobody a b = (nexts nobody a b).link
 
-  abbrev pub asked_moment : Moment
-  asked_moment = moment start log (e ∷ es) links_now
+  abbrev pub asked_moment : NobodyStarts start → Moment
+  asked_moment nobody = moment start log (e ∷ es) (links_now nobody)
 
   -- the hosts but the shell's stay
   pub stay : (k : ℕ) → k ≢ 0 → (after start k (now k)).parts ≡ (after start k (log k)).parts
@@ -285,8 +289,8 @@ module _ (hosts_level : HostsAreLevel) (start : Start) (shape : IsShape start.sh
       ∙ ap (λ (t : Step host.HostBody). (told 0 t).parts) blocks))
       does.client
 
-  all_rest : AllRest start epoch asked_moment
-  all_rest =
+  all_rest : (nobody : NobodyStarts start) → AllRest start epoch (asked_moment nobody)
+  all_rest nobody =
       record {
         master =
             subst (MainRests start epoch) (sym (stay main (λ is. absurd (cc (is)))))
@@ -301,18 +305,18 @@ module _ (hosts_level : HostsAreLevel) (start : Start) (shape : IsShape start.sh
             (has_rows start shape epoch place low (log (host_in place true)) (kept.mirrored (host_in place true)));
       }
 
-  pub asked_for : (next : ℕ)
+  pub asked_for : (nobody : NobodyStarts start) (next : ℕ)
       → IsAskedFor start
       (course_of request epoch next (replies_in start 0 (log 0)))
-      asked_moment
+      (asked_moment nobody)
   unfolding links_now mids
-  asked_for next =
+  asked_for nobody next =
       record {
-        rest = all_rest;
+        rest = all_rest nobody;
         client = shell_asks;
         replies = replies_are;
-        request = (nexts 0 main).lone one refl refl (sym shell) (sym (main_reached start shape));
-        alone = λ a b other is. alone a b other ((nexts a b).only other is);
+        request = (nexts nobody 0 main).lone one refl refl (sym shell) (sym (main_reached start shape));
+        alone = λ a b other is. alone a b other ((nexts nobody a b).only other is);
       }
     where
       alone : (a b : ℕ) (other : Outgoing)

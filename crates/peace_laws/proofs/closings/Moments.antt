@@ -20,7 +20,7 @@ use Rattle.sig_core.specs.declared.reply.ApiReply.{ApiReply}
 use Rattle.sig_core.specs.declared.signal.Signal.{Signal}
 use Rattle.sig_core.specs.Step.{Step}
 use Rattle.world_core.specs.Hosts.{host_for, first_hosts, member_at}
-use Rattle.world_core.specs.Start.{Start, made}
+use Rattle.world_core.specs.Start.{NobodyStarts, Start, made}
 use Rattle.world_core.specs.Steps.{HostStep}
 use Rattle.world_views.specs.Machine.{after, has_stopped, machine, replies_at, step_after, step_by, stops_by, told}
 use Rattle.world_views.specs.Right.{replies_in}
@@ -185,9 +185,9 @@ module _ (hosts_level : HostsAreLevel) (start : Start) (shape : IsShape start.sh
       subst (Each IsClosingMark) (sym run.1.step.fits.marks)
       (step_marks start h replied s before.inner x before.near comes)
 
-  pub kept_now : IsKept start (e ∷ es)
-  kept_now =
-      closing_next hosts_level start shape es e run.1 within low kept closings_step_near closing sound goes_now
+  pub kept_now : NobodyStarts start → IsKept start (e ∷ es)
+  kept_now nobody =
+      closing_next hosts_level start shape es e run.1 within low kept closings_step_near closing sound goes_now nobody
 
   -- the host does what its parts do
   pub blocks : step_by h s x ≡ with_parts s (parts_row s.parts x)
@@ -228,10 +228,10 @@ module _ (hosts_level : HostsAreLevel) (start : Start) (shape : IsShape start.sh
           (sym (told_none h (parts_row s.parts x).state apart))
 
   -- what it sends
-  ease : IsAtEase start (after start h (e ∷ log h)).standing
-  ease =
+  ease : NobodyStarts start → IsAtEase start (after start h (e ∷ log h)).standing
+  ease nobody =
       subst (λ (those : List HostStep). IsAtEase start (after start h those).standing)
-      (log_of-own (machine start) e es h refl) (kept_now.mirrored h).near.standing
+      (log_of-own (machine start) e es h refl) ((kept_now nobody).mirrored h).near.standing
 
   abbrev sends : List Outgoing
   sends = (parts_row s.parts x).effects.sends
@@ -251,17 +251,19 @@ module _ (hosts_level : HostsAreLevel) (start : Start) (shape : IsShape start.sh
       (log_of (machine start) (e ∷ es) b)
   mids = taken_next start base es e links unasked took given
 
-  nexts : (a b : ℕ)
+  nexts : NobodyStarts start → (a b : ℕ)
       → SentOn start base h sends a b (map said (mids a b).link.under) (log_of (machine start) (e ∷ es) a)
       (log_of (machine start) (e ∷ es) b)
-  nexts = sent_next start base es e (λ a b. (mids a b).link) goes_now ease sends sends_are own_none
+  nexts nobody =
+      sent_next start base es e nobody (λ a b. (mids a b).link) goes_now (ease nobody) sends sends_are own_none
 
-  pub links_now : Links start base (e ∷ es)
-  links_now a b = (nexts a b).link
+  pub links_now : NobodyStarts start → Links start base (e ∷ es)
+  links_now nobody a b = (nexts nobody a b).link
 
-  pub takes : Takes start (moment start base es links) (moment start base (e ∷ es) links_now)
+  pub takes : (nobody : NobodyStarts start)
+      → Takes start (moment start base es links) (moment start base (e ∷ es) (links_now nobody))
   unfolding links_now
-  takes =
+  takes nobody =
       record {
         sender = i;
         host = h;
@@ -281,15 +283,16 @@ module _ (hosts_level : HostsAreLevel) (start : Start) (shape : IsShape start.sh
         told = replies_now;
         keeps = λ a b other is. keeps a b other ((mids a b).keeps other is);
         sends =
-            each_from (λ (other : Outgoing). IsIn other (map said (links_now h (host_for start other.to)).under)) sends
-            (λ other is. (nexts h (host_for start other.to)).puts other is refl refl);
-        only = λ a b other is. only a b other ((nexts a b).only other is);
+            each_from (λ (other : Outgoing). IsIn other (map said (links_now nobody h (host_for start other.to)).under))
+            sends
+            (λ other is. (nexts nobody h (host_for start other.to)).puts other is refl refl);
+        only = λ a b other is. only a b other ((nexts nobody a b).only other is);
       }
     where
       keeps : (a b : ℕ) (other : Outgoing)
           → IsIn other (map said (mids a b).link.under) ⊎ IsTaken i h one a b other
-          → IsIn other (map said (links_now a b).under) ⊎ IsTaken i h one a b other
-      keeps a b other (inl is) = inl ((nexts a b).keeps other is)
+          → IsIn other (map said (links_now nobody a b).under) ⊎ IsTaken i h one a b other
+      keeps a b other (inl is) = inl ((nexts nobody a b).keeps other is)
       keeps a b other (inr is) = inr is
 
       only : (a b : ℕ) (other : Outgoing)

@@ -16,7 +16,7 @@ use Rattle.sig_core.specs.declared.outs.Outgoing.{Outgoing}
 use Rattle.sig_core.specs.declared.reply.ApiReply.{ApiReply}
 use Rattle.sig_core.specs.declared.signal.Signal.{Signal}
 use Rattle.world_core.specs.Hosts.{first_hosts}
-use Rattle.world_core.specs.Start.{Start}
+use Rattle.world_core.specs.Start.{NobodyStarts, Start}
 use Rattle.world_core.specs.Steps.{HostStep}
 use Rattle.world_views.specs.Machine.{after, machine, replies_at, step_after, step_by, stops_by, told}
 use Rattle.world_views.specs.Right.{replies_in}
@@ -111,8 +111,8 @@ module _ (hosts_level : HostsAreLevel) (start : Start) (shape : IsShape start.sh
         (sym (from_main start es h x within kept.mirrored closing gives here low plain_run) ∙ ap is_beating same
         ∙ rests))
 
-    left : IsLeftOut start h log e before
-    left =
+    left : NobodyStarts start → IsLeftOut start h log e before
+    left nobody =
         record {
           out = part_same start h log e closing;
           inner = step.inner;
@@ -120,20 +120,22 @@ module _ (hosts_level : HostsAreLevel) (start : Start) (shape : IsShape start.sh
               subst (λ those. AreNear start those (after start h (e ∷ log)) step.inner)
               (sym (replies_next start h log e)) step.near;
           same = step.same;
-          later = later hosts_level start shape es e happens within low kept;
+          later = later hosts_level start shape es e happens within low kept nobody;
           sends = all_for (is_beating h) refl;
           links = λ j here takes.
               sent_same start h log e ease
-              (masters_aside start h (after start h (e ∷ log)).standing ease sends (masters here)) j takes goes_on;
+              (masters_aside start nobody h (after start h (e ∷ log)).standing ease sends (masters here)) j takes
+              goes_on;
           counts = λ j here takes.
               count_same start h log e ease
-              (masters_aside start h (after start h (e ∷ log)).standing ease sends (masters here)) j takes;
+              (masters_aside start nobody h (after start h (e ∷ log)).standing ease sends (masters here)) j takes;
           took = took;
           asked = λ here. unasked ∙ sym (closing_asks x.to.block x.body (takes_it h x closing));
         }
 
-    pub closing_next : IsKept start (e ∷ es)
-    closing_next = left_next hosts_level start shape es e happens within low kept (left_closing e closing) left
+    pub closing_next : NobodyStarts start → IsKept start (e ∷ es)
+    closing_next nobody =
+        left_next hosts_level start shape es e happens within low kept (left_closing e closing) (left nobody)
 
 -- A host is asked for a closing: it is the shell's.
 pub record IsAskedNear (start : Start) (h : ℕ) (given : List ApiReply) (s : host.HostBody) (other : plain_host.Host)
@@ -174,7 +176,8 @@ shell_kind : (h : ℕ) (x : Signal) → asks_closing h x ≡ true → IsPlainKin
 shell_kind zero x asks = asks_kind x asks
 shell_kind (suc h) x asks = absurd cc
 
-module _ (hosts_level : HostsAreLevel) (start : Start) (shape : IsShape start.shape) (es : List HostStep) (e : HostStep)
+module _ (hosts_level : HostsAreLevel) (start : Start) (nobody : NobodyStarts start) (shape : IsShape start.shape)
+    (es : List HostStep) (e : HostStep)
     (happens : Happens (machine start) es e) (within : IsWithin (first_hosts start) (log_of (machine start) es))
     (low : e.host < first_hosts start) (kept : IsKept start es) (asking : ClosingsAreAskedNear)
     (asks : asks_closing e.host e.step.taken ≡ true)
@@ -197,8 +200,8 @@ module _ (hosts_level : HostsAreLevel) (start : Start) (shape : IsShape start.sh
   asked_step : IsAskedNear start e.host replied (after start e.host those) was.inner e.step.taken
   asked_step =
       asked_near asking start e.host replied (after start e.host those) was.inner e.step.taken shape was.near rests asks
-      (fine hosts_level start shape es e happens within low kept kind here)
-      (arrival hosts_level start shape es e happens within low kept kind here).view
+      (fine hosts_level start shape es e happens within low kept nobody kind here)
+      (arrival hosts_level start shape es e happens within low kept nobody kind here).view
 
   none_more : plain_replies (replies_in start e.host (e ∷ those)) ≡ replied
   none_more =
@@ -219,15 +222,16 @@ module _ (hosts_level : HostsAreLevel) (start : Start) (shape : IsShape start.sh
         sends = ap (λ both. both ++ asked_sends) (sym asked_step.plain);
         plain_ones = subst (Each (IsPlainSend e.host)) (sym asked_step.plain) tt;
         aside =
-            masters_aside start e.host (after start e.host (e ∷ those)).standing asked_step.near.standing asked_sends
+            masters_aside start nobody e.host (after start e.host (e ∷ those)).standing asked_step.near.standing
+            asked_sends
             asked_step.masters;
         for_all = masters_send e.host asked_sends asked_step.sends asked_step.masters;
-        asked = (arrival hosts_level start shape es e happens within low kept kind here).asked;
+        asked = (arrival hosts_level start shape es e happens within low kept nobody kind here).asked;
       }
 
   pub request_next : IsKept start (e ∷ es)
   request_next =
-      plain_next hosts_level start shape es e happens within low kept kind here
+      plain_next hosts_level start shape es e happens within low kept nobody kind here
       (not_closing e.host e.step.taken kind.apart) plain_step
       (happens.step.fits.marks ∙ asked_step.marks ∙ sym asked_step.plain_marks)
 

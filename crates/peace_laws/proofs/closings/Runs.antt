@@ -22,7 +22,7 @@ use Rattle.sig_core.specs.Place.{checkpoints}
 use Rattle.sig_core.specs.Step.{to_place}
 use Rattle.world_core.specs.Hosts.{first_hosts, part_by}
 use Rattle.world_core.specs.Requests.{request_in}
-use Rattle.world_core.specs.Start.{Start}
+use Rattle.world_core.specs.Start.{NobodyStarts, Start}
 use Rattle.world_core.specs.Steps.{HostStep}
 use Rattle.world_views.specs.Machine.{after, has_stopped, machine}
 use Rattle.world_views.specs.Requests.{request_of, requests}
@@ -226,12 +226,12 @@ module _ (hosts_level : HostsAreLevel) (start : Start) (shape : IsShape start.sh
           ap length (append-nil (requests (log h)))
           ∙ subst (λ j. length (requests (log j)) ≡ 1 + length (requests (base 0))) (sym at) on.once
 
-  on_next : AreOn start epoch base (e ∷ es)
-  on_next =
+  on_next : NobodyStarts start → AreOn start epoch base (e ∷ es)
+  on_next nobody =
       record {
         kept =
             moments.kept_now hosts_level start shape base all es e run within_now on.kept on.running unasked unspent
-            links fit;
+            links fit nobody;
         running =
             moments.running_now hosts_level start shape base all es e run within_now on.kept on.running unasked unspent
             links fit;
@@ -253,7 +253,8 @@ module _ (hosts_level : HostsAreLevel) (start : Start) (shape : IsShape start.sh
       }
 
 -- So of a closing.
-module _ (hosts_level : HostsAreLevel) (start : Start) (shape : IsShape start.shape) (c : Course)
+module _ (hosts_level : HostsAreLevel) (start : Start) (nobody : NobodyStarts start) (shape : IsShape start.shape)
+    (c : Course)
     (next_is : next_of c.kind c.epoch ≡ Some c.next) (base : ℕ → List HostStep) (all : AllTaken start base)
     (es : List HostStep) (e : HostStep) (run : Run (machine start) (e ∷ es))
     (within_now : IsWithin (first_hosts start) (log_of (machine start) (e ∷ es)))
@@ -268,13 +269,13 @@ module _ (hosts_level : HostsAreLevel) (start : Start) (shape : IsShape start.sh
   links_now : Links start base (e ∷ es)
   links_now =
       moments.links_now hosts_level start shape base all es e run within_now on.on.kept on.on.running unasked unspent
-      on.links fit
+      on.links fit nobody
 
   takes : Takes start was (moment start base (e ∷ es) links_now)
   unfolding links_now
   takes =
       moments.takes hosts_level start shape base all es e run within_now on.on.kept on.on.running unasked unspent
-      on.links fit
+      on.links fit nobody
 
   under : IsAskedFor start c was ⊎ IsUnderWay start c was
       → IsUnderWay start c (moment start base (e ∷ es) links_now)
@@ -285,7 +286,8 @@ module _ (hosts_level : HostsAreLevel) (start : Start) (shape : IsShape start.sh
   is_on_next =
       record {
         on =
-            on_next hosts_level start shape c.epoch base all es e run within_now unasked unspent on.on on.links fit;
+            on_next hosts_level start shape c.epoch base all es e run within_now unasked unspent on.on on.links fit
+            nobody;
         links = links_now;
         first = on.first;
         asked = on.asked;

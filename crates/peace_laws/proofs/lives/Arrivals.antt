@@ -30,7 +30,7 @@ use Rattle.world_core.proofs.SentFacts.{IsBetween, sent_between}
 use Rattle.world_core.specs.Hosts.{first_membership, first_hosts, member_at}
 use Rattle.world_core.specs.Machine as plain
 use Rattle.world_core.specs.Machine.{IsAsked, asked_rightly, last_stamp}
-use Rattle.world_core.specs.Start.{Start, made}
+use Rattle.world_core.specs.Start.{NobodyStarts, Start, made}
 use Rattle.world_core.proofs.MadeFirst.{last_first}
 use Rattle.world_core.specs.Steps.{Addressed, HostStep}
 use Rattle.world_views.specs.Machine.{IsOwn, IsOwnWork, after, cause_in, closing, comes_rightly, machine, own_signal}
@@ -69,10 +69,11 @@ pub record Arrives (start : Start) (es : List HostStep) (h : ℕ) (x : Signal) :
       → GivesNext (plain.machine start) (plain_events start es) x.from.0 h (arriving h (signal_at start.epoch x))
 
 -- what the shell asks itself for is a request, in both machines
-own_asked : (start : Start) (h : ℕ) (log : List HostStep) (x : Signal) → (after start h log).standing.view ≡ first start
+own_asked : (start : Start) (nobody : NobodyStarts start) (h : ℕ) (log : List HostStep) (x : Signal)
+    → (after start h log).standing.view ≡ first start
     → is_request x.body ≡ true → IsOwn start h log x
     → IsAsked (first_membership start) h (last_stamp log) (signal_at start.epoch x)
-own_asked start h log x view asks by = go x.body refl asks by.work
+own_asked start nobody h log x view asks by = go x.body refl asks by.work
   where
     go : (body : Body) → x.body ≡ body → is_request body ≡ true → IsOwnWork start h body
         → IsAsked (first_membership start) h (last_stamp log) (signal_at start.epoch x)
@@ -83,7 +84,8 @@ own_asked start h log x view asks by = go x.body refl asks by.work
           is =
               ap (signal_at start.epoch)
               (by.is
-              ∙ ap (λ n. own_signal (made start) h n (after start h log).standing.view x.body) (last_first start h log)
+              ∙ ap (λ n. own_signal (made start) h n (after start h log).standing.view x.body)
+              (last_first start nobody h log)
               ∙ ap (λ (body : Body). own_signal (made start) h (last_stamp log) (after start h log).standing.view body)
               (is ∙ ap (λ (k : ℕ). Host (Continue (Request request) k)) work.1)
               ∙ ap (λ view. own_signal (made start) h (last_stamp log) view (Host (Continue (Request request) 0))) view
@@ -251,9 +253,9 @@ module _ (start : Start) (es : List HostStep) (h : ℕ) (x : Signal)
           }
 
   -- what the shell asks itself for
-  asked_arrives : IsPlainKind x.to.block x.body → is_asked h x ≡ true → IsOwn start h (log h) x
+  asked_arrives : NobodyStarts start → IsPlainKind x.to.block x.body → is_asked h x ≡ true → IsOwn start h (log h) x
       → Arrives start es h x
-  asked_arrives kind asked own =
+  asked_arrives nobody kind asked own =
       let work : is_own_work x.body ≡ true = right_of (x.from.0 == h) (is_own_work x.body) asked in
       let asks : is_request x.body ≡ true = kind.own work in
       let level : is_request (signal_at start.epoch x).body ≡ true = request_level start.epoch x.body ∙ asks in
@@ -264,18 +266,18 @@ module _ (start : Start) (es : List HostStep) (h : ℕ) (x : Signal)
         rightly =
             asked_true start h (last_stamp (log h)) (signal_at start.epoch x)
             (is_request (signal_at start.epoch x).body) level
-            (own_asked start h (log h) x (mirrored h).near.standing.view asks own);
+            (own_asked start nobody h (log h) x (mirrored h).near.standing.view asks own);
         takes = λ unasked. absurd (true≢false (sym level ∙ unasked));
       }
 
   -- each signal that comes to a host that is no main part, and isn't of a closing
-  pub arrives : IsPlainKind x.to.block x.body → is_beating h ≡ false
+  pub arrives : NobodyStarts start → IsPlainKind x.to.block x.body → is_beating h ≡ false
       → Run (plain.machine start) (plain_events start es) → comes_rightly (is_asked h x) start h (log h) x
       → (is_asked h x ≡ false → GivesNext (machine start) es i h (arriving h x)) → Arrives start es h x
-  arrives kind takes run rightly given = go (is_asked h x) refl rightly
+  arrives nobody kind takes run rightly given = go (is_asked h x) refl rightly
     where
       go : (b : Bool) → is_asked h x ≡ b → comes_rightly b start h (log h) x → Arrives start es h x
-      go true asked own = asked_arrives kind asked own
+      go true asked own = asked_arrives nobody kind asked own
       go false unasked uncut = given_arrives kind.links (given unasked) kind takes run unasked
 
   pub beats_unasked : is_calm h x ≡ true → is_beating h ≡ true → is_asked h x ≡ false

@@ -24,7 +24,7 @@ use Rattle.sig_core.specs.declared.mark.Mark.TheVariants.{Decided}
 use Rattle.sig_core.specs.declared.request.ApiReq.{ApiReq}
 use Rattle.peace_laws.proofs.lives.FirstHosts.{go_within}
 use Rattle.world_core.specs.Hosts.{first_hosts}
-use Rattle.world_core.specs.Start.{Start}
+use Rattle.world_core.specs.Start.{NobodyStarts, Start}
 use Rattle.world_core.specs.Steps.{HostStep}
 use Rattle.world_views.proofs.SentFacts.{is_stamped}
 use Rattle.world_views.specs.Machine.{after, has_stopped, machine}
@@ -74,7 +74,8 @@ record AreGood (start : Start) (epoch : ℕ) (base : ℕ → List HostStep) (es 
   good : (h : ℕ) → IsGood start base h (log_of (machine start) es h)
   below : (h : ℕ) → AreBelow epoch (log_of (machine start) es h)
 
-module _ (hosts_level : HostsAreLevel) (start : Start) (shape : IsShape start.shape) (request : ApiReq) (epoch : ℕ)
+module _ (hosts_level : HostsAreLevel) (start : Start) (nobody : NobodyStarts start) (shape : IsShape start.shape)
+    (request : ApiReq) (epoch : ℕ)
     (was more : ℕ → List HostStep) (rests : Rests start epoch was) (quiet : IsQuiet start was)
     (by : GoOnBy start request was more) (asks_calmly : is_calm_request request ≡ true) where
   all : AllTaken start was
@@ -87,7 +88,7 @@ module _ (hosts_level : HostsAreLevel) (start : Start) (shape : IsShape start.sh
     log = log_of (machine start) es e.host
 
     within : IsWithin (first_hosts start) (log_of (machine start) (e ∷ es))
-    within = within_now start request was more all by asks_calmly es e run upto are.running are.good
+    within = within_now start request was more all by asks_calmly es e run upto are.running are.good nobody
 
     low : e.host < first_hosts start
     low = host_there start (first_hosts start) e es within
@@ -96,19 +97,19 @@ module _ (hosts_level : HostsAreLevel) (start : Start) (shape : IsShape start.sh
     within_then = within_before start (first_hosts start) e es within
 
     calm : is_calm e.host e.step.taken ≡ true
-    calm = next_calm start request was more all by asks_calmly es e run upto are.running are.good
+    calm = next_calm start request was more all by asks_calmly es e run upto are.running are.good nobody
 
     stays : StaysIn start e.host epoch (after start e.host log).parts
     stays = are.stays e.host low
 
     known : IsNextInCalm start es e (are.kept.mirrored e.host)
     known =
-        facts hosts_level start shape es e run calm within_then low are.kept
+        facts hosts_level start nobody shape es e run calm within_then low are.kept
         (stays_closeless start e.host epoch (after start e.host log).parts stays)
 
     kept : IsKept start (e ∷ es)
     kept =
-        (next hosts_level start shape es e run calm within_then low are.kept
+        (next hosts_level start nobody shape es e run calm within_then low are.kept
         (stays_closeless start e.host epoch (after start e.host log).parts stays)).kept
 
     -- a claim about each host, where the one of the step has it
@@ -120,18 +121,19 @@ module _ (hosts_level : HostsAreLevel) (start : Start) (shape : IsShape start.sh
         × StaysIn start e.host epoch (after start e.host (e ∷ log)).parts
     here true beats =
         let at : IsMainAt start e.host = main_place start e.host low beats in
-        let fine = signal_fine start request was more all by asks_calmly es e run upto are.running are.good in
-        let rooms = room start request was more all by asks_calmly es e run upto are.running are.good at.place at.low
+        let fine = signal_fine start request was more all by asks_calmly es e run upto are.running are.good nobody in
+        let rooms =
+        room start request was more all by asks_calmly es e run upto are.running are.good nobody at.place at.low
         at.is (known.unasked beats) in (
           main_good hosts_level start shape epoch was es e are.kept.mirrored low known stays fine (are.good e.host)
-              beats at.place at.low at.is rooms,
+              beats at.place at.low at.is rooms nobody,
           main_rests hosts_level start shape epoch was es e are.kept.mirrored low known stays fine (are.good e.host)
               beats at.place at.low at.is rooms,
         )
     here false takes =
-        let fine = signal_fine start request was more all by asks_calmly es e run upto are.running are.good in (
+        let fine = signal_fine start request was more all by asks_calmly es e run upto are.running are.good nobody in (
           other_good hosts_level start shape epoch was es e are.kept.mirrored low known stays fine (are.good e.host)
-              takes,
+              takes nobody,
           other_rests hosts_level start shape epoch was es e are.kept.mirrored low known stays fine (are.good e.host)
               takes,
         )
@@ -212,7 +214,7 @@ module _ (hosts_level : HostsAreLevel) (start : Start) (shape : IsShape start.sh
   grows : Grows (machine start) first more
   grows =
       grow (machine start) (is_stamped start) (first_hosts start) first more rests.stands.run
-      (go_within start request was more by)
+      (go_within start nobody request was more by)
       by.right
       (subst (λ (logs : ℕ → List HostStep). (h : ℕ) → IsPast (logs h) (more h)) (sym rests.stands.is) by.past)
 
@@ -243,7 +245,7 @@ module _ (hosts_level : HostsAreLevel) (start : Start) (shape : IsShape start.sh
         es = grows.more ++ first;
         run = grows.run;
         is = logs_are;
-        within = go_within start request was more by;
+        within = go_within start nobody request was more by;
         kept = all_good.kept;
         peaceful = subst ArePeaceful logs_are all_good.peaceful;
         running = λ h.

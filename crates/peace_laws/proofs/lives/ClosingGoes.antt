@@ -32,7 +32,7 @@ use Rattle.sig_core.specs.Step.{to_place}
 use Rattle.peace_laws.proofs.lives.FirstHosts.{go_within}
 use Rattle.world_core.specs.Hosts.{first_hosts}
 use Rattle.world_core.specs.Requests.{request_in}
-use Rattle.world_core.specs.Start.{Start}
+use Rattle.world_core.specs.Start.{NobodyStarts, Start}
 use Rattle.world_core.specs.Steps.{Addressed, HostStep}
 use Rattle.world_views.specs.Machine.{IsOwn, IsOwnWork, after, comes_rightly, has_stopped, machine}
 use Rattle.world_views.specs.Quiet.{IsQuiet}
@@ -139,7 +139,8 @@ requested start e asked asks work = go e.step.taken.body refl asks work
         }
     go body is asks work = absurd cc
 
-module _ (hosts_level : HostsAreLevel) (start : Start) (shape : IsShape start.shape) (request : ApiReq) (epoch : ℕ)
+module _ (hosts_level : HostsAreLevel) (start : Start) (nobody : NobodyStarts start) (shape : IsShape start.shape)
+    (request : ApiReq) (epoch : ℕ)
     (was more : ℕ → List HostStep) (rests : Rests start epoch was) (quiet : IsQuiet start was)
     (closes : is_closing_request request ≡ true) (by : GoOnBy start request was more) where
   abbrev es : List HostStep
@@ -173,7 +174,8 @@ module _ (hosts_level : HostsAreLevel) (start : Start) (shape : IsShape start.sh
 
   within : (those : List HostStep) → Upto those → IsWithin (first_hosts start) (log_of (machine start) those)
   within those upto h above =
-      none_before (log_of (machine start) those h) (more h) (upto h) (go_within start request was more by h above)
+      none_before (log_of (machine start) those h) (more h) (upto h)
+      (go_within start nobody request was more by h above)
 
   module _ (those : List HostStep) (e : HostStep) (upto : Upto (e ∷ those)) where
     own_past : IsPast (e ∷ log_of (machine start) those e.host) (more e.host)
@@ -236,7 +238,8 @@ module _ (hosts_level : HostsAreLevel) (start : Start) (shape : IsShape start.sh
         go true is = refl
         go false unasked =
             absurd
-            (opening.not_given start request was more rests.stands (taken_by_all start was rests.stands quiet) by e run
+            (opening.not_given start nobody request was more rests.stands (taken_by_all start was rests.stands quiet) by
+            e run
             upto unasked)
 
     is_request_of : IsRequested e
@@ -255,7 +258,7 @@ module _ (hosts_level : HostsAreLevel) (start : Start) (shape : IsShape start.sh
     links : Links start base (e ∷ es)
     links =
         first.links_now hosts_level start shape request closes epoch es e run (within (e ∷ es) upto) rests.stands.kept
-        at_rest running is_request_of.shell asked (own es e upto run asked) body_is
+        at_rest running is_request_of.shell asked (own es e upto run asked) body_is nobody
 
     asked_for : (next : ℕ)
         → IsAskedFor start
@@ -264,7 +267,7 @@ module _ (hosts_level : HostsAreLevel) (start : Start) (shape : IsShape start.sh
     unfolding links
     asked_for =
         first.asked_for hosts_level start shape request closes epoch es e run (within (e ∷ es) upto) rests.stands.kept
-        at_rest running is_request_of.shell asked (own es e upto run asked) body_is
+        at_rest running is_request_of.shell asked (own es e upto run asked) body_is nobody
 
     stay : (k : ℕ) → k ≢ 0
         → (after start k (log_of (machine start) (e ∷ es) k)).parts ≡ (after start k (base k)).parts
@@ -280,11 +283,11 @@ module _ (hosts_level : HostsAreLevel) (start : Start) (shape : IsShape start.sh
         record {
           kept =
               first.kept_now hosts_level start shape request closes epoch es e run (within (e ∷ es) upto)
-              rests.stands.kept at_rest running is_request_of.shell asked (own es e upto run asked) body_is;
+              rests.stands.kept at_rest running is_request_of.shell asked (own es e upto run asked) body_is nobody;
           running =
               each_host start es e (λ h log. has_stopped log ≡ false)
               (first.goes_now hosts_level start shape request closes epoch es e run (within (e ∷ es) upto)
-              rests.stands.kept at_rest running is_request_of.shell asked (own es e upto run asked) body_is)
+              rests.stands.kept at_rest running is_request_of.shell asked (own es e upto run asked) body_is nobody)
               running;
           peaceful =
               each_host start es e (λ k log. Each (λ d. is_peaceful k d.step.taken ≡ true) log) (
@@ -335,13 +338,13 @@ module _ (hosts_level : HostsAreLevel) (start : Start) (shape : IsShape start.sh
 
   -- the run to it goes on
   abbrev grows : Grows (machine start) es more
-  grows = opening.grows start request was more rests.stands (taken_by_all start was rests.stands quiet) by
+  grows = opening.grows start nobody request was more rests.stands (taken_by_all start was rests.stands quiet) by
 
   abbrev whole : List HostStep
   whole = grows.more ++ es
 
   logs_are : log_of (machine start) whole ≡ more
-  logs_are = opening.logs_are start request was more rests.stands (taken_by_all start was rests.stands quiet) by
+  logs_are = opening.logs_are start nobody request was more rests.stands (taken_by_all start was rests.stands quiet) by
 
   upto_whole : Upto whole
   upto_whole =
@@ -353,7 +356,7 @@ module _ (hosts_level : HostsAreLevel) (start : Start) (shape : IsShape start.sh
         es = whole;
         run = grows.run;
         is = logs_are;
-        within = go_within start request was more by;
+        within = go_within start nobody request was more by;
         kept = on.kept;
         peaceful = subst ArePeaceful logs_are on.peaceful;
         running = λ h. subst (λ (logs : ℕ → List HostStep). has_stopped (logs h) ≡ false) logs_are (on.running h);
@@ -437,7 +440,7 @@ module _ (hosts_level : HostsAreLevel) (start : Start) (shape : IsShape start.sh
     goes e (d ∷ newer) run upto =
         let was : IsOn start c base (d ∷ (newer ++ es)) =
         goes d newer run.0 (before (d ∷ (newer ++ es)) e upto) in
-        is_on_next hosts_level start shape c next_is base all (d ∷ (newer ++ es)) e run
+        is_on_next hosts_level start nobody shape c next_is base all (d ∷ (newer ++ es)) e run
         (within (e ∷ (d ∷ (newer ++ es))) upto) (later_given (d ∷ (newer ++ es)) e upto run was.on.once)
         (unspent (d ∷ (newer ++ es)) e upto) was
 
@@ -496,7 +499,8 @@ module _ (hosts_level : HostsAreLevel) (start : Start) (shape : IsShape start.sh
           → (next : Option ℕ) → next_of kind epoch ≡ next → ClosesOn start request epoch was more
       go [] run upto is next of =
           absurd
-          (opening.none_more start request was more rests.stands (taken_by_all start was rests.stands quiet) by is)
+          (opening.none_more start nobody request was more rests.stands (taken_by_all start was rests.stands quiet) by
+          is)
       go (e ∷ newer) run upto is None of =
           none_closes
           (subst (λ those. OnlyAsked (those ++ es)) (sym is) (only_asked of e newer run upto))
@@ -508,5 +512,5 @@ module _ (hosts_level : HostsAreLevel) (start : Start) (shape : IsShape start.sh
           (sym is) (goes next of e newer run upto))
 
 pub closing_goes_on : HostsAreLevel → ClosingGoesOn
-closing_goes_on hosts_level start request epoch was more shape some rests quiet closes by =
-    closes_by hosts_level start shape request epoch was more rests quiet closes by
+closing_goes_on hosts_level start nobody request epoch was more shape some rests quiet closes by =
+    closes_by hosts_level start nobody shape request epoch was more rests quiet closes by

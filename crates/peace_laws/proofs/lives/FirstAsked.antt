@@ -28,7 +28,7 @@ use Rattle.world_core.specs.Machine as plain
 use Rattle.world_core.specs.Quiet as plain_quiet
 use Rattle.world_core.specs.Requests.{request_in}
 use Rattle.world_core.specs.Requests as plain_requests
-use Rattle.world_core.specs.Start.{Start}
+use Rattle.world_core.specs.Start.{NobodyStarts, Start}
 use Rattle.world_core.specs.Steps.{HostStep}
 use Rattle.world_views.proofs.SentFacts.{is_stamped}
 use Rattle.world_views.specs.Machine.{IsOwn, IsOwnWork, comes_rightly, has_stopped, machine}
@@ -79,7 +79,8 @@ pub record IsFirst (base all : List HostStep) : Type 0 where
   pub asked : is_asked first.host first.step.taken ≡ true
   pub request : is_request first.step.taken.body ≡ true
 
-module _ (start : Start) (request : ApiReq) (was more : ℕ → List HostStep) (stands : Stands start was)
+module _ (start : Start) (nobody : NobodyStarts start) (request : ApiReq) (was more : ℕ → List HostStep)
+    (stands : Stands start was)
     (all : AllTaken start was) (by : GoOnBy start request was more) where
   abbrev es : List HostStep
   es = stands.es
@@ -88,7 +89,7 @@ module _ (start : Start) (request : ApiReq) (was more : ℕ → List HostStep) (
   pub grows : Grows (machine start) es more
   grows =
       grow (machine start) (is_stamped start) (first_hosts start) es more stands.run
-      (go_within start request was more by) by.right
+      (go_within start nobody request was more by) by.right
       (subst (λ (logs : ℕ → List HostStep). (h : ℕ) → IsPast (logs h) (more h)) (sym stands.is) by.past)
 
   pub logs_are : log_of (machine start) (grows.more ++ es) ≡ more
@@ -123,7 +124,7 @@ module _ (start : Start) (request : ApiReq) (was more : ℕ → List HostStep) (
         go (inl under) = under
         go (inr above) =
             absurd (cc (none_before (e ∷ was e.host) (more e.host) upto_own
-            (go_within start request was more by e.host above)))
+            (go_within start nobody request was more by e.host above)))
 
     pub not_given : is_asked e.host x ≡ false → ⊥
     not_given unasked = go (cases_lt x.from.0 (first_hosts start))
@@ -260,13 +261,14 @@ split_at (p ∷ front) base (n ∷ newer) before one e none asks is =
     let same : front ++ one ∷ base ≡ newer ++ e ∷ before = cc (is) in
     split_at front base newer before one e none.1 asks same
 
-module _ (start : Start) (request : ApiReq) (was more : ℕ → List HostStep) (stands : Stands start was)
+module _ (start : Start) (nobody : NobodyStarts start) (request : ApiReq) (was more : ℕ → List HostStep)
+    (stands : Stands start was)
     (now : Stands start more) (all : AllTaken start was) (by : GoOnBy start request was more)
     (right : AreLogs (plain.machine start) (plain_parts start was))
     (quiet : plain_quiet.IsQuiet (plain.machine start) (first_hosts start) (plain_parts start was))
     (before_it : plain_requests.AreAskedAtQuiet start (plain_parts start was)) where
   f : IsFirst (was 0) (more 0)
-  f = request_first start request was more stands all by
+  f = request_first start nobody request was more stands all by
 
   one_is : request_of f.first ≡ request_in f.first.step.taken.body
   one_is = ap (λ (b : Bool). if b then request_in f.first.step.taken.body else None) f.asked

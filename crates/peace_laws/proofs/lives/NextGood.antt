@@ -19,7 +19,7 @@ use Rattle.sig_core.specs.Step.{Step}
 use Rattle.world_core.specs.Hosts.{Membership, first_membership, first_hosts, member_at, receiver}
 use Rattle.world_core.specs.Machine as plain
 use Rattle.world_core.specs.Machine.{addressed, all_addressed, counted}
-use Rattle.world_core.specs.Start.{Start, made}
+use Rattle.world_core.specs.Start.{NobodyStarts, Start, made}
 use Rattle.world_core.specs.Steps.{HostStep}
 use Rattle.world_views.specs.Machine.{after, machine, step_after, stops_by}
 use Rattle.world_views.specs.Right.{replies_in}
@@ -105,12 +105,12 @@ module _ (hosts_level : HostsAreLevel) (start : Start) (shape : IsShape start.sh
         (mirrored e.host).near
         (stays_closeless start e.host epoch (after start e.host log).parts stays))
 
-    main_on :
+    main_on : NobodyStarts start →
         ((j : ℕ) → IsSince start (main_at k) j (base e.host) log
         → IsSince start (main_at k) j (base e.host) (e ∷ log))
         × IsMainGood start (base e.host) k (e ∷ log)
-    main_on =
-        main_next start shape k k_low (base e.host) log e inner
+    main_on nobody =
+        main_next start nobody shape k k_low (base e.host) log e inner
         (subst (λ h. AreAlike start [] (after start h log) inner) at here_alike)
         (subst (λ h. ComesCalmly start h x) at next.comes)
         (subst (λ h. IsAtEase start (after start h (e ∷ log)).standing) at next.ease)
@@ -119,16 +119,16 @@ module _ (hosts_level : HostsAreLevel) (start : Start) (shape : IsShape start.sh
         (λ from. (fine (next.unasked beats)).told low beats from)
         (next.member beats) room (before.main k k_low at)
 
-    pub main_good : IsGood start base e.host (e ∷ log)
-    main_good =
+    pub main_good : NobodyStarts start → IsGood start base e.host (e ∷ log)
+    main_good nobody =
         record {
           past = past;
           since = λ j.
               subst (λ h. IsSince start h j (base e.host) (e ∷ log)) (sym at)
-              (main_on.0 j (subst (λ h. IsSince start h j (base e.host) log) at (before.since j)));
+              ((main_on nobody).0 j (subst (λ h. IsSince start h j (base e.host) log) at (before.since j)));
           main = λ i i_low is.
               let same : k ≡ i = omega (arith, at, is) in
-              subst (λ m. IsMainGood start (base e.host) m (e ∷ log)) same main_on.1;
+              subst (λ m. IsMainGood start (base e.host) m (e ∷ log)) same (main_on nobody).1;
           shell = λ shell. absurd (cc (at, shell));
         }
 
@@ -186,23 +186,23 @@ module _ (hosts_level : HostsAreLevel) (start : Start) (shape : IsShape start.sh
       shell_ease : IsAtEase start (after start 0 (e ∷ log)).standing
       shell_ease = subst (λ h. IsAtEase start (after start h (e ∷ log)).standing) at next.ease
 
-      shell_good : IsGood start base e.host (e ∷ log)
-      shell_good =
+      shell_good : NobodyStarts start → IsGood start base e.host (e ∷ log)
+      shell_good nobody =
           record {
             past = past;
             since = λ j.
                 subst (λ h. IsSince start h j (base e.host) (e ∷ log)) (sym at)
                 (shell_since start (base e.host) log e sends shell_are shell_plain shell_fine shell_ease next.goes_on
-                (next.asked takes) j
+                (next.asked takes) nobody j
                 (subst (λ h. IsSince start h j (base e.host) log) at (before.since j)));
             main = none_main;
             shell = λ shell.
                 shell_next start (base e.host) log e sends shell_are shell_plain shell_fine shell_ease next.goes_on
-                (next.asked takes) (before.shell shell);
+                (next.asked takes) nobody (before.shell shell);
           }
 
     -- a part of a node
-    module _ (h : ℕ) (at : e.host ≡ suc h) where
+    module _ (nobody : NobodyStarts start) (h : ℕ) (at : e.host ≡ suc h) where
       part_are : (step_after start e.host log e).effects.sends ≡ sends
       part_are = alike_step.sends ∙ ap (λ i. sends ++ besides start i x.body) at ∙ append-nil sends
 
@@ -211,18 +211,18 @@ module _ (hosts_level : HostsAreLevel) (start : Start) (shape : IsShape start.sh
           record {
             past = past;
             since = λ j.
-                since_next start e.host log e next.ease next.goes_on sends part_are fine_sends j (base e.host)
+                since_next start nobody e.host log e next.ease next.goes_on sends part_are fine_sends j (base e.host)
                 (before.since j);
             main = none_main;
             shell = λ shell. absurd (cc (at, shell));
           }
 
-    pub other_good : IsGood start base e.host (e ∷ log)
-    other_good = go e.host refl
+    pub other_good : NobodyStarts start → IsGood start base e.host (e ∷ log)
+    other_good nobody = go e.host refl
       where
         go : (h : ℕ) → e.host ≡ h → IsGood start base e.host (e ∷ log)
-        go zero at = shell_good at
-        go (suc h) at = part_good h at
+        go zero at = shell_good at nobody
+        go (suc h) at = part_good nobody h at
 
     pub other_rests : StaysIn start e.host epoch (after start e.host (e ∷ log)).parts
     other_rests =

@@ -25,7 +25,7 @@ use Rattle.sig_core.specs.declared.signal.Signal.{Signal}
 use Rattle.peace_laws.proofs.lives.FirstHosts.{go_within}
 use Rattle.world_core.specs.Hosts.{first_hosts}
 use Rattle.world_core.specs.Requests.{request_in}
-use Rattle.world_core.specs.Start.{Start, made}
+use Rattle.world_core.specs.Start.{NobodyStarts, Start, made}
 use Rattle.world_core.specs.Steps.{HostStep}
 use Rattle.world_views.specs.Hosts.{front_of}
 use Rattle.world_views.specs.Machine.{IsOwn, IsOwnWork, comes_rightly, has_stopped, machine}
@@ -91,21 +91,22 @@ module _ (start : Start) (request : ApiReq) (logs more : ℕ → List HostStep) 
   abbrev i : ℕ
   i = x.from.0
 
-  pub within_now : IsWithin (first_hosts start) (log_of (machine start) (e ∷ es))
-  within_now h above =
-      none_before (log_of (machine start) (e ∷ es) h) (more h) (upto h) (go_within start request logs more by h above)
+  pub within_now : NobodyStarts start → IsWithin (first_hosts start) (log_of (machine start) (e ∷ es))
+  within_now nobody h above =
+      none_before (log_of (machine start) (e ∷ es) h) (more h) (upto h)
+      (go_within start nobody request logs more by h above)
 
-  within_then : IsWithin (first_hosts start) (log_of (machine start) es)
-  within_then = within_before start (first_hosts start) e es within_now
+  within_then : NobodyStarts start → IsWithin (first_hosts start) (log_of (machine start) es)
+  within_then nobody = within_before start (first_hosts start) e es (within_now nobody)
 
   upto_own : IsPast (e ∷ log e.host) (more e.host)
   upto_own = subst (λ all. IsPast all (more e.host)) (log_of-own (machine start) e es e.host refl) (upto e.host)
 
-  pub host_low : e.host < first_hosts start
-  host_low = host_there start (first_hosts start) e es within_now
+  pub host_low : NobodyStarts start → e.host < first_hosts start
+  host_low nobody = host_there start (first_hosts start) e es (within_now nobody)
 
   -- the signal that a link gave was sent since the quiet moment
-  module _ (unasked : is_asked e.host x ≡ false) where
+  module _ (nobody : NobodyStarts start) (unasked : is_asked e.host x ≡ false) where
     given : IsPast (arriving e.host x ∷ taken (machine start) i (log e.host)) (sent (machine start) i e.host (log i))
     given =
         given_running start i e.host (log i) (arriving e.host x ∷ taken (machine start) i (log e.host)) (running i)
@@ -120,7 +121,7 @@ module _ (start : Start) (request : ApiReq) (logs more : ℕ → List HostStep) 
             absurd
             (cc (none_before (arriving e.host x ∷ taken (machine start) i (log e.host))
             (sent (machine start) i e.host (log i)) given
-            (ap (sent (machine start) i e.host) (within_then i above))))
+            (ap (sent (machine start) i e.host) (within_then nobody i above))))
 
     pub signal_fine : IsFine start i (arriving e.host x)
     signal_fine =
@@ -128,7 +129,7 @@ module _ (start : Start) (request : ApiReq) (logs more : ℕ → List HostStep) 
         each_in (IsFine start i) (arriving e.host x) since.newer since.fine
         (newer_next (arriving e.host x) (taken (machine start) i (log e.host)) (sent (machine start) i e.host (log i))
         since.newer (sent (machine start) i e.host (logs i))
-        (subst (λ all. IsPast all (taken (machine start) i (log e.host))) (all i e.host from_low host_low)
+        (subst (λ all. IsPast all (taken (machine start) i (log e.host))) (all i e.host from_low (host_low nobody))
         (taken_past (machine start) i (good e.host).past))
         given since.is)
 
@@ -187,28 +188,29 @@ module _ (start : Start) (request : ApiReq) (logs more : ℕ → List HostStep) 
     asked_calm body is asks work = absurd cc
 
   -- so it is calm
-  pub next_calm : is_calm e.host x ≡ true
-  next_calm = go (is_asked e.host x) refl
+  pub next_calm : NobodyStarts start → is_calm e.host x ≡ true
+  next_calm nobody = go (is_asked e.host x) refl
     where
       go : (b : Bool) → is_asked e.host x ≡ b → is_calm e.host x ≡ true
       go true asked = asked_calm asked x.body refl (is_one asked) (own asked).work
-      go false unasked = (signal_fine unasked).calm host_low
+      go false unasked = (signal_fine nobody unasked).calm (host_low nobody)
 
   -- a main part takes no more rounds than the shell told it of: one, since the quiet moment
-  pub room : (k : ℕ) → k < start.shape.nodes → e.host ≡ main_at k → is_asked e.host x ≡ false → i ≡ 0
+  pub room : NobodyStarts start → (k : ℕ) → k < start.shape.nodes → e.host ≡ main_at k → is_asked e.host x ≡ false
+      → i ≡ 0
       → length (taken (machine start) 0 (e ∷ log e.host)) ≤ 1 + length (taken (machine start) 0 (logs e.host))
-  room k low at unasked from =
+  room nobody k low at unasked from =
       let shell : IsShellSteady start (logs 0) (log 0) = (good 0).shell refl in
       omega (
         arith,
         ap length (theory.taken-step (machine start) 0 e (log e.host) unasked from),
         past_short (subst (λ h.
             IsPast (arriving e.host x ∷ taken (machine start) h (log e.host)) (sent (machine start) h e.host (log h)))
-            from (given unasked)),
+            from (given nobody unasked)),
         shell.asked,
         few_asked 0 refl,
         subst (λ h.
             length (sent (machine start) 0 h (log 0)) ≡ shell.rounds + length (sent (machine start) 0 h (logs 0)))
             (sym at) (shell.told k low),
-        ap length (all 0 e.host (omega arith) host_low),
+        ap length (all 0 e.host (omega arith) (host_low nobody)),
       )

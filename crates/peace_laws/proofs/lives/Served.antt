@@ -21,11 +21,10 @@ use Rattle.sig_core.specs.declared.outcome.Outcome.TheVariants.{Committed}
 use Rattle.sig_core.specs.declared.request.ApiReq.{ApiReq}
 use Rattle.view_laws.specs.Runs.{AreOfCluster}
 use Rattle.peace_laws.proofs.lives.FirstHosts.{all_within}
-use Rattle.world_core.proofs.MadeFirst.{nobody_starts}
 use Rattle.world_core.specs.Entries.{entries, entries_in, entries_of}
 use Rattle.world_core.specs.Hosts.{hosts}
 use Rattle.world_core.specs.Requests as plain_requests
-use Rattle.world_core.specs.Start.{Start}
+use Rattle.world_core.specs.Start.{NobodyStarts, Start}
 use Rattle.world_core.specs.Steps.{HostStep}
 use Rattle.world_views.specs.Machine.{machine}
 use Rattle.world_views.specs.Quiet.{IsQuiet}
@@ -52,7 +51,8 @@ pub record ClosesOn (start : Start) (request : ApiReq) (epoch : ℕ) (was more :
 
 abbrev pub ClosingGoesOn : Type 0
 ClosingGoesOn =
-    (start : Start) (request : ApiReq) (epoch : ℕ) (was more : ℕ → List HostStep) → IsShape start.shape → 1 ≤ epoch
+    (start : Start) → NobodyStarts start → (request : ApiReq) (epoch : ℕ) (was more : ℕ → List HostStep)
+    → IsShape start.shape → 1 ≤ epoch
     → Rests start epoch was → IsQuiet start was → is_closing_request request ≡ true → GoOnBy start request was more
     → ClosesOn start request epoch was more
 
@@ -68,7 +68,8 @@ record IsServed (start : Start) (logs : ℕ → List HostStep) : Type 0 where
   rests : IsQuiet start logs → RestsSome start logs
   asked : plain_requests.AreAskedAtQuiet start (plain_parts start logs)
 
-module _ (hosts_level : HostsAreLevel) (closes : ClosingGoesOn) (start : Start) (shape : IsShape start.shape)
+module _ (hosts_level : HostsAreLevel) (closes : ClosingGoesOn) (start : Start) (nobody : NobodyStarts start)
+    (shape : IsShape start.shape)
     (rows : start.rows ≡ []) (above : start.start_epoch < start.epoch) where
   none_asked : plain_requests.AreAskedAtQuiet start (plain_parts start (λ h. []))
   none_asked newer e before is asks = absurd (nothing newer is)
@@ -79,7 +80,7 @@ module _ (hosts_level : HostsAreLevel) (closes : ClosingGoesOn) (start : Start) 
 
   begins : IsServed start (λ h. [])
   begins =
-      let rests : Rests start start.epoch (λ h. []) = lives_rest start rows in
+      let rests : Rests start start.epoch (λ h. []) = lives_rest start nobody rows in
       record {
         stands = rests.stands;
         rests = λ quiet. record { epoch = start.epoch; some = omega (arith, above); rests = rests };
@@ -99,27 +100,28 @@ module _ (hosts_level : HostsAreLevel) (closes : ClosingGoesOn) (start : Start) 
 
     asked : Stands start more → plain_requests.AreAskedAtQuiet start (plain_parts start more)
     asked now =
-        asked_at_quiet start request was more old now all by
+        asked_at_quiet start nobody request was more old now all by
         (plain_logs.right start old.es was (has start was old) old.kept)
         (plain_logs.quiet_plain start old.es was (has start was old) old.kept old.running quiet) served.asked
 
     next_by : (is_calm_request request ≡ true) ⊎ (is_closing_request request ≡ true) → IsServed start more
     next_by (inl calm) =
         let now : Stands start more =
-        calm_stands hosts_level start shape request rest.epoch was more rest.rests quiet by calm in
+        calm_stands hosts_level start nobody shape request rest.epoch was more rest.rests quiet by calm in
         record {
           stands = now;
           rests = λ again.
               record {
                 epoch = rest.epoch;
                 some = rest.some;
-                rests = calm_rests hosts_level start shape request rest.epoch was more rest.rests quiet by calm again;
+                rests = calm_rests hosts_level start nobody shape request rest.epoch was more rest.rests quiet by calm
+                    again;
               };
           asked = asked now;
         }
     next_by (inr closing) =
         let on : ClosesOn start request rest.epoch was more =
-        closes start request rest.epoch was more shape rest.some rest.rests quiet closing by in
+        closes start nobody request rest.epoch was more shape rest.some rest.rests quiet closing by in
         record {
           stands = on.stands;
           rests = λ again.
@@ -137,9 +139,9 @@ module _ (hosts_level : HostsAreLevel) (closes : ClosingGoesOn) (start : Start) 
 
 -- so their plain parts are logs of the plain machine
 pub lives_plain : HostsAreLevel → ClosingGoesOn → PeacefulLivesArePlain
-lives_plain hosts_level closes start asked logs life =
+lives_plain hosts_level closes start nobody asked logs life =
     let served : IsServed start logs =
-    serves hosts_level closes start life.shape life.rows life.begins asked logs life.served in
+    serves hosts_level closes start nobody life.shape life.rows life.begins asked logs life.served in
     let stands : Stands start logs = served.stands in
     record {
       peaceful = stands.peaceful;
@@ -169,17 +171,18 @@ log_entered epoch h (e ∷ log) below =
     marks_entered epoch h e.step.stamp (e ∷ log) e.step.marks (entries_of h log) below.0
     (log_entered epoch h log below.1)
 
-module _ (start : Start) (shape : IsShape start.shape) (epoch : ℕ) (logs : ℕ → List HostStep)
+module _ (start : Start) (nobody : NobodyStarts start) (shape : IsShape start.shape) (epoch : ℕ)
+    (logs : ℕ → List HostStep)
     (rests : Rests start epoch logs) where
   of_cluster : AreOfCluster start logs
   of_cluster =
       record {
         shape = shape;
-        nobody = nobody_starts start;
+        nobody = nobody;
         right =
             subst (AreLogs (machine start)) rests.stands.is
             (logs_of_run (machine start) rests.stands.es rests.stands.run);
-        within = all_within start logs rests.stands.within;
+        within = all_within start nobody logs rests.stands.within;
       }
 
   -- so whoever was reported committed has no later one
@@ -195,14 +198,14 @@ module _ (start : Start) (shape : IsShape start.shape) (epoch : ℕ) (logs : ℕ
 
 -- and closings are answered
 pub closings_answered : HostsAreLevel → ClosingGoesOn → ClosingsAreAnswered
-closings_answered hosts_level closes start earlier request was now life quiet closing by again =
+closings_answered hosts_level closes start nobody earlier request was now life quiet closing by again =
     let served : IsServed start was =
-    serves hosts_level closes start life.shape life.rows life.begins earlier was life.served in
+    serves hosts_level closes start nobody life.shape life.rows life.begins earlier was life.served in
     let rest : RestsSome start was = served.rests quiet in
     let on : ClosesOn start request rest.epoch was now =
-    closes start request rest.epoch was now life.shape rest.some rest.rests quiet closing by in
+    closes start nobody request rest.epoch was now life.shape rest.some rest.rests quiet closing by in
     record {
       epoch = rest.epoch;
       told = on.told again;
-      covers = covers start life.shape rest.epoch was rest.rests;
+      covers = covers start nobody life.shape rest.epoch was rest.rests;
     }

@@ -8,7 +8,7 @@ use Rattle.sig_core.specs.declared.mark.Mark.TheVariants.{Decided}
 use Rattle.sig_core.specs.declared.place.Part.{Part}
 use Rattle.sig_core.specs.declared.place.Part.TheVariants as part
 use Rattle.world_core.specs.Hosts.{first_hosts, member_at, part_by}
-use Rattle.world_core.specs.Start.{Start, made}
+use Rattle.world_core.specs.Start.{NobodyStarts, Start, made}
 use Rattle.world_core.specs.Steps.{HostStep}
 use Rattle.world_views.specs.Hosts.{part_started, started}
 use Rattle.world_views.specs.Machine.{has_stopped, machine}
@@ -63,26 +63,27 @@ part_rests start h part.Main =
 part_rests start h part.Tc = record { current = refl; next = refl; counted = refl; held = refl; order = refl }
 part_rests start h part.Ldm = tt
 
-begin_rests : (start : Start) (h : ℕ) → RestsIn start h start.epoch (started start h).parts
+begin_rests : (start : Start) (nobody : NobodyStarts start) (h : ℕ)
+    → RestsIn start h start.epoch (started start h).parts
 unfolding started
-begin_rests start zero = (refl, refl)
-begin_rests start (suc h) =
-    subst (λ s. RestsIn start (suc h) start.epoch s.parts) (sym (started_behind start h))
+begin_rests start nobody zero = (refl, refl)
+begin_rests start nobody (suc h) =
+    subst (λ s. RestsIn start (suc h) start.epoch s.parts) (sym (started_behind start nobody h))
     (part_rests start (suc h) (part_by (h % 3)))
 
-pub lives_rest : (start : Start) → start.rows ≡ [] → Rests start start.epoch (λ h. [])
-lives_rest start rows =
+pub lives_rest : (start : Start) → NobodyStarts start → start.rows ≡ [] → Rests start start.epoch (λ h. [])
+lives_rest start nobody rows =
     record {
       stands = record {
         es = [];
         run = tt;
         is = refl;
         within = λ h high. refl;
-        kept = begins_kept start rows;
+        kept = begins_kept start nobody rows;
         peaceful = λ h. tt;
         running = λ h. refl;
       };
-      beating = lives_begin_at_rest start;
-      rests = λ h low. begin_rests start h;
+      beating = lives_begin_at_rest start nobody;
+      rests = λ h low. begin_rests start nobody h;
       below = λ h. tt;
     }

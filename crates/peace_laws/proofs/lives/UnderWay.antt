@@ -15,7 +15,7 @@ use Rattle.sig_core.specs.declared.outs.Outgoing.{Outgoing}
 use Rattle.sig_core.specs.declared.signal.Signal.{Signal}
 use Rattle.world_core.specs.Hosts.{host_for}
 use Rattle.world_core.specs.Machine.{counted}
-use Rattle.world_core.specs.Start.{Start, made}
+use Rattle.world_core.specs.Start.{NobodyStarts, Start, made}
 use Rattle.world_core.specs.Steps.{Addressed, HostStep}
 use Rattle.world_views.proofs.LogFacts.{sent_going_on}
 use Rattle.world_views.specs.declared.sender.Sender.{Sender}
@@ -43,15 +43,16 @@ pub record OnLink (start : Start) (base : ℕ → List HostStep) (i j : ℕ) (fr
 abbrev IsGiven : Outgoing → Type 0
 IsGiven one = is_own_work one.body ≡ false
 
-all_routed : (start : Start) (h : ℕ) (standing : Standing) → IsAtEase start standing → (sends : List Outgoing)
+all_routed : (start : Start) (nobody : NobodyStarts start) (h : ℕ) (standing : Standing) → IsAtEase start standing
+    → (sends : List Outgoing)
     → Each IsGiven sends → routed_all (made start) h standing sends ≡ plainly start sends
-all_routed start h standing ease [] all = refl
-all_routed start h standing ease (one ∷ more) all =
+all_routed start nobody h standing ease [] all = refl
+all_routed start nobody h standing ease (one ∷ more) all =
     ap (λ b.
     routed_if b (routed (reached (made start) h standing.view one.to) one) (routed_all (made start) h standing more))
     (kept start h standing ease (reached (made start) h standing.view one.to) one all.0)
-    ∙ ap₂ (λ to rs. routed to one ∷ rs) (here start h standing ease one.to)
-    (all_routed start h standing ease more all.1)
+    ∙ ap₂ (λ to rs. routed to one ∷ rs) (here start h standing ease nobody one.to)
+    (all_routed start nobody h standing ease more all.1)
 
 module _ (start : Start) (j : ℕ) (by : Sender) where
   abbrev puts : (ℕ → ℕ) → List Outgoing → List Addressed → List Addressed
@@ -259,7 +260,8 @@ module _ (start : Start) (base : ℕ → List HostStep) (es : List HostStep) (e 
         go (inl to) (inl from) = subst (λ k. Taken k b) from (subst (Taken i) to takes)
 
   -- The step sends.
-  module _ (mid : (a b : ℕ) → OnLink start base a b (log a) (now b)) (goes_on : stops_by e.step.marks ≡ false)
+  module _ (nobody : NobodyStarts start) (mid : (a b : ℕ) → OnLink start base a b (log a) (now b))
+      (goes_on : stops_by e.step.marks ≡ false)
       (ease : IsAtEase start (after start h (e ∷ log h)).standing) (sends : List Outgoing)
       (are : (step_after start h (log h) e).effects.sends ≡ sends) (given : Each IsGiven sends) where
     abbrev by : Sender
@@ -275,7 +277,7 @@ module _ (start : Start) (base : ℕ → List HostStep) (es : List HostStep) (e 
         ∙ ap (λ rs.
         put (machine start) b (all_addressed by (sent_count start h (log h)) rs) (sent (machine start) h b (log h)))
         (ap (routed_all (made start) h (after start h (e ∷ log h)).standing) are
-        ∙ all_routed start h (after start h (e ∷ log h)).standing ease sends given)
+        ∙ all_routed start nobody h (after start h (e ∷ log h)).standing ease sends given)
 
     abbrev Sent : ℕ → ℕ → Type 0
     Sent a b = SentOn start base h sends a b (map said (mid a b).under) (now a) (now b)

@@ -6,7 +6,7 @@ use Rattle.run_theory.proofs.Runs.{log_of-own}
 use Rattle.run_theory.specs.Runs.{IsWithin, Run, log_of}
 use Rattle.world_core.specs.Hosts.{first_hosts}
 use Rattle.world_core.specs.Machine as plain
-use Rattle.world_core.specs.Start.{Start}
+use Rattle.world_core.specs.Start.{NobodyStarts, Start}
 use Rattle.world_core.specs.Steps.{HostStep}
 use Rattle.world_views.specs.Machine.{after, machine}
 use Rattle.world_views.specs.Sending.{is_asked}
@@ -28,7 +28,8 @@ use Rattle.peace_laws.proofs.near.PeaceNext.{IsCalmNext, calm_next}
 use Rattle.peace_laws.proofs.plain.Events.{left_none, plain_events, plain_within}
 use Rattle.peace_laws.proofs.near.Runs.{IsKept, arrival, fine, known}
 
-module _ (hosts_level : HostsAreLevel) (start : Start) (shape : IsShape start.shape) (es : List HostStep) (e : HostStep)
+module _ (hosts_level : HostsAreLevel) (start : Start) (nobody : NobodyStarts start) (shape : IsShape start.shape)
+    (es : List HostStep) (e : HostStep)
     (run : Run (machine start) (e ∷ es)) (calm : is_calm e.host e.step.taken ≡ true)
     (within : IsWithin (first_hosts start) (log_of (machine start) es)) (low : e.host < first_hosts start)
     (kept : IsKept start es) (rests : RestsOfClosings (after start e.host (log_of (machine start) es e.host)).parts)
@@ -40,7 +41,7 @@ module _ (hosts_level : HostsAreLevel) (start : Start) (shape : IsShape start.sh
     before = kept.mirrored e.host
 
     pub next : IsCalmNext start es e
-    next = calm_next hosts_level start shape es e run.1 calm within low kept rests
+    next = calm_next hosts_level start nobody shape es e run.1 calm within low kept rests
 
     at_ease : IsAtEase start (after start e.host (e ∷ log)).standing
     at_ease =
@@ -63,15 +64,15 @@ module _ (hosts_level : HostsAreLevel) (start : Start) (shape : IsShape start.sh
       kind = calm_kind e.host e.step.taken takes calm
 
       arrives : Arrives start es e.host e.step.taken
-      arrives = arrival hosts_level start shape es e run.1 within low kept kind takes
+      arrives = arrival hosts_level start shape es e run.1 within low kept nobody kind takes
 
       part_comes : ComesCalmly start e.host e.step.taken
       part_comes =
           record {
             calm = calm;
-            fine = fine hosts_level start shape es e run.1 within low kept kind takes;
+            fine = fine hosts_level start shape es e run.1 within low kept nobody kind takes;
             view = arrives.view;
-            known = known hosts_level start shape es e run.1 within low kept kind takes;
+            known = known hosts_level start shape es e run.1 within low kept nobody kind takes;
             vouched = arrives.vouched;
           }
 

@@ -20,7 +20,7 @@ use Rattle.api_block.specs.State.{ApiState}
 use Rattle.world_core.proofs.HostNumbers.{api_runs}
 use Rattle.world_core.specs.Machine as plain
 use Rattle.world_core.specs.Machine.{last_stamp}
-use Rattle.world_core.specs.Start.{Start}
+use Rattle.world_core.specs.Start.{NobodyStarts, Start}
 use Rattle.world_core.specs.Steps.{HostStep}
 use Rattle.world_views.specs.Machine.{after, replies_at, step_after, step_by, stops_by, told}
 use Rattle.world_views.specs.Right.{replies_in}
@@ -231,9 +231,10 @@ module _ (hosts_level : HostsAreLevel) (start : Start) (shape : IsShape start.sh
   pub part_rests : RestsOfClosings (after start h (e ∷ log)).parts
   part_rests = part_resting.1
 
-  pub part_step : (marks : e.step.marks ≡ (step_after start h log e).effects.marks) → IsAskedAlike e
+  pub part_step : NobodyStarts start → (marks : e.step.marks ≡ (step_after start h log e).effects.marks)
+      → IsAskedAlike e
       → IsPlainStep start h log e before
-  part_step marks asked =
+  part_step nobody marks asked =
       record {
         part = part_next start h log e here
             (not_closing h e.step.taken (calm_apart h e.step.taken comes.calm));
@@ -245,7 +246,8 @@ module _ (hosts_level : HostsAreLevel) (start : Start) (shape : IsShape start.sh
         extra = besides start h e.step.taken.body;
         sends = part_alike.sends;
         plain_ones = part_alike.plain;
-        aside = rounds_aside start h (after start h (e ∷ log)).standing part_alike.alike.standing e.step.taken.body;
+        aside =
+            rounds_aside start nobody h (after start h (e ∷ log)).standing part_alike.alike.standing e.step.taken.body;
         for_all =
             subst (Each (IsSentFor h)) (sym part_alike.sends)
             (each_append (IsSentFor h) (row before.inner e.step.taken).effects.sends

@@ -13,7 +13,7 @@ use Rattle.sig_core.specs.Step.{Step}
 use Rattle.world_core.specs.Hosts.{first_hosts}
 use Rattle.world_core.specs.Machine as plain
 use Rattle.world_core.specs.Machine.{last_stamp}
-use Rattle.world_core.specs.Start.{Start, made}
+use Rattle.world_core.specs.Start.{NobodyStarts, Start, made}
 use Rattle.world_core.specs.Steps.{Addressed, HostStep}
 use Rattle.world_views.specs.Machine.{after, machine, sent_count, step_after, stops_by}
 use Rattle.world_views.specs.Right.{replies_in}
@@ -169,8 +169,8 @@ module _ (hosts_level : HostsAreLevel) (start : Start) (h : ℕ) (log : List Hos
         by true = ap (λ xs. one ∷ xs) was
         by false = was
 
-    pub plain_mirrored : IsMirrored start h (e ∷ log)
-    plain_mirrored =
+    pub plain_mirrored : NobodyStarts start → IsMirrored start h (e ∷ log)
+    plain_mirrored nobody =
         record {
           inner = (row before.inner e.step.taken).state;
           near = step.near;
@@ -180,11 +180,13 @@ module _ (hosts_level : HostsAreLevel) (start : Start) (h : ℕ) (log : List Hos
           late = subst (λ those. last_stamp those ≤ e.step.stamp) (sym step.part) (omega arith);
           links = λ j here takes.
               ap (sent (plain.machine start) h j) step.part
-              ∙ sent_next start h log e step.near.standing both step.extra step.sends step.plain_ones step.aside j takes
+              ∙ sent_next start nobody h log e step.near.standing both step.extra step.sends step.plain_ones step.aside
+              j takes
               start.epoch part now refl plain_sends (before.counts j here takes) step.goes_on
               (before.links j here takes);
           counts = λ j here takes.
-              count_next start h log e step.near.standing both step.extra step.sends step.plain_ones step.aside j takes
+              count_next start nobody h log e step.near.standing both step.extra step.sends step.plain_ones step.aside j
+              takes
               start.epoch part now refl plain_sends (before.counts j here takes)
               ∙ ap (λ those. plain.sent_count start h those j) (sym step.part);
           took = λ i here takes.

@@ -3,7 +3,7 @@ use Rattle.std.proofs.Common.{◌≡◌, ◌<◌, List, ◌∷◌, Bool, true, f
 use Rattle.frag_map.specs.Shape.{IsShape}
 use Rattle.run_theory.specs.Runs.{Happens, IsWithin, log_of}
 use Rattle.world_core.specs.Hosts.{first_hosts}
-use Rattle.world_core.specs.Start.{Start}
+use Rattle.world_core.specs.Start.{NobodyStarts, Start}
 use Rattle.world_core.specs.Steps.{HostStep}
 use Rattle.world_views.specs.Machine.{after, machine, stops_by}
 use Rattle.calm_laws.specs.Calm.{is_calm}
@@ -24,7 +24,8 @@ pub record IsCalmNext (start : Start) (es : List HostStep) (e : HostStep) : Type
   pub rests : RestsOfClosings (after start e.host (e ∷ log_of (machine start) es e.host)).parts
   pub goes_on : stops_by e.step.marks ≡ false
 
-module _ (hosts_level : HostsAreLevel) (start : Start) (shape : IsShape start.shape) (es : List HostStep) (e : HostStep)
+module _ (hosts_level : HostsAreLevel) (start : Start) (nobody : NobodyStarts start) (shape : IsShape start.shape)
+    (es : List HostStep) (e : HostStep)
     (happens : Happens (machine start) es e) (calm : is_calm e.host e.step.taken ≡ true)
     (within : IsWithin (first_hosts start) (log_of (machine start) es)) (low : e.host < first_hosts start)
     (kept : IsKept start es) (rests : RestsOfClosings (after start e.host (log_of (machine start) es e.host)).parts)
@@ -45,7 +46,7 @@ module _ (hosts_level : HostsAreLevel) (start : Start) (shape : IsShape start.sh
           kept =
               left_next hosts_level start shape es e happens within low kept (left_beating e beats)
               (main_left start e.host log e beats before rests comes
-              (later hosts_level start shape es e happens within low kept));
+              (later hosts_level start shape es e happens within low kept nobody));
           rests = main_rests start e.host log e beats before rests comes;
           goes_on = ap stops_by (happens.step.fits.marks ∙ main_marks start e.host log e beats before rests comes);
         }
@@ -54,21 +55,21 @@ module _ (hosts_level : HostsAreLevel) (start : Start) (shape : IsShape start.sh
     part_next : is_beating e.host ≡ false → IsCalmNext start es e
     part_next takes =
         let kind : IsPlainKind e.step.taken.to.block e.step.taken.body = calm_kind e.host e.step.taken takes calm in
-        let arrives = arrival hosts_level start shape es e happens within low kept kind takes in
+        let arrives = arrival hosts_level start shape es e happens within low kept nobody kind takes in
         let comes : ComesCalmly start e.host e.step.taken =
         record {
           calm = calm;
-          fine = fine hosts_level start shape es e happens within low kept kind takes;
+          fine = fine hosts_level start shape es e happens within low kept nobody kind takes;
           view = arrives.view;
-          known = known hosts_level start shape es e happens within low kept kind takes;
+          known = known hosts_level start shape es e happens within low kept nobody kind takes;
           vouched = arrives.vouched;
         } in
         let alike = part_alike hosts_level start shape e.host log e takes before rests comes in
         record {
           kept =
-              plain_next hosts_level start shape es e happens within low kept kind takes
+              plain_next hosts_level start shape es e happens within low kept nobody kind takes
               (not_closing e.host e.step.taken (calm_apart e.host e.step.taken calm))
-              (part_step hosts_level start shape e.host log e takes before rests comes happens.step.fits.marks
+              (part_step hosts_level start shape e.host log e takes before rests comes nobody happens.step.fits.marks
               arrives.asked)
               (happens.step.fits.marks ∙ alike.marks);
           rests = part_rests hosts_level start shape e.host log e takes before rests comes;

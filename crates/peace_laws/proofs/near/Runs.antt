@@ -25,7 +25,7 @@ use Rattle.sig_core.specs.Step.{Step}
 use Rattle.world_core.specs.Hosts.{first_hosts, member_at, part_by}
 use Rattle.world_core.specs.Machine as plain
 use Rattle.world_core.specs.Machine.{last_stamp}
-use Rattle.world_core.specs.Start.{Start, made}
+use Rattle.world_core.specs.Start.{NobodyStarts, Start, made}
 use Rattle.world_core.specs.Steps.{HostStep}
 use Rattle.world_views.specs.Hosts.{part_started, started}
 use Rattle.world_views.specs.Machine.{after, machine}
@@ -75,23 +75,25 @@ master_begins start part.Main member p is =
 master_begins start part.Tc member p is = absurd cc
 master_begins start part.Ldm member p is = absurd cc
 
-masters_begin : (start : Start) (h : ℕ) (p : MainPart) → (after start h []).parts ≡ Main p → IsMasterNear p.master
+masters_begin : (start : Start) (nobody : NobodyStarts start) (h : ℕ) (p : MainPart) → (after start h []).parts ≡ Main p
+    → IsMasterNear p.master
 unfolding started
-masters_begin start zero p is = absurd cc
-masters_begin start (suc h) p is =
+masters_begin start nobody zero p is = absurd cc
+masters_begin start nobody (suc h) p is =
     master_begins start (part_by (h % 3)) (member_at (made start) (suc h)) p
-    (ap (λ s. s.parts) (sym (started_behind start h)) ∙ is)
+    (ap (λ s. s.parts) (sym (started_behind start nobody h)) ∙ is)
 
-begins_near : (start : Start) (h : ℕ) → start.rows ≡ [] → AreNear start [] (after start h []) (plain.after start h [])
-begins_near start h none =
-    (resting_main start [] (after start h []) (plain.after start h []) (begin_alike start h none)
-    (masters_begin start h)).0
+begins_near : (start : Start) (nobody : NobodyStarts start) (h : ℕ) → start.rows ≡ []
+    → AreNear start [] (after start h []) (plain.after start h [])
+begins_near start nobody h none =
+    (resting_main start [] (after start h []) (plain.after start h []) (begin_alike start nobody h none)
+    (masters_begin start nobody h)).0
 
-begins_mirrored : (start : Start) (h : ℕ) → start.rows ≡ [] → IsMirrored start h []
-begins_mirrored start h none =
+begins_mirrored : (start : Start) (nobody : NobodyStarts start) (h : ℕ) → start.rows ≡ [] → IsMirrored start h []
+begins_mirrored start nobody h none =
     record {
       inner = plain.after start h [];
-      near = begins_near start h none;
+      near = begins_near start nobody h none;
       level = ap (λ part. host_sized (plain.after start h part)) (no_part start h) ∙ begin_level start h none;
       late = subst (λ those. last_stamp those ≤ 0) (sym (no_part start h)) (omega arith);
       links = λ j here takes. ap (sent (plain.machine start) h j) (no_part start h);
@@ -102,8 +104,8 @@ begins_mirrored start h none =
       asked = λ here. tt;
     }
 
-pub begins_kept : (start : Start) → start.rows ≡ [] → IsKept start []
-begins_kept start none = record { run = tt; mirrored = λ h. begins_mirrored start h none }
+pub begins_kept : (start : Start) → NobodyStarts start → start.rows ≡ [] → IsKept start []
+begins_kept start nobody none = record { run = tt; mirrored = λ h. begins_mirrored start nobody h none }
 
 -- what the machine in which nothing fails knows of stamps
 plain_last : (start : Start) (h : ℕ) (log : List HostStep) → last (plain.machine start) h log ≡ last_stamp log
@@ -128,8 +130,8 @@ module _ (hosts_level : HostsAreLevel) (start : Start) (shape : IsShape start.sh
   abbrev before : IsMirrored start e.host log
   before = kept.mirrored e.host
 
-  pub later : last_stamp log ≤ e.step.stamp
-  later = omega (arith, happens.step.stamped, last_is start e.host log)
+  pub later : NobodyStarts start → last_stamp log ≤ e.step.stamp
+  later nobody = omega (arith, happens.step.stamped, last_is start nobody e.host log)
 
   -- the hosts, if the one of the step is near
   mirrored_next : IsMirrored start e.host (e ∷ log) → (h : ℕ) → IsMirrored start h (log_of (machine start) (e ∷ es) h)
@@ -147,10 +149,11 @@ module _ (hosts_level : HostsAreLevel) (start : Start) (shape : IsShape start.sh
       }
 
   -- A step whose signal the plain machine may take.
-  module _ (kind : IsPlainKind e.step.taken.to.block e.step.taken.body) (takes : is_beating e.host ≡ false) where
+  module _ (nobody : NobodyStarts start) (kind : IsPlainKind e.step.taken.to.block e.step.taken.body)
+      (takes : is_beating e.host ≡ false) where
     pub arrival : Arrives start es e.host e.step.taken
     arrival =
-        arrives start es e.host e.step.taken within kept.mirrored kind takes kept.run happens.step.fits.comes
+        arrives start es e.host e.step.taken within kept.mirrored nobody kind takes kept.run happens.step.fits.comes
         happens.takes
 
     abbrev rest : List HostStep
@@ -167,7 +170,7 @@ module _ (hosts_level : HostsAreLevel) (start : Start) (shape : IsShape start.sh
             stamped =
                 let behind =
                 ap (last (plain.machine start) e.host) same ∙ plain_last start e.host rest in
-                omega (arith, happens.step.stamped, last_is start e.host log, behind, before.late);
+                omega (arith, happens.step.stamped, last_is start nobody e.host log, behind, before.late);
             runs = plain_runs start (log_of (plain.machine start) (plain_events start es) e.host);
             fits =
                 subst (λ those. plain.FitsRow start e.host those (levelled start.epoch (marked e marks))) (sym same)
@@ -222,5 +225,5 @@ module _ (hosts_level : HostsAreLevel) (start : Start) (shape : IsShape start.sh
           run =
               subst (λ b. Run (plain.machine start) (running_if b (levelled start.epoch e) (plain_events start es)))
               (sym (left_none e takes beside)) (kept.run, happens_plain e.step.marks marks);
-          mirrored = mirrored_next (plain_mirrored hosts_level start e.host log e before step);
+          mirrored = mirrored_next (plain_mirrored hosts_level start e.host log e before step nobody);
         }

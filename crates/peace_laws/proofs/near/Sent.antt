@@ -19,7 +19,7 @@ use Rattle.frag_map.specs.Layout.{first_view}
 use Rattle.world_core.specs.Hosts.{first_membership, host_by, host_for, member_of, receiver}
 use Rattle.world_core.specs.Machine as plain
 use Rattle.world_core.specs.Machine.{counted, one_more}
-use Rattle.world_core.specs.Start.{Start, made}
+use Rattle.world_core.specs.Start.{NobodyStarts, Start, made}
 use Rattle.world_core.specs.Steps.{Addressed, HostStep}
 use Rattle.world_views.proofs.LogFacts.{sent_going_on}
 use Rattle.world_views.specs.declared.sender.Sender.{Sender}
@@ -60,34 +60,35 @@ master_beats start to is some =
     ∙ node_beats start (record { node = to.node; block = Qmgr }) refl some
 
 -- What is for main parts goes aside: what is for masters, and the rounds that are told besides.
-module _ (start : Start) (h : ℕ) (standing : Standing) (ease : IsAtEase start standing) where
-  -- it goes to a main part, or to nobody
-  abbrev GoesAside : Outgoing → Type 0
-  GoesAside sent = is_beating (host_for start sent.to) ≡ true
+module _ (start : Start) (nobody : NobodyStarts start) (h : ℕ) (standing : Standing) (ease : IsAtEase start standing)
+  where
+    -- it goes to a main part, or to nobody
+    abbrev GoesAside : Outgoing → Type 0
+    GoesAside sent = is_beating (host_for start sent.to) ≡ true
 
-  aside_if : (b : Bool) (r : Routed) (rs : List Routed) → IsAside r → Each IsAside rs
-      → Each IsAside (routed_if b r rs)
-  aside_if true r rs one all = all
-  aside_if false r rs one all = (one, all)
+    aside_if : (b : Bool) (r : Routed) (rs : List Routed) → IsAside r → Each IsAside rs
+        → Each IsAside (routed_if b r rs)
+    aside_if true r rs one all = all
+    aside_if false r rs one all = (one, all)
 
-  all_aside : (sends : List Outgoing) → Each GoesAside sends
-      → Each IsAside (routed_all (made start) h standing sends)
-  all_aside [] all = tt
-  all_aside (sent ∷ more) all =
-      aside_if (is_kept_back h standing (reached (made start) h standing.view sent.to) sent)
-      (routed (reached (made start) h standing.view sent.to) sent) (routed_all (made start) h standing more)
-      (ap is_beating (here start h standing ease sent.to) ∙ all.0) (all_aside more all.1)
+    all_aside : (sends : List Outgoing) → Each GoesAside sends
+        → Each IsAside (routed_all (made start) h standing sends)
+    all_aside [] all = tt
+    all_aside (sent ∷ more) all =
+        aside_if (is_kept_back h standing (reached (made start) h standing.view sent.to) sent)
+        (routed (reached (made start) h standing.view sent.to) sent) (routed_all (made start) h standing more)
+        (ap is_beating (here start h standing ease nobody sent.to) ∙ all.0) (all_aside more all.1)
 
-  pub masters_aside : (sends : List Outgoing) → Each IsForMaster sends
-      → Each IsAside (routed_all (made start) h standing sends)
-  masters_aside sends all =
-      all_aside sends
-      (each_map IsForMaster GoesAside sends (λ sent is. master_beats start sent.to is.0 is.1) all)
+    pub masters_aside : (sends : List Outgoing) → Each IsForMaster sends
+        → Each IsAside (routed_all (made start) h standing sends)
+    masters_aside sends all =
+        all_aside sends
+        (each_map IsForMaster GoesAside sends (λ sent is. master_beats start sent.to is.0 is.1) all)
 
-  pub rounds_aside : (body : Body) → Each IsAside (routed_all (made start) h standing (besides start h body))
-  rounds_aside body =
-      all_aside (besides start h body)
-      (each_besides GoesAside start h body (λ k low. node_beats start (membership (k + 1)) refl (omega arith)))
+    pub rounds_aside : (body : Body) → Each IsAside (routed_all (made start) h standing (besides start h body))
+    rounds_aside body =
+        all_aside (besides start h body)
+        (each_besides GoesAside start h body (λ k low. node_beats start (membership (k + 1)) refl (omega arith)))
 
 -- What comes on the link to a host that is no main part, and how many signals are counted there.
 module _ (start : Start) (j : ℕ) (takes : is_beating j ≡ false) where
@@ -163,7 +164,7 @@ module _ (start : Start) (j : ℕ) (takes : is_beating j ≡ false) where
         one false at = refl
 
 -- A step that sends some things as a plain host sends them, and others that go aside.
-module _ (start : Start) (h : ℕ) (log : List HostStep) (e : HostStep)
+module _ (start : Start) (nobody : NobodyStarts start) (h : ℕ) (log : List HostStep) (e : HostStep)
     (ease : IsAtEase start (after start h (e ∷ log)).standing) (both extra : List Outgoing)
     (sends : (step_after start h log e).effects.sends ≡ both ++ extra) (plain_ones : Each (IsPlainSend h) both)
     (aside : Each IsAside (routed_all (made start) h (after start h (e ∷ log)).standing extra))
@@ -176,7 +177,7 @@ module _ (start : Start) (h : ℕ) (log : List HostStep) (e : HostStep)
 
   routed_are : routed_all (made start) h standing (step_after start h log e).effects.sends ≡ plainly start both ++ rest
   routed_are =
-      ap (routed_all (made start) h standing) sends ∙ routed_alike start h standing ease both extra plain_ones
+      ap (routed_all (made start) h standing) sends ∙ routed_alike start h standing ease nobody both extra plain_ones
 
   sent_are : stops_by e.step.marks ≡ false
       → sent (machine start) h j (e ∷ log)

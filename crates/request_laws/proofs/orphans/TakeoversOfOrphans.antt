@@ -27,7 +27,7 @@ use Rattle.node_views.specs.declared.host_body.HostBody as hosts
 use Rattle.node_views.specs.declared.parts.Parts.TheVariants as part
 use Rattle.node_views.specs.declared.tc_part.TcPart.{TcPart}
 use Rattle.node_views.specs.Parts.{ldm_row, tc_entered, tc_row}
-use Rattle.world_core.specs.Start.{Start, made}
+use Rattle.world_core.specs.Start.{NobodyStarts, Start, made}
 use Rattle.world_core.specs.Steps.{Addressed, HostStep}
 use Rattle.world_views.specs.Machine.{after, machine, step_after}
 use Rattle.view_laws.specs.Runs.{view_after}
@@ -105,15 +105,16 @@ module _ (start : Start) where
   HasOrphans member log =
       GatheredAre (IsOrphan (view_after start (tc_of start member) log)) (takeover_after start member log)
 
-  none_first : (member : Member) → IsIn member (made start) → (takeover_after start member []).gathered ≡ []
-  none_first member there =
+  none_first : NobodyStarts start → (member : Member) → IsIn member (made start)
+      → (takeover_after start member []).gathered ≡ []
+  none_first nobody member there =
       ap (λ (s : hosts.HostBody). (takeover_in (resting member.node (first_layout start.shape)) s.parts).gathered)
-      (tc_started start member there)
+      (tc_started start nobody member there)
 
-  orphans_first : AllOrphans start (λ h. [])
-  orphans_first = record {
+  orphans_first : NobodyStarts start → AllOrphans start (λ h. [])
+  orphans_first nobody = record {
     signals = λ i j. tt;
-    gathered = λ member there. subst (Each _) (sym (none_first member there)) tt;
+    gathered = λ member there. subst (Each _) (sym (none_first nobody member there)) tt;
   }
 
   module _ (all : ℕ → List HostStep) (e : HostStep) (es : List HostStep) (moment : IsMoment start all (e ∷ es))
@@ -189,7 +190,7 @@ module _ (start : Start) where
       gathered_own : (member : Member) → IsIn member (made start) → e.host ≡ tc_of start member
           → HasOrphans member (e ∷ old (tc_of start member))
       gathered_own member there at =
-          let step = tc_step start member there e.host at (old e.host) e in
+          let step = tc_step start moment.cluster.nobody member there e.host at (old e.host) e in
           let before : GatheredAre (IsOrphan stood) step.own.takeover =
           subst (GatheredAre (IsOrphan stood)) (takeover_is start member e.host (old e.host) at step.own step.runs)
           (subst (λ h. GatheredAre (IsOrphan (view_after start h (old h))) (takeover_after start member (old h)))
@@ -264,11 +265,13 @@ module _ (start : Start) where
           rest (handles passed same is) = subst (AreOrphans view) (sym is) (row x.to.block)
 
       sends_tell : AreOrphans view sends
-      sends_tell = by (part_host start e.host (host_low start all e es moment))
+      sends_tell = by (part_host start moment.cluster.nobody e.host (host_low start all e es moment))
         where
           by : PartHost start e.host → AreOrphans view sends
-          by (coordinates me there at) = tc_sends (tc_step start me there e.host at (old e.host) e)
-          by (keeps_rows me there at) = ldm_sends (ldm_step start me there e.host at (old e.host) e)
+          by (coordinates me there at) =
+              tc_sends (tc_step start moment.cluster.nobody me there e.host at (old e.host) e)
+          by (keeps_rows me there at) =
+              ldm_sends (ldm_step start moment.cluster.nobody me there e.host at (old e.host) e)
           by (is_beside first) = aside_orphans view sends (beside_sends start e.host first (old e.host) e)
 
       orphans_next : AllOrphans start (logs_of start (e ∷ es))
@@ -282,7 +285,7 @@ module _ (start : Start) where
 
   all_orphans : (all : ℕ → List HostStep) (es : List HostStep) → IsMoment start all es
       → AllOrphans start (logs_of start es)
-  all_orphans all [] moment = orphans_first
+  all_orphans all [] moment = orphans_first moment.cluster.nobody
   all_orphans all (e ∷ es) moment =
       orphans_next all e es moment (all_orphans all es (moment_less start all e es moment))
 

@@ -19,7 +19,7 @@ use Rattle.node_views.specs.declared.host_body.HostBody as hosts
 use Rattle.node_views.specs.declared.parts.Parts.TheVariants as part
 use Rattle.node_views.specs.declared.tc_part.TcPart.{TcPart}
 use Rattle.node_views.specs.WellFormed.{is_well_formed}
-use Rattle.world_core.specs.Start.{Start, made}
+use Rattle.world_core.specs.Start.{NobodyStarts, Start, made}
 use Rattle.world_core.specs.Steps.{HostStep}
 use Rattle.world_views.specs.Machine.{after, step_after, told}
 use Rattle.moment_laws.specs.Places.{tc_of}
@@ -55,15 +55,16 @@ module _ (start : Start) (member : Member) (there : IsIn member (made start)) wh
   module _ (log : List HostStep) (e : HostStep) (at : IsRun log) (P : TxId → Type 0) (all : Each P at.own.dih.held)
       (asks : (tx : TxId) (ops : List (Op × Answer)) → e.step.taken.body ≡ Epoch (DiVerifyReq tx ops) → P tx)
     where
-      moved : HasMoved member start.shape at.own e.step.taken at.fits at.touched P all asks (step_after start h log e)
-      moved =
+      moved : NobodyStarts start
+          → HasMoved member start.shape at.own e.step.taken at.fits at.touched P all asks (step_after start h log e)
+      moved nobody =
           moves_by member start.shape at.own e.step.taken at.fits at.touched P all asks (step_after start h log e)
-          (tc_goes start h log e at.own at.runs)
+          (tc_goes start nobody h log e at.own at.runs)
 
-      now_runs : (after start h (e ∷ log)).parts ≡ part.Tc moved.now
-      now_runs =
+      now_runs : (nobody : NobodyStarts start) → (after start h (e ∷ log)).parts ≡ part.Tc (moved nobody).now
+      now_runs nobody =
           ap (λ (s : hosts.HostBody). s.parts) (told_some h (part_some start Tc member) (step_after start h log e))
-          ∙ moved.runs
+          ∙ (moved nobody).runs
 
       pub record IsNext : Type 0 where
         pub run : IsRun (e ∷ log)
@@ -72,16 +73,16 @@ module _ (start : Start) (member : Member) (there : IsIn member (made start)) wh
             run.own.coordinator (step_after start h log e).effects.sends
         pub said : Said P run.own.dih.held (step_after start h log e).effects
 
-      pub next : IsNext
-      next = record {
+      pub next : NobodyStarts start → IsNext
+      next nobody = record {
         run = record {
-          own = moved.now;
-          runs = now_runs;
-          fits = moved.moves.fits;
-          touched = moved.moves.touched;
+          own = (moved nobody).now;
+          runs = now_runs nobody;
+          fits = (moved nobody).moves.fits;
+          touched = (moved nobody).moves.touched;
         };
-        comes = moved.moves.comes;
-        said = moved.moves.said;
+        comes = (moved nobody).moves.comes;
+        said = (moved nobody).moves.said;
       }
 
   abbrev begun : TcPart
@@ -91,10 +92,10 @@ module _ (start : Start) (member : Member) (there : IsIn member (made start)) wh
     dih = fresh_dih member.node (first_layout start.shape).view.number start.epoch start.start_epoch;
   }
 
-  first : IsRun []
-  first = record {
+  first : NobodyStarts start → IsRun []
+  first nobody = record {
     own = begun;
-    runs = ap (λ (s : hosts.HostBody). s.parts) (tc_started start member there);
+    runs = ap (λ (s : hosts.HostBody). s.parts) (tc_started start nobody member there);
     fits = coordinator_of_fresh member (first_layout start.shape);
     touched = tt;
   }
@@ -104,42 +105,44 @@ module _ (start : Start) (member : Member) (there : IsIn member (made start)) wh
     pub run : IsRun []
     pub held : run.own.dih.held ≡ []
 
-  pub begins : Begins
+  pub begins : NobodyStarts start → Begins
   unfolding first
-  begins = record { run = first; held = refl }
+  begins nobody = record { run = first nobody; held = refl }
 
   any_held : (held : List TxId) → Each (λ (tx : TxId). Unit {0}) held
   any_held [] = tt
   any_held (tx ∷ held) = (tt, any_held held)
 
   -- so it is of each log
-  pub runs_tc : (log : List HostStep) → IsRun log
-  runs_tc [] = first
-  runs_tc (e ∷ log) =
-      let at = runs_tc log in
-      (next log e at (λ (tx : TxId). Unit {0}) (any_held at.own.dih.held) (λ tx ops is. tt)).run
+  pub runs_tc : NobodyStarts start → (log : List HostStep) → IsRun log
+  runs_tc nobody [] = first nobody
+  runs_tc nobody (e ∷ log) =
+      let at = runs_tc nobody log in
+      (next log e at (λ (tx : TxId). Unit {0}) (any_held at.own.dih.held) (λ tx ops is. tt) nobody).run
 
   -- the coordinator is that of the part
   pub coordinator_is : (log : List HostStep) (at : IsRun log) → coordinator_after start member log ≡ at.own.coordinator
   coordinator_is log at = ap (coordinator_in other) at.runs
 
-  pub coordinator_of : (log : List HostStep) → IsCoordinatorOf member (coordinator_after start member log)
-  coordinator_of log =
-      let at = runs_tc log in subst (IsCoordinatorOf member) (sym (coordinator_is log at)) at.fits
+  pub coordinator_of : NobodyStarts start → (log : List HostStep)
+      → IsCoordinatorOf member (coordinator_after start member log)
+  coordinator_of nobody log =
+      let at = runs_tc nobody log in subst (IsCoordinatorOf member) (sym (coordinator_is log at)) at.fits
 
-  pub coordinator_touched : (log : List HostStep) → Each IsKeyed (coordinator_after start member log).tc.live
-  coordinator_touched log =
-      let at = runs_tc log in
+  pub coordinator_touched : NobodyStarts start → (log : List HostStep)
+      → Each IsKeyed (coordinator_after start member log).tc.live
+  coordinator_touched nobody log =
+      let at = runs_tc nobody log in
       subst (λ (s : CoordinatorState). Each IsKeyed s.tc.live) (sym (coordinator_is log at)) at.touched
 
   -- what a step comes to for each of its transactions
-  pub coordinator_comes : (log : List HostStep) (e : HostStep) (tx : TxId)
+  pub coordinator_comes : NobodyStarts start → (log : List HostStep) (e : HostStep) (tx : TxId)
       → Comes member (coordinator_after start member log) e.step.taken
       (is_well_formed start.shape e.step.taken ≡ true) tx (coordinator_after start member (e ∷ log))
       (step_after start h log e).effects.sends
-  coordinator_comes log e tx =
-      let at = runs_tc log in
-      let after_it = next log e at (λ (tx : TxId). Unit {0}) (any_held at.own.dih.held) (λ tx ops is. tt) in
+  coordinator_comes nobody log e tx =
+      let at = runs_tc nobody log in
+      let after_it = next log e at (λ (tx : TxId). Unit {0}) (any_held at.own.dih.held) (λ tx ops is. tt) nobody in
       subst
       (λ (s : CoordinatorState). Comes member s e.step.taken (is_well_formed start.shape e.step.taken ≡ true) tx
       (coordinator_after start member (e ∷ log)) (step_after start h log e).effects.sends)
@@ -150,5 +153,6 @@ module _ (start : Start) (member : Member) (there : IsIn member (made start)) wh
       (sym (coordinator_is (e ∷ log) after_it.run)) (after_it.comes tx))
 
   -- and as its life begins
-  pub coordinator_first : coordinator_after start member [] ≡ other
-  coordinator_first = ap (λ (s : hosts.HostBody). coordinator_in other s.parts) (tc_started start member there)
+  pub coordinator_first : NobodyStarts start → coordinator_after start member [] ≡ other
+  coordinator_first nobody =
+      ap (λ (s : hosts.HostBody). coordinator_in other s.parts) (tc_started start nobody member there)

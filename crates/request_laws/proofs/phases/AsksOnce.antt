@@ -22,7 +22,7 @@ use Rattle.tc_block.specs.Phases.{is_aborting, is_decided}
 use Rattle.tc_block.specs.Turn.{Turn, at_phase}
 use Rattle.tc_views.specs.State.{CoordinatorState}
 use Rattle.node_views.specs.WellFormed.{is_well_formed}
-use Rattle.world_core.specs.Start.{Start, made}
+use Rattle.world_core.specs.Start.{NobodyStarts, Start, made}
 use Rattle.world_core.specs.Steps.{HostStep}
 use Rattle.world_views.specs.Machine.{step_after}
 use Rattle.view_laws.proofs.ballots.MadeSets.{in_either}
@@ -123,8 +123,8 @@ module _ (start : Start) (member : Member) (there : IsIn member (made start)) (t
                   sym (ap (λ (u : Outgoing). u.body) one) ∙ own.says in cc
               by (inr none) = absurd none
 
-    pub asked_now : (ops : List (Op × Answer)) → IsTold (request tx ops) sends → IsAskedNow ops
-    asked_now ops told = by (coordinator_comes start member there log e tx)
+    pub asked_now : NobodyStarts start → (ops : List (Op × Answer)) → IsTold (request tx ops) sends → IsAskedNow ops
+    asked_now nobody ops told = by (coordinator_comes start member there nobody log e tx)
       where
         by : Comes member (c log) e.step.taken (is_well_formed start.shape e.step.taken ≡ true) tx (c (e ∷ log)) sends
             → IsAskedNow ops
@@ -194,9 +194,9 @@ module _ (start : Start) (member : Member) (there : IsIn member (made start)) (t
       turn_waits ops node body are (turns.forth epoch is goes) = inl (goes_forth epoch goes)
       turn_waits ops node body are (turns.back undecided goes) = inl (goes_back goes)
 
-    pub waits_more : (ops : List (Op × Answer)) → WaitsWith start member log tx ops
+    pub waits_more : NobodyStarts start → (ops : List (Op × Answer)) → WaitsWith start member log tx ops
         → HasGone start member (e ∷ log) tx ⊎ WaitsWith start member (e ∷ log) tx ops
-    waits_more ops waits = by (coordinator_comes start member there log e tx)
+    waits_more nobody ops waits = by (coordinator_comes start member there nobody log e tx)
       where
         by : Comes member (c log) e.step.taken (is_well_formed start.shape e.step.taken ≡ true) tx (c (e ∷ log)) sends
             → HasGone start member (e ∷ log) tx ⊎ WaitsWith start member (e ∷ log) tx ops
@@ -214,54 +214,56 @@ module _ (start : Start) (member : Member) (there : IsIn member (made start)) (t
             (c log).tc.node e.step.taken.body (sym (ap (λ (u : Transaction). u.ops) one) ∙ waits.ops_are) changes
 
   -- whoever is open neither waits, nor has gone
-  open_waits : (log : List HostStep) (ops : List (Op × Answer)) (t : Transaction) → o log ≡ Some t → t.phase ≡ Open
+  open_waits : NobodyStarts start → (log : List HostStep) (ops : List (Op × Answer)) (t : Transaction) → o log ≡ Some t
+      → t.phase ≡ Open
       → HasGone start member log tx ⊎ WaitsWith start member log tx ops → ⊥
-  open_waits log ops t found at (inl gone) = by gone
+  open_waits nobody log ops t found at (inl gone) = by gone
     where
       says : (has_gone_forth start member tx log ≡ false) × (has_gone_back start member tx log ≡ false)
       says =
           subst (WaySays (has_gone_forth start member tx log) (has_gone_back start member tx log)) at
-          ((goes_one_way start member there tx log).says t found)
+          ((goes_one_way start member there tx nobody log).says t found)
 
       by : HasGone start member log tx → ⊥
       by (inl forth) = true≢false (sym forth ∙ says.0)
       by (inr back) = true≢false (sym back ∙ says.1)
-  open_waits log ops t found at (inr waits) =
+  open_waits nobody log ops t found at (inr waits) =
       let one : waits.transaction ≡ t = cc (sym waits.there ∙ found) in
       let phases : Open ≡ Verifying = sym at ∙ (sym (ap (λ (u : Transaction). u.phase) one) ∙ waits.phase) in
       absurd cc
 
   -- for whom an epoch was asked for with these operations
-  pub told_waits : (log : List HostStep) (ops : List (Op × Answer)) → Told ops log
+  pub told_waits : NobodyStarts start → (log : List HostStep) (ops : List (Op × Answer)) → Told ops log
       → HasGone start member log tx ⊎ WaitsWith start member log tx ops
-  told_waits [] ops told = absurd told
-  told_waits (e ∷ log) ops (inl told) =
-      let asked = asked_now log e ops told in
+  told_waits nobody [] ops told = absurd told
+  told_waits nobody (e ∷ log) ops (inl told) =
+      let asked = asked_now log e nobody ops told in
       inr (record {
         transaction = at_phase asked.transaction Verifying;
         there = asked.left;
         phase = refl;
         ops_are = asked.ops_are;
       })
-  told_waits (e ∷ log) ops (inr told) = by (told_waits log ops told)
+  told_waits nobody (e ∷ log) ops (inr told) = by (told_waits nobody log ops told)
     where
       by : HasGone start member log tx ⊎ WaitsWith start member log tx ops
           → HasGone start member (e ∷ log) tx ⊎ WaitsWith start member (e ∷ log) tx ops
       by (inl gone) = inl (gone_more log e gone)
-      by (inr waits) = waits_more log e ops waits
+      by (inr waits) = waits_more log e nobody ops waits
 
   -- it wasn't with others
-  pub one_request : (log : List HostStep) (ops more : List (Op × Answer)) → Told ops log → Told more log → ops ≡ more
-  one_request [] ops more told other = absurd told
-  one_request (e ∷ log) ops more (inl told) (inl other) =
-      let one = asked_now log e ops told in
-      let two = asked_now log e more other in
+  pub one_request : NobodyStarts start → (log : List HostStep) (ops more : List (Op × Answer)) → Told ops log
+      → Told more log → ops ≡ more
+  one_request nobody [] ops more told other = absurd told
+  one_request nobody (e ∷ log) ops more (inl told) (inl other) =
+      let one = asked_now log e nobody ops told in
+      let two = asked_now log e nobody more other in
       let same : one.transaction ≡ two.transaction = cc (sym one.found ∙ two.found) in
       sym one.ops_are ∙ (ap (λ (u : Transaction). u.ops) same ∙ two.ops_are)
-  one_request (e ∷ log) ops more (inl told) (inr other) =
-      let one = asked_now log e ops told in
-      absurd (open_waits log more one.transaction one.found one.phase (told_waits log more other))
-  one_request (e ∷ log) ops more (inr told) (inl other) =
-      let two = asked_now log e more other in
-      absurd (open_waits log ops two.transaction two.found two.phase (told_waits log ops told))
-  one_request (e ∷ log) ops more (inr told) (inr other) = one_request log ops more told other
+  one_request nobody (e ∷ log) ops more (inl told) (inr other) =
+      let one = asked_now log e nobody ops told in
+      absurd (open_waits nobody log more one.transaction one.found one.phase (told_waits nobody log more other))
+  one_request nobody (e ∷ log) ops more (inr told) (inl other) =
+      let two = asked_now log e nobody more other in
+      absurd (open_waits nobody log ops two.transaction two.found two.phase (told_waits nobody log ops told))
+  one_request nobody (e ∷ log) ops more (inr told) (inr other) = one_request nobody log ops more told other

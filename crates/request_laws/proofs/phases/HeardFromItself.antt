@@ -38,7 +38,7 @@ use Rattle.node_views.specs.declared.tc_part.TcPart.{TcPart}
 use Rattle.node_views.specs.Parts.{tc_row}
 use Rattle.node_views.specs.WellFormed.{is_well_formed}
 use Rattle.world_core.specs.Hosts.{hosts}
-use Rattle.world_core.specs.Start.{Start, made}
+use Rattle.world_core.specs.Start.{NobodyStarts, Start, made}
 use Rattle.world_core.specs.Steps.{Addressed, HostStep}
 use Rattle.world_views.proofs.SentFacts.{is_stamped}
 use Rattle.world_views.specs.Hosts.{reached}
@@ -111,12 +111,12 @@ module _ (start : Start) (member : Member) (there : IsIn member (made start)) wh
   row_home p between entered of x block.Dih = spared_home _ (epochs_still between.dih x).asks
   row_home p between entered of x _ = tt
 
-  host_home : (log : List HostStep) (e : HostStep)
+  host_home : NobodyStarts start → (log : List HostStep) (e : HostStep)
       → AskHome (step_after start (tc_of start member) log e).effects.sends
-  host_home log e = of_run (runs_tc start member there log)
+  host_home nobody log e = of_run (runs_tc start member there nobody log)
     where
       of_run : IsRun start member there log → AskHome (step_after start (tc_of start member) log e).effects.sends
-      of_run at = by (tc_goes start (tc_of start member) log e at.own at.runs)
+      of_run at = by (tc_goes start nobody (tc_of start member) log e at.own at.runs)
         where
           by : Goes start.shape at.own e.step.taken (step_after start (tc_of start member) log e)
               → AskHome (step_after start (tc_of start member) log e).effects.sends
@@ -277,7 +277,7 @@ module _ (start : Start) (logs : ℕ → List HostStep) (are : AreOfCluster star
             subst (AsksHome start (coordinator_member tx) made_w one.sent.to) says
             (each_in (λ (sent : Outgoing). AsksHome start (coordinator_member tx) made_w sent.to sent.body) one.sent
             (step_after start (tc_of start (coordinator_member tx)) sent.before sent.step).effects.sends
-            (host_home start (coordinator_member tx) made_w sent.before sent.step) own_there)
+            (host_home start (coordinator_member tx) made_w are.nobody sent.before sent.step) own_there)
 
         reaches : (k : ℕ) (v : View) → i ≡ k → e.host ≡ reached (made start) i v one.sent.to
             → reached (made start) k v (epochs (coordinator_member tx).node) ≡ h
@@ -287,11 +287,11 @@ module _ (start : Start) (logs : ℕ → List HostStep) (are : AreOfCluster star
 
         itself : coordinator_member tx ≡ member
         itself =
-            own_reaches start (((coordinator_member tx).node - 1) * 3 + 1)
+            own_reaches start are.nobody (((coordinator_member tx).node - 1) * 3 + 1)
             (after start i (sent.step ∷ sent.before)).standing.view (coordinator_member tx) member made_w there
             block.Dih block.Dih
             (reaches _ (after start i (sent.step ∷ sent.before)).standing.view
-            (own ∙ tc_number start (coordinator_member tx) made_w) one.to)
+            (own ∙ tc_number start are.nobody (coordinator_member tx) made_w) one.to)
 
         here : i ≡ h
         here = own ∙ ap (tc_of start) itself

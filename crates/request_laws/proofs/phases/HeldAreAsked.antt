@@ -17,7 +17,7 @@ use Rattle.sig_core.specs.Same.{same_tx}
 use Rattle.sig_core.proofs.Keys.{same_tx-self}
 use Rattle.sig_core.proofs.TxLemmas.{same_tx-is}
 use Rattle.world_core.specs.Entries.{else_of, ops_of, verified_by}
-use Rattle.world_core.specs.Start.{Start, made}
+use Rattle.world_core.specs.Start.{NobodyStarts, Start, made}
 use Rattle.world_core.specs.Steps.{HostStep}
 use Rattle.moment_laws.specs.Places.{tc_of}
 use Rattle.outcome_laws.specs.Decided.{IsMarked}
@@ -45,7 +45,7 @@ module _ (start : Start) (member : Member) (there : IsIn member (made start)) wh
   abbrev pub IsAskedFor : List HostStep → TxId → Type 0
   IsAskedFor log tx = HasTold start (tc_of start member) (request tx (ops_of tx log)) log
 
-  module _ (log : List HostStep) (e : HostStep) (heard : IsHeard start member e log) where
+  module _ (nobody : NobodyStarts start) (log : List HostStep) (e : HostStep) (heard : IsHeard start member e log) where
     -- these stay
     pub ops_stay : (tx : TxId) → IsAskedFor log tx → ops_of tx (e ∷ log) ≡ ops_of tx log
     ops_stay tx asked = by (verified_is tx e.step.taken.body)
@@ -54,7 +54,7 @@ module _ (start : Start) (member : Member) (there : IsIn member (made start)) wh
         by (leaves is) = ap (λ (u : Option (List (Op × Answer))). else_of u (ops_of tx log)) is
         by (verifies ops is same) =
             ap (λ (u : Option (List (Op × Answer))). else_of u (ops_of tx log)) same
-            ∙ one_request start member there tx log ops (ops_of tx log) (heard.asks tx ops is) asked
+            ∙ one_request start member there tx nobody log ops (ops_of tx log) (heard.asks tx ops is) asked
 
     asked_more : (tx : TxId) → IsAskedFor log tx → IsAskedFor (e ∷ log) tx
     asked_more tx asked =
@@ -79,23 +79,24 @@ module _ (start : Start) (member : Member) (there : IsIn member (made start)) wh
     pub given : (tx : TxId) (epoch : ℕ)
         → HasTold start (tc_of start member) (Epoch (DiVerifyConf tx epoch)) log → IsMarked (Decided tx epoch) log
 
-  module _ (log : List HostStep) (e : HostStep) (heard : IsHeard start member e log) (kept : IsKept log) where
+  module _ (nobody : NobodyStarts start) (log : List HostStep) (e : HostStep) (heard : IsHeard start member e log)
+      (kept : IsKept log) where
     held_more : Each (IsAskedFor (e ∷ log)) kept.at.own.dih.held
     held_more =
-        each_map (IsAskedFor log) (IsAskedFor (e ∷ log)) kept.at.own.dih.held (asked_more log e heard) kept.held
+        each_map (IsAskedFor log) (IsAskedFor (e ∷ log)) kept.at.own.dih.held (asked_more nobody log e heard) kept.held
 
     kept_next : IsKept (e ∷ log)
     kept_next =
-        by (next start member there log e kept.at (IsAskedFor (e ∷ log)) held_more (asks_now log e heard))
+        by (next start member there log e kept.at (IsAskedFor (e ∷ log)) held_more (asks_now nobody log e heard) nobody)
       where
-        by : IsNext start member there log e kept.at (IsAskedFor (e ∷ log)) held_more (asks_now log e heard)
+        by : IsNext start member there log e kept.at (IsAskedFor (e ∷ log)) held_more (asks_now nobody log e heard)
             → IsKept (e ∷ log)
         by behind = record { at = behind.run; held = behind.said.held_are; decided = decided; given = given }
           where
             decided : (tx : TxId) (epoch : ℕ) → IsMarked (Decided tx epoch) (e ∷ log) → IsAskedFor (e ∷ log) tx
             decided tx epoch (inl now) =
                 behind.said.decided tx epoch (subst (IsIn (Decided tx epoch)) heard.marks now)
-            decided tx epoch (inr old) = asked_more log e heard tx (kept.decided tx epoch old)
+            decided tx epoch (inr old) = asked_more nobody log e heard tx (kept.decided tx epoch old)
 
             given : (tx : TxId) (epoch : ℕ)
                 → HasTold start (tc_of start member) (Epoch (DiVerifyConf tx epoch)) (e ∷ log)
@@ -105,11 +106,11 @@ module _ (start : Start) (member : Member) (there : IsIn member (made start)) wh
                 (behind.said.given tx epoch (record { sent = told.one; there = told.there; body = told.says })))
             given tx epoch (inr told) = inr (kept.given tx epoch told)
 
-  pub is_kept : (log : List HostStep) → Heard start member log → IsKept log
-  is_kept [] heard = record {
-    at = (begins start member there).run;
-    held = subst (Each (IsAskedFor [])) (sym (begins start member there).held) tt;
+  pub is_kept : NobodyStarts start → (log : List HostStep) → Heard start member log → IsKept log
+  is_kept nobody [] heard = record {
+    at = (begins start member there nobody).run;
+    held = subst (Each (IsAskedFor [])) (sym (begins start member there nobody).held) tt;
     decided = λ tx epoch none. absurd none;
     given = λ tx epoch none. absurd none;
   }
-  is_kept (e ∷ log) heard = kept_next log e heard.0 (is_kept log heard.1)
+  is_kept nobody (e ∷ log) heard = kept_next nobody log e heard.0 (is_kept nobody log heard.1)

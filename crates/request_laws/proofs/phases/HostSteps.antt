@@ -39,7 +39,7 @@ use Rattle.node_views.specs.Row.{is_cut, is_excluded, is_stop, kill_row, killed_
 use Rattle.node_views.specs.Row.{passed_row, taken_if, unless_stopped}
 use Rattle.node_views.specs.WellFormed.{is_first, is_well_formed}
 use Rattle.node_views.proofs.StopWalk.{counted_stops}
-use Rattle.world_core.specs.Start.{Start}
+use Rattle.world_core.specs.Start.{NobodyStarts, Start}
 use Rattle.world_core.specs.Steps.{HostStep}
 use Rattle.world_views.specs.Machine.{after, own_stop, step_after, step_by, step_if}
 use Rattle.view_laws.proofs.eras.Shapes.{shape_stays}
@@ -240,13 +240,13 @@ module _ (x : Signal) where
       stopped None = by (is_well_formed standing.shape x) refl
 
 -- so it is along a log
-module _ (start : Start) (h : ℕ) (log : List HostStep) (e : HostStep) (p : TcPart)
+module _ (start : Start) (nobody : NobodyStarts start) (h : ℕ) (log : List HostStep) (e : HostStep) (p : TcPart)
     (runs : (after start h log).parts ≡ part.Tc p)
   where
     pub tc_goes : Goes start.shape p e.step.taken (step_after start h log e)
     tc_goes =
         let standing = (after start h log).standing in
-        subst (λ shape. Goes shape p e.step.taken (step_after start h log e)) (shape_stays start h log)
+        subst (λ shape. Goes shape p e.step.taken (step_after start h log e)) (shape_stays start nobody h log)
         (subst
         (λ parts. Goes standing.shape p e.step.taken
         (step_by h (record { standing = standing; parts = parts }) e.step.taken))

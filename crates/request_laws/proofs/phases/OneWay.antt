@@ -25,7 +25,7 @@ use Rattle.frag_map.specs.Layout.{first_layout}
 use Rattle.tc_views.specs.Coordinator.{fresh_coordinator}
 use Rattle.tc_views.specs.State.{CoordinatorState}
 use Rattle.node_views.specs.WellFormed.{is_well_formed}
-use Rattle.world_core.specs.Start.{Start, made}
+use Rattle.world_core.specs.Start.{NobodyStarts, Start, made}
 use Rattle.world_core.specs.Steps.{HostStep}
 use Rattle.world_views.specs.Machine.{step_after}
 use Rattle.moment_laws.specs.Places.{tc_of}
@@ -232,9 +232,10 @@ module _ (start : Start) (member : Member) (there : IsIn member (made start)) (t
           lift (inr is) = inr (back_same ∙ is)
 
     -- it begins
-    begun_way : o (e ∷ log) ≡ Some fresh → next_tx (c log).tc ≡ tx → (c (e ∷ log)).tc.next_seq ≡ (c log).tc.next_seq + 1
+    begun_way : NobodyStarts start → o (e ∷ log) ≡ Some fresh → next_tx (c log).tc ≡ tx
+        → (c (e ∷ log)).tc.next_seq ≡ (c log).tc.next_seq + 1
         → AreSpared (tells_commit tx) sends → AreSpared (tells_abort tx) sends → Way (e ∷ log)
-    begun_way some is next commits aborts = record {
+    begun_way nobody some is next commits aborts = record {
       says = λ t at.
           let fresh_is : fresh ≡ t = cc (sym some ∙ at) in
           subst (λ (u : Transaction). WaySays (f (e ∷ log)) (b (e ∷ log)) u.phase) fresh_is (forth, back);
@@ -246,7 +247,7 @@ module _ (start : Start) (member : Member) (there : IsIn member (made start)) (t
       where
         own : Own
         own =
-            let fits = coordinator_of start member there log in
+            let fits = coordinator_of start member there nobody log in
             subst (λ v. coordinator_member v ≡ member) is (λ i. record {
               node = fits.node_is i;
               start = fits.start_is i;
@@ -273,12 +274,12 @@ module _ (start : Start) (member : Member) (there : IsIn member (made start)) (t
       was : WaySays (f log) (b log) t.phase
       was = way.says t found
 
-      born : is_unborn (c (e ∷ log)) tx ≡ false
-      born =
+      born : NobodyStarts start → is_unborn (c (e ∷ log)) tx ≡ false
+      born nobody =
           ap (λ n. nat_le n tx.seq) next
           ∙ lower_come tx.seq (c log).tc.next_seq
           (each_found (λ (e : TxId × Transaction). e.0.seq < (c log).tc.next_seq) (c log).tc.live tx t
-          (coordinator_of start member there log).begun found)
+          (coordinator_of start member there nobody log).begun found)
 
       spared : (p : Body → Bool) → AreSpared p front → AreSpared p turn.step.effects.sends → AreSpared p more
           → AreSpared p sends
@@ -301,15 +302,15 @@ module _ (start : Start) (member : Member) (there : IsIn member (made start)) (t
       on_some over = left ∙ ap (λ b. if b then None else Some turn.step.state) over
 
       -- as the phase says where it goes on, and one way where it is over
-      ways : (over : Bool) → turn.over ≡ over
+      ways : NobodyStarts start → (over : Bool) → turn.over ≡ over
           → (turn.over ≡ false → WaySays (f (e ∷ log)) (b (e ∷ log)) turn.step.state.phase)
           → (f (e ∷ log) ≡ true → b (e ∷ log) ≡ false)
           → (turn.over ≡ true → (f (e ∷ log) ≡ true) ⊎ (b (e ∷ log) ≡ true)) → Way (e ∷ log)
-      ways over is on one_way ends = record {
+      ways nobody over is on one_way ends = record {
         says = says over is;
         one_way = one_way;
         gone = λ own late low none. gone over is none;
-        nowhere = λ own yet. absurd (true≢false (sym yet ∙ born));
+        nowhere = λ own yet. absurd (true≢false (sym yet ∙ born nobody));
       }
         where
           says : (over : Bool) → turn.over ≡ over → (u : Transaction) → o (e ∷ log) ≡ Some u
@@ -325,14 +326,16 @@ module _ (start : Start) (member : Member) (there : IsIn member (made start)) (t
           gone false is none = absurd (let nothing : Some turn.step.state ≡ None = sym (on_some is) ∙ none in cc)
 
       -- it stays undecided, in this phase
-      open_way : (phase : Phase) → turn.over ≡ false → turn.step.state.phase ≡ phase → is_decided phase ≡ false
+      open_way : NobodyStarts start → (phase : Phase) → turn.over ≡ false → turn.step.state.phase ≡ phase
+          → is_decided phase ≡ false
           → is_aborting phase ≡ false → f log ≡ false → b log ≡ false
           → AreSpared turns.is_commit_told turn.step.effects.sends
           → AreSpared turns.is_abort_told turn.step.effects.sends
           → ((f (e ∷ log) ≡ false) → (b (e ∷ log) ≡ false) → WaySays (f (e ∷ log)) (b (e ∷ log)) phase)
           → Way (e ∷ log)
-      open_way phase on at undecided unaborted forth_was back_was commits aborts so =
-          ways false on (λ over. subst (WaySays (f (e ∷ log)) (b (e ∷ log))) (sym at) (so forth back)) (λ one. back)
+      open_way nobody phase on at undecided unaborted forth_was back_was commits aborts so =
+          ways nobody false on (λ over. subst (WaySays (f (e ∷ log)) (b (e ∷ log))) (sym at) (so forth back))
+          (λ one. back)
           (λ over. absurd (true≢false (sym over ∙ on)))
         where
           forth : f (e ∷ log) ≡ false
@@ -346,9 +349,10 @@ module _ (start : Start) (member : Member) (there : IsIn member (made start)) (t
               (ap (is_at is_aborting) (on_some on) ∙ (ap is_aborting at ∙ unaborted)) (no_abort aborts) back_was
 
       -- it goes forth
-      forth_way : (epoch : ℕ) → turns.Forth tx t epoch turn → (is_decided t.phase ≡ true → f log ≡ true)
+      forth_way : NobodyStarts start → (epoch : ℕ) → turns.Forth tx t epoch turn
+          → (is_decided t.phase ≡ true → f log ≡ true)
           → b log ≡ false → Way (e ∷ log)
-      forth_way epoch goes forth_was back_was = by turn.over refl
+      forth_way nobody epoch goes forth_was back_was = by turn.over refl
         where
           by : (over : Bool) → turn.over ≡ over → Way (e ∷ log)
           by false on =
@@ -360,13 +364,13 @@ module _ (start : Start) (member : Member) (there : IsIn member (made start)) (t
               gone_nowhere start member tx is_aborting (tells_abort tx) log e
               (ap (is_at is_aborting) (on_some on) ∙ decided_not_aborting turn.step.state.phase epoch is)
               (no_abort goes.aborts) back_was in
-              ways false on (λ over. decided_way turn.step.state.phase epoch _ _ is forth back) (λ one. back)
+              ways nobody false on (λ over. decided_way turn.step.state.phase epoch _ _ is forth back) (λ one. back)
               (λ over. inl forth)
           by true over =
               let back =
               gone_nowhere start member tx is_aborting (tells_abort tx) log e
               (ap (is_at is_aborting) (over_none over)) (no_abort goes.aborts) back_was in
-              ways true over (λ on. absurd (true≢false (sym over ∙ on))) (λ one. back)
+              ways nobody true over (λ on. absurd (true≢false (sym over ∙ on))) (λ one. back)
               (λ over. inl (forth (goes.ends over)))
             where
               forth : (is_decided t.phase ≡ true) ⊎ (is_sent (tells_commit tx) turn.step.effects.sends ≡ true)
@@ -377,8 +381,9 @@ module _ (start : Start) (member : Member) (there : IsIn member (made start)) (t
                   (sent_within (tells_commit tx) front turn.step.effects.sends more sends all is)
 
       -- it goes back
-      back_way : turns.Back tx t turn → f log ≡ false → (is_aborting t.phase ≡ true → b log ≡ true) → Way (e ∷ log)
-      back_way goes forth_was back_was = by turn.over refl
+      back_way : NobodyStarts start → turns.Back tx t turn → f log ≡ false → (is_aborting t.phase ≡ true → b log ≡ true)
+          → Way (e ∷ log)
+      back_way nobody goes forth_was back_was = by turn.over refl
         where
           by : (over : Bool) → turn.over ≡ over → Way (e ∷ log)
           by false on =
@@ -389,13 +394,13 @@ module _ (start : Start) (member : Member) (there : IsIn member (made start)) (t
               gone_nowhere start member tx is_decided (tells_commit tx) log e
               (ap (is_at is_decided) (on_some on) ∙ aborting_apart turn.step.state.phase is)
               (no_commit goes.commits) forth_was in
-              ways false on (λ over. aborting_way turn.step.state.phase _ _ is forth back)
+              ways nobody false on (λ over. aborting_way turn.step.state.phase _ _ is forth back)
               (λ one. absurd (true≢false (sym one ∙ forth))) (λ over. inr back)
           by true over =
               let forth =
               gone_nowhere start member tx is_decided (tells_commit tx) log e (ap (is_at is_decided) (over_none over))
               (no_commit goes.commits) forth_was in
-              ways true over (λ on. absurd (true≢false (sym over ∙ on)))
+              ways nobody true over (λ on. absurd (true≢false (sym over ∙ on)))
               (λ one. absurd (true≢false (sym one ∙ forth))) (λ over. inr (back (goes.ends over)))
             where
               back : (is_aborting t.phase ≡ true) ⊎ (is_sent (tells_abort tx) turn.step.effects.sends ≡ true)
@@ -408,41 +413,41 @@ module _ (start : Start) (member : Member) (there : IsIn member (made start)) (t
       at_phase : (phase : Phase) → t.phase ≡ phase → WaySays (f log) (b log) phase
       at_phase phase at = subst (WaySays (f log) (b log)) at was
 
-      changed_way : (body : Body) → Changes (c log).tc.node tx t body turn → Way (e ∷ log)
-      changed_way body (turns.opens at on now answered still) =
-          open_way Open on now refl refl (at_phase Open at).0 (at_phase Open at).1 still.commits still.aborts
+      changed_way : NobodyStarts start → (body : Body) → Changes (c log).tc.node tx t body turn → Way (e ∷ log)
+      changed_way nobody body (turns.opens at on now answered still) =
+          open_way nobody Open on now refl refl (at_phase Open at).0 (at_phase Open at).1 still.commits still.aborts
           (λ forth back. (forth, back))
-      changed_way body (turns.asks at none about is) =
-          open_way Verifying (ap (λ (u : Turn). u.over) is) (ap (λ (u : Turn). u.step.state.phase) is) refl refl
+      changed_way nobody body (turns.asks at none about is) =
+          open_way nobody Verifying (ap (λ (u : Turn). u.over) is) (ap (λ (u : Turn). u.step.state.phase) is) refl refl
           (at_phase Open at).0 (at_phase Open at).1
           (subst (λ (u : Turn). AreSpared turns.is_commit_told u.step.effects.sends) (sym is) (refl, tt))
           (subst (λ (u : Turn). AreSpared turns.is_abort_told u.step.effects.sends) (sym is) (refl, tt))
           (λ forth back. (forth, back))
-      changed_way body (turns.waits at on now still) =
-          open_way Verifying on (ap (λ (u : Transaction). u.phase) now ∙ at) refl refl (at_phase Verifying at).0
+      changed_way nobody body (turns.waits at on now still) =
+          open_way nobody Verifying on (ap (λ (u : Transaction). u.phase) now ∙ at) refl refl (at_phase Verifying at).0
           (at_phase Verifying at).1 still.commits still.aborts (λ forth back. (forth, back))
-      changed_way body (turns.decides epoch at about goes) =
-          forth_way epoch goes (λ is. at_decided t.phase (f log) (b log) was is) (at_phase Verifying at).1
-      changed_way body (turns.forth epoch is goes) =
-          forth_way epoch goes (λ is. at_decided t.phase (f log) (b log) was is)
+      changed_way nobody body (turns.decides epoch at about goes) =
+          forth_way nobody epoch goes (λ is. at_decided t.phase (f log) (b log) was is) (at_phase Verifying at).1
+      changed_way nobody body (turns.forth epoch is goes) =
+          forth_way nobody epoch goes (λ is. at_decided t.phase (f log) (b log) was is)
           (back_of t.phase epoch (f log) (b log) is was)
-      changed_way body (turns.back undecided goes) =
-          back_way goes (forth_of t.phase (f log) (b log) undecided was)
+      changed_way nobody body (turns.back undecided goes) =
+          back_way nobody goes (forth_of t.phase (f log) (b log) undecided was)
           (λ is. at_aborting t.phase (f log) (b log) was is)
 
-    next_way : Way (e ∷ log)
-    next_way = by (coordinator_comes start member there log e tx)
+    next_way : NobodyStarts start → Way (e ∷ log)
+    next_way nobody = by (coordinator_comes start member there nobody log e tx)
       where
         by : Comes member (c log) e.step.taken (is_well_formed start.shape e.step.taken ≡ true) tx (c (e ∷ log)) sends
             → Way (e ∷ log)
         by (same is unborn untold) = same_way is untold.commits untold.aborts unborn
-        by (begun none some is next untold) = begun_way some is next untold.commits untold.aborts
+        by (begun none some is next untold) = begun_way nobody some is next untold.commits untold.aborts
         by (changed well t found turn changes left next front more before behind all) =
-            changed_way t found turn left next front more before behind all e.step.taken.body changes
+            changed_way t found turn left next front more before behind all nobody e.step.taken.body changes
 
   -- as its life begins
-  first_way : Way []
-  first_way = record {
+  first_way : NobodyStarts start → Way []
+  first_way nobody = record {
     says = λ t at. absurd (let nothing : None ≡ Some t = sym none ∙ at in cc);
     one_way = λ on. refl;
     gone = λ own born low is. absurd (omega (arith, low, leb-false (c []).tc.next_seq tx.seq born, one));
@@ -450,7 +455,7 @@ module _ (start : Start) (member : Member) (there : IsIn member (made start)) (t
   }
     where
       fresh_is : c [] ≡ fresh_coordinator member.node member.start (first_layout start.shape)
-      fresh_is = coordinator_first start member there
+      fresh_is = coordinator_first start member there nobody
 
       none : o [] ≡ None
       none = ap (λ (s : CoordinatorState). entry_of s tx) fresh_is
@@ -459,11 +464,11 @@ module _ (start : Start) (member : Member) (there : IsIn member (made start)) (t
       one = ap (λ (s : CoordinatorState). s.tc.next_seq) fresh_is
 
   -- it goes one way along each log
-  pub goes_one_way : (log : List HostStep) → Way log
-  goes_one_way [] = first_way
-  goes_one_way (e ∷ log) = next_way log e (goes_one_way log)
+  pub goes_one_way : NobodyStarts start → (log : List HostStep) → Way log
+  goes_one_way nobody [] = first_way nobody
+  goes_one_way nobody (e ∷ log) = next_way log e (goes_one_way nobody log) nobody
 
 pub transactions_go_one_way : TransactionsGoOneWay
-transactions_go_one_way start member there tx log =
-    let way = goes_one_way start member there tx log in
+transactions_go_one_way start nobody member there tx log =
+    let way = goes_one_way start member there tx nobody log in
     record { one_way = way.one_way; forgotten = way.gone }

@@ -25,7 +25,7 @@ use Rattle.node_views.specs.declared.ldm_part.LdmPart.{LdmPart}
 use Rattle.node_views.specs.declared.parts.Parts.{Parts}
 use Rattle.node_views.specs.declared.parts.Parts.TheVariants.{Ldm}
 use Rattle.node_views.specs.Parts.{ldm_row}
-use Rattle.world_core.specs.Start.{Start, made}
+use Rattle.world_core.specs.Start.{NobodyStarts, Start, made}
 use Rattle.world_core.specs.Steps.{HostStep}
 use Rattle.world_views.specs.Machine.{after}
 use Rattle.moment_laws.specs.PartSteps.{PartEnters, PartTakes, handles, ignores, installs, ldm_kind, remains}
@@ -59,14 +59,14 @@ pub record SavingStep (x : Signal) (s t : SavingState) : Type 0 where
 abbrev of_part : LdmPart → SavingState
 of_part p = saving p.replica p.saver
 
-module _ (start : Start) (member : Member) (there : IsIn member (made start)) where
+module _ (start : Start) (nobody : NobodyStarts start) (member : Member) (there : IsIn member (made start)) where
   -- those that a host runs
   abbrev saving_in : Parts → SavingState
   saving_in parts =
       saving (rows_in (no_replica start member) parts) (saver_in (fresh_saver start.start_epoch 0) parts)
 
   pub saving_first : saving_after start member [] ≡ first_saving start member
-  saving_first = ap (λ (s : hosts.HostBody). saving_in s.parts) (ldm_started start member there)
+  saving_first = ap (λ (s : hosts.HostBody). saving_in s.parts) (ldm_started start nobody member there)
 
   pub saving_step : (log : List HostStep) (e : HostStep)
       → SavingStep e.step.taken (saving_after start member log) (saving_after start member (e ∷ log))
@@ -78,7 +78,7 @@ module _ (start : Start) (member : Member) (there : IsIn member (made start)) wh
   }
     where
       step : LdmStep start (ldm_of start member) log e
-      step = own_ldm start member there log e
+      step = own_ldm start nobody member there log e
 
       before : saving_after start member log ≡ of_part step.own
       before = ap saving_in step.runs
@@ -137,17 +137,18 @@ pub record AreRows (So : ReplicaState → Type 0) (parts : Parts) : Type 0 where
 module _ (So : ReplicaState → Type 0) (row : (s : ReplicaState) (x : Signal) → So s → So (replica_row s x).state)
     (install : (s : ReplicaState) (view : View) → So s → So (installed s view))
     (give : (s : ReplicaState) (at : ℕ) → has_position s.lqh.outlet at ≡ true → So s → So (given_up s at))
-    (start : Start) (member : Member) (there : IsIn member (made start)) (first : So (first_rows start member))
+    (start : Start) (nobody : NobodyStarts start) (member : Member) (there : IsIn member (made start))
+    (first : So (first_rows start member))
   where
     pub always : (log : List HostStep) → So (rows_after start member log)
     always =
-        always_saving start member there (λ s. So s.replica)
+        always_saving start nobody member there (λ s. So s.replica)
         (λ s x so. saver_rows s x So so (row s.replica x so) (λ at has. give s.replica at has so))
         (λ s view so. install s.replica view so) first
 
     pub rows_so : (log : List HostStep) → AreRows So (after start (ldm_of start member) log).parts
     rows_so log =
-        let at = runs_ldm start member there log in
+        let at = runs_ldm start nobody member there log in
         record {
           part = at.own;
           is = at.runs;
@@ -166,6 +167,6 @@ pub given_up_well : (s : ReplicaState) (at : ℕ) → has_position s.lqh.outlet 
 given_up_well s at has well = record { placed = well.placed; orderly = well.orderly }
 
 pub rows_well : RowsAreWell
-rows_well start member there =
-    always (λ s. IsWell s.lqh) signals_keep_well installations_keep_well given_up_well start member there
+rows_well start nobody member there =
+    always (λ s. IsWell s.lqh) signals_keep_well installations_keep_well given_up_well start nobody member there
     (first_well start member)

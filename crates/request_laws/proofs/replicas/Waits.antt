@@ -344,9 +344,9 @@ record AreServed (s : ReplicaState) : Type 0 where
   each : (key : List ℕ) → HaveRequests (at_key key s.lqh)
 
 pub waits_have_requests : WaitsHaveRequests
-waits_have_requests start member there log key =
+waits_have_requests start nobody member there log key =
     let is : AreServed (rows_after start member log) =
-    always AreServed signal install give start member there
+    always AreServed signal install give start nobody member there
     (record { well = first_well start member; each = first }) log in
     is.each key
   where

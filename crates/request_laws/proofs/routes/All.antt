@@ -8,7 +8,7 @@ use Rattle.sig_core.specs.declared.member.Member.{Member}
 use Rattle.sig_core.specs.declared.signal.Body.{Body}
 use Rattle.sig_core.specs.declared.view.View.{View}
 use Rattle.node_views.specs.declared.host_body.HostBody as hosts
-use Rattle.world_core.specs.Start.{Start, made}
+use Rattle.world_core.specs.Start.{NobodyStarts, Start, made}
 use Rattle.world_core.specs.Steps.{HostStep}
 use Rattle.world_views.specs.Machine.{step_after}
 use Rattle.view_laws.specs.Order.{sound_machine}
@@ -37,16 +37,17 @@ use Rattle.request_laws.proofs.routes.RowEvents.{rows_have, rows_send}
 use Rattle.request_laws.proofs.routes.Idle.{none_first}
 
 module _ (start : Start) where
-  none_wait : (member : Member) → IsIn member (made start) → (rows_after start member []).lqh.waiting ≡ []
-  none_wait member there =
+  none_wait : NobodyStarts start → (member : Member) → IsIn member (made start)
+      → (rows_after start member []).lqh.waiting ≡ []
+  none_wait nobody member there =
       ap (λ (s : hosts.HostBody). (rows_in (no_replica start member) s.parts).lqh.waiting)
-      (ldm_started start member there)
+      (ldm_started start nobody member there)
 
-  routed_first : AllRouted start (λ h. [])
-  routed_first = record {
+  routed_first : NobodyStarts start → AllRouted start (λ h. [])
+  routed_first nobody = record {
     signals = λ i j. tt;
-    coordinators = λ member there. subst (Each _) (sym (none_first start member there)) tt;
-    rows = λ member there. subst (Each _) (sym (none_wait member there)) tt;
+    coordinators = λ member there. subst (Each _) (sym (none_first start member there nobody)) tt;
+    rows = λ member there. subst (Each _) (sym (none_wait nobody member there)) tt;
   }
 
   module _ (all : ℕ → List HostStep) (e : HostStep) (es : List HostStep) (moment : IsMoment start all (e ∷ es))
@@ -76,7 +77,7 @@ module _ (start : Start) where
           (step_after start h (old h) e).effects.sends
 
       now_sent : AreSent e.host
-      now_sent = by (part_host start e.host (host_low start all e es moment))
+      now_sent = by (part_host start moment.cluster.nobody e.host (host_low start all e es moment))
         where
           by : PartHost start e.host → AreSent e.host
           by (coordinates me there at) =
@@ -120,7 +121,8 @@ module _ (start : Start) where
               own_has start all e es moment member there at before behind routed.signals
               (routed.coordinators member there) (orphans.gathered member there)
           by (inr other) =
-              coordinator_elsewhere start e es member there other before behind (routed.coordinators member there)
+              coordinator_elsewhere start e es member moment.cluster.nobody there other before behind
+              (routed.coordinators member there)
 
       rows_next : (member : Member) → IsIn member (made start)
           → RowsHave start e es member new (new (ldm_of start member))
@@ -136,7 +138,7 @@ module _ (start : Start) where
 
   routed_all : (all : ℕ → List HostStep) (es : List HostStep) → IsMoment start all es
       → AllRouted start (logs_of start es)
-  routed_all all [] moment = routed_first
+  routed_all all [] moment = routed_first moment.cluster.nobody
   routed_all all (e ∷ es) moment = routed_next all e es moment (routed_all all es (moment_less start all e es moment))
 
 pub signals_are_routed : SignalsAreRouted

@@ -105,7 +105,7 @@ module _ (start : Start) (all : ℕ → List HostStep) (e : HostStep) (es : List
     sends = (step_after start (tc_of start member) log e).effects.sends
 
     abbrev step : TcStep start (tc_of start member) log e
-    step = own_tc start member there log e
+    step = own_tc start moment.cluster.nobody member there log e
 
     abbrev p : TcPart
     p = step.own
@@ -162,7 +162,7 @@ module _ (start : Start) (all : ℕ → List HostStep) (e : HostStep) (es : List
             ∙ (sym
             (ap (λ (s : CoordinatorState). s.number)
             (coordinator_is start member (tc_of start member) log refl p step.runs))
-            ∙ (have_the_number start member log there ∙ sym (ap (λ (v : View). v.number) stands)))
+            ∙ (have_the_number start moment.cluster.nobody member log there ∙ sym (ap (λ (v : View). v.number) stands)))
         by (installs above same stands is) =
             ap (λ (q : TcPart). q.coordinator.number) same ∙ sym (ap (λ (v : View). v.number) stands)
 
@@ -325,7 +325,8 @@ module _ (start : Start) (all : ℕ → List HostStep) (e : HostStep) (es : List
             given =
                 subst
                 (λ (s : CoordinatorState). Each (λ (e : TxId × Transaction). IsGiven G e.0 e.1.phase) s.tc.live)
-                (ap (coordinator_after start member) own_log ∙ now) (all_given start member there new behind)
+                (ap (coordinator_after start member) own_log ∙ now)
+                (all_given start member there new behind moment.cluster.nobody)
 
             less : (tx : TxId) → coordinator_member tx ≡ member → (A tx → A0 tx) × (D tx → D0 tx)
             less tx own =

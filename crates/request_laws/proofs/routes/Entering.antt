@@ -90,7 +90,8 @@ module _ (start : Start) (all : ℕ → List HostStep) (e : HostStep) (es : List
         too_high p was =
             let low : view.number ≤ stood.number =
             subst (λ (m : Member). view.number ≤ (view_after start (tc_of start m) (old (tc_of start m))).number) own
-            (sent_low start (coordinator_member tx) p view.number (old (tc_of start (coordinator_member tx))) was) in
+            (sent_low start moment.cluster.nobody (coordinator_member tx) p view.number
+            (old (tc_of start (coordinator_member tx))) was) in
             omega (arith, low, rises)
 
     hale_keep : stood.number < view.number → HaleKeepTo view (coordinator_after start member log)
@@ -126,7 +127,7 @@ module _ (start : Start) (all : ℕ → List HostStep) (e : HostStep) (es : List
           (coordinator_after start member log).tc.live (λ e own. own_fresh rises e.0 own) stands.of.own))
           (subst
           (λ (s : CoordinatorState). Each (λ (e : TxId × Transaction). IsGiven (IsGivenUp start old) e.0 e.1.phase)
-          s.tc.live) same (all_given start member there old stands))
+          s.tc.live) same (all_given start member there old stands moment.cluster.nobody))
 
       -- whether it installs the view of the signal or not
       pub enters_has : (between : TcPart) (front : List Outgoing)

@@ -66,7 +66,8 @@ module _ (start : Start) (all : ℕ → List HostStep) (e : HostStep) (es : List
 
     pub own_installed : WasInstalled start all view
     own_installed =
-        installed_at start all e.host (host_low start all e es moment) (e ∷ logs_of start es e.host) event_past
+        installed_at start moment.cluster.nobody all e.host (host_low start all e es moment)
+        (e ∷ logs_of start es e.host) event_past
 
     -- its header is the view of the host, if that has its number
     pub header_is : x.view.number ≡ view.number → x.view ≡ view

@@ -19,9 +19,9 @@ use Rattle.node_views.specs.declared.parts.Parts.TheVariants.{Shell, Main, Tc, L
 use Rattle.node_views.specs.declared.shell_part.ShellPart.{ShellPart}
 use Rattle.node_views.specs.Parts.{main_row, shell_row}
 use Rattle.node_views.specs.Replies.{giving}
-use Rattle.world_core.proofs.MadeFirst.{begins_made, hosts_first, nobody_starts}
+use Rattle.world_core.proofs.MadeFirst.{begins_made, hosts_first}
 use Rattle.world_core.specs.Hosts.{hosts as host_count, member_at, part_by}
-use Rattle.world_core.specs.Start.{Start, made}
+use Rattle.world_core.specs.Start.{NobodyStarts, Start, made}
 use Rattle.world_core.specs.Steps.{HostStep}
 use Rattle.world_views.specs.Hosts.{part_started, started}
 use Rattle.world_views.specs.Machine.{after, step_after, step_by, told}
@@ -45,27 +45,27 @@ pub data PartHost (start : Start) (h : ℕ) : Type 0 where
   keeps_rows : (me : Member) → IsIn me (made start) → h ≡ ldm_of start me → PartHost start h
   is_beside : IsBeside (started start h).parts → PartHost start h
 
-pub part_host : (start : Start) (h : ℕ) → h < host_count start → PartHost start h
+pub part_host : (start : Start) (nobody : NobodyStarts start) (h : ℕ) → h < host_count start → PartHost start h
 unfolding started
-part_host start zero low = is_beside tt
-part_host start (suc k) low = by (k % 3) refl
+part_host start nobody zero low = is_beside tt
+part_host start nobody (suc k) low = by (k % 3) refl
   where
     there : IsIn (first_start (k / 3 + 1)) (made start)
     there = begins_made start _
         (first_in start.shape.nodes (k / 3 + 1) (omega arith)
-        (omega (arith, low, hosts_first start (nobody_starts start))))
+        (omega (arith, low, hosts_first start nobody)))
 
     by : (left : ℕ) → k % 3 ≡ left → PartHost start (suc k)
     by zero e =
         is_beside
-        (subst (λ s. IsBeside s.parts) (sym (started_behind start k))
+        (subst (λ s. IsBeside s.parts) (sym (started_behind start nobody k))
         (subst
         (λ (left : ℕ). IsBeside (part_started start (part_by left) (member_at (made start) (suc k))).parts) (sym e) tt))
     by (suc zero) e =
-        let is = tc_number start (first_start (k / 3 + 1)) there in
+        let is = tc_number start nobody (first_start (k / 3 + 1)) there in
         coordinates (first_start (k / 3 + 1)) there (omega (arith, e, is))
     by (suc (suc left)) e =
-        let is = ldm_number start (first_start (k / 3 + 1)) there in
+        let is = ldm_number start nobody (first_start (k / 3 + 1)) there in
         let few : k % 3 < 3 = mod_below k 3 (omega arith) in
         keeps_rows (first_start (k / 3 + 1)) there (omega (arith, e, is, few))
 

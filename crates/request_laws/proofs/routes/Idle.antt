@@ -20,7 +20,7 @@ use Rattle.tc_views.specs.Coordinator.{fresh_coordinator}
 use Rattle.tc_views.specs.Laws.{AreOnce}
 use Rattle.tc_views.specs.State.{CoordinatorState}
 use Rattle.node_views.specs.declared.host_body.HostBody as hosts
-use Rattle.world_core.specs.Start.{Start, made}
+use Rattle.world_core.specs.Start.{NobodyStarts, Start, made}
 use Rattle.world_core.specs.Steps.{HostStep}
 use Rattle.moment_laws.specs.Places.{tc_of}
 use Rattle.moment_laws.proofs.MomentHosts.{tc_started}
@@ -46,19 +46,19 @@ found_in (one ∷ live) once e (inr inside) =
 
 module _ (start : Start) (member : Member) (there : IsIn member (made start)) where
   -- as its life begins a coordinator has nobody
-  pub none_first : (coordinator_after start member []).tc.live ≡ []
-  none_first =
+  pub none_first : NobodyStarts start → (coordinator_after start member []).tc.live ≡ []
+  none_first nobody =
       ap
       (λ (s : hosts.HostBody).
       (coordinator_in (fresh_coordinator member.node member.start (first_layout start.shape)) s.parts).tc.live)
-      (tc_started start member there)
+      (tc_started start nobody member there)
 
   -- who is aborted has gone back
-  aborted_back : (log : List HostStep) → AreOnce (coordinator_after start member log).tc.live
+  aborted_back : NobodyStarts start → (log : List HostStep) → AreOnce (coordinator_after start member log).tc.live
       → (e : TxId × Transaction) → IsIn e (coordinator_after start member log).tc.live → is_aborting e.1.phase ≡ true
       → has_gone_back start member e.0 log ≡ true
-  aborted_back [] once e inside back = absurd (subst (IsIn e) none_first inside)
-  aborted_back (f ∷ log) once e inside back =
+  aborted_back nobody [] once e inside back = absurd (subst (IsIn e) (none_first nobody) inside)
+  aborted_back nobody (f ∷ log) once e inside back =
       or_left (is_at is_aborting (entry_of (coordinator_after start member (f ∷ log)) e.0)) _
       (ap (is_at is_aborting) (found_in (coordinator_after start member (f ∷ log)).tc.live once e inside) ∙ back)
 
@@ -77,12 +77,12 @@ module _ (start : Start) (member : Member) (there : IsIn member (made start)) wh
     not_back tx t (Completing epoch awaited) says is = says.1.0
     not_back tx t (Aborting why verifying awaited) says is = absurd (true≢false (sym is))
 
-    own_given : (e : TxId × Transaction) → IsIn e s.tc.live → SaysOf start member log e
+    own_given : NobodyStarts start → (e : TxId × Transaction) → IsIn e s.tc.live → SaysOf start member log e
         → coordinator_member e.0 ≡ member → IsGiven (IsGivenUp start logs) e.0 e.1.phase
-    own_given e inside says own = record {
+    own_given nobody e inside says own = record {
       aborting = λ is.
           subst (λ (m : Member). has_gone_back start m e.0 (logs (tc_of start m)) ≡ true) (sym own)
-          (aborted_back log stands.of.once e inside is);
+          (aborted_back nobody log stands.of.once e inside is);
       decided = λ is given.
           true≢false
           (sym (subst (λ (m : Member). has_gone_back start m e.0 (logs (tc_of start m)) ≡ true) own given)
@@ -90,11 +90,12 @@ module _ (start : Start) (member : Member) (there : IsIn member (made start)) wh
     }
 
     -- who is aborted is given up, and who is decided isn't
-    pub all_given : Each (λ (e : TxId × Transaction). IsGiven (IsGivenUp start logs) e.0 e.1.phase) s.tc.live
-    all_given =
+    pub all_given : NobodyStarts start
+        → Each (λ (e : TxId × Transaction). IsGiven (IsGivenUp start logs) e.0 e.1.phase) s.tc.live
+    all_given nobody =
         each_from (λ (e : TxId × Transaction). IsGiven (IsGivenUp start logs) e.0 e.1.phase) s.tc.live
         (λ e inside.
-        own_given e inside (each_in (SaysOf start member log) e s.tc.live stands.says inside)
+        own_given nobody e inside (each_in (SaysOf start member log) e s.tc.live stands.says inside)
         (each_in (λ (e : TxId × Transaction). coordinator_member e.0 ≡ member) e s.tc.live stands.of.own inside))
 
     answered_in : (tx : TxId) (t : Transaction) (phase : Phase) → SaysIn start member log tx t phase

@@ -40,7 +40,7 @@ use Rattle.node_views.specs.declared.parts.Parts.{Parts}
 use Rattle.node_views.specs.declared.parts.Parts.TheVariants as part
 use Rattle.node_views.specs.declared.tc_part.TcPart.{TcPart}
 use Rattle.node_views.specs.Parts.{ldm_row, tc_row}
-use Rattle.world_core.specs.Start.{Start, made}
+use Rattle.world_core.specs.Start.{NobodyStarts, Start, made}
 use Rattle.world_core.specs.Steps.{HostStep}
 use Rattle.world_views.specs.Machine.{after, step_after}
 use Rattle.view_laws.specs.Runs.{view_after}
@@ -252,7 +252,7 @@ module _ (start : Start) where
     pub runs : s.parts ≡ part.Ldm own
     pub laid : AreLaid (layout_in start s.standing.view) own
 
-  module _ (member : Member) (there : IsIn member (made start)) where
+  module _ (nobody : NobodyStarts start) (member : Member) (there : IsIn member (made start)) where
     tc_steps : (log : List HostStep) (e : HostStep) (at : RunsTc (after start (tc_of start member) log))
         → TcDoes start.shape at.own (view_after start (tc_of start member) log) e.step.taken
         (after start (tc_of start member) (e ∷ log)).parts (view_after start (tc_of start member) (e ∷ log))
@@ -271,11 +271,11 @@ module _ (start : Start) where
 
     pub runs_tc : (log : List HostStep) → RunsTc (after start (tc_of start member) log)
     runs_tc [] =
-        subst RunsTc (sym (tc_started start member there))
+        subst RunsTc (sym (tc_started start nobody member there))
         (record { own = _; runs = refl; laid = record { coordinator = refl; takeover = refl } })
     runs_tc (e ∷ log) =
         let at = runs_tc log in
-        tc_steps log e at (tc_after start (tc_of start member) log e (part_some start Tc member) at.own at.runs)
+        tc_steps log e at (tc_after start nobody (tc_of start member) log e (part_some start Tc member) at.own at.runs)
 
     ldm_steps : (log : List HostStep) (e : HostStep) (at : RunsLdm (after start (ldm_of start member) log))
         → LdmDoes start.shape at.own (view_after start (ldm_of start member) log) e.step.taken
@@ -295,10 +295,11 @@ module _ (start : Start) where
 
     pub runs_ldm : (log : List HostStep) → RunsLdm (after start (ldm_of start member) log)
     runs_ldm [] =
-        subst RunsLdm (sym (ldm_started start member there)) (record { own = _; runs = refl; laid = refl })
+        subst RunsLdm (sym (ldm_started start nobody member there)) (record { own = _; runs = refl; laid = refl })
     runs_ldm (e ∷ log) =
         let at = runs_ldm log in
-        ldm_steps log e at (ldm_after start (ldm_of start member) log e (part_some start Ldm member) at.own at.runs)
+        ldm_steps log e at (ldm_after start nobody (ldm_of start member) log e (part_some start Ldm member) at.own
+        at.runs)
 
     -- so it is of the blocks of a member behind each log
     pub coordinator_laid : (log : List HostStep)

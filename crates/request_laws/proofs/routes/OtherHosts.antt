@@ -18,7 +18,7 @@ use Rattle.frag_map.specs.Layout.{Layout}
 use Rattle.tc_block.specs.declared.transaction.Transaction.{Transaction}
 use Rattle.lqh_block.specs.declared.request.Request.{Request}
 use Rattle.lqh_views.specs.State.{ReplicaState}
-use Rattle.world_core.specs.Start.{Start, made}
+use Rattle.world_core.specs.Start.{NobodyStarts, Start, made}
 use Rattle.world_core.specs.Steps.{Addressed, HostStep}
 use Rattle.world_views.specs.Machine.{machine}
 use Rattle.view_laws.specs.Runs.{view_after}
@@ -109,15 +109,15 @@ module _ (start : Start) (e : HostStep) (es : List HostStep) where
             log_of-other (machine start) e es (tc_of start (coordinator_member tx))
             (subst (λ (m : Member). e.host ≢ tc_of start m) (sym own) other)
 
-    pub coordinator_elsewhere : (there : IsIn member (made start)) → e.host ≢ tc_of start member
+    pub coordinator_elsewhere : NobodyStarts start → (there : IsIn member (made start)) → e.host ≢ tc_of start member
         → CoordinatorStands start member old → CoordinatorStands start member new
         → CoordinatorHas old (old (tc_of start member)) → CoordinatorHas new (new (tc_of start member))
-    coordinator_elsewhere there other before behind had =
+    coordinator_elsewhere nobody there other before behind had =
         let h = tc_of start member in
         let view = view_after start h (old h) in
         let s = coordinator_after start member (old h) in
         let same = log_of-other (machine start) e es h other in
-        let given = all_given start member there new behind in
+        let given = all_given start member there new behind nobody in
         subst (CoordinatorHas new) (sym same)
         (has_less (layout_in start view) (WasAskedIn start old view) (WasDrivenIn start old view) (IsGivenUp start old)
         (WasAskedIn start new view) (WasDrivenIn start new view) (IsGivenUp start new) s s.tc.live

@@ -9,7 +9,7 @@ use Rattle.takeover_block.specs.State.{resting}
 use Rattle.node_views.specs.declared.ldm_part.LdmPart.{LdmPart}
 use Rattle.node_views.specs.declared.parts.Parts.TheVariants as part
 use Rattle.node_views.specs.declared.tc_part.TcPart.{TcPart}
-use Rattle.world_core.specs.Start.{Start, made}
+use Rattle.world_core.specs.Start.{NobodyStarts, Start, made}
 use Rattle.world_core.specs.Steps.{HostStep}
 use Rattle.world_views.specs.Machine.{after, step_after}
 use Rattle.view_laws.specs.Runs.{view_after}
@@ -38,37 +38,42 @@ module _ (start : Start) (h : ℕ) (log : List HostStep) (e : HostStep) where
     pub does : LdmDoes start.shape own (view_after start h log) e.step.taken (after start h (e ∷ log)).parts
         (view_after start h (e ∷ log)) (step_after start h log e).effects.sends
 
-module _ (start : Start) (member : Member) (there : IsIn member (made start)) (log : List HostStep) (e : HostStep) where
+module _ (start : Start) (nobody : NobodyStarts start) (member : Member) (there : IsIn member (made start))
+    (log : List HostStep) (e : HostStep) where
   pub own_tc : TcStep start (tc_of start member) log e
   own_tc =
       let h = tc_of start member in
-      let at = runs_tc start member there log in
+      let at = runs_tc start nobody member there log in
       record {
         own = at.own;
         runs = at.runs;
         laid = at.laid;
-        does = tc_after start h log e (part_some start Tc member) at.own at.runs;
+        does = tc_after start nobody h log e (part_some start Tc member) at.own at.runs;
       }
 
   pub own_ldm : LdmStep start (ldm_of start member) log e
   own_ldm =
       let h = ldm_of start member in
-      let at = runs_ldm start member there log in
+      let at = runs_ldm start nobody member there log in
       record {
         own = at.own;
         runs = at.runs;
         laid = at.laid;
-        does = ldm_after start h log e (part_some start Ldm member) at.own at.runs;
+        does = ldm_after start nobody h log e (part_some start Ldm member) at.own at.runs;
       }
 
 -- so it is of any host that is one
-pub tc_step : (start : Start) (member : Member) → IsIn member (made start) → (h : ℕ) → h ≡ tc_of start member
+pub tc_step : (start : Start) (nobody : NobodyStarts start) (member : Member) → IsIn member (made start) → (h : ℕ)
+    → h ≡ tc_of start member
     → (log : List HostStep) (e : HostStep) → TcStep start h log e
-tc_step start member there h at log e = subst (λ k. TcStep start k log e) (sym at) (own_tc start member there log e)
+tc_step start nobody member there h at log e =
+    subst (λ k. TcStep start k log e) (sym at) (own_tc start nobody member there log e)
 
-pub ldm_step : (start : Start) (member : Member) → IsIn member (made start) → (h : ℕ) → h ≡ ldm_of start member
+pub ldm_step : (start : Start) (nobody : NobodyStarts start) (member : Member) → IsIn member (made start) → (h : ℕ)
+    → h ≡ ldm_of start member
     → (log : List HostStep) (e : HostStep) → LdmStep start h log e
-ldm_step start member there h at log e = subst (λ k. LdmStep start k log e) (sym at) (own_ldm start member there log e)
+ldm_step start nobody member there h at log e =
+    subst (λ k. LdmStep start k log e) (sym at) (own_ldm start nobody member there log e)
 
 -- the blocks of the member are those of the part
 module _ (start : Start) (member : Member) (h : ℕ) (log : List HostStep) where

@@ -9,7 +9,7 @@ use Rattle.sig_core.specs.declared.place.Part.TheVariants.{Tc}
 use Rattle.sig_core.specs.declared.signal.Body.{Body}
 use Rattle.sig_core.specs.declared.view.View.{View}
 use Rattle.frag_map.specs.Layout.{first_view}
-use Rattle.world_core.specs.Start.{Start, made}
+use Rattle.world_core.specs.Start.{NobodyStarts, Start, made}
 use Rattle.world_core.specs.Steps.{HostStep}
 use Rattle.host_laws.proofs.rows.Operations.{right_of}
 use Rattle.view_laws.specs.Runs.{AreOfCluster, WasInstalled, view_after}
@@ -40,17 +40,18 @@ module _ (start : Start) (all : ℕ → List HostStep) (are : AreOfCluster start
   first_installed = record {
     host = 0;
     there = omega arith;
-    made = all_made start 0 (all 0);
+    made = all_made start are.nobody 0 (all 0);
     log = [];
     past = past_nil (all 0);
-    is = sym (started_view start 0);
+    is = sym (started_view start are.nobody 0);
   }
 
   -- no host stands below the first view
   not_before : (h : ℕ) (log : List HostStep) → first.number ≤ (view_after start h log).number
   not_before h [] =
-      let is = ap (λ (v : View). v.number) (started_view start h) in omega (arith, is)
-  not_before h (e ∷ log) = let up = view_rises start h log e in let low = not_before h log in omega (arith, up, low)
+      let is = ap (λ (v : View). v.number) (started_view start are.nobody h) in omega (arith, is)
+  not_before h (e ∷ log) =
+      let up = view_rises start are.nobody h log e in let low = not_before h log in omega (arith, up, low)
 
   pub first_part : (view : View) → WasInstalled start all view → IsPart first view
   first_part view was = by (cases_lt first.number view.number)
@@ -75,19 +76,21 @@ module _ (start : Start) (all : ℕ → List HostStep) (are : AreOfCluster start
     -- the view in which the host of a member's coordinator stands was installed, and the member is full in it
     pub was_in : (log : List HostStep) → IsPast log (all (tc_of start member))
         → WasInstalled start all (view_after start (tc_of start member) log)
-    was_in log past = installed_at start all (tc_of start member) (tc_low start member there) log past
+    was_in log past =
+        installed_at start are.nobody all (tc_of start member) (tc_low start are.nobody member there) log past
 
     pub member_full : (log : List HostStep) → IsPast log (all (tc_of start member))
         → IsIn member (view_after start (tc_of start member) log).full
     member_full log past =
         let view = view_after start (tc_of start member) log in
         subst (IsIn member) (all_full start all are view (was_in log past))
-        (subst (λ (m : Member). IsIn m (all_of view)) (tc_member start member there)
-        (are_of_views start all are (tc_of start member) (part_some start Tc member) (tc_low start member there) log
+        (subst (λ (m : Member). IsIn m (all_of view)) (tc_member start are.nobody member there)
+        (are_of_views start all are (tc_of start member) (part_some start Tc member)
+        (tc_low start are.nobody member there) log
         past))
 
 -- what was sent in a view was sent by a host that stands in it or above now
-module _ (start : Start) (member : Member) (p : Body → Bool) (number : ℕ) where
+module _ (start : Start) (nobody : NobodyStarts start) (member : Member) (p : Body → Bool) (number : ℕ) where
   pub sent_low : (log : List HostStep) → was_sent_in start member p number log ≡ true
       → number ≤ (view_after start (tc_of start member) log).number
   sent_low [] was = absurd (true≢false (sym was))
@@ -109,6 +112,6 @@ module _ (start : Start) (member : Member) (p : Body → Bool) (number : ℕ) wh
           let same = eqb-true stood number (right_of (sends_one start member p log e) (stood == number) now) in
           omega (arith, same)
       by (inr before) low =
-          let up = view_rises start (tc_of start member) log e in
+          let up = view_rises start nobody (tc_of start member) log e in
           let was_low = low before in
           omega (arith, up, was_low)

@@ -18,7 +18,7 @@ use Rattle.lqh_views.specs.State.{ReplicaState}
 use Rattle.node_views.specs.WellFormed.{is_well_formed}
 use Rattle.world_core.proofs.HostNumbers.{hosts_low}
 use Rattle.world_core.specs.Hosts.{host_by, hosts, member_at, member_of}
-use Rattle.world_core.specs.Start.{Start, made}
+use Rattle.world_core.specs.Start.{NobodyStarts, Start, made}
 use Rattle.world_core.specs.Steps.{Addressed, HostStep}
 use Rattle.world_views.specs.Hosts.{or_itself, reached, started}
 use Rattle.world_views.specs.Machine.{signals_of, step_after}
@@ -50,16 +50,16 @@ IsPlaced start x = is_of_rows x.signal.body ≡ true → IsReached start x
 
 module _ (start : Start) where
   -- what comes to the rows of a member is for its node
-  node_reached : (h : ℕ) (view : View) (to : Place) (me : Member) → IsIn me (made start)
+  node_reached : NobodyStarts start → (h : ℕ) (view : View) (to : Place) (me : Member) → IsIn me (made start)
       → reached (made start) (suc h) view to ≡ ldm_of start me → to.node ≡ me.node
   unfolding reached
-  node_reached h view to me there is = by (to.node == 0) is
+  node_reached nobody h view to me there is = by (to.node == 0) is
     where
       low : ldm_of start me < hosts start
       low =
-          let number = ldm_number start me there in
-          let node = node_low start me there in
-          let some = node_some start me there in
+          let number = ldm_number start nobody me there in
+          let node = node_low start nobody me there in
+          let some = node_some start nobody me there in
           omega (arith, number, node, some, hosts_low start)
 
       at_last : Option Member
@@ -71,12 +71,12 @@ module _ (start : Start) where
       found (Some m) e same =
           let made_m = host_made start (part_of to.block) m (omega (arith, same, low)) in
           sym (known_node (member_at (made start) (suc h)) view to.node m e)
-          ∙ ap (λ (m : Member). m.node) (hosts_same start m me made_m there to.block block.Lqh same)
+          ∙ ap (λ (m : Member). m.node) (hosts_same start nobody m me made_m there to.block block.Lqh same)
 
       by : (b : Bool)
           → (if b then 0 else host_by (made start) (part_of to.block) at_last) ≡ ldm_of start me
           → to.node ≡ me.node
-      by true same = let number = ldm_number start me there in absurd (omega (arith, same, number))
+      by true same = let number = ldm_number start nobody me there in absurd (omega (arith, same, number))
       by false same = found at_last refl same
 
   shell_first : IsBeside (started start 0).parts
@@ -123,13 +123,14 @@ module _ (start : Start) where
     is_for_rows me there at sound to is =
         let one = told_of start all e es moment (IsPlaced start)
         (placed all es (moment_less start all e es moment)) sound is is in
-        let node = node_reached one.host one.view x.to me there (sym one.is ∙ at) in
+        let node = node_reached moment.cluster.nobody one.host one.view x.to me there (sym one.is ∙ at) in
         ap (λ (b : BlockId). record { node = x.to.node; block = b }) to
         ∙ ap (λ n. record { node = n; block = block.Lqh }) node
 
 -- which is that of their member
-pub rows_know_node : (start : Start) (member : Member) → IsIn member (made start) → (log : List HostStep)
+pub rows_know_node : (start : Start) (nobody : NobodyStarts start) (member : Member) → IsIn member (made start)
+    → (log : List HostStep)
     → (rows_after start member log).lqh.node ≡ member.node
-rows_know_node start member there log =
+rows_know_node start nobody member there log =
     always (λ (s : ReplicaState). s.lqh.node ≡ member.node) (λ s x own. replica_node s x ∙ own) (λ s view own. own)
-    (λ s at has own. own) start member there refl log
+    (λ s at has own. own) start nobody member there refl log

@@ -94,7 +94,7 @@ module _ (start : Start) (all : ℕ → List HostStep) (e : HostStep) (es : List
     sends = (step_after start (ldm_of start member) log e).effects.sends
 
     abbrev step : LdmStep start (ldm_of start member) log e
-    step = own_ldm start member there log e
+    step = own_ldm start moment.cluster.nobody member there log e
 
     abbrev p : LdmPart
     p = step.own
@@ -134,12 +134,13 @@ module _ (start : Start) (all : ℕ → List HostStep) (e : HostStep) (es : List
 
     ask : WaitersAsk between.replica.lqh
     ask =
-        between_is (λ (s : ReplicaState). WaitersAsk s.lqh) (waiters_ask start member there log)
+        between_is (λ (s : ReplicaState). WaitersAsk s.lqh) (waiters_ask start moment.cluster.nobody member there log)
         (λ s before. none_ask_installed s x.view)
 
     node_is : between.replica.lqh.node ≡ member.node
     node_is =
-        between_is (λ (s : ReplicaState). s.lqh.node ≡ member.node) (rows_know_node start member there log)
+        between_is (λ (s : ReplicaState). s.lqh.node ≡ member.node)
+        (rows_know_node start moment.cluster.nobody member there log)
         (λ s before. before)
 
     laid : AreLaid layout between

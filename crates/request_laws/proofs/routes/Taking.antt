@@ -99,7 +99,8 @@ module _ (start : Start) (all : ℕ → List HostStep) (e : HostStep) (es : List
             subst
             (λ (s : CoordinatorState). Each (λ (e : TxId × Transaction).
             IsGiven (IsGivenUp start new) e.0 e.1.phase) s.tc.live)
-            (ap (coordinator_after start member) own_log ∙ now) (all_given start member there new behind)
+            (ap (coordinator_after start member) own_log ∙ now)
+            (all_given start member there new behind moment.cluster.nobody)
 
         own : Each (λ (e : TxId × Transaction). coordinator_member e.0 ≡ member) (coordinator_row s x).state.tc.live
         own =

@@ -28,7 +28,7 @@ use Rattle.tc_block.specs.Doom.{doomed_in, is_among, is_doomed_by, is_undecided,
 use Rattle.tc_views.specs.Coordinator.{coordinator_row}
 use Rattle.tc_views.specs.State.{CoordinatorState, still_live}
 use Rattle.tc_views.specs.Views.{fence_row, install_row}
-use Rattle.world_core.specs.Start.{Start}
+use Rattle.world_core.specs.Start.{NobodyStarts, Start}
 use Rattle.world_core.specs.Steps.{HostStep}
 use Rattle.world_views.specs.Machine.{after}
 use Rattle.view_laws.specs.Runs.{view_after}
@@ -264,18 +264,18 @@ module _ (Asked : View → Type 0) where
           (enters_stand p view did.between seen did.front did.enters stands))
 
   -- and behind each step of the host
-  pub step_stands : (start : Start) (h : ℕ) → 1 ≤ h → (log : List HostStep) (e : HostStep)
+  pub step_stands : (start : Start) (nobody : NobodyStarts start) (h : ℕ) → 1 ≤ h → (log : List HostStep) (e : HostStep)
       → (is_well_formed start.shape e.step.taken ≡ true → (set : View)
       → e.step.taken.body ≡ Membership (FenceReq set) → Asked set)
       → StandsIn (view_after start h log) (after start h log).parts
       → StandsIn (view_after start h (e ∷ log)) (after start h (e ∷ log)).parts
-  step_stands start h some log e asks = by (after start h log).parts refl
+  step_stands start nobody h some log e asks = by (after start h log).parts refl
     where
       by : (parts : Parts) → (after start h log).parts ≡ parts → StandsIn (view_after start h log) parts
           → StandsIn (view_after start h (e ∷ log)) (after start h (e ∷ log)).parts
       by (part.Tc p) runs stands =
           does_stand start.shape e.step.taken asks p (view_after start h log) (after start h (e ∷ log)).parts
-          (view_after start h (e ∷ log)) _ (tc_after start h log e some p runs) stands
+          (view_after start h (e ∷ log)) _ (tc_after start nobody h log e some p runs) stands
       by (part.Shell p) runs stands = absurd stands
       by (part.Main p) runs stands = absurd stands
       by (part.Ldm p) runs stands = absurd stands

@@ -60,7 +60,7 @@ module _ (start : Start) (all : ℕ → List HostStep) where
         (sent_by_each (sound_machine start) IsPromised i log e
         (λ runs.
         each_filter IsPromised (is_sound start) (signals_of start i log e)
-        (each_promised start logs i log e past (low_host i log e past))))
+        (each_promised start logs moment.cluster.nobody i log e past (low_host i log e past))))
         (log_promised i j log (past_less e past))
 
     pub sent_promised : (i j : ℕ) → Each IsPromised (sent (sound_machine start) i j (logs i))
@@ -95,13 +95,14 @@ module _ (start : Start) (all : ℕ → List HostStep) where
     StandsAt es log = StandsIn (Asked es) (view_after start h log) (after start h log).parts
 
     pub stands_at : (es : List HostStep) → IsMoment start all es → StandsAt es (logs_of start es h)
-    stands_at [] moment = begins_standing (Asked []) start member there
+    stands_at [] moment = begins_standing (Asked []) start moment.cluster.nobody member there
     stands_at (e ∷ es) moment =
         let before = stands_at es (moment_less start all e es moment) in
         event_cases (machine start) e es h (StandsAt (e ∷ es))
         (λ at.
         more (e ∷ logs_of start es h)
-        (step_stands (Asked es) start h (part_some start Tc member) (logs_of start es h) e (asks e es moment at)
+        (step_stands (Asked es) start moment.cluster.nobody h (part_some start Tc member) (logs_of start es h) e
+        (asks e es moment at)
         before))
         (λ other. more (logs_of start es h) before)
       where

@@ -68,7 +68,8 @@ module _ (start : Start) (all : ℕ → List HostStep) (e : HostStep) (es : List
 
     -- it is the view of the signal that the host takes
     is_header : view ≡ e.step.taken.view
-    is_header = by (others_move h (after start h log) e.step.taken (part_none start member there block.Tc tt log))
+    is_header = by (others_move h (after start h log) e.step.taken
+        (part_none start moment.cluster.nobody member there block.Tc tt log))
       where
         by : (view ≡ old) ⊎ ((old.number < e.step.taken.view.number) × (view ≡ e.step.taken.view))
             → view ≡ e.step.taken.view
@@ -77,8 +78,9 @@ module _ (start : Start) (all : ℕ → List HostStep) (e : HostStep) (es : List
 
     member_in : IsIn member (all_of view)
     member_in =
-        subst (λ (m : Member). IsIn m (all_of view)) (tc_member start member there)
-        (are_of_views start all moment.cluster h (part_some start Tc member) (tc_low start member there) (e ∷ log) past)
+        subst (λ (m : Member). IsIn m (all_of view)) (tc_member start moment.cluster.nobody member there)
+        (are_of_views start all moment.cluster h (part_some start Tc member)
+        (tc_low start moment.cluster.nobody member there) (e ∷ log) past)
 
     -- so the coordinator is fenced at it before
     fenced : view.number ≤ (coordinator_after start member log).fence
@@ -98,7 +100,8 @@ module _ (start : Start) (all : ℕ → List HostStep) (e : HostStep) (es : List
     hale_keep : HaleKeepTo view (coordinator_after start member log)
     hale_keep =
         fenced_keep start all es less member there view
-        (installed_at start all h (tc_low start member there) (e ∷ log) past) member_in rises
+        (installed_at start moment.cluster.nobody all h (tc_low start moment.cluster.nobody member there) (e ∷ log)
+        past) member_in rises
         fenced
 
 pub installations_spare : InstallationsSpareNoStrays

@@ -109,7 +109,7 @@ module _ (start : Start) (all : ℕ → List HostStep) (es : List HostStep) (mom
 
     by_set : IsFencedBy start (logs_of start es) member
     by_set =
-        let number = have_the_number start member log there in
+        let number = have_the_number start moment.cluster.nobody member log there in
         fences_spare start all es moment member there (omega (arith, number, rises, fenced))
 
     abbrev b : Ballots
@@ -128,9 +128,10 @@ module _ (start : Start) (all : ℕ → List HostStep) (es : List HostStep) (mom
     -- the view isn't the first
     not_before : (newer : List HostStep) → (first_view start.shape.nodes).number ≤ (view_after start h newer).number
     not_before [] =
-        let is = ap (λ (v : View). v.number) (started_view start h) in omega (arith, is)
+        let is = ap (λ (v : View). v.number) (started_view start moment.cluster.nobody h) in omega (arith, is)
     not_before (f ∷ newer) =
-        let up = view_rises start h newer f in let low = not_before newer in omega (arith, up, low)
+        let up =
+        view_rises start moment.cluster.nobody h newer f in let low = not_before newer in omega (arith, up, low)
 
     view_promised : IsIn (OfSet view) (b.promises member)
     view_promised = by view_chosen

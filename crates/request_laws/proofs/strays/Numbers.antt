@@ -12,7 +12,7 @@ use Rattle.node_views.specs.declared.parts.Parts.TheVariants as part
 use Rattle.run_theory.specs.Lists.{IsIn}
 use Rattle.tc_views.specs.Coordinator.{fresh_coordinator}
 use Rattle.tc_views.specs.State.{CoordinatorState}
-use Rattle.world_core.specs.Start.{Start, made}
+use Rattle.world_core.specs.Start.{NobodyStarts, Start, made}
 use Rattle.world_core.specs.Steps.{HostStep}
 use Rattle.world_views.specs.Hosts.{started}
 use Rattle.world_views.specs.Machine.{after}
@@ -25,10 +25,11 @@ use Rattle.request_laws.specs.Strays.{CoordinatorsHaveTheNumber}
 use Rattle.request_laws.proofs.strays.AlongHosts.{Stands, StandsIn, step_stands}
 
 -- it has it as it begins, and no fence above it
-pub begins_standing : (Asked : View → Type 0) (start : Start) (me : Member) → IsIn me (made start)
+pub begins_standing : (Asked : View → Type 0) (start : Start) (nobody : NobodyStarts start) (me : Member)
+    → IsIn me (made start)
     → StandsIn Asked (started start (tc_of start me)).standing.view (started start (tc_of start me)).parts
-begins_standing Asked start me there =
-    subst (λ (s : hosts.HostBody). StandsIn Asked s.standing.view s.parts) (sym (tc_started start me there))
+begins_standing Asked start nobody me there =
+    subst (λ (s : hosts.HostBody). StandsIn Asked s.standing.view s.parts) (sym (tc_started start nobody me there))
     (record { number_is = refl; fenced = λ high. absurd (omega (arith, high)) })
 
 -- the coordinator of parts that have one
@@ -51,27 +52,29 @@ fence_is Asked other view (part.Ldm p) number stands = absurd stands
 abbrev Any : View → Type 0
 Any set = Unit {0}
 
-module _ (start : Start) (me : Member) (there : IsIn me (made start)) where
+module _ (start : Start) (nobody : NobodyStarts start) (me : Member) (there : IsIn me (made start)) where
   log_stands : (log : List HostStep)
       → StandsIn Any (view_after start (tc_of start me) log) (after start (tc_of start me) log).parts
-  log_stands [] = begins_standing Any start me there
+  log_stands [] = begins_standing Any start nobody me there
   log_stands (e ∷ log) =
-      step_stands Any start (tc_of start me) (part_some start Tc me) log e (λ sound set says. tt) (log_stands log)
+      step_stands Any start nobody (tc_of start me) (part_some start Tc me) log e (λ sound set says. tt)
+      (log_stands log)
 
 pub have_the_number : CoordinatorsHaveTheNumber
-have_the_number start me log there =
+have_the_number start nobody me log there =
     (stands_of Any _ (view_after start (tc_of start me) log) (after start (tc_of start me) log).parts
-    (log_stands start me there log)).number_is
+    (log_stands start nobody me there log)).number_is
 
 -- and its fence isn't below its number
-pub fence_above : (start : Start) (me : Member) → IsIn me (made start) → (log : List HostStep)
+pub fence_above : (start : Start) (nobody : NobodyStarts start) (me : Member) → IsIn me (made start)
+    → (log : List HostStep)
     → (coordinator_after start me log).number ≤ (coordinator_after start me log).fence
-fence_above start me there log =
+fence_above start nobody me there log =
     let view = view_after start (tc_of start me) log in
     let parts = (after start (tc_of start me) log).parts in
     let fence =
     fence_is Any (fresh_coordinator me.node me.start (first_layout start.shape)) view parts view.number
-    (log_stands start me there log) in
-    let number = have_the_number start me log there in
-    let above = fences_are_not_below start (tc_of start me) log block.Tc in
+    (log_stands start nobody me there log) in
+    let number = have_the_number start nobody me log there in
+    let above = fences_are_not_below start nobody (tc_of start me) log block.Tc in
     omega (arith, fence, number, above)

@@ -44,7 +44,7 @@ module _ (start : Start) (logs : ℕ → List HostStep) (are : AreOfCluster star
   sound = logs_sound start logs are
 
   pub orderly : AreOrderly start.shape (ballots_of start logs)
-  orderly = sound_orderly start logs are.shape sound
+  orderly = sound_orderly start logs are.shape sound are.nobody
 
   none_chosen : (set : View) → IsChosen start.shape (ballots_of start logs) set → set.starting ≡ []
   none_chosen = none_starting start logs are.shape sound

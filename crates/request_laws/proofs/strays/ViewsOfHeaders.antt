@@ -9,9 +9,8 @@ use Rattle.run_theory.specs.Lists.{IsPast}
 use Rattle.run_theory.specs.Runs.{IsWithin, log_of}
 use Rattle.run_theory.proofs.EventCases.{event_cases}
 use Rattle.sig_core.specs.declared.view.View.{View}
-use Rattle.world_core.proofs.MadeFirst.{nobody_starts}
 use Rattle.world_core.specs.Hosts.{hosts}
-use Rattle.world_core.specs.Start.{Start}
+use Rattle.world_core.specs.Start.{NobodyStarts, Start}
 use Rattle.world_core.specs.Steps.{HostStep}
 use Rattle.world_views.proofs.SentFacts.{is_stamped}
 use Rattle.world_views.specs.Machine.{machine}
@@ -36,7 +35,8 @@ module _ (start : Start) (shape : IsShape start.shape) where
   abbrev AreBoth : (ℕ → List HostStep) → Type 0
   AreBoth logs = AreInstalled start logs × AreHeaded logs
 
-  module _ (es : List HostStep) (e : HostStep) (come : Comes (machine start) (HasInstalled start) AreBoth es e) where
+  module _ (nobody : NobodyStarts start) (es : List HostStep) (e : HostStep)
+      (come : Comes (machine start) (HasInstalled start) AreBoth es e) where
     comes : Comes (machine start) (HasInstalled start) (AreInstalled start) es e
     comes = record {
       run = come.run;
@@ -55,7 +55,7 @@ module _ (start : Start) (shape : IsShape start.shape) where
       old = log_of (machine start) es;
       are = record {
         shape = shape;
-        nobody = nobody_starts start;
+        nobody = nobody;
         right = logs_of_run (machine start) es come.run;
         within = within_less start e es within;
       };
@@ -63,7 +63,7 @@ module _ (start : Start) (shape : IsShape start.shape) where
       was =
           let same : e ≡ f = cc is in
           subst (λ (f : HostStep). WasInstalled start (log_of (machine start) es) f.step.taken.view) same
-          (old_taken start es e comes within);
+          (old_taken start nobody es e comes within);
     }
 
     headed_next : AreHeaded (log_of (machine start) (e ∷ es))
@@ -79,18 +79,19 @@ module _ (start : Start) (shape : IsShape start.shape) where
         own (inl is) = now_headed within h log f is
         own (inr older) = before older
 
-  both_kept : IsKept (machine start) (HasInstalled start) AreBoth
-  both_kept = record {
-    start = ((kept start).start, λ within h log e past. absurd (cc (past_none (e ∷ log) past)));
-    step = λ es e come. ((kept start).step es e (comes es e come), headed_next es e come);
-    sends = λ es e come. (kept start).sends es e (comes es e come);
-    closing = λ es e come. (kept start).closing es e (comes es e come);
-    stays = λ es e x come. (kept start).stays es e x (comes es e come);
+  both_kept : NobodyStarts start → IsKept (machine start) (HasInstalled start) AreBoth
+  both_kept nobody = record {
+    start = ((kept start nobody).start, λ within h log e past. absurd (cc (past_none (e ∷ log) past)));
+    step = λ es e come. ((kept start nobody).step es e (comes nobody es e come), headed_next nobody es e come);
+    sends = λ es e come. (kept start nobody).sends es e (comes nobody es e come);
+    closing = λ es e come. (kept start nobody).closing es e (comes nobody es e come);
+    stays = λ es e x come. (kept start nobody).stays es e x (comes nobody es e come);
   }
 
   pub headed : (all : ℕ → List HostStep) → AreOfCluster start all → (h : ℕ) (log : List HostStep) (e : HostStep)
       → IsPast (e ∷ log) (all h) → IsHeaded start h log e.step.taken.view
   headed all are =
-      (along_signals_of_logs (machine start) (is_stamped start) (HasInstalled start) AreBoth both_kept (hosts start) all
+      (along_signals_of_logs (machine start) (is_stamped start) (HasInstalled start) AreBoth (both_kept are.nobody)
+      (hosts start) all
       are.within are.right).law.1
       are.within

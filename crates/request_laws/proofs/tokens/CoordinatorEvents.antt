@@ -33,7 +33,7 @@ use Rattle.node_views.specs.declared.host_body.HostBody as hosts
 use Rattle.node_views.specs.declared.parts.Parts.TheVariants.{Tc}
 use Rattle.node_views.specs.declared.tc_part.TcPart.{TcPart}
 use Rattle.node_views.specs.Parts.{tc_entered, tc_row}
-use Rattle.world_core.specs.Start.{Start, made}
+use Rattle.world_core.specs.Start.{NobodyStarts, Start, made}
 use Rattle.world_core.specs.Steps.{HostStep}
 use Rattle.world_views.specs.Machine.{after, step_after}
 use Rattle.run_laws.specs.Tokens.{is_token}
@@ -329,30 +329,30 @@ module _ (start : Start) (member : Member) (there : IsIn member (made start)) (t
                 (heard passed))
             taken q rest (handles passed is sends_are) behind (inr none) goes = hushed passed none goes
 
-        comes : Comes (coordinator (e ∷ log)) (sends log e)
-        comes =
-            let did = tc_after start h log e (part_some start kind.Tc member) p runs in
+        comes : NobodyStarts start → Comes (coordinator (e ∷ log)) (sends log e)
+        comes nobody =
+            let did = tc_after start nobody h log e (part_some start kind.Tc member) p runs in
             taken did.between did.front did.enters did.own did.rest did.takes did.is did.sent
-            (tc_goes start h log e p runs)
+            (tc_goes start nobody h log e p runs)
 
     abbrev pub Fits : List HostStep → Type 0
     Fits log = IsFit (gone log) (is_unborn (coordinator log) tx) (entry_of (coordinator log) tx)
 
-    pub step_tokens : (log : List HostStep) (e : HostStep) → Fits log → StepTokens log e
-    step_tokens log e fit =
-        let at = runs_tc start member there log in
+    pub step_tokens : NobodyStarts start → (log : List HostStep) (e : HostStep) → Fits log → StepTokens log e
+    step_tokens nobody log e fit =
+        let at = runs_tc start member there nobody log in
         let same = coordinator_is start member there log at in
         subst
         (λ before. HasTokens tx (gone log) (Hears log e) before (coordinator (e ∷ log)) (sends log e)) (sym same)
         (comes log e at.own at.runs at.fits
-        (subst (λ s. IsFit (gone log) (is_unborn s tx) (entry_of s tx)) same fit))
+        (subst (λ s. IsFit (gone log) (is_unborn s tx) (entry_of s tx)) same fit) nobody)
 
     -- so it is along each log
-    pub always_fits : (log : List HostStep) → Fits log
-    always_fits [] =
-        subst (λ s. IsFit false (is_unborn s tx) (entry_of s tx)) (sym (coordinator_first start member there))
+    pub always_fits : NobodyStarts start → (log : List HostStep) → Fits log
+    always_fits nobody [] =
+        subst (λ s. IsFit false (is_unborn s tx) (entry_of s tx)) (sym (coordinator_first start member there nobody))
         (λ off. absurd (true≢false (sym off)))
-    always_fits (e ∷ log) = (step_tokens log e (always_fits log)).step.fit
+    always_fits nobody (e ∷ log) = (step_tokens nobody log e (always_fits nobody log)).step.fit
 
   -- a coordinator sends no tokens of the transactions of others
   module _ (foreign : coordinator_member tx ≡ member → ⊥) where
@@ -395,9 +395,10 @@ module _ (start : Start) (member : Member) (there : IsIn member (made start)) (t
               (front_away tx member p of view e.step.taken between seen front entering) ∙ none)
           all_none none (inr nothing) = ap (count_sent (is_token tx)) nothing
 
-    pub foreign_none : (log : List HostStep) (e : HostStep) → count_sent (is_token tx) (sends log e) ≡ 0
-    foreign_none log e =
-        let at = runs_tc start member there log in
-        let did = tc_after start h log e (part_some start kind.Tc member) at.own at.runs in
+    pub foreign_none : NobodyStarts start → (log : List HostStep) (e : HostStep)
+        → count_sent (is_token tx) (sends log e) ≡ 0
+    foreign_none nobody log e =
+        let at = runs_tc start member there nobody log in
+        let did = tc_after start nobody h log e (part_some start kind.Tc member) at.own at.runs in
         all_none log e at.own at.fits did.between did.front did.rest did.enters
         (rest_none log e at.own at.fits did.between did.front did.rest did.enters did.own did.takes) did.sent

@@ -15,9 +15,9 @@ use Rattle.sig_core.specs.declared.signal.Body.{Body}
 use Rattle.sig_core.specs.declared.signal.Signal.{Signal}
 use Rattle.sig_core.specs.declared.view.View.{View}
 use Rattle.tc_block.specs.Complete.{one_if}
-use Rattle.world_core.proofs.MadeFirst.{made_first, nobody_starts}
+use Rattle.world_core.proofs.MadeFirst.{made_first}
 use Rattle.world_core.specs.Hosts.{hosts}
-use Rattle.world_core.specs.Start.{Start, made}
+use Rattle.world_core.specs.Start.{NobodyStarts, Start, made}
 use Rattle.world_core.specs.Steps.{Addressed, HostStep}
 use Rattle.world_views.specs.Machine.{signals_of}
 use Rattle.view_laws.specs.Order.{is_sound, sound_machine}
@@ -97,15 +97,16 @@ total_of_one (suc n) f g node some low same =
         )
 
 -- so it is of those that are made
-pub total_of_made : (start : Start) (f g : Member → ℕ) (node : ℕ) → 1 ≤ node → node ≤ start.shape.nodes
+pub total_of_made : (start : Start) (nobody : NobodyStarts start) (f g : Member → ℕ) (node : ℕ) → 1 ≤ node
+    → node ≤ start.shape.nodes
     → ((k : ℕ) → 1 ≤ k → k ≤ start.shape.nodes → k ≢ node → g (node_of k) ≡ f (node_of k))
     → total_of (made start) g + f (node_of node) ≡ total_of (made start) f + g (node_of node)
-total_of_made start f g node some low same =
+total_of_made start nobody f g node some low same =
     subst (λ (ms : List Member). total_of ms g + f (node_of node) ≡ total_of ms f + g (node_of node))
-    (sym (made_first start (nobody_starts start))) (total_of_one start.shape.nodes f g node some low same)
+    (sym (made_first start nobody)) (total_of_one start.shape.nodes f g node some low same)
 
 -- signals that pass a test of their bodies, in the view of a number
-module _ (start : Start) (q : Body → Bool) (number : ℕ) where
+module _ (start : Start) (nobody : NobodyStarts start) (q : Body → Bool) (number : ℕ) where
   abbrev p : Signal → Bool
   p x = q x.body && (x.view.number == number)
 
@@ -133,7 +134,7 @@ module _ (start : Start) (q : Body → Bool) (number : ℕ) where
       → sent_along start p h log ≡ 0
   sent_low_none h [] low = refl
   sent_low_none h (e ∷ log) low =
-      let rises = view_rises start h log e in
+      let rises = view_rises start nobody h log e in
       omega (
         arith,
         low_none (sent_by (sound_machine start) h log e)
@@ -152,7 +153,8 @@ module _ (start : Start) (q : Body → Bool) (number : ℕ) where
         arith,
         total_same (hosts start) (λ h. sent_along start p h (logs h)) (λ h. 0)
             (λ h low.
-            let under = current_above start logs h low in sent_low_none h (logs h) (omega (arith, under, above))),
+            let under =
+            current_above start logs nobody h low in sent_low_none h (logs h) (omega (arith, under, above))),
         total_zero (hosts start) (λ h. 0) (λ h. refl),
       )
 

@@ -20,7 +20,7 @@ use Rattle.tc_block.specs.Complete.{one_if}
 use Rattle.node_views.specs.declared.host_body.HostBody as node
 use Rattle.world_core.proofs.MadeFirst.{begins_made}
 use Rattle.world_core.specs.Hosts.{hosts}
-use Rattle.world_core.specs.Start.{Start, made}
+use Rattle.world_core.specs.Start.{NobodyStarts, Start, made}
 use Rattle.world_core.specs.Steps.{Addressed, HostStep}
 use Rattle.world_views.specs.Hosts.{started}
 use Rattle.world_views.specs.Machine.{step_after, stops_by}
@@ -221,8 +221,8 @@ module _ (start : Start) (all : ℕ → List HostStep) (e : HostStep) (es : List
       tc_keeps : s + budget start old tx now ≤ t + budget start new tx now
       tc_keeps =
           subst (λ log. s + may_in (old home) ≤ t + may_in log) (sym (log_there home at))
-          (home_few (step_tokens start member there tx refl (old home) e
-          (always_fits start member there tx refl (old home))))
+          (home_few (step_tokens start member there tx refl moment.cluster.nobody (old home) e
+          (always_fits start member there tx refl moment.cluster.nobody (old home))))
 
     abbrev waits_in : Member → List HostStep → ℕ
     waits_in me log = waits_behind start tx now me log
@@ -257,14 +257,15 @@ module _ (start : Start) (all : ℕ → List HostStep) (e : HostStep) (es : List
           subst
           (λ one. all_waiting start new tx now + waiting_at start old tx now one
           ≡ all_waiting start old tx now + waiting_at start new tx now one)
-          (first_again start me there)
-          (total_of_made start (waiting_at start old tx now) (waiting_at start new tx now) me.node
-          (node_some start me there) (node_low start me there)
+          (first_again start moment.cluster.nobody me there)
+          (total_of_made start moment.cluster.nobody (waiting_at start old tx now) (waiting_at start new tx now) me.node
+          (node_some start moment.cluster.nobody me there) (node_low start moment.cluster.nobody me there)
           (λ k some low off.
           waits_elsewhere (node_of k)
           (λ same.
           off (ap (λ (m : Member). m.node)
-          (ldm_same start (node_of k) me (begins_made start _ (first_in start.shape.nodes k some low)) there
+          (ldm_same start moment.cluster.nobody (node_of k) me
+          (begins_made start _ (first_in start.shape.nodes k some low)) there
           (sym same ∙ at))))))
 
     -- whichever host it is
@@ -276,12 +277,12 @@ module _ (start : Start) (all : ℕ → List HostStep) (e : HostStep) (es : List
 
       no_rows : (me : Member) → IsIn me (made start) → e.host ≡ tc_of start me → (one : Member)
           → IsIn one (made start) → e.host ≢ ldm_of start one
-      no_rows me there at one among same = ldm_no_tc start one me among there (sym same ∙ at)
+      no_rows me there at one among same = ldm_no_tc start moment.cluster.nobody one me among there (sym same ∙ at)
 
       beside_rows : IsBeside (started start e.host).parts → (one : Member) → IsIn one (made start)
           → e.host ≢ ldm_of start one
       beside_rows beside one among same =
-          subst (λ (host : node.HostBody). IsBeside host.parts) (ldm_started start one among)
+          subst (λ (host : node.HostBody). IsBeside host.parts) (ldm_started start moment.cluster.nobody one among)
           (subst (λ h. IsBeside (started start h).parts) same beside)
 
       -- where it sends none of them
@@ -295,7 +296,8 @@ module _ (start : Start) (all : ℕ → List HostStep) (e : HostStep) (es : List
           of_host off (coordinates me among at) =
               calm off (no_rows me among at)
               (let none =
-              foreign_none start me among tx (λ is. off (at ∙ ap (tc_of start) (sym is))) (old (tc_of start me)) e in
+              foreign_none start me among tx (λ is. off (at ∙ ap (tc_of start) (sym is))) moment.cluster.nobody
+              (old (tc_of start me)) e in
               let under = few (tc_of start me) at in omega (arith, none, under))
           of_host off (keeps_rows me among at) =
               omega (arith, rows_few me among at, all_rows me among at, may_elsewhere off)
@@ -312,7 +314,7 @@ module _ (start : Start) (all : ℕ → List HostStep) (e : HostStep) (es : List
               let same = waits_same (no_rows member there at) in
               let more = tc_keeps there at in
               omega (arith, same, more)
-          by (inr off) = of_host off (part_host start e.host (host_low start all e es moment))
+          by (inr off) = of_host off (part_host start moment.cluster.nobody e.host (host_low start all e es moment))
 
       -- the logs before the event, in the view that is current behind it
       abbrev pub Before : ℕ → Type 0
@@ -331,7 +333,8 @@ module _ (start : Start) (all : ℕ → List HostStep) (e : HostStep) (es : List
               → (if b then count_waiting tx (rows_after start me (old (ldm_of start me))) else 0) ≡ 0
           by false is = refl
           by true is =
-              let under = current_above start old (ldm_of start me) (ldm_low start me among) in
+              let under = current_above start old moment.cluster.nobody (ldm_of start me)
+              (ldm_low start moment.cluster.nobody me among) in
               absurd (omega (arith, under, above, eqb-true number now is))
 
       pub before_now : Before (number_now start old) → Before now
@@ -340,7 +343,7 @@ module _ (start : Start) (all : ℕ → List HostStep) (e : HostStep) (es : List
           by : Turn start all e es moment → Before now
           by (keeps same stands) = subst Before (sym (ap (λ (v : View). v.number) same)) known
           by (raises above stands) =
-              let sent = all_sent_none start (is_token tx) now old above in
+              let sent = all_sent_none start moment.cluster.nobody (is_token tx) now old above in
               let waits = total_of_zero (made start) (waiting_at start old tx now) (none_waits above) in
               omega (arith, sent, waits)
 
@@ -356,7 +359,7 @@ module _ (start : Start) (all : ℕ → List HostStep) (e : HostStep) (es : List
           )
 
 -- as a life begins nothing is under way
-module _ (start : Start) (tx : TxId) (number : ℕ) where
+module _ (start : Start) (nobody : NobodyStarts start) (tx : TxId) (number : ℕ) where
   abbrev none : ℕ → List HostStep
   none = logs_of start []
 
@@ -366,7 +369,7 @@ module _ (start : Start) (tx : TxId) (number : ℕ) where
       rows : count_waiting tx (rows_after start me []) ≡ 0
       rows =
           ap (λ (host : node.HostBody). count_waiting tx (rows_in (no_replica start me) host.parts))
-          (ldm_started start me there)
+          (ldm_started start nobody me there)
 
       by : (b : Bool) → (if b then count_waiting tx (rows_after start me []) else 0) ≡ 0
       by true = rows
@@ -381,6 +384,6 @@ module _ (start : Start) (tx : TxId) (number : ℕ) where
       omega (arith, sent, waits)
 
 pub have_one : OneAtATime
-have_one start all [] moment tx there = first_now start tx (number_now start (logs_of start []))
+have_one start all [] moment tx there = first_now start moment.cluster.nobody tx (number_now start (logs_of start []))
 have_one start all (e ∷ es) moment tx there =
     behind_now start all e es moment tx there (have_one start all es (moment_less start all e es moment) tx there)

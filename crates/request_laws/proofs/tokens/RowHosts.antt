@@ -348,11 +348,11 @@ module _ (start : Start) (all : ℕ → List HostStep) (e : HostStep) (es : List
           sent_now start all e es moment q + waits_in seen (count_waiting tx (rows_after start member (e ∷ old)))
           ≤ waits_in view (count_waiting tx (rows_after start member old)) + taken_now start all e es moment q
       ldm_keeps =
-          let rows = rows_run start member there old in
+          let rows = rows_run start moment.cluster.nobody member there old in
           let runs : (after start e.host old).parts ≡ Ldm rows.part =
           ap (λ (h : ℕ). (after start h old).parts) at ∙ rows.is in
           let some : 1 ≤ e.host = subst (λ (h : ℕ). 1 ≤ h) (sym at) (part_some start part.Ldm member) in
-          let did = ldm_after start e.host old e some rows.part runs in
+          let did = ldm_after start moment.cluster.nobody e.host old e some rows.part runs in
           subst
           (λ (r : ReplicaState). sent_now start all e es moment q + waits_in seen (count_waiting tx r)
           ≤ waits_in view (count_waiting tx (rows_after start member old)) + taken_now start all e es moment q)

@@ -51,7 +51,7 @@ use Rattle.run_laws.specs.Tokens as plain
 use Rattle.run_laws.proofs.tokens.Rows.{is_own, lqh_tokens, tokens_out}
 use Rattle.run_laws.proofs.tokens.Waiting.{WaitersAsk}
 use Rattle.run_laws.specs.Tokens.{is_token}
-use Rattle.world_core.specs.Start.{Start, made}
+use Rattle.world_core.specs.Start.{NobodyStarts, Start, made}
 use Rattle.world_core.specs.Steps.{HostStep}
 use Rattle.outcome_laws.specs.Counts.{count_sent}
 use Rattle.outcome_laws.proofs.coordinators.Lists.{count_more}
@@ -210,14 +210,16 @@ still_ask s at has ask = record { asks = ask.asks }
 abbrev pub RunsRows : Parts → Type 0
 RunsRows = AreRows (λ (s : ReplicaState). WaitersAsk s.lqh)
 
-pub rows_run : (start : Start) (member : Member) → IsIn member (made start) → (log : List HostStep)
+pub rows_run : (start : Start) (nobody : NobodyStarts start) (member : Member) → IsIn member (made start)
+    → (log : List HostStep)
     → RunsRows (after start (ldm_of start member) log).parts
-rows_run start member there log =
+rows_run start nobody member there log =
     rows_so (λ (s : ReplicaState). WaitersAsk s.lqh) signal_asks (λ s view ask. none_ask_installed s view) still_ask
-    start member there (first_asks start member) log
+    start nobody member there (first_asks start member) log
 
-pub waiters_ask : (start : Start) (member : Member) → IsIn member (made start) → (log : List HostStep)
+pub waiters_ask : (start : Start) (nobody : NobodyStarts start) (member : Member) → IsIn member (made start)
+    → (log : List HostStep)
     → WaitersAsk (rows_after start member log).lqh
-waiters_ask start member there =
+waiters_ask start nobody member there =
     always (λ (s : ReplicaState). WaitersAsk s.lqh) signal_asks (λ s view ask. none_ask_installed s view) still_ask
-    start member there (first_asks start member)
+    start nobody member there (first_asks start member)

@@ -16,7 +16,7 @@ use Rattle.row_records.proofs.KeyLemmas.{same}
 use Rattle.row_records.proofs.PlaceLemmas.{has-own_place, row-set_row, row-with_place, row_at, row_of-at}
 use Rattle.node_core.specs.Fresh.{own_rows, with_rows}
 use Rattle.node_views.specs.declared.host_body.HostBody as node
-use Rattle.world_core.specs.Start.{Start, made}
+use Rattle.world_core.specs.Start.{NobodyStarts, Start, made}
 use Rattle.view_laws.proofs.runs.FirstMembers.{node_low, node_some}
 use Rattle.moment_laws.proofs.MomentHosts.{ldm_started}
 use Rattle.request_laws.specs.Blocks.{no_replica, rows_in}
@@ -57,11 +57,11 @@ own_stay shape node epoch s (row ∷ rows) key off =
     by false is own without = without
 
 -- so a member begins with none of such a key
-others_begin : (start : Start) (member : Member) (key : List ℕ) → IsIn member (made start)
+others_begin : (start : Start) (nobody : NobodyStarts start) (member : Member) (key : List ℕ) → IsIn member (made start)
     → holds start.shape member.node key ≡ false → row_of (first_rows start member) key ≡ None
-others_begin start member key there off =
+others_begin start nobody member key there off =
     ap (λ (s : node.HostBody). row_of (rows_in (no_replica start member) s.parts).lqh.rows key)
-    (ldm_started start member there)
+    (ldm_started start nobody member there)
     ∙ row_of-at (with_rows no_rows (own_rows start.shape member.node start.rows) start.start_epoch) key
     ∙ own_stay start.shape member.node start.start_epoch no_rows start.rows key off
 
@@ -76,7 +76,7 @@ rows_begin shape r member may there key = by (holds shape member.node key) refl
     by true held =
         ap (λ group. map.get (get_or r.groups group map.empty) key)
         (eqb-true (group_of shape member.node) (group_of_key shape key) held)
-        ∙ sym (group_has shape r may key) ∙ sym (row_begins start member key held there)
+        ∙ sym (group_has shape r may key) ∙ sym (row_begins start refl member key held there)
     by false off =
-        may.grouped member.node key (node_some start member there) (node_low start member there) off
-        ∙ sym (others_begin start member key there off)
+        may.grouped member.node key (node_some start refl member there) (node_low start refl member there) off
+        ∙ sym (others_begin start refl member key there off)

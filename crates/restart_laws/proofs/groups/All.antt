@@ -199,7 +199,8 @@ module _ (copied : CopiedWereSaved) (durable : DurableWereNoted) (done : DoneWer
           ≡ row_up_to start logs system.epoch key
       own key holding =
           ap (λ (rows : Rows). map.get rows key)
-          (replays (first_rows start member) before has.events system.epoch (first_pending start member there))
+          (replays (first_rows start member) before has.events system.epoch
+          (first_pending start left.cluster.nobody member there))
           ∙ saved start logs (begins start r logs images left) left.cluster member there has.older has.past has.events
           has.events_of before (left.each member there).begun system.epoch
           (subst (λ k. system.epoch ≤ k) has.saved saved_up)
@@ -210,7 +211,8 @@ module _ (copied : CopiedWereSaved) (durable : DurableWereNoted) (done : DoneWer
           → map.get (replayed system.epoch before (records_behind (first_rows start member) has.events)) key ≡ None
       others key apart =
           ap (λ (rows : Rows). map.get rows key)
-          (replays (first_rows start member) before has.events system.epoch (first_pending start member there))
+          (replays (first_rows start member) before has.events system.epoch
+          (first_pending start left.cluster.nobody member there))
           ∙ stay start logs left.cluster member there has.older has.past has.events has.events_of before system.epoch
           key
           apart

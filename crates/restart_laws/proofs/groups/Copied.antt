@@ -77,5 +77,6 @@ module _ (copied : CopiedWereSaved) (start : Start) (logs : ℕ → List HostSte
           → IsOfSaved start logs epoch mask
       of_orders took =
           taken_so start logs are WasSaved sent_saved h log e past (CopyGciReq epoch mask) took.body
-          (ap (λ shape. is_well_formed shape e.step.taken) (sym (shape_stays start h (e ∷ log))) ∙ took.sound) epoch
+          (ap (λ shape. is_well_formed shape e.step.taken) (sym (shape_stays start are.nobody h (e ∷ log)))
+          ∙ took.sound) epoch
           mask took.body

@@ -65,7 +65,7 @@ module _ (start : Start) (r : Restored) (logs : ℕ → List HostStep) (images :
 
     pub saved_low : r.epoch ≤ (left.each member there).saved.slot.saved
     saved_low =
-        let first = saved_above start member there (kept_part (logs (ldm_of start member))) in
+        let first = saved_above start left.cluster.nobody member there (kept_part (logs (ldm_of start member))) in
         let low = of.saved.latest in
         let is = left.epoch_is in
         omega (arith, first, low, is)

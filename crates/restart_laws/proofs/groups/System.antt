@@ -86,8 +86,8 @@ module _ (start : Start) (r : Restored) (logs : ℕ → List HostStep) (images :
   pub system_up : (member : Member) (there : IsIn member (made start))
       → (left.each member there).noted.slot.epoch ≤ latest.slot.epoch
   system_up member there =
-      let low = node_low start member there in
-      latest.greatest member.node (left.each member there).noted.slot (node_some start member there)
+      let low = node_low start left.cluster.nobody member there in
+      latest.greatest member.node (left.each member there).noted.slot (node_some start left.cluster.nobody member there)
       (omega (arith, low)) (left.each member there).latest
 
   module _ (copied : CopiedWereSaved) where
@@ -136,9 +136,10 @@ module _ (start : Start) (r : Restored) (logs : ℕ → List HostStep) (images :
         by (was_noted of) =
             let one =
             found (λ (m : Member). m.node == member.node) of.view.full
-            (sym (listed_as of member.node (node_some start member there) (node_low start member there)) ∙ listed) in
+            (sym (listed_as of member.node (node_some start left.cluster.nobody member there)
+            (node_low start left.cluster.nobody member there)) ∙ listed) in
             let same : one.member ≡ member =
-            made_same start one.member member
+            made_same start left.cluster.nobody one.member member
             (full_made start logs left.cluster of.view of.installed one.member one.there) there
             (eqb-true one.member.node member.node one.passes) in
             told_saved start r logs images left member there latest.slot.epoch
@@ -171,14 +172,14 @@ module _ (start : Start) (r : Restored) (logs : ℕ → List HostStep) (images :
             → IsManned latest.slot (group * start.shape.replicas + 1) start.shape.replicas
         from_saved of one =
             let there = full_made start logs left.cluster of.view of.installed one.member one.full in
-            let some = node_some start one.member there in
+            let some = node_some start left.cluster.nobody one.member there in
             record {
               node = one.member.node;
               from = group_from start.shape group one.member.node some one.group_is;
               below =
                   group_below start.shape group one.member.node left.cluster.shape.replicas_some some one.group_is;
               listed =
-                  listed_as of one.member.node some (node_low start one.member there)
+                  listed_as of one.member.node some (node_low start left.cluster.nobody one.member there)
                   ∙ node_in one.member of.view.full one.full;
             }
 

@@ -40,7 +40,7 @@ module _ (start : Start) (logs : ℕ → List HostStep) (are : AreOfCluster star
   n = sound_machine start
 
   right : AreLogs (sound_machine start) logs
-  right = sound_logs start logs are.right
+  right = sound_logs start are.nobody logs are.right
 
   pub taken_so : (h : ℕ) (log : List HostStep) (e : HostStep) → IsPast (e ∷ log) (logs h) → (signal : EpochSignal)
       → e.step.taken.body ≡ Epoch signal → is_well_formed start.shape e.step.taken ≡ true

@@ -40,8 +40,8 @@ module _ (start : Start) (r : Restored) (w : Whole) (disks : Disks) (records : L
       → HasSavedRows start (first_start node) (rows_of_node start.shape node r) (r.generation + 1)
       (logs_at w.logs (ldm_of start (first_start node))) (disks_of records node)
   saved node some few =
-      kept_is_found.rows start member (rows_of_node start.shape node r) (next_system start.shape r) w disks
-      (disks_of records node) up (cut.left node up.calls up.told)
+      kept_is_found.rows start lived.sound.right.nobody member (rows_of_node start.shape node r)
+      (next_system start.shape r) w disks (disks_of records node) up (cut.left node up.calls up.told)
     where
       member : Member
       member = first_start node

@@ -55,7 +55,7 @@ module _ (shape : Shape) (r : Restored) (disks : Disks) (may : MayBegin shape r)
 
   module _ (member : Member) (there : IsIn member (made start)) where
     own : IsReadyFor shape r disks member.node
-    own = ready.each member.node (node_some start member there) (node_low start member there)
+    own = ready.each member.node (node_some start refl member there) (node_low start refl member there)
 
     -- the one control slot of the life was saved at the epoch from which it starts
     prepared_told : SlotsAreTold start member (r.generation + 1) (logs_at world.logs)
@@ -84,7 +84,7 @@ module _ (shape : Shape) (r : Restored) (disks : Disks) (may : MayBegin shape r)
                 (λ log. IsOnDisk start member (rows_of_node shape member.node r) (next_system shape r) [] log own.slots
                 own.calls)
                 (sym (none_done start (tc_of start member)))
-                (ready_keep_up start member r own.calls own.slots own.kept refl there own.ready own.found));
+                (ready_keep_up start refl member r own.calls own.slots own.kept refl there own.ready own.found));
           };
           tells = fresh_worlds_tell_what_is_kept start world sound (none_done start) member there;
           shape = record {

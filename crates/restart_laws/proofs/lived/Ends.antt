@@ -54,8 +54,8 @@ module _ (start : Start) (r : Restored) (w : Whole) (disks : Disks) (images : fi
         record {
           begun = table_begins start r lived.is_start lived.may member there;
           saved =
-              kept_is_found.rows start member (rows_of_node start.shape member.node r) (next_system start.shape r) w
-              disks (images member.node) up image;
+              kept_is_found.rows start lived.sound.right.nobody member (rows_of_node start.shape member.node r)
+              (next_system start.shape r) w disks (images member.node) up image;
           noted = noted;
           latest =
               shapes_read start.shape member.node (images member.node) noted.slot
@@ -67,7 +67,8 @@ module _ (start : Start) (r : Restored) (w : Whole) (disks : Disks) (images : fi
           told_slots =
               at.told_slots.leaves (images member.node CONTROL_FILE)
               (subst (λ calls. IsImage (state_of calls CONTROL_FILE) (images member.node CONTROL_FILE))
-              (same_calls (get_or disks.told (member.node - 1) None) up.calls at.told_slots.calls up.told at.told_slots.told)
+              (same_calls (get_or disks.told (member.node - 1) None) up.calls at.told_slots.calls up.told
+              at.told_slots.told)
               (image CONTROL_FILE (omega arith)));
           owner =
               owners_found member.node at.owner.calls (images member.node CONTROL_FILE) at.owner.named

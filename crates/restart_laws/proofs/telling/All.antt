@@ -9,8 +9,8 @@ pub steps_tell_what_is_kept : StepsTellWhatIsKept
 steps_tell_what_is_kept start member w t old new counts sound there tells_all uses_all gone told = record {
   saved =
       host_told start w t old new counts sound tells_all uses_all gone (ldm_of start member)
-      (TellsNotedRows start member) (rows_tell_by_log start member there) told.saved;
+      (TellsNotedRows start member) (rows_tell_by_log start sound.right.nobody member there) told.saved;
   durable =
       host_told start w t old new counts sound tells_all uses_all gone (tc_of start member)
-      (TellsNotedDurable start member) (epochs_tell_by_log start member there) told.durable;
+      (TellsNotedDurable start member) (epochs_tell_by_log start sound.right.nobody member there) told.durable;
 }

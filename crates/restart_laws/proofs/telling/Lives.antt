@@ -30,8 +30,9 @@ module _ (start : Start) (w : Whole) (sound : IsSound start w) (none : (h : ℕ)
   fresh_worlds_tell_what_is_kept member there = record {
     saved =
         fresh_told (ldm_of start member) (TellsNotedRows start member)
-        (rows_tell_by_log start member there);
-    durable = fresh_told (tc_of start member) (TellsNotedDurable start member) (epochs_tell_by_log start member there);
+        (rows_tell_by_log start sound.right.nobody member there);
+    durable = fresh_told (tc_of start member) (TellsNotedDurable start member)
+        (epochs_tell_by_log start sound.right.nobody member there);
   }
 
 -- and what the shell asks for changes none of it
@@ -55,8 +56,9 @@ module _ (start : Start) (request : ApiReq) (w t : Whole) (sound : IsSound start
     requests_tell_what_is_kept member there told = record {
       saved =
           stays (ldm_of start member) (TellsNotedRows start member)
-          (rows_tell_by_log start member there) told.saved;
+          (rows_tell_by_log start sound.right.nobody member there) told.saved;
       durable =
-          stays (tc_of start member) (TellsNotedDurable start member) (epochs_tell_by_log start member there)
+          stays (tc_of start member) (TellsNotedDurable start member)
+          (epochs_tell_by_log start sound.right.nobody member there)
           told.durable;
     }

@@ -25,7 +25,7 @@ use Rattle.node_views.specs.Row.{is_barred}
 use Rattle.node_views.specs.Saving.{outlet_of}
 use Rattle.node_views.specs.WellFormed.{is_well_formed}
 use Rattle.node_views.specs.Words.{parts_marks}
-use Rattle.world_core.specs.Start.{Start, made}
+use Rattle.world_core.specs.Start.{NobodyStarts, Start, made}
 use Rattle.world_core.specs.Steps.{HostStep}
 use Rattle.world_views.specs.Machine.{after, step_after, stops_by}
 use Rattle.view_laws.specs.Runs.{view_after}
@@ -142,7 +142,7 @@ notes s own x epoch runs orders passes =
     ∙ ap (λ b. durable_if (not b) x) (passes.fresh s.standing.view.number)
     ∙ ap durable_by orders.body
 
-module _ (start : Start) (member : Member) (there : IsIn member (made start)) where
+module _ (start : Start) (nobody : NobodyStarts start) (member : Member) (there : IsIn member (made start)) where
   abbrev h : ℕ
   h = tc_of start member
 
@@ -153,13 +153,13 @@ module _ (start : Start) (member : Member) (there : IsIn member (made start)) wh
     abbrev sends : List Outgoing
     sends = (step_after start h log e).effects.sends
 
-    does : TcDoes start.shape (own_tc start member there log e).own (view_after start h log) e.step.taken
+    does : TcDoes start.shape (own_tc start nobody member there log e).own (view_after start h log) e.step.taken
         (after start h (e ∷ log)).parts (view_after start h (e ∷ log)) sends
-    does = (own_tc start member there log e).does
+    does = (own_tc start nobody member there log e).does
 
     tells : TellOrders e.step.taken sends
     tells =
-        does_tell start.shape (own_tc start member there log e).own (view_after start h log) e.step.taken
+        does_tell start.shape (own_tc start nobody member there log e).own (view_after start h log) e.step.taken
         (after start h (e ∷ log)).parts (view_after start h (e ∷ log)) sends does
 
     -- what is told of an order is noted with it, by a step that doesn't stop its host
@@ -169,7 +169,7 @@ module _ (start : Start) (member : Member) (there : IsIn member (made start)) wh
     noted_now runs epoch orders passes =
         let s = after start h (e ∷ log) in
         let still : PassesStill s.standing.shape s.parts e.step.taken =
-        subst (λ shape. PassesStill shape s.parts e.step.taken) (sym (shape_stays start h (e ∷ log))) passes
+        subst (λ shape. PassesStill shape s.parts e.step.taken) (sym (shape_stays start nobody h (e ∷ log))) passes
         in
         let now : NotesNow start h e log orders.ordered orders.mask =
         (runs, notes s does.own e.step.taken epoch does.is orders still)
@@ -186,7 +186,7 @@ module _ (start : Start) (member : Member) (there : IsIn member (made start)) wh
         one sent among epoch told =
             let orders = each_in (SaysSo (TellsOrdered e.step.taken)) sent sends tells.all among epoch told in
             by orders
-            (orders_pass start.shape (own_tc start member there log e).own (view_after start h log) e.step.taken
+            (orders_pass start.shape (own_tc start nobody member there log e).own (view_after start h log) e.step.taken
             (after start h (e ∷ log)).parts (view_after start h (e ∷ log)) sends does epoch orders)
           where
             by : Orders e.step.taken epoch
@@ -206,13 +206,13 @@ module _ (start : Start) (member : Member) (there : IsIn member (made start)) wh
   pub epochs_tell_by_log : TellsByLog start h (TellsNotedDurable start member)
   epochs_tell_by_log = record {
     some = part_some start Tc member;
-    low = tc_low start member there;
+    low = tc_low start nobody member there;
     grows = λ log e body tells epoch told. grown log e epoch (tells epoch told);
     sends = says_noted;
     before = says_before;
     closings = λ log cause epoch told. absurd told;
     stops_none = λ log cause.
-        ap (λ parts. parts_marks parts (Stopped cause)) (runs_tc start member there log).runs;
+        ap (λ parts. parts_marks parts (Stopped cause)) (runs_tc start nobody member there log).runs;
   }
     where
       grown : (log : List HostStep) (e : HostStep) (epoch : ℕ) → IsNotedDurable start member log epoch

@@ -49,7 +49,7 @@ pub node_is : (start : Start) (w : Whole) (sound : IsSound start w) (g : ℕ) �
 node_is start w sound g some runs =
     let low = running_low start w g sound runs in
     ap (λ s. s.standing.member.node) (body_is start w sound g runs)
-    ∙ ap (λ (m : Member). m.node) (host_home start g some low (logs_at w.logs g)).is
+    ∙ ap (λ (m : Member). m.node) (host_home start sound.right.nobody g some low (logs_at w.logs g)).is
 
 module _ (start : Start) (w t : Whole) (old new : Disks) (counts : List ℕ) (sound : IsSound start w)
     (tells_all : start.shape.nodes ≤ length old.told) (uses_all : start.shape.nodes ≤ length old.slots)
@@ -77,10 +77,10 @@ module _ (start : Start) (w t : Whole) (old new : Disks) (counts : List ℕ) (so
         keeps : KeepsStep u g old
         keeps =
             let low = running_low start u g sound_then runs in
-            let there = host_made start g some low in
+            let there = host_made start sound.right.nobody g some low in
             let node = node_is start u sound_then g some runs in
-            let first = node_some start (member_at (made start) g) there in
-            let last = node_low start (member_at (made start) g) there in
+            let first = node_some start sound.right.nobody (member_at (made start) g) there in
+            let last = node_low start sound.right.nobody (member_at (made start) g) there in
             record {
               part = some;
               runs = runs;

@@ -40,7 +40,7 @@ module _ (start : Start) (all : ℕ → List HostStep) (moment : IsMoment start 
       inl
       (subst (λ n. n ≤ start.start_epoch)
       (sym (ap (λ (s : node.HostBody). (rows_in (no_replica start member) s.parts).saved)
-      (ldm_started start member there)))
+      (ldm_started start moment.cluster.nobody member there)))
       (omega arith))
 
   first_behind : (epoch : ℕ) (b : Bool) → IsBehind start logs (first_phase epoch b)
@@ -56,7 +56,7 @@ module _ (start : Start) (all : ℕ → List HostStep) (moment : IsMoment start 
         subst
         (λ (s : node.HostBody). IsBehind start logs
         (master_in (fresh_master member (first_layout start.shape).view 0) s.parts).phase)
-        (sym (main_started start member
+        (sym (main_started start moment.cluster.nobody member
         (current_made start all [] moment member (first_inside member (current start logs).full first))))
         (first_behind start.epoch (is_president member (first_layout start.shape).view));
     orders = λ i j. tt;

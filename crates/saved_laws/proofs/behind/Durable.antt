@@ -38,7 +38,7 @@ use Rattle.node_views.specs.declared.parts.Parts.TheVariants.{Ldm, Main, Shell}
 use Rattle.node_views.specs.declared.parts.Parts.TheVariants as part
 use Rattle.node_views.specs.declared.tc_part.TcPart.{TcPart}
 use Rattle.world_core.specs.Hosts.{hosts}
-use Rattle.world_core.specs.Start.{Start, made}
+use Rattle.world_core.specs.Start.{NobodyStarts, Start, made}
 use Rattle.world_core.specs.Steps.{Addressed, HostStep}
 use Rattle.world_views.proofs.StepEach.{step_words}
 use Rattle.world_views.specs.Machine.{after, signals_of, step_after}
@@ -176,12 +176,13 @@ module _ (start : Start) (all : ℕ → List HostStep) (e : HostStep) (es : List
     -- epochs
     module _ (me : Member) (there : IsIn me (made start)) (at : e.host ≡ tc_of start me) where
       runs : RunsTc start e.host (old e.host)
-      runs = tc_at start e.host me there at (old e.host)
+      runs = tc_at start e.host moment.cluster.nobody me there at (old e.host)
 
       did : TcDoes start.shape runs.part (view_after start e.host (old e.host)) x
           (after start e.host (e ∷ old e.host)).parts stood sends
       did =
-          tc_after start e.host (old e.host) e (subst (λ h. 1 ≤ h) (sym at) (part_some start Tc me)) runs.part runs.is
+          tc_after start moment.cluster.nobody e.host (old e.host) e
+          (subst (λ h. 1 ≤ h) (sym at) (part_some start Tc me)) runs.part runs.is
 
       abbrev epochs_in : Parts → DihState
       epochs_in parts = dih_in (fresh_dih 0 0 0 0) parts
@@ -312,18 +313,18 @@ module _ (start : Start) (all : ℕ → List HostStep) (e : HostStep) (es : List
     parts_at h parts at is = ap (λ h. (after start h (old h)).parts) at ∙ is
 
     sent_now : AreToldDurable start new sends
-    sent_now = by (whose start e.host (host_low start all e es moment))
+    sent_now = by (whose start moment.cluster.nobody e.host (host_low start all e es moment))
       where
         by : Whose start e.host → AreToldDurable start new sends
         by (of_shell at) =
             let runs = runs_shell start (old 0) in
             quiet_told (part.Shell runs.shell) (parts_at 0 (part.Shell runs.shell) at runs.is) tt
         by (of_main me there at) =
-            let runs = runs_main start me there (old (main_of start me)) in
+            let runs = runs_main start moment.cluster.nobody me there (old (main_of start me)) in
             quiet_told (part.Main runs.main) (parts_at (main_of start me) (part.Main runs.main) at runs.is) tt
         by (of_tc me there at) = tc_told me there at
         by (of_rows me there at) =
-            let runs = runs_rows start me there (old (ldm_of start me)) in
+            let runs = runs_rows start moment.cluster.nobody me there (old (ldm_of start me)) in
             each_map IsOfRows (λ (sent : Outgoing). IsToldDurable start new sent.body) sends
             (λ sent is. rows_told start new sent.body is)
             (rows_send e.host (after start e.host (old e.host)) x runs.rows
@@ -352,15 +353,15 @@ module _ (start : Start) (all : ℕ → List HostStep) (e : HostStep) (es : List
       masters = masters_next;
     }
 
-durable_first : (start : Start) → AllDurable start (logs_of start [])
-durable_first start = record { said = λ i j. tt; epochs = epochs; masters = masters }
+durable_first : (start : Start) → NobodyStarts start → AllDurable start (logs_of start [])
+durable_first start nobody = record { said = λ i j. tt; epochs = epochs; masters = masters }
   where
     epochs : (member : Member) → IsIn member (made start)
         → IsDurable start (logs_of start []) (epochs_of start (logs_of start []) member).durable
     epochs member there =
         subst
         (λ (s : node.HostBody). IsDurable start (logs_of start []) (dih_in (fresh_dih 0 0 0 0) s.parts).durable)
-        (sym (tc_started start member there)) (inl (omega arith))
+        (sym (tc_started start nobody member there)) (inl (omega arith))
 
     first : (epoch : ℕ) (b : Bool) → KnowsIn start (logs_of start []) (first_phase epoch b)
     first epoch true = tt
@@ -372,12 +373,12 @@ durable_first start = record { said = λ i j. tt; epochs = epochs; masters = mas
         subst
         (λ (s : node.HostBody). KnowsIn start (logs_of start [])
         (master_in (fresh_master member (first_layout start.shape).view 0) s.parts).phase)
-        (sym (main_started start member there))
+        (sym (main_started start nobody member there))
         (first start.epoch (is_president member (first_layout start.shape).view))
 
 -- so it is at each moment
 pub all_durable : (start : Start) (all : ℕ → List HostStep) (es : List HostStep) → start.start_epoch < start.epoch
     → IsMoment start all es → AllDurable start (logs_of start es)
-all_durable start all [] some moment = durable_first start
+all_durable start all [] some moment = durable_first start moment.cluster.nobody
 all_durable start all (e ∷ es) some moment =
     durable_next start all e es some moment (all_durable start all es some (moment_less start all e es moment))

@@ -133,7 +133,8 @@ module _ (start : Start) (all : ℕ → List HostStep) (e : HostStep) (es : List
                 ≡ (view_after start (main_of start p) (old (main_of start p))).number
             number_same =
                 ap (λ (v : View). v.number)
-                (sym (master_view start p there new) ∙ same ∙ master_view start p there old)
+                (sym (master_view start moment.cluster.nobody p there new) ∙ same
+                ∙ master_view start moment.cluster.nobody p there old)
 
             by : Stood start all e es moment stand p there → WasPresident
             by (rose up) = let is = number_same in absurd (omega (arith, up, is))
@@ -239,7 +240,7 @@ module _ (start : Start) (all : ℕ → List HostStep) (e : HostStep) (es : List
             host_some = subst (λ h. 1 ≤ h) (sym at) (part_some start Main p)
 
             runs_old : RunsMain start (after start e.host (old e.host)).parts
-            runs_old = main_at start p there e.host at (old e.host)
+            runs_old = main_at start moment.cluster.nobody p there e.host at (old e.host)
 
             master_old : was ≡ runs_old.main.master
             master_old = master_at start old p e.host at (part.Main runs_old.main) runs_old.is
@@ -268,8 +269,8 @@ module _ (start : Start) (all : ℕ → List HostStep) (e : HostStep) (es : List
                     → saved_at start new member ≡ saved_at start old member
                 by (inl same) = same
                 by (inr ordered) =
-                    let one = main_number start p there in
-                    let other = ldm_number start member there_too in
+                    let one = main_number start moment.cluster.nobody p there in
+                    let other = ldm_number start moment.cluster.nobody member there_too in
                     let own = ordered.at in
                     absurd (omega (arith, at, own, one, other))
 
@@ -341,7 +342,7 @@ module _ (start : Start) (all : ℕ → List HostStep) (e : HostStep) (es : List
             row_is between parts = master_new (main_row between block.GcpMaster x).state parts
 
             takes_behind : IsSo (master_of start new p)
-            takes_behind = by (main_goes start e.host (old e.host) e runs_old.main runs_old.is)
+            takes_behind = by (main_goes start moment.cluster.nobody e.host (old e.host) e runs_old.main runs_old.is)
               where
                 left : (now : MainPart) → step.state.parts ≡ part.Main now → Left runs_old.main.master now.master
                     → IsSo (master_of start new p)

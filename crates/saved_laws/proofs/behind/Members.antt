@@ -225,8 +225,8 @@ module _ (start : Start) (all : ℕ → List HostStep) (e : HostStep) (es : List
               by : EpochsDo start all e es moment full → Stays s t
               by (leave stays sound) = stays
               by (take at taken moves sound) =
-                  let one = ldm_number start member there in
-                  let other = tc_number start full made_full in
+                  let one = ldm_number start moment.cluster.nobody member there in
+                  let other = tc_number start moment.cluster.nobody full made_full in
                   let here = saves.at in
                   absurd (omega (arith, at, here, one, other))
 

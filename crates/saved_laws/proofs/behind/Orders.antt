@@ -137,14 +137,16 @@ module _ (start : Start) (all : ℕ → List HostStep) (e : HostStep) (es : List
         stands : IsStanding start new p
         stands =
             let up = number_rises start all e es moment (main_of start p) in
-            let most = current_above start new (main_of start p) (main_low start p made_p) in
+            let most = current_above start new moment.cluster.nobody (main_of start p)
+            (main_low start moment.cluster.nobody p made_p) in
             let same = number in
             let here = saving.stands in
             omega (arith, up, most, same, here)
 
         not_rose : number_in start old (main_of start p) < number_in start new (main_of start p) → ⊥
         not_rose up =
-            let most = current_above start new (main_of start p) (main_low start p made_p) in
+            let most = current_above start new moment.cluster.nobody (main_of start p)
+            (main_low start moment.cluster.nobody p made_p) in
             let same = number in
             let here = saving.stands in
             absurd (omega (arith, up, most, same, here))
@@ -176,8 +178,9 @@ module _ (start : Start) (all : ℕ → List HostStep) (e : HostStep) (es : List
           where
             view_is : (master_of start new p).view ≡ current start new
             view_is =
-                master_view start p made_p new
-                ∙ stands_in_current start all (e ∷ es) moment (main_of start p) (main_low start p made_p) stands
+                master_view start moment.cluster.nobody p made_p new
+                ∙ stands_in_current start all (e ∷ es) moment (main_of start p)
+                (main_low start moment.cluster.nobody p made_p) stands
 
             heard_in : IsHeard start new (master_of start new p).view (master_of start new p).voices (Copying run.run)
             heard_in =

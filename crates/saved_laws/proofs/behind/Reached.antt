@@ -79,7 +79,7 @@ module _ (start : Start) (all : ℕ → List HostStep) (some : start.start_epoch
         → (rows_at start logs member).saved ≡ start.start_epoch
     first_saved member there =
         ap (λ (s : node.HostBody). (rows_in (no_replica start member) s.parts).saved)
-        (ldm_started start member there)
+        (ldm_started start moment.cluster.nobody member there)
 
     reached_first : AreReached start logs
     reached_first member there =
@@ -89,7 +89,7 @@ module _ (start : Start) (all : ℕ → List HostStep) (some : start.start_epoch
         one : (full : Member) → IsIn full (made start) → HasReached start.start_epoch (epochs_of start logs full)
         one full there =
             subst (λ (s : node.HostBody). HasReached start.start_epoch (dih_in (fresh_dih 0 0 0 0) s.parts))
-            (sym (tc_started start full there))
+            (sym (tc_started start moment.cluster.nobody full there))
             (record { gives = omega (arith, some); ordered = omega arith })
 
 -- so it is at each moment

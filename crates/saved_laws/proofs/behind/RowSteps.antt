@@ -33,7 +33,7 @@ use Rattle.lqh_saver.specs.State.{SavingState, saving}
 use Rattle.node_views.specs.Parts.{ldm_row}
 use Rattle.node_views.specs.declared.ldm_part.LdmPart.{LdmPart}
 use Rattle.node_views.specs.declared.parts.Parts.{Parts}
-use Rattle.world_core.specs.Start.{Start, made}
+use Rattle.world_core.specs.Start.{NobodyStarts, Start, made}
 use Rattle.world_core.specs.Steps.{HostStep}
 use Rattle.world_views.specs.Machine.{after, step_after}
 use Rattle.view_laws.specs.Runs.{view_after}
@@ -180,7 +180,7 @@ module _ (shape : Shape) (p : LdmPart) (view : View) (x : Signal) (now : Parts) 
             (record { rises = rest.rises; told = tt; but_last = tt })
 
 -- along the log of the host of rows
-module _ (start : Start) (member : Member) (there : IsIn member (made start)) where
+module _ (start : Start) (nobody : NobodyStarts start) (member : Member) (there : IsIn member (made start)) where
   abbrev h : ℕ
   h = ldm_of start member
 
@@ -190,7 +190,7 @@ module _ (start : Start) (member : Member) (there : IsIn member (made start)) wh
   pub host_rises : (log : List HostStep) (e : HostStep)
       → Rises (saved_behind log) (saved_behind (e ∷ log)) (step_after start h log e).effects.sends
   host_rises log e =
-      let step = own_ldm start member there log e in
+      let step = own_ldm start nobody member there log e in
       let saved : ReplicaState → ℕ = λ s. s.saved in
       subst (λ n. Rises n (saved_behind (e ∷ log)) (step_after start h log e).effects.sends)
       (sym (ap saved (rows_are start member h log refl step.own step.runs)))

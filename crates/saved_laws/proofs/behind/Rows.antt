@@ -86,7 +86,7 @@ module _ (start : Start) (all : ℕ → List HostStep) (e : HostStep) (es : List
     saved_rises member there =
         event_cases (machine start) e es (ldm_of start member)
         (λ log. (rows_at start old member).saved ≤ (rows_after start member log).saved)
-        (λ at. (host_rises start member there (old (ldm_of start member)) e).rises)
+        (λ at. (host_rises start moment.cluster.nobody member there (old (ldm_of start member)) e).rises)
         (λ other. omega arith)
 
     sent_rightly : (y : Addressed) → IsSentBy (made start) e.host (view_after start e.host (e ∷ old e.host)) sends y
@@ -100,7 +100,7 @@ module _ (start : Start) (all : ℕ → List HostStep) (e : HostStep) (es : List
         own =
             subst (λ h. AreUpTo (rows_after start member (e ∷ old h)).saved
             (step_after start h (old h) e).effects.sends) (sym at)
-            (host_rises start member there (old (ldm_of start member)) e).told
+            (host_rises start moment.cluster.nobody member there (old (ldm_of start member)) e).told
 
         log : new (ldm_of start member) ≡ e ∷ old e.host
         log = subst (λ h. new h ≡ e ∷ old e.host) at (own_log start all e es moment)
@@ -205,12 +205,13 @@ module _ (start : Start) (all : ℕ → List HostStep) (e : HostStep) (es : List
         runs : RunsRows start (after start e.host (old e.host)).parts
         runs =
             subst (λ h. RunsRows start (after start h (old h)).parts) (sym at)
-            (runs_rows start member there (old (ldm_of start member)))
+            (runs_rows start moment.cluster.nobody member there (old (ldm_of start member)))
 
         did : LdmDoes start.shape runs.rows (view_after start e.host (old e.host)) x
             (after start e.host (e ∷ old e.host)).parts stood sends
         did =
-            ldm_after start e.host (old e.host) e (subst (λ h. 1 ≤ h) (sym at) (part_some start Ldm member)) runs.rows
+            ldm_after start moment.cluster.nobody e.host (old e.host) e
+            (subst (λ h. 1 ≤ h) (sym at) (part_some start Ldm member)) runs.rows
             runs.is
 
         abbrev replica_in : Parts → ReplicaState

@@ -93,7 +93,7 @@ module _ (start : Start) (all : ℕ → List HostStep) (e : HostStep) (es : List
         full =
             full_before start all e es moment member
             (subst (λ m. IsIn m (current start new).full)
-            (ap (member_at (made start)) ordered.at ∙ ldm_member start member there)
+            (ap (member_at (made start)) ordered.at ∙ ldm_member start moment.cluster.nobody member there)
             (current_host start all (e ∷ es) moment e.host
             (subst (λ h. 1 ≤ h) (sym ordered.at) (part_some start Ldm member)) (host_low start all e es moment)
             (own_behind start all e es moment ∙ ordered.taken.stands)))

@@ -76,7 +76,7 @@ module _ (start : Start) (all : ℕ → List HostStep) (es : List HostStep) (mom
     -- which nobody else does
     alone_now : AreLocked now.rows
     alone_now tx key image here other another also =
-        let well = rows_well start member there (logs_of start es (ldm_of start member)) in
+        let well = rows_well start moment.cluster.nobody member there (logs_of start es (ldm_of start member)) in
         let same : other ≡ tx =
         only_holder (holders_at key) (well.orderly.each key).agreed tx other (holds_lock tx key image here)
         (holds_so other Exclusive (holders_at key) (holds_lock other key another also)) in
@@ -95,9 +95,10 @@ module _ (start : Start) (all : ℕ → List HostStep) (member : Member) (there 
       → IsIn member (members_now start (logs_of start (e ∷ es)))
   among_now e es moment at stands =
       subst (IsIn member) (sym (members_full start all (e ∷ es) moment))
-      (subst (λ m. IsIn m (current start (logs_of start (e ∷ es))).full) (ldm_member start member there)
+      (subst (λ m. IsIn m (current start (logs_of start (e ∷ es))).full)
+      (ldm_member start moment.cluster.nobody member there)
       (current_host start all (e ∷ es) moment (ldm_of start member) (part_some start Ldm member)
-      (ldm_low start member there)
+      (ldm_low start moment.cluster.nobody member there)
       (subst (λ k. view_after start k (logs_of start (e ∷ es) k) ≡ current start (logs_of start (e ∷ es))) at
       (own_behind start all e es moment ∙ stands))))
 
@@ -105,7 +106,7 @@ module _ (start : Start) (all : ℕ → List HostStep) (member : Member) (there 
   AreAlone s = AreLocked s.lqh.rows
 
   pub always_alone : (es : List HostStep) → IsMoment start all es → AreAlone (rows_at start (logs_of start es) member)
-  always_alone [] moment = none_alone (first_rows start member) (first_pending start member there)
+  always_alone [] moment = none_alone (first_rows start member) (first_pending start moment.cluster.nobody member there)
   always_alone (e ∷ es) moment =
       by (rows_turn start all e es moment member there) (always_alone es (moment_less start all e es moment))
     where

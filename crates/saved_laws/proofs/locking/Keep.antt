@@ -24,7 +24,7 @@ use Rattle.local_ckpt.specs.Locking.{AreLocked, IsAlone, KeepsLock}
 use Rattle.local_ckpt.specs.Orderly.{IsOrderly, image_in}
 use Rattle.local_ckpt.proofs.EventLemmas.{Prepared, stores}
 use Rattle.local_ckpt.proofs.RecordLemmas.{is_same, own_record}
-use Rattle.world_core.specs.Start.{Start, made}
+use Rattle.world_core.specs.Start.{NobodyStarts, Start, made}
 use Rattle.world_core.specs.Steps.{HostStep}
 use Rattle.world_views.specs.Machine.{machine}
 use Rattle.moment_laws.specs.Moments.{IsMoment, logs_of}
@@ -105,7 +105,8 @@ module _ (most : ℕ) where
   keeps (Complete tx key) s log orderly locked are up = tt
   keeps Step s log orderly locked are up = tt
 
-  module _ (start : Start) (all : ℕ → List HostStep) (member : Member) (there : IsIn member (made start)) where
+  module _ (start : Start) (nobody : NobodyStarts start) (all : ℕ → List HostStep) (member : Member)
+      (there : IsIn member (made start)) where
     abbrev h : ℕ
     h = ldm_of start member
 
@@ -134,7 +135,7 @@ module _ (most : ℕ) where
         by None is records up = keep are.1.0 are.1.1.1 records up
         by (Some event) is records up = (
           keeps event (rows_behind first are.1.0) (records_behind first are.1.0)
-              (orderly_behind first are.1.0 (first_orderly start member there))
+              (orderly_behind first are.1.0 (first_orderly start nobody member there))
               (subst AreLocked (is ∙ ap (changed event) (sym (rows_are start member log are.1.0 are.1.1.1))) locked)
               records up.0,
           keep are.1.0 are.1.1.1
@@ -158,4 +159,4 @@ module _ (most : ℕ) where
 
 pub keep_locks : MembersKeepLocks
 keep_locks start all es moment member there events has most up =
-    all_keep most start all member there es moment events has.events_of has.records up
+    all_keep most start moment.cluster.nobody all member there es moment events has.events_of has.records up

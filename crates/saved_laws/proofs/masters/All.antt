@@ -25,7 +25,7 @@ use Rattle.gcp_master.proofs.Outcomes.{state_body}
 use Rattle.node_views.specs.declared.host_body.HostBody as node
 use Rattle.node_views.specs.WellFormed.{is_well_formed}
 use Rattle.world_core.specs.Hosts.{hosts}
-use Rattle.world_core.specs.Start.{Start, made}
+use Rattle.world_core.specs.Start.{NobodyStarts, Start, made}
 use Rattle.world_core.specs.Steps.{Addressed, HostStep}
 use Rattle.world_views.specs.Machine.{machine, signals_of, step_after}
 use Rattle.view_laws.specs.Order.{is_sound, sound_machine}
@@ -144,11 +144,11 @@ module _ (start : Start) (all : ℕ → List HostStep) (e : HostStep) (es : List
     stands : (member : Member) → IsIn member (made start) → WasInstalled start new (master_of start new member).view
     stands member there = record {
       host = main_of start member;
-      there = main_low start member there;
-      made = all_made start (main_of start member) (new 0);
+      there = main_low start moment.cluster.nobody member there;
+      made = all_made start moment.cluster.nobody (main_of start member) (new 0);
       log = new (main_of start member);
       past = past_self (new (main_of start member));
-      is = master_view start member there new;
+      is = master_view start moment.cluster.nobody member there new;
     }
 
     abbrev AreRight : List Outgoing → Type 0
@@ -227,8 +227,8 @@ module _ (start : Start) (all : ℕ → List HostStep) (e : HostStep) (es : List
       durables = durables_next;
     }
 
-ordered_first : (start : Start) → AllOrdered start (logs_of start [])
-ordered_first start = record {
+ordered_first : (start : Start) → NobodyStarts start → AllOrdered start (logs_of start [])
+ordered_first start nobody = record {
   orders = λ i j. tt;
   masters = first;
   durables = λ h epoch low marked. absurd marked;
@@ -245,13 +245,13 @@ ordered_first start = record {
         subst
         (λ (s : node.HostBody). HasHeard start (logs_of start [])
         (master_in (fresh_master member (first_layout start.shape).view 0) s.parts))
-        (sym (main_started start member there))
+        (sym (main_started start nobody member there))
         (by member (first_layout start.shape).view (is_president member (first_layout start.shape).view))
 
 -- so it is at each moment
 pub all_ordered : (start : Start) (all : ℕ → List HostStep) (es : List HostStep) → start.start_epoch < start.epoch
     → IsMoment start all es → AllOrdered start (logs_of start es)
-all_ordered start all [] some moment = ordered_first start
+all_ordered start all [] some moment = ordered_first start moment.cluster.nobody
 all_ordered start all (e ∷ es) some moment =
     let less = moment_less start all e es moment in
     ordered_next start all e es moment (all_noted start all (e ∷ es) some moment) (all_rightly_told start all es less)

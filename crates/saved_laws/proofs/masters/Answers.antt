@@ -151,20 +151,21 @@ module _ (start : Start) (all : ℕ → List HostStep) (e : HostStep) (es : List
 
       by_epochs : (me : Member) → IsIn me (made start) → e.host ≡ tc_of start me → IsRightlyTold start y
       by_epochs me there at =
-          let runs : RunsTc start (tc_of start me) (old (tc_of start me)) = runs_epochs start old me there in
-          let is = of_member me (ap (member_at (made start)) at ∙ tc_member start me there) in
+          let runs : RunsTc start (tc_of start me) (old (tc_of start me)) =
+          runs_epochs start moment.cluster.nobody old me there in
+          let is = of_member me (ap (member_at (made start)) at ∙ tc_member start moment.cluster.nobody me there) in
           let from : y.signal.from.0 ≡ tc_of start me = one.from ∙ at in
           subst At (sym one.body)
           (of_epochs start y.signal (from ∙ ap (tc_of start) (sym is))
-          (λ rows. tc_apart start me there (sym from ∙ rows ∙ ap (ldm_of start) is)) one.sent.body
+          (λ rows. tc_apart start moment.cluster.nobody me there (sym from ∙ rows ∙ ap (ldm_of start) is)) one.sent.body
           (each_in (λ (sent : Outgoing). is_saved sent.body ≡ false) one.sent sends
           (said (part.Tc runs.part) (parts_at (tc_of start me) (part.Tc runs.part) at runs.is)) one.there))
 
       by_rows : (me : Member) → IsIn me (made start) → e.host ≡ ldm_of start me → IsRightlyTold start y
       by_rows me there at =
-          let runs = runs_rows start me there (old (ldm_of start me)) in
+          let runs = runs_rows start moment.cluster.nobody me there (old (ldm_of start me)) in
           let runs_is = parts_at (ldm_of start me) (part.Ldm runs.rows) at runs.is in
-          let is = of_member me (ap (member_at (made start)) at ∙ ldm_member start me there) in
+          let is = of_member me (ap (member_at (made start)) at ∙ ldm_member start moment.cluster.nobody me there) in
           subst At (sym one.body)
           (rows_tell start y.signal (one.from ∙ at ∙ ap (ldm_of start) (sym is)) one.sent.body
           (each_in (λ (sent : Outgoing). is_copied sent.body ≡ false) one.sent sends
@@ -173,14 +174,14 @@ module _ (start : Start) (all : ℕ → List HostStep) (e : HostStep) (es : List
           (rows_send e.host (after start e.host (old e.host)) e.step.taken runs.rows runs_is) one.there))
 
       sent_rightly : IsRightlyTold start y
-      sent_rightly = by (whose start e.host (host_low start all e es moment))
+      sent_rightly = by (whose start moment.cluster.nobody e.host (host_low start all e es moment))
         where
           by : Whose start e.host → IsRightlyTold start y
           by (of_shell at) =
               let runs = runs_shell start (old 0) in
               quiet (said (part.Shell runs.shell) (parts_at 0 (part.Shell runs.shell) at runs.is))
           by (of_main me there at) =
-              let runs = runs_main start me there (old (main_of start me)) in
+              let runs = runs_main start moment.cluster.nobody me there (old (main_of start me)) in
               quiet (said (part.Main runs.main) (parts_at (main_of start me) (part.Main runs.main) at runs.is))
           by (of_tc me there at) = by_epochs me there at
           by (of_rows me there at) = by_rows me there at

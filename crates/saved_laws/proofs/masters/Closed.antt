@@ -142,11 +142,11 @@ module _ (start : Start) (all : ℕ → List HostStep) (e : HostStep) (es : List
         runs : RunsRows start (after start e.host (old e.host)).parts
         runs =
             subst (λ h. RunsRows start (after start h (old h)).parts) (sym at)
-            (runs_rows start member there (old (ldm_of start member)))
+            (runs_rows start moment.cluster.nobody member there (old (ldm_of start member)))
 
         did : LdmDoes start.shape runs.rows (view_after start e.host (old e.host)) x
             (after start e.host (e ∷ old e.host)).parts stood (step_after start e.host (old e.host) e).effects.sends
-        did = ldm_after start e.host (old e.host) e above runs.rows runs.is
+        did = ldm_after start moment.cluster.nobody e.host (old e.host) e above runs.rows runs.is
 
         abbrev replica_in : Parts → ReplicaState
         replica_in parts = rows_in (no_replica start member) parts
@@ -181,7 +181,7 @@ module _ (start : Start) (all : ℕ → List HostStep) (e : HostStep) (es : List
               passed block.Lqh to
               in
               subst (λ m. IsIn m (current start new).full)
-              (ap (member_at (made start)) at ∙ ldm_member start member there)
+              (ap (member_at (made start)) at ∙ ldm_member start moment.cluster.nobody member there)
               (current_host start all (e ∷ es) moment e.host above (host_low start all e es moment)
               (own_behind start all e es moment ∙ taken.stands))
 
@@ -227,7 +227,7 @@ module _ (start : Start) (all : ℕ → List HostStep) (e : HostStep) (es : List
 pub saved_were_closed : SavedWereClosed
 saved_were_closed start all [] some moment member there =
     inl (ap (λ (s : node.HostBody). (rows_in (no_replica start member) s.parts).saved)
-    (ldm_started start member there))
+    (ldm_started start moment.cluster.nobody member there))
 saved_were_closed start all (e ∷ es) some moment member there =
     saved_next start all e es some moment member there
     (saved_were_closed start all es some (moment_less start all e es moment) member there)

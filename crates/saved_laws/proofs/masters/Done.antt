@@ -38,7 +38,7 @@ use Rattle.node_views.specs.Words.{parts_words}
 use Rattle.node_views.proofs.HostWalk.{Saying, TakesSo}
 use Rattle.node_views.proofs.WordWalk.{parts_speak, parts_speak_installed}
 use Rattle.world_core.specs.Hosts.{member_at, part_by}
-use Rattle.world_core.specs.Start.{Start, made}
+use Rattle.world_core.specs.Start.{NobodyStarts, Start, made}
 use Rattle.world_core.specs.Steps.{Addressed, HostStep}
 use Rattle.world_views.specs.Hosts.{part_started, started}
 use Rattle.world_views.specs.Machine.{FitsRow, after, machine, signals_of, step_after, step_by, told}
@@ -279,11 +279,12 @@ told_ended M zero step ended = by step.state.parts ended
 told_ended M (suc h) step ended = ended
 
 -- at first there is nothing to tell
-started_ended : (M : ℕ → Type 0) (start : Start) (h : ℕ) → EndedIn M (started start h).parts
+started_ended : (M : ℕ → Type 0) (start : Start) (nobody : NobodyStarts start) (h : ℕ)
+    → EndedIn M (started start h).parts
 unfolding started
-started_ended M start zero = tt
-started_ended M start (suc h) =
-    subst (λ s. EndedIn M s.parts) (sym (started_behind start h)) (by (part_by (h % 3)))
+started_ended M start nobody zero = tt
+started_ended M start nobody (suc h) =
+    subst (λ s. EndedIn M s.parts) (sym (started_behind start nobody h)) (by (part_by (h % 3)))
   where
     by : (which : Part) → EndedIn M (part_started start which (member_at (made start) (suc h))).parts
     by kind.Main = tt
@@ -325,12 +326,13 @@ module _ (start : Start) (h : ℕ) where
           one.there))
           (each_sent start h log e)
 
-  log_ended : (log : List HostStep) → IsLog (machine start) h log → EndedIn (Marked log) (after start h log).parts
-  log_ended [] is = started_ended (Marked []) start h
-  log_ended (e ∷ log) is = next_ended log e is.0.fits (log_ended log is.1)
+  log_ended : NobodyStarts start → (log : List HostStep) → IsLog (machine start) h log
+      → EndedIn (Marked log) (after start h log).parts
+  log_ended nobody [] is = started_ended (Marked []) start nobody h
+  log_ended nobody (e ∷ log) is = next_ended log e is.0.fits (log_ended nobody log is.1)
 
   -- of a machine whose hosts send no more
-  module _ (m : Machine HostStep Addressed)
+  module _ (nobody : NobodyStarts start) (m : Machine HostStep Addressed)
       (few : (log : List HostStep) (e : HostStep) (P : Addressed → Type 0) → Each P (signals_of start h log e)
       → Each P (m.sends h log e))
     where
@@ -343,7 +345,7 @@ module _ (start : Start) (h : ℕ) where
           (sent_by_each m (λ (y : Addressed). TellsOnly (Marked (e ∷ log)) y.signal.body) h log e
           (λ goes.
           few log e (λ (y : Addressed). TellsOnly (Marked (e ∷ log)) y.signal.body)
-          (next_sent log e is.0.fits (log_ended log is.1))))
+          (next_sent log e is.0.fits (log_ended nobody log is.1))))
           (each_map (λ (y : Addressed). TellsOnly (Marked log) y.signal.body)
           (λ (y : Addressed). TellsOnly (Marked (e ∷ log)) y.signal.body) (sent m h j log)
           (λ y. tells_more (Marked log) (Marked (e ∷ log)) (λ epoch marked. inr marked) y.signal.body)
@@ -356,6 +358,6 @@ done_were_marked start all es some moment i j =
     → IsMarked (Durable epoch) (logs_of start es i))
     (sent (sound_machine start) i j (logs_of start es i))
     (λ y tells epoch is. subst (TellsOnly (λ epoch. IsMarked (Durable epoch) (logs_of start es i))) is tells)
-    (sent_marked start i (sound_machine start)
+    (sent_marked start i moment.cluster.nobody (sound_machine start)
     (λ log e P. each_filter P (is_sound start) (signals_of start i log e)) j (logs_of start es i)
     (log_past (machine start) i (moment.inside i) (moment.cluster.right.local i)))

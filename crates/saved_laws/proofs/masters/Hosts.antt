@@ -78,10 +78,10 @@ module _ (start : Start) (all : ℕ → List HostStep) (e : HostStep) (es : List
       some = subst (λ h. 1 ≤ h) (sym at) (part_some start Main me)
 
       runs_old : RunsMain start s.parts
-      runs_old = main_at start me there e.host at (old e.host)
+      runs_old = main_at start moment.cluster.nobody me there e.host at (old e.host)
 
       runs_new : RunsMain start (after start e.host (e ∷ old e.host)).parts
-      runs_new = main_at start me there e.host at (e ∷ old e.host)
+      runs_new = main_at start moment.cluster.nobody me there e.host at (e ∷ old e.host)
 
       master_old : master_of start old me ≡ runs_old.main.master
       master_old = master_at start old me e.host at (part.Main runs_old.main) runs_old.is
@@ -95,7 +95,8 @@ module _ (start : Start) (all : ℕ → List HostStep) (e : HostStep) (es : List
       pub orders_now : MayOrderAll (master_of start new me) step.effects.sends
       orders_now =
           subst (λ (t : MasterState). MayOrderAll t step.effects.sends) (sym master_new)
-          (main_orders start e.host some (old e.host) e runs_old.main runs_old.is runs_new.main runs_new.is)
+          (main_orders start moment.cluster.nobody e.host some (old e.host) e runs_old.main runs_old.is runs_new.main
+          runs_new.is)
 
       before_it : (between : MainPart) (seen : View)
           → Entering runs_old.main (view_after start e.host (old e.host)) x between seen
@@ -116,7 +117,8 @@ module _ (start : Start) (all : ℕ → List HostStep) (e : HostStep) (es : List
 
       -- and what is marked of closings is marked by the master
       marks_now : (mark : Mark) → is_closing mark ≡ true → IsIn mark step.effects.marks → IsMarkedBy mark
-      marks_now mark closing marked = by (main_goes start e.host (old e.host) e runs_old.main runs_old.is)
+      marks_now mark closing marked =
+          by (main_goes start moment.cluster.nobody e.host (old e.host) e runs_old.main runs_old.is)
         where
           by : Goes start.shape runs_old.main (view_after start e.host (old e.host)) x step → IsMarkedBy mark
           by (leaves now parts left none) = absurd (not_among mark closing step.effects.marks none marked)
@@ -142,7 +144,7 @@ module _ (start : Start) (all : ℕ → List HostStep) (e : HostStep) (es : List
       has_none : HasNoMaster s.parts → Masters
 
     pub masters : Masters
-    masters = by (whose start e.host (host_low start all e es moment))
+    masters = by (whose start moment.cluster.nobody e.host (host_low start all e es moment))
       where
         none : (h : ℕ) (parts : Parts) → e.host ≡ h → (after start h (old h)).parts ≡ parts → HasNoMaster parts
             → Masters
@@ -154,9 +156,10 @@ module _ (start : Start) (all : ℕ → List HostStep) (e : HostStep) (es : List
             let runs = runs_shell start (old 0) in none 0 (part.Shell runs.shell) at runs.is tt
         by (of_main me there at) = has_one me there at
         by (of_tc me there at) =
-            let runs = runs_epochs start old me there in none (tc_of start me) (part.Tc runs.part) at runs.is tt
+            let runs = runs_epochs start moment.cluster.nobody old me there in
+            none (tc_of start me) (part.Tc runs.part) at runs.is tt
         by (of_rows me there at) =
-            let runs = runs_rows start me there (old (ldm_of start me)) in
+            let runs = runs_rows start moment.cluster.nobody me there (old (ldm_of start me)) in
             none (ldm_of start me) (part.Ldm runs.rows) at runs.is tt
 
     pub none_ordered : HasNoMaster s.parts → AreNotLate step.effects.sends

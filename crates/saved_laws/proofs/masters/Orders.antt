@@ -32,7 +32,7 @@ use Rattle.qmgr_block.specs.State.{QmgrState}
 use Rattle.qmgr_block.specs.Words.{is_qmgr_word}
 use Rattle.qmgr_block.proofs.Walk.{qmgr_words}
 use Rattle.step_forms.specs.Does.{IsWord}
-use Rattle.world_core.specs.Start.{Start}
+use Rattle.world_core.specs.Start.{NobodyStarts, Start}
 use Rattle.world_core.specs.Steps.{HostStep}
 use Rattle.world_views.specs.Machine.{after, step_after}
 use Rattle.world_views.proofs.StepEach.{step_words}
@@ -194,7 +194,8 @@ module _ (start : Start) (x : Signal) where
       }
 
 -- so it is along a log: the master behind the step
-module _ (start : Start) (h : ℕ) (some : 1 ≤ h) (log : List HostStep) (e : HostStep) (p : MainPart)
+module _ (start : Start) (nobody : NobodyStarts start) (h : ℕ) (some : 1 ≤ h) (log : List HostStep) (e : HostStep)
+    (p : MainPart)
     (runs : (after start h log).parts ≡ part.Main p)
   where
     abbrev x : Signal
@@ -212,7 +213,7 @@ module _ (start : Start) (h : ℕ) (some : 1 ≤ h) (log : List HostStep) (e : H
     did : PartsDo start.shape (part.Main p) (view_after start h log) x now stood sends
     did =
         subst (λ parts. PartsDo start.shape parts (view_after start h log) x now stood sends) runs
-        (after_do start h some log e)
+        (after_do start nobody h some log e)
 
     pub main_orders : (own : MainPart) → now ≡ part.Main own → MayOrderAll own.master sends
     main_orders own is = subst (λ (q : MainPart). MayOrderAll q.master sends) same (by did.sent)

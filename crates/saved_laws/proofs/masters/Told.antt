@@ -74,7 +74,7 @@ module _ (start : Start) (all : ℕ → List HostStep) (e : HostStep) (es : List
     installed_grows view was = record {
       host = was.host;
       there = was.there;
-      made = all_made start was.host (new 0);
+      made = all_made start moment.cluster.nobody was.host (new 0);
       log = was.log;
       past =
           event_keeps (machine start) e es (λ k log. IsPast was.log log) (λ past. past_more e past) was.host was.past;

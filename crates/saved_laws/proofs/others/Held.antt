@@ -9,7 +9,7 @@ use Rattle.frag_map.specs.Layout.{first_view, holds}
 use Rattle.frag_map.specs.Replicas.{is_member}
 use Rattle.sig_core.specs.declared.member.Member.{Member}
 use Rattle.sig_core.specs.declared.view.View.{View}
-use Rattle.world_core.proofs.MadeFirst.{made_begins, nobody_starts}
+use Rattle.world_core.proofs.MadeFirst.{made_begins}
 use Rattle.world_core.specs.Start.{Start}
 use Rattle.world_core.specs.Steps.{HostStep}
 use Rattle.moment_laws.proofs.MomentMembers.{current_made}
@@ -52,5 +52,5 @@ replica_holds start all es moment key member is =
         (in_turns start key moment.cluster.shape view
         (nobody_later start all moment.cluster view (moment_installed start all es moment)) member is.chained)
         (any_in (is_member member) member first.full
-        (made_begins start (nobody_starts start) member (current_made start all es moment member is.full))
+        (made_begins start moment.cluster.nobody member (current_made start all es moment member is.full))
         (self member))))

@@ -25,7 +25,7 @@ use Rattle.gcp_master.specs.State.{MasterState}
 use Rattle.gcp_master.specs.Voices.{is_among, same_member}
 use Rattle.gcp_master.proofs.Outcomes.{known_with, state_body, voice_of}
 use Rattle.node_views.specs.declared.host_body.HostBody as node
-use Rattle.world_core.specs.Start.{Start, made}
+use Rattle.world_core.specs.Start.{NobodyStarts, Start, made}
 use Rattle.world_core.specs.Steps.{HostStep}
 use Rattle.view_laws.specs.Runs.{view_after}
 use Rattle.view_laws.specs.Votes.{main_of}
@@ -179,13 +179,13 @@ module _ (start : Start) (all : ℕ → List HostStep) (e : HostStep) (es : List
           view_is : before.view ≡ current start old
           view_is =
               sym (master_goes before x).view ∙ sym (ap (λ (s : MasterState). s.view) is)
-              ∙ master_view start p there new
+              ∙ master_view start moment.cluster.nobody p there new
               ∙ subst (λ h. view_after start h (new h) ≡ current start new) at
               (own_behind start all e es moment ∙ taken.stands)
               ∙ told.view
 
           stands : IsStanding start old p
-          stands = ap (λ (v : View). v.number) (sym (master_view start p there old) ∙ view_is)
+          stands = ap (λ (v : View). v.number) (sym (master_view start moment.cluster.nobody p there old) ∙ view_is)
 
           first : IsPresident start old p
           first = by (first_or p (current start old).full)
@@ -245,12 +245,13 @@ module _ (start : Start) (all : ℕ → List HostStep) (e : HostStep) (es : List
     next_low : AreLow start new
     next_low = record { members = members_next; masters = masters_next }
 
-first_low : (start : Start) → start.epoch ≤ top → AreLow start (logs_of start [])
-first_low start low = record { members = members; masters = masters }
+first_low : (start : Start) → NobodyStarts start → start.epoch ≤ top → AreLow start (logs_of start [])
+first_low start nobody low = record { members = members; masters = masters }
   where
     members : (m : Member) → IsIn m (made start) → (epochs_of start (logs_of start []) m).next ≤ top
     members m there =
-        subst (λ (s : node.HostBody). (dih_in (fresh_dih 0 0 0 0) s.parts).next ≤ top) (sym (tc_started start m there))
+        subst (λ (s : node.HostBody). (dih_in (fresh_dih 0 0 0 0) s.parts).next ≤ top)
+        (sym (tc_started start nobody m there))
         low
 
     by : (b : Bool) → IsLow (first_phase start.epoch b)
@@ -261,12 +262,12 @@ first_low start low = record { members = members; masters = masters }
     masters m there =
         subst
         (λ (s : node.HostBody). IsLow (master_in (fresh_master m (first_layout start.shape).view 0) s.parts).phase)
-        (sym (main_started start m there)) (by (is_president m (first_layout start.shape).view))
+        (sym (main_started start nobody m there)) (by (is_president m (first_layout start.shape).view))
 
 -- so it is at each moment
 pub are_low : (start : Start) (all : ℕ → List HostStep) (es : List HostStep) → start.start_epoch < start.epoch
     → start.epoch ≤ top → IsMoment start all es → AreLow start (logs_of start es)
-are_low start all [] some low moment = first_low start low
+are_low start all [] some low moment = first_low start moment.cluster.nobody low
 are_low start all (e ∷ es) some low moment =
     let less = moment_less start all e es moment in
     next_low start all e es moment (epochs_stand start all es some less) (are_low start all es some low less)

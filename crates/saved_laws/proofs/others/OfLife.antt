@@ -21,7 +21,7 @@ use Rattle.lqh_views.specs.State.{ReplicaState}
 use Rattle.node_views.specs.declared.host_body.HostBody as node
 use Rattle.node_views.specs.declared.main_part.MainPart.{MainPart}
 use Rattle.node_views.specs.declared.parts.Parts.TheVariants as part
-use Rattle.world_core.specs.Start.{Start, made}
+use Rattle.world_core.specs.Start.{NobodyStarts, Start, made}
 use Rattle.world_core.specs.Steps.{HostStep}
 use Rattle.world_views.specs.Machine.{after, step_after}
 use Rattle.view_laws.specs.Runs.{view_after}
@@ -75,9 +75,10 @@ module _ (start : Start) where
   abbrev AllGive : (ℕ → List HostStep) → Type 0
   AllGive logs = (m : Member) → IsIn m (made start) → GivesOfLife (epochs_of start logs m)
 
-  first_give : start.start_epoch < start.epoch → AllGive (logs_of start [])
-  first_give some m there =
-      subst (λ (s : node.HostBody). GivesOfLife (dih_in (fresh_dih 0 0 0 0) s.parts)) (sym (tc_started start m there))
+  first_give : NobodyStarts start → start.start_epoch < start.epoch → AllGive (logs_of start [])
+  first_give nobody some m there =
+      subst (λ (s : node.HostBody). GivesOfLife (dih_in (fresh_dih 0 0 0 0) s.parts))
+      (sym (tc_started start nobody m there))
       (record { gives = omega arith; ordered = inl (omega arith) })
 
   module _ (all : ℕ → List HostStep) (e : HostStep) (es : List HostStep) (some : start.start_epoch < start.epoch)
@@ -151,7 +152,7 @@ module _ (start : Start) where
           current_made start all (e ∷ es) moment me (first_inside me (current start new).full closing.is.president)
 
       main_runs : RunsMain start (after start e.host (old e.host)).parts
-      main_runs = main_at start me there e.host closing.is.host_is (old e.host)
+      main_runs = main_at start moment.cluster.nobody me there e.host closing.is.host_is (old e.host)
 
       abbrev p : MainPart
       p = main_runs.main
@@ -177,7 +178,7 @@ module _ (start : Start) where
           absurd cc
 
       closes_here : ClosesHere
-      closes_here = by (main_goes start e.host (old e.host) e p main_runs.is)
+      closes_here = by (main_goes start moment.cluster.nobody e.host (old e.host) e p main_runs.is)
         where
           inside : IsIn (Closed epoch) (step_after start e.host (old e.host) e).effects.marks
           inside = subst (IsIn (Closed epoch)) (marks_are start all e es moment stand) marked
@@ -210,7 +211,7 @@ module _ (start : Start) where
           subst (λ k. number_in start (logs_of start (e ∷ es)) k ≡ number_in start (logs_of start es) k)
           closing.is.host_is
           (ap (λ (v : View). v.number) (own_behind start all e es moment ∙ closes_here.stays)) in
-          let above = current_above start old h (main_low start me there) in
+          let above = current_above start old moment.cluster.nobody h (main_low start moment.cluster.nobody me there) in
           let rises = current_rises start all e es moment in
           let stands : number_in start (logs_of start (e ∷ es)) h ≡ (current start new).number = closing.is.stands in
           omega (arith, same, above, rises, stands)
@@ -255,7 +256,7 @@ module _ (start : Start) where
 
   all_give : (all : ℕ → List HostStep) (es : List HostStep) → start.start_epoch < start.epoch
       → IsMoment start all es → AllGive (logs_of start es)
-  all_give all [] some moment = first_give some
+  all_give all [] some moment = first_give moment.cluster.nobody some
   all_give all (e ∷ es) some moment =
       next_give all e es some moment (all_give all es some (moment_less start all e es moment))
 
@@ -271,12 +272,12 @@ module _ (start : Start) where
       at = moment_before start all was.newer (was.closing ∷ was.older) (subst (IsMoment start all) was.is moment)
 
   -- nothing is saved that isn't beyond the epoch from which the life started
-  pub saved_above : (member : Member) → IsIn member (made start) → (log : List HostStep)
+  pub saved_above : NobodyStarts start → (member : Member) → IsIn member (made start) → (log : List HostStep)
       → start.start_epoch ≤ (rows_after start member log).saved
-  saved_above member there log =
+  saved_above nobody member there log =
       always (λ (s : ReplicaState). start.start_epoch ≤ s.saved)
       (λ s x above. let rises = saved_rises s x in omega (arith, above, rises)) (λ s view above. above)
-      (λ s at has above. above) start member there (omega arith) log
+      (λ s at has above. above) start nobody member there (omega arith) log
 
 pub saved_of_life : SavedAreOfLife
 saved_of_life start all es some moment member there =
@@ -293,6 +294,6 @@ saved_of_life start all es some moment member there =
         either : (saved ≤ start.start_epoch) ⊎ (start.epoch ≤ saved)
             → (saved ≡ start.start_epoch) ⊎ (start.epoch ≤ saved)
         either (inl low) =
-            let above = saved_above start member there (logs_of start es (ldm_of start member)) in
+            let above = saved_above start moment.cluster.nobody member there (logs_of start es (ldm_of start member)) in
             inl (omega (arith, low, above))
         either (inr later) = inr later

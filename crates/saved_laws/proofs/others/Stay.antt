@@ -63,11 +63,13 @@ module _ (start : Start) (all : ℕ → List HostStep) (member : Member) (there 
         by (rest is quiet) = absurd (moved (ap record_of is))
         by (enter view is quiet) = absurd (moved (ap record_of is))
         by (take s between taken) =
-            subst (λ (m : Member). IsIn m (current start (logs_of start (e ∷ es))).full) (ldm_member start member there)
-            (current_host start all (e ∷ es) moment (ldm_of start member) some (ldm_low start member there) stands)
+            subst (λ (m : Member). IsIn m (current start (logs_of start (e ∷ es))).full)
+            (ldm_member start moment.cluster.nobody member there)
+            (current_host start all (e ∷ es) moment (ldm_of start member) some
+            (ldm_low start moment.cluster.nobody member there) stands)
           where
             some : 1 ≤ ldm_of start member
-            some = let is = ldm_number start member there in omega (arith, is)
+            some = let is = ldm_number start moment.cluster.nobody member there in omega (arith, is)
 
             stands : view_after start (ldm_of start member) (logs_of start (e ∷ es) (ldm_of start member))
                 ≡ current start (logs_of start (e ∷ es))
@@ -96,7 +98,7 @@ module _ (start : Start) (all : ℕ → List HostStep) (member : Member) (there 
           by one.goes ∙ stays es (moment_less start all e es moment) one.older one.are
         where
           one : OneMore start member there epoch before key e es events
-          one = one_more start member there epoch before key e es events are
+          one = one_more start member there epoch before key moment.cluster.nobody e es events are
 
           by : MomentGoes start member there epoch before key e es one.older events → own events ≡ own one.older
           by (rests own_is row new) = own_is

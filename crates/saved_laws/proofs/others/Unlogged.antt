@@ -19,7 +19,7 @@ use Rattle.local_ckpt.specs.Orderly.{IsOrderly, image_in, prepared_in}
 use Rattle.local_ckpt.proofs.EventLemmas.{stores}
 use Rattle.local_ckpt.proofs.RecordLemmas.{own_record}
 use Rattle.lqh_views.specs.State.{ReplicaState}
-use Rattle.world_core.specs.Start.{Start, made}
+use Rattle.world_core.specs.Start.{NobodyStarts, Start, made}
 use Rattle.world_core.specs.Steps.{HostStep}
 use Rattle.world_views.specs.Machine.{machine}
 use Rattle.moment_laws.proofs.MomentRuns.{are_moments}
@@ -115,9 +115,9 @@ module _ (start : Start) (all : ℕ → List HostStep) (member : Member) (there 
       (events : List Event) → AreEventsOf start member log events
       → AreHeld start.shape member.node (records_behind first events)
 
-  log_more : (e : HostStep) (log : List HostStep) → IsOfOwnKeys (lqh_after start member log).rows
+  log_more : NobodyStarts start → (e : HostStep) (log : List HostStep) → IsOfOwnKeys (lqh_after start member log).rows
       → IsOfOwnKeys (lqh_after start member (e ∷ log)).rows → IsLogHeld log → IsLogHeld (e ∷ log)
-  log_more e log before now held events are =
+  log_more nobody e log before now held events are =
       subst (λ list. AreHeld start.shape member.node (records_behind first list)) (sym are.1.1.0)
       (by are.0 (rows_at_step start member e log are.0 are.1.1.2))
     where
@@ -130,7 +130,7 @@ module _ (start : Start) (all : ℕ → List HostStep) (member : Member) (there 
       by None is = held are.1.0 are.1.1.1
       by (Some event) is =
           held_more start.shape member.node event (rows_behind first are.1.0) (records_behind first are.1.0)
-          (orderly_behind first are.1.0 (first_orderly start member there))
+          (orderly_behind first are.1.0 (first_orderly start nobody member there))
           (subst IsOfOwnKeys (sym rows_were) before)
           (subst IsOfOwnKeys (is ∙ ap (changed event) (sym rows_were)) now)
           (held are.1.0 are.1.1.1)
@@ -161,14 +161,14 @@ module _ (start : Start) (all : ℕ → List HostStep) (member : Member) (there 
         by (inl at) =
             let same : logs_of start (e ∷ es) h ≡ e ∷ logs_of start es h = log_of-own (machine start) e es h at in
             subst IsLogHeld (sym same)
-            (log_more e (logs_of start es h) before.prepared
+            (log_more moment.cluster.nobody e (logs_of start es h) before.prepared
             (subst (λ log. IsOfOwnKeys (lqh_after start member log).rows) same prepared_now)
             before.log)
         by (inr off) = subst IsLogHeld (sym (log_of-other (machine start) e es h off)) before.log
 
   always_held : (es : List HostStep) → IsMoment start all es → IsHeldAt es
   always_held [] moment = record {
-    prepared = λ tx key image is. absurd (none_prepared start member there tx key image is);
+    prepared = λ tx key image is. absurd (none_prepared start moment.cluster.nobody member there tx key image is);
     log = λ events are. subst (λ list. AreHeld start.shape member.node (records_behind first list)) (sym are) refl;
   }
   always_held (e ∷ es) moment =

@@ -83,7 +83,7 @@ module _ (saved : SavedWereClosed) (closed : ClosedOnesAreCommitted) (finals : C
     from_start low events is =
         first_stays decided start logs end begins moment member there epoch before key es past
         (each_past (λ (e : HostStep). Each (IsOfEpoch (λ at. epoch < at)) e.step.marks) past all_late) events is
-        ∙ before_is key ∙ row_begins start member key held there
+        ∙ before_is key ∙ row_begins start are.nobody member key held there
         ∙ sym (ap (row_at_end key (map.get (rows_of start.rows) key))
         (history_up_to start logs are epoch end [] (sym (append-nil end)) tt all_late))
       where

@@ -235,7 +235,7 @@ module _ (closed : ClosedOnesAreCommitted) (finals : CommittedOnesAreFinal) (dec
         cell = (replica_at start (logs_of start ms) member key).cell
 
         once : AreOnce (replica_at start (logs_of start ms) member key).cell.pending
-        once = rows_once start member there (logs_of start ms h) key
+        once = rows_once start are.nobody member there (logs_of start ms h) key
 
         front : IsFront decided start logs end begins moment member there epoch before key final replica_first row_is ms
             events
@@ -287,7 +287,7 @@ module _ (closed : ClosedOnesAreCommitted) (finals : CommittedOnesAreFinal) (dec
             replica_before start logs e (xs ++ ms) (moment_of (e ∷ xs ++ ms) (past_trans less past)) key member replica
 
         one : OneMore start member there epoch before key e (xs ++ ms) events
-        one = one_more start member there epoch before key e (xs ++ ms) events is
+        one = one_more start member there epoch before key are.nobody e (xs ++ ms) events is
 
         by : IsLed start (events_of start logs) member key kept value (own one.older) (xs ++ ms)
             → IsLed start (events_of start logs) member key kept value (own events) (e ∷ xs ++ ms)
@@ -350,7 +350,7 @@ module _ (closed : ClosedOnesAreCommitted) (finals : CommittedOnesAreFinal) (dec
         here = along (e ∷ ys ++ older) (past_trans less past)
 
         one : OneMore start member there epoch before key e (ys ++ full.older) events
-        one = one_more start member there epoch before key e (ys ++ older) events is
+        one = one_more start member there epoch before key are.nobody e (ys ++ older) events is
 
         by : IsSettled (ys ++ full.older) one.older → IsSettled (e ∷ ys ++ full.older) events
         by rest = record {

@@ -52,7 +52,7 @@ module _ (decided : CommitsWereDecided) (start : Start) (all : ℕ → List Host
       by one.goes ∙ first_stays es (past_less e past) late.1 one.older one.are
     where
       one : OneMore start member there epoch before key e es events
-      one = one_more start member there epoch before key e es events are
+      one = one_more start member there epoch before key moment.cluster.nobody e es events are
 
       by : MomentGoes start member there epoch before key e es one.older events → own events ≡ own one.older
       by (rests own_is row new) = own_is
@@ -88,7 +88,7 @@ module _ (decided : CommitsWereDecided) (start : Start) (all : ℕ → List Host
         one.goes
       where
         one : OneMore start member there epoch before key e es events
-        one = one_more start member there epoch before key e es events are
+        one = one_more start member there epoch before key moment.cluster.nobody e es events are
 
         was : Cell
         was = (replica_at start (logs_of start es) member key).cell

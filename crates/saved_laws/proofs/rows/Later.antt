@@ -104,9 +104,9 @@ module _ (start : Start) (all : ℕ → List HostStep) (e : HostStep) (es : List
       let made_is = decider_made start all e es moment tx epoch there in
       let home = decider_home start all e es moment tx epoch there in
       subst (λ m. IsIn m (current start (logs_of start (e ∷ es))).full)
-      (tc_member start (coordinator_member tx) made_is)
+      (tc_member start moment.cluster.nobody (coordinator_member tx) made_is)
       (current_host start all (e ∷ es) moment h (part_some start Tc (coordinator_member tx))
-      (tc_low start (coordinator_member tx) made_is)
+      (tc_low start moment.cluster.nobody (coordinator_member tx) made_is)
       (subst (λ k. view_after start k (logs_of start (e ∷ es) k) ≡ current start (logs_of start (e ∷ es))) home
       (own_behind start all e es moment
       ∙ stands_behind start all e es moment (deciders_go_on start all e es moment tx epoch there))))
@@ -189,8 +189,9 @@ module _ (start : Start) (all : ℕ → List HostStep) (end : List HostStep) (be
     closes_only : (tx : TxId) (at : ℕ) → IsIn (Decided tx at) closing.step.marks → epoch < at
     closes_only tx at there =
         let home = decider_home start all closing older here tx at there in
-        let one = tc_number start (coordinator_member tx) (decider_made start all closing older here tx at there) in
-        let other = main_number start closes.member closer_made in
+        let one = tc_number start moment.cluster.nobody (coordinator_member tx)
+        (decider_made start all closing older here tx at there) in
+        let other = main_number start moment.cluster.nobody closes.member closer_made in
         let is = closes.is.host_is in
         absurd (omega (arith, home, one, other, is))
 
@@ -228,7 +229,8 @@ module _ (start : Start) (all : ℕ → List HostStep) (end : List HostStep) (be
     first_epoch : (member : Member) → IsIn member (made start)
         → (epochs_of start (logs_of start []) member).current ≡ start.epoch
     first_epoch member there =
-        ap (λ (s : node.HostBody). (dih_in (fresh_dih 0 0 0 0) s.parts).current) (tc_started start member there)
+        ap (λ (s : node.HostBody). (dih_in (fresh_dih 0 0 0 0) s.parts).current)
+        (tc_started start moment.cluster.nobody member there)
 
     in_life : (e : HostStep) (more : List HostStep) → IsPast (e ∷ more ++ []) end → (tx : TxId) (at : ℕ)
         → IsIn (Decided tx at) e.step.marks → epoch < at

@@ -14,7 +14,7 @@ use Rattle.local_ckpt.specs.Events.{Commit, Event, changed, left_by}
 use Rattle.key_laws.specs.Records.{as_committed, committed, found}
 use Rattle.key_laws.specs.Replica.{Cell, cell_at, committing}
 use Rattle.key_laws.proofs.RecordLemmas.{committed_keeps}
-use Rattle.world_core.specs.Start.{Start, made}
+use Rattle.world_core.specs.Start.{NobodyStarts, Start, made}
 use Rattle.world_core.specs.Steps.{HostStep}
 use Rattle.world_views.specs.Machine.{machine}
 use Rattle.moment_laws.specs.Moments.{logs_of}
@@ -60,9 +60,10 @@ module _ (start : Start) (member : Member) where
       goes : Goes epoch key event (cell_of log) (cell_of (e ∷ log)) (own_row older) (own_row events)
       ordered : IsOrdered event e.step.taken.body
 
-    log_goes : (e : HostStep) (log : List HostStep) (events : List Event) → AreEventsOf start member (e ∷ log) events
+    log_goes : NobodyStarts start → (e : HostStep) (log : List HostStep) (events : List Event)
+        → AreEventsOf start member (e ∷ log) events
         → LogGoes e log events
-    log_goes e log events are = record {
+    log_goes nobody e log events are = record {
       older = are.1.0;
       are = are.1.1.1;
       event = are.0;
@@ -90,7 +91,8 @@ module _ (start : Start) (member : Member) where
             (own_row older)
             (map.get (left_by epoch event t (own_behind epoch (first_rows start member) before older)) key))
             (sym (rows_are log older are.1.1.1))
-            (event_goes epoch key s (rows_well start member there log).placed (rows_once start member there log key)
+            (event_goes epoch key s (rows_well start nobody member there log).placed
+            (rows_once start nobody member there log key)
             (own_behind epoch (first_rows start member) before older) event))
 
     -- What an event of a run makes of the key at the member: nothing is committed of it there, or something that was
@@ -113,9 +115,9 @@ module _ (start : Start) (member : Member) where
       pub are : AreEventsOf start member (logs_of start es (ldm_of start member)) older
       pub goes : MomentGoes e es older events
 
-    pub one_more : (e : HostStep) (es : List HostStep) (events : List Event)
+    pub one_more : NobodyStarts start → (e : HostStep) (es : List HostStep) (events : List Event)
         → AreEventsOf start member (logs_of start (e ∷ es) (ldm_of start member)) events → OneMore e es events
-    one_more e es events are = by (cases_eq e.host (ldm_of start member))
+    one_more nobody e es events are = by (cases_eq e.host (ldm_of start member))
       where
         h : ℕ
         h = ldm_of start member
@@ -132,7 +134,8 @@ module _ (start : Start) (member : Member) where
         own host_is same = record { older = one.older; are = one.are; goes = goes one.event one.goes one.ordered }
           where
             one : LogGoes e (logs_of start es h) events
-            one = log_goes e (logs_of start es h) events (subst (λ log. AreEventsOf start member log events) same are)
+            one = log_goes nobody e (logs_of start es h) events
+                (subst (λ log. AreEventsOf start member log events) same are)
 
             now_is : (replica_at start (logs_of start (e ∷ es)) member key).cell ≡ cell_of (e ∷ logs_of start es h)
             now_is = ap cell_of same
@@ -167,7 +170,7 @@ module _ (start : Start) (member : Member) where
                 now_found =
                     ap (λ (c : Cell). found tx c.pending) (now_is ∙ cell)
                     ∙ found_own as_committed committed_keeps tx (cell_of (logs_of start es h)).pending
-                    (rows_once start member there (logs_of start es h) key)
+                    (rows_once start nobody member there (logs_of start es h) key)
                     ∙ ap (now_by as_committed) is
 
         by : (e.host ≡ h) ⊎ (e.host ≢ h) → OneMore e es events

@@ -10,7 +10,7 @@ use Rattle.node_core.specs.Fresh.{fresh_part}
 use Rattle.node_views.specs.declared.host_body.HostBody as node
 use Rattle.key_laws.specs.Replica.{Replica, at_key}
 use Rattle.host_laws.proofs.rows.Replicas.{keys_begin_at_rest}
-use Rattle.world_core.specs.Start.{Start, made}
+use Rattle.world_core.specs.Start.{NobodyStarts, Start, made}
 use Rattle.world_core.specs.Steps.{HostStep}
 use Rattle.moment_laws.proofs.MomentHosts.{ldm_started}
 use Rattle.moment_laws.specs.Moments.{IsMoment, logs_of}
@@ -29,7 +29,8 @@ replica_was start all newer es moment key member is =
     (λ e es moment is. replica_before start all e es moment key member is) newer es moment is
 
 -- the rows of the start
-module _ (start : Start) (member : Member) (key : List ℕ) (held : holds start.shape member.node key ≡ true) where
+module _ (start : Start) (nobody : NobodyStarts start) (member : Member) (key : List ℕ)
+    (held : holds start.shape member.node key ≡ true) where
   first_is : (at_key key (first_rows start member).lqh).cell.row ≡ map.get (rows_of start.rows) key
   unfolding fresh_part
   first_is =
@@ -40,4 +41,4 @@ module _ (start : Start) (member : Member) (key : List ℕ) (held : holds start.
       → row_of (journal.first_rows start member) key ≡ map.get (rows_of start.rows) key
   row_begins there =
       ap (λ (s : node.HostBody). row_of (rows_in (no_replica start member) s.parts).lqh.rows key)
-      (ldm_started start member there) ∙ first_is
+      (ldm_started start nobody member there) ∙ first_is

@@ -165,7 +165,8 @@ module _ (start : Start) (end : List HostStep) (member : Member) (key : List ℕ
         alone : (v : TxId) (r : PendingRecord) → was v ≡ Some r → r.committed ≡ false → v ≡ w.tx
         alone v r is begun =
             only_holder (replica_at start (logs_of start es) member key).lock.holders
-            ((rows_well start member there (logs_of start es (ldm_of start member))).orderly.each key).agreed w.tx v
+            ((rows_well start along.moment.cluster.nobody member there
+            (logs_of start es (ldm_of start member))).orderly.each key).agreed w.tx v
             (held w.tx w.r w.there w.begun)
             (holds_so v Exclusive (replica_at start (logs_of start es) member key).lock.holders (held v r is begun))
           where

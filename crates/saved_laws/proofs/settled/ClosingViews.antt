@@ -83,7 +83,7 @@ module _ (start : Start) (all : ℕ → List HostStep) (e : HostStep) (es : List
         by (inl first) =
             let number : current_number start new ≡ (first_layout start.shape).view.number =
             ap (λ (v : View). v.number) first in
-            let below = first_below start old in
+            let below = first_below start old moment.cluster.nobody in
             omega (arith, number, below)
         by (inr over) = over_low over
 
@@ -99,7 +99,7 @@ module _ (start : Start) (all : ℕ → List HostStep) (e : HostStep) (es : List
     rows_kept member there =
         other_log start all e es moment (ldm_of start member)
         (λ same.
-        let main = main_number start closing.member closer_made in
-        let rows = ldm_number start member there in
+        let main = main_number start moment.cluster.nobody closing.member closer_made in
+        let rows = ldm_number start moment.cluster.nobody member there in
         let at = closing.is.host_is in
         omega (arith, same, main, rows, at))

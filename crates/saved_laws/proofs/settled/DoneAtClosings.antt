@@ -13,7 +13,7 @@ use Rattle.sig_core.specs.declared.mark.Mark.TheVariants.{Closed, Decided}
 use Rattle.sig_core.specs.declared.member.TxId.{TxId}
 use Rattle.sig_core.specs.declared.view.View.{View}
 use Rattle.sig_core.specs.Same.{same_tx}
-use Rattle.world_core.proofs.MadeFirst.{made_begins, nobody_starts}
+use Rattle.world_core.proofs.MadeFirst.{made_begins}
 use Rattle.world_core.specs.Start.{Start}
 use Rattle.world_core.specs.Steps.{HostStep}
 use Rattle.moment_laws.specs.Moments.{IsMoment, current, logs_of}
@@ -83,7 +83,7 @@ module _ (start : Start) (all : ℕ → List HostStep) (e : HostStep) (es : List
     not_first gone same =
         true≢false (sym (ap (λ (v : View). list_any (was_begun_by tx) v.full) same
         ∙ any_in (was_begun_by tx) (coordinator_member tx) (members start.shape.nodes)
-        (made_begins start (nobody_starts start) (coordinator_member tx) (forth_made start all end last tx forth))
+        (made_begins start moment.cluster.nobody (coordinator_member tx) (forth_made start all end last tx forth))
         (λ i. eq-eqb tx.tc tx.tc refl i && eq-eqb tx.start tx.start refl i)) ∙ gone)
 
     none : is_led_by_full start (logs_of start (e ∷ es)) tx ≡ false → LeavesNone start (logs_of start (e ∷ es))

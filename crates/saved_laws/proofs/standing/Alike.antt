@@ -20,7 +20,7 @@ use Rattle.local_ckpt.specs.Orderly.{image_in}
 use Rattle.lqh_saver.specs.declared.stage.Todo.{Todo}
 use Rattle.lqh_saver.specs.declared.stage.Todo.TheVariants as todo
 use Rattle.lqh_saver.specs.State.{SavingState}
-use Rattle.world_core.specs.Start.{Start, made}
+use Rattle.world_core.specs.Start.{NobodyStarts, Start, made}
 use Rattle.world_core.specs.Steps.{HostStep}
 use Rattle.journal_laws.specs.Events.{IsOfPrepared, IsOrdered, behind_all, own_behind, records_behind, records_if}
 use Rattle.journal_laws.specs.Events.{rows_behind}
@@ -191,11 +191,12 @@ module _ (start : Start) (member : Member) (there : IsIn member (made start)) wh
       (rows_are start member log older are)
 
   -- behind one more step
-  alike_more : (e : HostStep) (log : List HostStep) (event event2 : Option Event) (older older2 : List Event)
+  alike_more : NobodyStarts start
+      → (e : HostStep) (log : List HostStep) (event event2 : Option Event) (older older2 : List Event)
       → AreEventsOf start member log older → AreEventsOf start member log older2 → IsStepAt start member e log event
       → IsStepAt start member e log event2 → AreAlike older older2
       → AreAlike (option_to_list event ++ older) (option_to_list event2 ++ older2)
-  alike_more e log event event2 older older2 of of2 step step2 rest = record {
+  alike_more nobody e log event event2 older older2 of of2 step step2 rest = record {
     bytes = more_bytes log event older of ∙ (λ i. rest.bytes i ++ added i) ∙ sym (more_bytes log event2 older2 of2);
     own = λ epoch before.
         more_own log body epoch before event older of
@@ -217,17 +218,17 @@ module _ (start : Start) (member : Member) (there : IsIn member (made start)) wh
       it = todo_at start member e log
 
       keeps : (lqh_after start member log).outlet.keeps ≡ true
-      keeps = keeps_bytes start member there log older of
+      keeps = keeps_bytes start nobody member there log older of
 
       added : log_bytes (records_if event (lqh_after start member log).rows)
           ≡ log_bytes (records_if event2 (lqh_after start member log).rows)
       added = bytes_same now then body event event2 keeps it step step2
 
-  pub alike : (log : List HostStep) (one other : List Event) → AreEventsOf start member log one
+  pub alike : NobodyStarts start → (log : List HostStep) (one other : List Event) → AreEventsOf start member log one
       → AreEventsOf start member log other → AreAlike one other
-  alike [] one other are also =
+  alike nobody [] one other are also =
       subst (AreAlike one) (are ∙ sym also) (record { bytes = refl; own = λ epoch before. refl })
-  alike (e ∷ log) one other (event, (older, (is, of, step))) (event2, (older2, (is2, of2, step2))) =
+  alike nobody (e ∷ log) one other (event, (older, (is, of, step))) (event2, (older2, (is2, of2, step2))) =
       subst (λ xs. AreAlike xs other) (sym is)
       (subst (AreAlike (option_to_list event ++ older)) (sym is2)
-      (alike_more e log event event2 older older2 of of2 step step2 (alike log older older2 of of2)))
+      (alike_more nobody e log event event2 older older2 of of2 step step2 (alike nobody log older older2 of of2)))

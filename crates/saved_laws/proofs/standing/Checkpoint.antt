@@ -15,7 +15,7 @@ use Rattle.sig_core.specs.Rows.{RowsState}
 use Rattle.sig_core.specs.Table.{Rows}
 use Rattle.local_ckpt.specs.Events.{Event, Moment}
 use Rattle.local_ckpt.specs.Laws.{PiecesLieInOrder, at_first, pieces_bytes}
-use Rattle.world_core.specs.Start.{Start, made}
+use Rattle.world_core.specs.Start.{NobodyStarts, Start, made}
 use Rattle.world_core.specs.Steps.{HostStep}
 use Rattle.journal_laws.specs.Checkpoints.{HaveKeptLocks, LocalCheckpointsStand, Portions, before_walk}
 use Rattle.journal_laws.specs.Checkpoints.{end_of_walk, records_at_walk, rows_at_walk, until_end}
@@ -54,7 +54,8 @@ walk_size lie s p from epoch =
     (after_order (at_first (rows_at_walk s p) (records_at_walk s p) 0 from epoch) p.meanwhile [])
     (lie (rows_at_walk s p) (records_at_walk s p) 0 from epoch (in_order p.meanwhile [])).1
 
-module _ (stands : LocalCheckpointsStand) (lie : PiecesLieInOrder) (start : Start) (member : Member)
+module _ (stands : LocalCheckpointsStand) (lie : PiecesLieInOrder) (start : Start) (nobody : NobodyStarts start)
+    (member : Member)
     (there : IsIn member (made start)) (before : Rows) (words : AreWords start member before) (log : List HostStep)
     (events : List Event) (has : HasRecords start member log events) (finished : Finished) (end : ℕ)
     (ended : HasEnded start member log events finished end)
@@ -84,7 +85,7 @@ module _ (stands : LocalCheckpointsStand) (lie : PiecesLieInOrder) (start : Star
   has_rows =
       let found =
       stands first before finished.epoch until 0 finished.from finished.epoch
-      (at_rest start member there before words finished.epoch least)
+      (at_rest start nobody member there before words finished.epoch least)
       (record { locks = locks; prepares = ended.began.prepares }) ended.passed in
       record { rows = found.0; read = found.1; same = found.2 }
 
@@ -98,13 +99,13 @@ module _ (stands : LocalCheckpointsStand) (lie : PiecesLieInOrder) (start : Star
     part = part_of_log start member older log events past has.events_of
 
     same_told : AreAlike start member there part.part told
-    same_told = alike start member there older part.part told part.part_of told_of
+    same_told = alike start member there nobody older part.part told part.part_of told_of
 
     further : GoesOn first (until_end p) part.part
     further =
         goes_on first part.newer part.part p.later (until_end p) (sym part.is ∙ ended.is)
         (subst (λ n. n ≤ length (log_bytes (records_behind first part.part))) ended.end_is
-        (subst (λ n. end ≤ n) (ends_behind start member there older part.part part.part_of) late))
+        (subst (λ n. end ≤ n) (ends_behind start nobody member there older part.part part.part_of) late))
 
     abbrev more : List Event
     more = further.further
@@ -134,8 +135,8 @@ module _ (stands : LocalCheckpointsStand) (lie : PiecesLieInOrder) (start : Star
     come : (epoch : ℕ) → finished.epoch ≤ epoch
         → replayed epoch has_rows.rows kept ≡ replayed epoch before (records_behind first told)
     come epoch few =
-        let idle = first_pending start member there in
-        let orderly = first_orderly start member there in
+        let idle = first_pending start nobody member there in
+        let orderly = first_orderly start nobody member there in
         let same_walk = sym (rows_append first p.nearer p.gone) in
         come_on given_up first (p.meanwhile ++ p.nearer) (until_end p)
         (rows_on given_up first p.nearer (before_walk p) same_walk p.meanwhile) orderly

@@ -27,7 +27,7 @@ use Rattle.lqh_views.specs.State.{ReplicaState}
 use Rattle.node_core.specs.Fresh.{own_rows, with_rows}
 use Rattle.row_records.specs.Places.{AreApart}
 use Rattle.row_records.proofs.PlaceLemmas.{by_place, row_at, row_behind, row_of-at, set_row-first}
-use Rattle.world_core.specs.Start.{Start, made}
+use Rattle.world_core.specs.Start.{NobodyStarts, Start, made}
 use Rattle.journal_laws.specs.Checkpoints.{AreAtRest}
 use Rattle.journal_laws.specs.Journal.{first_rows}
 use Rattle.journal_laws.proofs.events.FirstRows.{first_orderly, first_pending, first_replica}
@@ -109,7 +109,7 @@ module _ (most : ℕ) where
         (λ key value is. words key value (row_behind 1 (Some slot ∷ places) key value apart is)),
   )
 
-module _ (start : Start) (member : Member) (there : IsIn member (made start)) where
+module _ (start : Start) (nobody : NobodyStarts start) (member : Member) (there : IsIn member (made start)) where
   abbrev first_places : List (Option Slot)
   first_places = (first_rows start member).places
 
@@ -117,12 +117,13 @@ module _ (start : Start) (member : Member) (there : IsIn member (made start)) wh
       → image_in (first_rows start member) tx key ≡ Some image → ⊥
   none_prepared tx key image is =
       let both : None ≡ Some image =
-      sym (ap (λ pending. prepared_in (first (is_of tx key) pending)) (first_pending start member there)) ∙ is in
+      sym (ap (λ pending. prepared_in (first (is_of tx key) pending)) (first_pending start nobody member there)) ∙ is in
       absurd cc
 
   first_later : (noted : ℕ) → start.start_epoch ≤ noted → Each (IsNoLater noted) first_places
   first_later noted least =
-      subst (λ (s : ReplicaState). Each (IsNoLater noted) s.lqh.rows.places) (sym (first_replica start member there))
+      subst (λ (s : ReplicaState). Each (IsNoLater noted) s.lqh.rows.places)
+      (sym (first_replica start nobody member there))
       (all_later noted start.start_epoch least no_rows (own_rows start.shape member.node start.rows) tt)
 
   module _ (before : Rows) (words : AreWords start member before) where
@@ -133,7 +134,7 @@ module _ (start : Start) (member : Member) (there : IsIn member (made start)) wh
 
     pub at_rest : (noted : ℕ) → start.start_epoch ≤ noted → AreAtRest noted (first_rows start member) before
     at_rest noted least =
-        let orderly = first_orderly start member there in
+        let orderly = first_orderly start nobody member there in
         record {
           kept = record {
             orderly = orderly;
@@ -141,6 +142,6 @@ module _ (start : Start) (member : Member) (there : IsIn member (made start)) wh
             readable = readable noted first_places orderly.apart (first_later noted least) row_words;
             images = λ tx key image here. absurd (none_prepared tx key image here);
           };
-          idle = first_pending start member there;
+          idle = first_pending start nobody member there;
           table = words.table;
         }

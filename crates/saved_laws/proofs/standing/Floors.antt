@@ -12,7 +12,7 @@ use Rattle.lqh_saver.specs.declared.stage.Stage.TheVariants.{Resting, Walked}
 use Rattle.lqh_saver.specs.declared.stage.Todo.{Todo}
 use Rattle.lqh_saver.specs.Redo.{kept_records, noted}
 use Rattle.lqh_saver.specs.State.{SaverState, SavingState}
-use Rattle.world_core.specs.Start.{Start, made}
+use Rattle.world_core.specs.Start.{NobodyStarts, Start, made}
 use Rattle.world_core.specs.Steps.{HostStep}
 use Rattle.journal_laws.specs.Journal.{AreEventsOf}
 use Rattle.journal_laws.specs.Saver.{IsStepBy, begins, ends, passes, rows, switches, todo_at}
@@ -61,11 +61,11 @@ module _ (least : ℕ) where
       stage = subst IsNotedFrom (sym to.stage) tt;
     }
 
-module _ (start : Start) (member : Member) (there : IsIn member (made start)) where
+module _ (start : Start) (nobody : NobodyStarts start) (member : Member) (there : IsIn member (made start)) where
   all_note : (log : List HostStep) (events : List Event) → AreEventsOf start member log events
       → NotesFrom start.start_epoch (saver_after start member log)
   all_note [] events are =
-      subst (NotesFrom start.start_epoch) (sym (first_saver start member there))
+      subst (NotesFrom start.start_epoch) (sym (first_saver start nobody member there))
       (record { floor = omega arith; stage = tt })
   all_note (e ∷ log) events (event, (before, (is, of, step))) =
       step_notes start.start_epoch (saving_after start member log) (saving_after start member (e ∷ log))

@@ -9,7 +9,7 @@ use Rattle.sig_core.specs.declared.redo.Redo.{Redo}
 use Rattle.sig_core.specs.Journal.{OutletState, behind, behind_by, end_of}
 use Rattle.sig_core.specs.Redo.{bytes_of}
 use Rattle.local_ckpt.specs.Events.{Event}
-use Rattle.world_core.specs.Start.{Start, made}
+use Rattle.world_core.specs.Start.{NobodyStarts, Start, made}
 use Rattle.world_core.specs.Steps.{HostStep}
 use Rattle.journal_laws.specs.Events.{behind_all, records_behind}
 use Rattle.journal_laws.specs.Journal.{AreEventsOf, first_rows, lqh_after, outlet_with}
@@ -30,7 +30,8 @@ appended o keeps (newest ∷ older) =
     ∙ ap (λ b. behind_by b (with_bytes o (log_bytes older)) newest) keeps
     ∙ ap (λ bytes. record o { left = bytes }) (append_assoc o.left (log_bytes older) (bytes_of newest))
 
-module _ (start : Start) (member : Member) (there : IsIn member (made start)) (log : List HostStep)
+module _ (start : Start) (nobody : NobodyStarts start) (member : Member) (there : IsIn member (made start))
+    (log : List HostStep)
     (events : List Event) (are : AreEventsOf start member log events) where
   abbrev outlet : OutletState
   outlet = (lqh_after start member log).outlet
@@ -39,10 +40,10 @@ module _ (start : Start) (member : Member) (there : IsIn member (made start)) (l
   records = records_behind (first_rows start member) events
 
   pub keeps_bytes : (lqh_after start member log).outlet.keeps ≡ true
-  keeps_bytes = ap (λ (o : OutletState). o.keeps) (events_come start member there log events are).outlet.is
+  keeps_bytes = ap (λ (o : OutletState). o.keeps) (events_come start member there nobody log events are).outlet.is
 
   pub ends_behind : end_of (lqh_after start member log).outlet
       ≡ length (log_bytes (records_behind (first_rows start member) events))
   ends_behind =
-      end_same outlet (outlet_with records) (events_come start member there log events are).outlet
+      end_same outlet (outlet_with records) (events_come start member there nobody log events are).outlet
       ∙ (let e : 0 + length (log_bytes records) ≡ length (log_bytes records) = omega arith in e)

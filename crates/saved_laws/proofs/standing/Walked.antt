@@ -19,10 +19,10 @@ pub walked_stand : LocalCheckpointsStand → PiecesLieInOrder → JournalsHaveRe
     → WalkedCheckpointsStand
 walked_stand stands lie journals follow keep start all es low moment asked member there before words finished end
     walked =
-    is_checkpoint stands lie start member there before words log events has finished end ended
+    is_checkpoint stands lie start moment.cluster.nobody member there before words log events has finished end ended
     (part_keeps keep start all es moment member there ended.portions.later (until_end ended.portions)
     (subst (HasRecords start member log) ended.is has) finished.epoch ended.epoch)
-    (walked_from start member there log events has.events_of finished end walked)
+    (walked_from start moment.cluster.nobody member there log events has.events_of finished end walked)
   where
     log : List HostStep
     log = logs_of start es (ldm_of start member)

@@ -13,7 +13,7 @@ use Rattle.run_theory.specs.Runs.{log_of}
 use Rattle.sig_core.specs.declared.view.View.{View}
 use Rattle.api_views.specs.Members.{greater_view}
 use Rattle.node_views.specs.WellFormed.{is_well_formed}
-use Rattle.world_core.specs.Start.{Start, made}
+use Rattle.world_core.specs.Start.{NobodyStarts, Start, made}
 use Rattle.world_core.specs.Steps.{Addressed, HostStep}
 use Rattle.world_views.proofs.AllBegin.{makes_none}
 use Rattle.world_views.specs.Machine.{closing_view, signals_of, step_after, stops_by}
@@ -80,10 +80,11 @@ module _ (start : Start) where
   era_running h (e ∷ log) runs = era_going h log e runs
 
   -- along a log
-  rises : (h : ℕ) (log : List HostStep) (e : HostStep) → IsRunning n log → era start h log ≤ era start h (e ∷ log)
-  rises h log e runs =
+  rises : NobodyStarts start → (h : ℕ) (log : List HostStep) (e : HostStep) → IsRunning n log
+      → era start h log ≤ era start h (e ∷ log)
+  rises nobody h log e runs =
       let before = era_running h log runs in
-      let up = view_rises start h log e in
+      let up = view_rises start nobody h log e in
       let below = view_below h log e in
       omega (arith, before, up, below)
 
@@ -115,9 +116,9 @@ module _ (start : Start) where
             ∙ sym (ap (λ (y : Addressed). y.signal.view.number) closes.1)
 
   -- and who takes it stands in no lesser view, or stops by it
-  reaches : (h : ℕ) (log : List HostStep) (e : HostStep) → IsStep n h log e → n.asked e ≡ false
+  reaches : NobodyStarts start → (h : ℕ) (log : List HostStep) (e : HostStep) → IsStep n h log e → n.asked e ≡ false
       → e.step.taken.view.number ≤ era start h (e ∷ log)
-  reaches h log e one asked = by (stops_by e.step.marks) refl
+  reaches nobody h log e one asked = by (stops_by e.step.marks) refl
     where
       sound : is_well_formed start.shape e.step.taken ≡ true
       sound = either_false _ (is_well_formed start.shape e.step.taken) asked
@@ -130,15 +131,15 @@ module _ (start : Start) where
       by false e' =
           let is = era_going h log e e' in
           let reached =
-          header_reached start h log e sound (subst (λ marks. stops_by marks ≡ false) one.fits.marks e') in
+          header_reached start nobody h log e sound (subst (λ marks. stops_by marks ≡ false) one.fits.marks e') in
           omega (arith, is, reached)
 
-  pub era_is_causal : IsCausalRank n (era start)
-  era_is_causal = record {
-    along = λ es e run happens. rises e.host (log_of n es e.host) e happens.step.runs;
+  pub era_is_causal : NobodyStarts start → IsCausalRank n (era start)
+  era_is_causal nobody = record {
+    along = λ es e run happens. rises nobody e.host (log_of n es e.host) e happens.step.runs;
     signals = λ es e run happens asked s.
         let is = header (n.from (n.signal e)) e.host (log_of n es (n.from (n.signal e))) (n.signal e) s in
-        let reached = reaches e.host (log_of n es e.host) e happens.step asked in
+        let reached = reaches nobody e.host (log_of n es e.host) e happens.step asked in
         omega (arith, is, reached);
-    hosts = λ es h run d. absurd (makes_none start h d.before d.step d.makes);
+    hosts = λ es h run d. absurd (makes_none start nobody h d.before d.step d.makes);
   }

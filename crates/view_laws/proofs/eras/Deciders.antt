@@ -17,7 +17,7 @@ use Rattle.node_views.specs.Replies.{giving}
 use Rattle.node_views.specs.Row.{entered, is_stop}
 use Rattle.qmgr_block.specs.Laws.{Event}
 use Rattle.world_core.specs.Entries.{installed_in, view_at}
-use Rattle.world_core.specs.Start.{Start}
+use Rattle.world_core.specs.Start.{NobodyStarts, Start}
 use Rattle.world_core.specs.Steps.{HostStep}
 use Rattle.world_views.specs.Hosts.{started}
 use Rattle.world_views.specs.Machine.{after, step_after, step_by, told}
@@ -76,14 +76,15 @@ module _ (start : Start) where
       ∙ along_same (has_seen (started start h)) (events_of no_block start h log)
 
   -- the marks of a log of a host with a coordinator tell the view in which it stands
-  module _ (is_shape : IsShape start.shape) (h : ℕ) (has : has_coordinator (started start h).parts ≡ true) where
+  module _ (nobody : NobodyStarts start) (is_shape : IsShape start.shape) (h : ℕ)
+      (has : has_coordinator (started start h).parts ≡ true) where
     marked : (log : List HostStep) (e : HostStep)
         → IsMarked (view_after start h log).number (step_by h (after start h log) e.step.taken)
     marked log e = step_marks h (after start h log) e.step.taken (still h log ∙ has)
 
     view_told : (log : List HostStep) → IsLog (sound_machine start) h log
         → view_at log ≡ (view_after start h log).number
-    view_told [] local = sym (ap (λ (v : View). v.number) (started_view start h))
+    view_told [] local = sym (ap (λ (v : View). v.number) (started_view start nobody h))
     view_told (e ∷ log) local =
         let t = step_by h (after start h log) e.step.taken in
         ap (λ marks. installed_in marks (view_at log)) local.0.fits.marks
@@ -105,14 +106,14 @@ module _ (start : Start) where
         by (inr none) = inr (subst (Each IsUndecided) (sym local.0.fits.marks) none)
 
   -- so the view of its entries is the era of a step, or it has none
-  pub decides_here : IsShape start.shape → (h : ℕ) (log : List HostStep) (e : HostStep)
+  pub decides_here : NobodyStarts start → IsShape start.shape → (h : ℕ) (log : List HostStep) (e : HostStep)
       → IsLog (sound_machine start) h (e ∷ log)
       → (view_at (e ∷ log) ≡ era start h (e ∷ log)) ⊎ Each IsUndecided e.step.marks
-  decides_here is_shape h log e local = by (has_coordinator (started start h).parts) refl
+  decides_here nobody is_shape h log e local = by (has_coordinator (started start h).parts) refl
     where
       by : (b : Bool) → has_coordinator (started start h).parts ≡ b
           → (view_at (e ∷ log) ≡ era start h (e ∷ log)) ⊎ Each IsUndecided e.step.marks
-      by true has = decides_in is_shape h has log e local
+      by true has = decides_in nobody is_shape h has log e local
       by false lacks =
           inr (subst (Each IsUndecided) (sym local.0.fits.marks)
           (step_none h (after start h log) e.step.taken (still h log ∙ lacks)))

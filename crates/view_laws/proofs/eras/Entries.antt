@@ -16,7 +16,7 @@ use Rattle.sig_core.specs.declared.mark.Mark.TheVariants.{Decided}
 use Rattle.sig_core.specs.declared.member.TxId.{TxId}
 use Rattle.world_core.specs.Entries.{entries, entries_in, entries_of, entry_of, view_at}
 use Rattle.world_core.specs.Hosts.{hosts}
-use Rattle.world_core.specs.Start.{Start}
+use Rattle.world_core.specs.Start.{NobodyStarts, Start}
 use Rattle.world_core.specs.Steps.{Addressed, HostStep}
 use Rattle.view_laws.specs.Order.{EntriesStandInOrder, by_views, decisions, entries_along, era, sound_machine}
 use Rattle.run_theory.specs.Ranks.{IsByRank, in_order}
@@ -126,11 +126,12 @@ module _ (start : Start) where
   AreFaithful (q ∷ ps) =
       ((view_at (log_with q.1 (in_order ps)) ≡ q.0) ⊎ Each IsUndecided q.1.step.marks) × AreFaithful ps
 
-  faithful : IsShape start.shape → (ps : List (ℕ × HostStep)) → IsByRank n (era start) ps → Run n (in_order ps)
+  faithful : NobodyStarts start → IsShape start.shape → (ps : List (ℕ × HostStep)) → IsByRank n (era start) ps
+      → Run n (in_order ps)
       → AreFaithful ps
-  faithful is_shape [] placed run = tt
-  faithful is_shape (q ∷ ps) placed run =
-      (by (decides_here start is_shape q.1.host log q.1 local), faithful is_shape ps placed.1 run.0)
+  faithful nobody is_shape [] placed run = tt
+  faithful nobody is_shape (q ∷ ps) placed run =
+      (by (decides_here start nobody is_shape q.1.host log q.1 local), faithful nobody is_shape ps placed.1 run.0)
     where
       log : List HostStep
       log = log_of n (in_order ps) q.1.host
@@ -248,7 +249,7 @@ stand_in_order start logs are =
     falling : IsFalling (decisions start es)
     falling =
         let ran = run_in_views start logs are in
-        decisions_fall start ps ran.placed (faithful start are.shape ps ran.placed ran.run)
+        decisions_fall start ps ran.placed (faithful start are.nobody are.shape ps ran.placed ran.run)
 
     own : (h : ℕ) → of_host h (decisions start es) ≡ entries_of h (logs h)
     own h = own_decisions start h es ∙ ap (entries_of h) ((run_in_views start logs are).has h)

@@ -7,7 +7,7 @@ use Rattle.run_theory.specs.Machine.{Machine}
 use Rattle.run_theory.specs.Runs.{log_of}
 use Rattle.sig_core.specs.declared.view.View.{View}
 use Rattle.world_core.specs.Hosts.{hosts}
-use Rattle.world_core.specs.Start.{Start}
+use Rattle.world_core.specs.Start.{NobodyStarts, Start}
 use Rattle.world_core.specs.Steps.{Addressed, HostStep}
 use Rattle.view_laws.specs.Order.{ActorsHaveTheGreatestView, RightLogsRunInViews, era, sound_machine}
 use Rattle.run_theory.specs.Ranks.{IsByRank, IsPlaced, in_order}
@@ -23,8 +23,9 @@ use Rattle.view_laws.proofs.runs.ChosenViews.{past_none}
 pub run_in_views : RightLogsRunInViews
 run_in_views start logs are =
     let ran =
-    ranked_run (sound_machine start) (era start) (era_is_causal start) (sound_stamped start) (hosts start) logs
-    are.within (sound_logs start logs are.right) in
+    ranked_run (sound_machine start) (era start) (era_is_causal start are.nobody) (sound_stamped start) (hosts start)
+    logs
+    are.within (sound_logs start are.nobody logs are.right) in
     record { run = ran.0; has = ran.1; placed = ran.2 }
 
 module _ (start : Start) where
@@ -35,11 +36,11 @@ module _ (start : Start) where
   number_after h log = (view_after start h log).number
 
   -- no view is below the first one
-  from_first : (h : ℕ) (log : List HostStep) → number_after h [] ≤ number_after h log
-  from_first h [] = omega arith
-  from_first h (e ∷ log) =
-      let before = from_first h log in
-      let rises = view_rises start h log e in
+  from_first : NobodyStarts start → (h : ℕ) (log : List HostStep) → number_after h [] ≤ number_after h log
+  from_first nobody h [] = omega arith
+  from_first nobody h (e ∷ log) =
+      let before = from_first nobody h log in
+      let rises = view_rises start nobody h log e in
       omega (arith, before, rises)
 
   abbrev IsInOrder : List (ℕ × HostStep) → Type 0
@@ -92,12 +93,12 @@ act_in_greatest start logs are newer older k e is = record {
     before = log_of (sound_machine start) (in_order older) e.host
 
     begins : (h : ℕ) → number_after start h [] ≡ (first_view start.shape.nodes).number
-    begins h = ap (λ (v : View). v.number) (started_view start h)
+    begins h = ap (λ (v : View). v.number) (started_view start are.nobody h)
 
     first : (h : ℕ) → number_after start h [] ≤ k
     first h =
         let own = begins e.host in
         let one = begins h in
-        let rises = from_first start e.host (e ∷ before) in
+        let rises = from_first start are.nobody e.host (e ∷ before) in
         let below = view_below start e.host before e in
         omega (arith, own, one, rises, below, placed.is)

@@ -25,7 +25,7 @@ use Rattle.node_views.specs.WellFormed.{is_well_formed}
 use Rattle.qmgr_block.specs.Laws.{Event, installs}
 use Rattle.qmgr_block.specs.State.{fresh_qmgr}
 use Rattle.world_core.specs.Hosts.{member_at, part_by}
-use Rattle.world_core.specs.Start.{Start, made}
+use Rattle.world_core.specs.Start.{NobodyStarts, Start, made}
 use Rattle.world_core.specs.Steps.{HostStep}
 use Rattle.world_views.specs.Hosts.{part_started, started}
 use Rattle.world_views.specs.Machine.{after, step_after}
@@ -130,7 +130,7 @@ module _ (layout : Layout) (parts : Parts) (view : View) (x : Signal) (follows :
   arriving_rises events rises (is_low low) = omega (arith, low, rises)
   arriving_rises events rises (enters_it later is passes) = entering_rises events later is passes
 
-module _ (start : Start) where
+module _ (start : Start) (nobody : NobodyStarts start) where
   abbrev layout : Layout
   layout = first_layout start.shape
 
@@ -151,7 +151,8 @@ module _ (start : Start) where
   host_begins : (h : ℕ) → MayBegin (started start h)
   host_begins zero = inl (no_membership_in_shell start [])
   host_begins (suc k) =
-      subst MayBegin (sym (started_behind start k)) (part_begins (part_by (k % 3)) (member_at (made start) (suc k)))
+      subst MayBegin (sym (started_behind start nobody k))
+      (part_begins (part_by (k % 3)) (member_at (made start) (suc k)))
 
   -- and so it goes on
   pub host_follows : (h : ℕ) (log : List HostStep)
@@ -203,7 +204,7 @@ module _ (start : Start) where
         → x.view.number ≤ (view_after start h (e ∷ log)).number
     header_reached sound goes =
         let fine : is_well_formed s.standing.shape x ≡ true =
-        subst (λ shape. is_well_formed shape x ≡ true) (sym (shape_stays start h log)) sound in
+        subst (λ shape. is_well_formed shape x ≡ true) (sym (shape_stays start nobody h log)) sound in
         let reached : x.view.number ≤ (along to_view s.standing.view events).number =
         arriving_rises layout s.parts s.standing.view x (host_follows h log) events moves
         (arrives is_membership h s x fine goes) in

@@ -9,7 +9,7 @@ use Rattle.sig_core.specs.Step.{Step}
 use Rattle.node_views.specs.declared.host_body.HostBody as hosts
 use Rattle.node_views.proofs.HostWalk.{Saying}
 use Rattle.world_core.specs.Hosts.{member_at, part_by}
-use Rattle.world_core.specs.Start.{Start, made}
+use Rattle.world_core.specs.Start.{NobodyStarts, Start, made}
 use Rattle.world_core.specs.Steps.{HostStep}
 use Rattle.world_views.specs.Hosts.{part_started, started}
 use Rattle.world_views.specs.Machine.{after, step_by, told}
@@ -42,7 +42,7 @@ told_keeps : (h : ℕ) (t : Step hosts.HostBody) → shape_of (told h t) ≡ sha
 told_keeps zero t = refl
 told_keeps (suc h) t = refl
 
-module _ (start : Start) where
+module _ (start : Start) (nobody : NobodyStarts start) where
   part_shape : (part : Part) (me : Member) → shape_of (part_started start part me) ≡ start.shape
   part_shape Main me = refl
   part_shape Tc me = refl
@@ -55,7 +55,7 @@ module _ (start : Start) where
   started_shape : (h : ℕ) → shape_of (started start h) ≡ start.shape
   started_shape zero = shell_shape
   started_shape (suc k) =
-      ap shape_of (started_behind start k) ∙ part_shape (part_by (k % 3)) (member_at (made start) (suc k))
+      ap shape_of (started_behind start nobody k) ∙ part_shape (part_by (k % 3)) (member_at (made start) (suc k))
 
   pub shape_stays : (h : ℕ) (log : List HostStep) → (after start h log).standing.shape ≡ start.shape
   shape_stays h [] = started_shape h

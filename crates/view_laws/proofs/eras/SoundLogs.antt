@@ -10,7 +10,7 @@ use Rattle.run_theory.specs.Logs.{IsLog, IsRunning, IsStep, last}
 use Rattle.run_theory.specs.Machine.{IsStamped, Machine}
 use Rattle.run_theory.specs.Runs.{AreLogs}
 use Rattle.world_core.proofs.MadeFirst.{made_at_first}
-use Rattle.world_core.specs.Start.{Start}
+use Rattle.world_core.specs.Start.{NobodyStarts, Start}
 use Rattle.world_core.specs.Steps.{Addressed, HostStep}
 use Rattle.world_views.proofs.SentFacts.{is_stamped}
 use Rattle.world_views.specs.Machine.{machine}
@@ -135,10 +135,10 @@ module _ (start : Start) where
   sound_given i j [] xs (inr c) = absurd c
   sound_given i j (e ∷ log) xs (inr c) = closed_given i j log e xs c
 
-  pub sound_logs : (logs : ℕ → List HostStep) → AreLogs m logs → AreLogs n logs
-  sound_logs logs are = record {
+  pub sound_logs : NobodyStarts start → (logs : ℕ → List HostStep) → AreLogs m logs → AreLogs n logs
+  sound_logs nobody logs are = record {
     local = λ h. sound_log h (logs h) (are.local h);
-    there = λ h some. inl (made_at_first start h);
+    there = λ h some. inl (made_at_first start nobody h);
     linked = λ i j.
         subst (IsGiven n i j (logs i)) (sym (taken_same i (logs j)))
         (sound_given i j (logs i) (taken m i (logs j)) (are.linked i j));

@@ -14,7 +14,7 @@ use Rattle.sig_core.specs.declared.view.View.{View}
 use Rattle.node_views.specs.Parts.{greater, raised}
 use Rattle.qmgr_block.specs.Laws.{Event, installs, takes}
 use Rattle.world_core.specs.Hosts.{member_at, part_by}
-use Rattle.world_core.specs.Start.{Start, made}
+use Rattle.world_core.specs.Start.{NobodyStarts, Start, made}
 use Rattle.world_core.specs.Steps.{HostStep}
 use Rattle.world_views.specs.Hosts.{part_started, started}
 use Rattle.world_views.specs.Machine.{after}
@@ -73,26 +73,28 @@ part_above start Tc member _ = omega arith
 part_above start Ldm member block.Lqh = omega arith
 part_above start Ldm member _ = omega arith
 
-started_above : (start : Start) (h : ℕ) (at : BlockId)
+started_above : (start : Start) (nobody : NobodyStarts start) (h : ℕ) (at : BlockId)
     → IsNotBelow (started start h).standing.view (fence_seen at (started start h))
 unfolding started IsNotBelow
-started_above start zero at = omega arith
-started_above start (suc h) at =
-    subst (λ s. IsNotBelow s.standing.view (fence_seen at s)) (sym (started_behind start h))
+started_above start nobody zero at = omega arith
+started_above start nobody (suc h) at =
+    subst (λ s. IsNotBelow s.standing.view (fence_seen at s)) (sym (started_behind start nobody h))
     (part_above start (part_by (h % 3)) (member_at (made start) (suc h)) at)
 
-log_above : (start : Start) (h : ℕ) (log : List HostStep) (at : BlockId)
+log_above : (start : Start) (nobody : NobodyStarts start) (h : ℕ) (log : List HostStep) (at : BlockId)
     → IsNotBelow (after start h log).standing.view (fence_seen at (after start h log))
-log_above start h log at =
+log_above start nobody h log at =
     let events = events_of (is_block at) start h log in
     subst (λ view. IsNotBelow view (fence_seen at (after start h log)))
     (sym (log_goes (is_block at) view_seen to_view (view_is_seen (is_block at)) start h log))
     (subst (IsNotBelow (along to_view (started start h).standing.view events))
     (sym (log_goes (is_block at) (fence_seen at) to_fence (fence_is_seen at) start h log))
-    (events_above (started start h).standing.view (fence_seen at (started start h)) events (started_above start h at)))
+    (events_above (started start h).standing.view (fence_seen at (started start h)) events
+    (started_above start nobody h at)))
 
 pub fences_are_not_below : FencesAreNotBelow
 unfolding IsNotBelow
-fences_are_not_below start h log at =
+fences_are_not_below start nobody h log at =
     let number = (after start h log).standing.view.number in
-    subst (λ fence. number ≤ fence) (sym (fence_is (after start h log).parts at number)) (log_above start h log at)
+    subst (λ fence. number ≤ fence) (sym (fence_is (after start h log).parts at number))
+    (log_above start nobody h log at)

@@ -32,7 +32,7 @@ use Rattle.node_views.specs.declared.standing.Standing.{Standing}
 use Rattle.node_views.specs.WellFormed.{is_well_formed}
 use Rattle.qmgr_block.specs.Laws.{Event, installs, takes}
 use Rattle.qmgr_block.specs.Promise.{is_ldm}
-use Rattle.world_core.proofs.MadeFirst.{hosts_first, nobody_starts}
+use Rattle.world_core.proofs.MadeFirst.{hosts_first}
 use Rattle.world_core.proofs.HostNumbers.{made_at}
 use Rattle.world_core.specs.Hosts.{host_of, hosts, member_at}
 use Rattle.world_core.specs.Machine.{counted}
@@ -205,7 +205,7 @@ module _ (start : Start) (logs : ℕ → List HostStep) (are : AreOfCluster star
           let one = each_in _ y (signals_of start k s.before s.step) (each_sent start k s.before s.step) in_signals in
           or one.sent one.body one.to
           (each_in _ one.sent (step_after start k s.before s.step).effects.sends
-          (host_fences start k low s.before s.step) one.there)
+          (host_fences start are.nobody k low s.before s.step) one.there)
 
   -- one that was taken
   taken_is : (j : ℕ) (log : List HostStep) (e : HostStep) → IsPast (e ∷ log) (logs j)
@@ -224,7 +224,7 @@ module _ (start : Start) (logs : ℕ → List HostStep) (are : AreOfCluster star
   node_at : (before left : ℕ) → suc before < hosts start → (member_at (made start) (suc before)).node ≡ before / 3 + 1
   node_at before left low =
       ap (λ (m : Member). m.node)
-      (made_at start (before / 3) nobody (omega (arith, low, hosts_first start (nobody_starts start))))
+      (made_at start (before / 3) nobody (omega (arith, low, hosts_first start are.nobody)))
 
   module _ (me : Member) (there : IsIn me (made start)) where
     abbrev main : ℕ
@@ -254,9 +254,10 @@ module _ (start : Start) (logs : ℕ → List HostStep) (are : AreOfCluster star
             let place : reached (made start) k one.view (record { node = of.member.node; block = fence.block })
             ≡ host_of (made start) (part_of at) me =
             sym (ap (λ (o : Outgoing). reached (made start) k one.view o.to) fence.is) ∙ to_me in
-            let number : k ≡ suc ((of.member.node - 1) * 3 + 0) = of.at ∙ main_is start of.member of.made in
+            let number : k ≡ suc ((of.member.node - 1) * 3 + 0) = of.at ∙ main_is start are.nobody of.member of.made in
             let own : of.member ≡ me =
-            own_reaches start ((of.member.node - 1) * 3 + 0) one.view of.member me of.made there fence.block at
+            own_reaches start are.nobody ((of.member.node - 1) * 3 + 0) one.view of.member me of.made there fence.block
+            at
             (subst (λ k. reached (made start) k one.view (record { node = of.member.node; block = fence.block })
             ≡ host_of (made start) (part_of at) me) number place) in
             of.at ∙ ap (main_of start) own
@@ -292,11 +293,11 @@ module _ (start : Start) (logs : ℕ → List HostStep) (are : AreOfCluster star
             let low : suc part.before < hosts start = subst (λ k. k < hosts start) part.at one.low in
             let made_w : IsIn w (made start) =
             subst (λ k. IsIn (member_at (made start) k) (made start)) (sym part.at)
-            (host_made start (suc part.before) (omega arith) low) in
+            (host_made start are.nobody (suc part.before) (omega arith) low) in
             let place : reached (made start) k one.view (membership w.node) ≡ main =
             sym (ap (λ (o : Outgoing). reached (made start) k one.view o.to) part.is) ∙ to_me in
             let own : w ≡ me =
-            own_reaches start part.before one.view w me made_w there block.Qmgr block.Qmgr
+            own_reaches start are.nobody part.before one.view w me made_w there block.Qmgr block.Qmgr
             (subst (λ k. reached (made start) k one.view (membership w.node) ≡ main) part.at place) in
             record {
               before = part.before;
@@ -316,9 +317,11 @@ module _ (start : Start) (logs : ℕ → List HostStep) (are : AreOfCluster star
 
     same_host : (b : BlockId) → IsFenced b → (k : ℕ) → IsOther k → is_ldm k ≡ in_ldm b
         → k ≡ host_of (made start) (part_of b) me
-    same_host block.Tc f k o part = omega (arith, part_is false k o part, block_host start me there block.Tc)
-    same_host block.Dih f k o part = omega (arith, part_is false k o part, block_host start me there block.Dih)
-    same_host block.Lqh f k o part = omega (arith, part_is true k o part, block_host start me there block.Lqh)
+    same_host block.Tc f k o part = omega (arith, part_is false k o part, block_host start are.nobody me there block.Tc)
+    same_host block.Dih f k o part =
+        omega (arith, part_is false k o part, block_host start are.nobody me there block.Dih)
+    same_host block.Lqh f k o part =
+        omega (arith, part_is true k o part, block_host start are.nobody me there block.Lqh)
     same_host other f k o part = absurd f
 
     module _ (at : BlockId) (fenced : IsFenced at) where
@@ -414,7 +417,7 @@ module _ (start : Start) (logs : ℕ → List HostStep) (are : AreOfCluster star
           sends = (step_after start host log e).effects.sends
 
           some : 1 ≤ host
-          some = omega (arith, block_host start me there at, number_some (part_of at))
+          some = omega (arith, block_host start are.nobody me there at, number_some (part_of at))
 
           addressed : tally confirms_fence (signals_of start host log e) ≤ tally confirms sends
           addressed =
@@ -424,11 +427,11 @@ module _ (start : Start) (logs : ℕ → List HostStep) (are : AreOfCluster star
 
           few : tally confirms sends ≤ one_if (is_fencing x.body)
           few =
-              (others_answer start host log e (part_none start me there at fenced log)
-              (no_arbiter_behind start host log some)).few
+              (others_answer start host log e (part_none start are.nobody me there at fenced log)
+              (no_arbiter_behind start are.nobody host log some)).few
 
           shape_is : (after start host log).standing.shape ≡ start.shape
-          shape_is = (host_home start host some (low_host start logs are host e log past) log).shape_is
+          shape_is = (host_home start are.nobody host some (low_host start logs are host e log past) log).shape_is
 
           by : (asks : Bool) → is_fencing x.body ≡ asks → (sound : Bool) → is_well_formed start.shape x ≡ sound
               → tally confirms_fence (signals_of start host log e)

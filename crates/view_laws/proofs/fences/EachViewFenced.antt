@@ -13,7 +13,7 @@ use Rattle.sig_core.specs.declared.view.View.{View}
 use Rattle.sig_core.specs.Part.{part_of}
 use Rattle.world_core.proofs.MadeFirst.{begins_made}
 use Rattle.world_core.specs.Hosts.{host_of}
-use Rattle.world_core.specs.Start.{Start, made}
+use Rattle.world_core.specs.Start.{NobodyStarts, Start, made}
 use Rattle.world_core.specs.Steps.{HostStep}
 use Rattle.world_views.specs.Machine.{after, step_by, told}
 use Rattle.view_laws.specs.Ballots.{HasPromised, IsChosen}
@@ -48,12 +48,12 @@ from_made {A} start me x xs is = by (list_any (is_member me) (made start)) refl 
     by true e is = (made_tested start me e, is)
     by false e is = absurd is
 
-module _ (start : Start) where
+module _ (start : Start) (nobody : NobodyStarts start) where
   -- a host without a membership never falls behind the first view
   not_before : (h : ℕ) → ((log : List HostStep) → membership_in (after start h log).parts ≡ None)
       → (log : List HostStep) → (first_view start.shape.nodes).number ≤ (view_after start h log).number
   not_before h none [] =
-      omega (arith, ap (λ (v : View). v.number) (started_view start h))
+      omega (arith, ap (λ (v : View). v.number) (started_view start nobody h))
   not_before h none (e ∷ log) =
       by (others_move h (after start h log) e.step.taken (none log)) (not_before h none log)
     where
@@ -79,8 +79,8 @@ each_view_by confirmed start logs are view was me of at fenced =
     by : IsChosen start.shape (ballots_of start logs) view → view.number ≤ fence_after start host (logs host) at
     by (inl is) =
         let there = first_made (subst (λ (v : View). IsIn me (all_of v)) is of) in
-        let low = not_before start host (part_none start me there at fenced) (logs host) in
-        omega (arith, low, fences_are_not_below start host (logs host) at, ap (λ (v : View). v.number) is)
+        let low = not_before start are.nobody host (part_none start are.nobody me there at fenced) (logs host) in
+        omega (arith, low, fences_are_not_below start are.nobody host (logs host) at, ap (λ (v : View). v.number) is)
     by (inr won) =
         let has : HasPromised (ballots_of start logs) view me = each_in _ me (all_of view) won.backed of in
         let both =

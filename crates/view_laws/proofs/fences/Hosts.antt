@@ -16,10 +16,10 @@ use Rattle.sig_core.specs.declared.place.Part.{Part}
 use Rattle.sig_core.specs.declared.place.Part.TheVariants.{Ldm, Main, Tc}
 use Rattle.sig_core.specs.declared.view.View.{View}
 use Rattle.sig_core.specs.Part.{part_of}
-use Rattle.world_core.proofs.MadeFirst.{hosts_first, made_begins, nobody_starts}
+use Rattle.world_core.proofs.MadeFirst.{hosts_first, made_begins}
 use Rattle.world_core.proofs.HostNumbers.{node_host, the_member}
 use Rattle.world_core.specs.Hosts.{host_at, host_by, host_for, host_of, member_at, member_of, number_of, receiver}
-use Rattle.world_core.specs.Start.{Start, made}
+use Rattle.world_core.specs.Start.{NobodyStarts, Start, made}
 use Rattle.world_views.specs.Hosts.{or_itself, reached}
 use Rattle.view_laws.specs.Sets.{all_of}
 use Rattle.view_laws.proofs.follow.Hosts.{first_of}
@@ -68,7 +68,7 @@ known_node me view node m is = by (member_of view node) refl is
     by None e is = itself (me.node == node) refl is
     by (Some other) e is = node_of view node m (e ∙ is)
 
-module _ (start : Start) where
+module _ (start : Start) (nobody : NobodyStarts start) where
   by_member : (node : ℕ) (b : BlockId) → 1 ≤ node
       → host_for start (record { node = node; block = b })
       ≡ host_by (made start) (part_of b) (member_of (first_view start.shape.nodes) node)
@@ -91,7 +91,7 @@ module _ (start : Start) where
   pub block_host : (me : Member) → IsIn me (made start) → (b : BlockId)
       → host_of (made start) (part_of b) me ≡ (me.node - 1) * 3 + number_of (part_of b)
   block_host me there b =
-      let first = first_of start.shape.nodes me (made_begins start (nobody_starts start) me there) in
+      let first = first_of start.shape.nodes me (made_begins start nobody me there) in
       subst (λ (m : Member). host_of (made start) (part_of b) m ≡ (m.node - 1) * 3 + number_of (part_of b))
       (sym first.is) (first_host first.node b first.some first.low)
 
@@ -99,14 +99,14 @@ module _ (start : Start) where
   pub hosts_same : (one other : Member) → IsIn one (made start) → IsIn other (made start) → (b at : BlockId)
       → host_of (made start) (part_of b) one ≡ host_of (made start) (part_of at) other → one ≡ other
   hosts_same one other there there_too b at same =
-      made_same start one other there there_too
+      made_same start nobody one other there there_too
       (omega (
         arith,
         same,
         block_host one there b,
         block_host other there_too at,
-        node_some start one there,
-        node_some start other there_too,
+        node_some start nobody one there,
+        node_some start nobody other there_too,
         number_some (part_of b),
         number_few (part_of b),
         number_some (part_of at),
@@ -121,13 +121,13 @@ module _ (start : Start) where
         arith,
         same,
         block_host me there at,
-        node_low start me there,
-        node_some start me there,
+        node_low start nobody me there,
+        node_some start nobody me there,
         number_few (part_of at),
       )
 
   absent_is : (part : Part) → host_by (made start) part None ≡ start.shape.nodes * 3 + 1
-  absent_is part = hosts_first start (nobody_starts start)
+  absent_is part = hosts_first start nobody
 
   -- a member that a host sends to was made
   found_made : (m me : Member) → IsIn me (made start) → (b at : BlockId)
@@ -156,14 +156,14 @@ module _ (start : Start) where
       found None e same = absurd (not_absent me made_me at (sym (absent_is (part_of b)) ∙ same))
       found (Some m) e same =
           let made_m = found_made m me made_me b at same in
-          made_same start w m made_w made_m (sym (known_node (member_at (made start) (suc h)) view w.node m e))
+          made_same start nobody w m made_w made_m (sym (known_node (member_at (made start) (suc h)) view w.node m e))
           ∙ hosts_same m me made_m made_me b at same
 
       by : (test : Bool) → (w.node == 0) ≡ test
           → (if test then 0 else host_by (made start) (part_of b) at_last)
           ≡ host_of (made start) (part_of at) me
           → w ≡ me
-      by true e same = absurd (omega (arith, eqb-true w.node 0 e, node_some start w made_w))
+      by true e same = absurd (omega (arith, eqb-true w.node 0 e, node_some start nobody w made_w))
       by false e same = found at_last refl same
 
   -- and only what is for a place of a part comes to that

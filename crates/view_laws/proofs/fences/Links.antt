@@ -32,7 +32,7 @@ use Rattle.qmgr_block.specs.Promise.{fence_of, fences, may_promise}
 use Rattle.qmgr_block.specs.Qmgr.{qmgr_row}
 use Rattle.qmgr_block.specs.State.{QmgrState}
 use Rattle.world_core.specs.Hosts.{host_of, number_of}
-use Rattle.world_core.specs.Start.{Start, made}
+use Rattle.world_core.specs.Start.{NobodyStarts, Start, made}
 use Rattle.world_core.specs.Steps.{Addressed, HostStep}
 use Rattle.world_views.specs.declared.sender.Sender.{Sender}
 use Rattle.world_views.specs.Hosts.{reached}
@@ -148,7 +148,7 @@ module _ (start : Start) (me : Member) (there : IsIn me (made start)) (at : Bloc
     single : c ≡ true → (y : Addressed) → IsOf (fence_of (rows_of me.node) set) y → now ≡ y ∷ before
         → AreNew set before now
 
-  module _ (standing : Standing) (by : Sender) (set : View) where
+  module _ (nobody : NobodyStarts start) (standing : Standing) (by : Sender) (set : View) where
     abbrev gets : Place → Bool
     gets place = goes start main host standing by (fence_of place set)
 
@@ -165,9 +165,9 @@ module _ (start : Start) (me : Member) (there : IsIn me (made start)) (at : Bloc
         && is_well_formed start.shape (headed by 0 (fence_of (record { node = me.node; block = b }) set))) got).1 in
         let reach =
         (and_parts (reached (made start) main standing.view (record { node = me.node; block = b }) == host) _ rest).0 in
-        part_reaches start ((me.node - 1) * 3 + 0) standing.view me.node me there b at
+        part_reaches start nobody ((me.node - 1) * 3 + 0) standing.view me.node me there b at
         (subst (λ k. reached (made start) k standing.view (record { node = me.node; block = b }) ≡ host)
-        (main_is start me there)
+        (main_is start nobody me there)
         (eqb-true (reached (made start) main standing.view (record { node = me.node; block = b })) host reach))
 
     line_new : (before now : List Addressed) → Line start main host standing by (fences me.node set) before now
@@ -191,7 +191,7 @@ module _ (start : Start) (me : Member) (there : IsIn me (made start)) (at : Bloc
         → suc (asked_of me layout (happened log)) ≤ asked_of me layout some
         → (known_of me layout some).promised ≡ set → AreNew set (asking log) now → Adds log e now
 
-  module _ (log : List HostStep) (e : HostStep) where
+  module _ (nobody : NobodyStarts start) (log : List HostStep) (e : HostStep) where
     abbrev standing : Standing
     standing = (after start main (e ∷ log)).standing
 
@@ -225,7 +225,7 @@ module _ (start : Start) (me : Member) (there : IsIn me (made start)) (at : Bloc
           keeps (subst (λ os. IsLine os now) (asked_none had.known x.body none) l)
       does_add now l (asks set to says one confs promised more silent) =
           or
-          (line_new standing by set (asking log) now
+          (line_new nobody standing by set (asking log) now
           (subst (λ os. IsLine os now)
           (ap (asked_fences had.known) says
           ∙ asked_all had.known set (subst (λ body. asked_by had.known body ≡ 1) says one)
@@ -256,7 +256,7 @@ module _ (start : Start) (me : Member) (there : IsIn me (made start)) (at : Bloc
         or false =
             asked_add _
             (line start main host standing by sends (sent_count start main log) (sent (machine start) main host log))
-            (step_asked start me log e there)
+            (step_asked start nobody me log e there)
 
   asked_past : {some events : List Event} → IsPast some events → asked_of me layout some ≤ asked_of me layout events
   asked_past {some} past =
@@ -272,9 +272,9 @@ module _ (start : Start) (me : Member) (there : IsIn me (made start)) (at : Bloc
   happened_past log e =
       record { newer = events_at is_membership main (after start main log) e.step.taken; is = refl }
 
-  whole : (log : List HostStep) → AreWhole log
-  whole [] = record { n = 0; is = sym (times_none c); few = omega arith }
-  whole (e ∷ log) = or (step_adds log e) (whole log)
+  whole : NobodyStarts start → (log : List HostStep) → AreWhole log
+  whole nobody [] = record { n = 0; is = sym (times_none c); few = omega arith }
+  whole nobody (e ∷ log) = or (step_adds nobody log e) (whole nobody log)
     where
       new_length : (set : View) (before now : List Addressed) → AreNew set before now
           → length now ≡ full c + length before
@@ -321,7 +321,8 @@ module _ (start : Start) (me : Member) (there : IsIn me (made start)) (at : Bloc
   }
 
   -- so many of those on the link, where fewer have one already
-  module _ (rank : ℕ) (log : List HostStep) (e : HostStep) (ys : List Addressed) (many : times c rank ≤ length ys)
+  module _ (nobody : NobodyStarts start) (rank : ℕ) (log : List HostStep) (e : HostStep) (ys : List Addressed)
+      (many : times c rank ≤ length ys)
       (later : (ys : List Addressed) → IsPast ys (asking log) → times c rank ≤ length ys
       → IsHigh rank (happened log) ys)
     where
@@ -352,7 +353,7 @@ module _ (start : Start) (me : Member) (there : IsIn me (made start)) (at : Bloc
         low_rank : (all : List Addressed) → all ≡ ys → length all ≡ full c + length (asking log)
             → rank ≤ asked_of me layout some
         low_rank all is long =
-            let was = whole log in
+            let was = whole nobody log in
             omega (
               arith,
               times_less c rank (suc was.n)
@@ -371,7 +372,7 @@ module _ (start : Start) (me : Member) (there : IsIn me (made start)) (at : Bloc
         -- those before a pair are whole pairs
         few_pairs : c ≡ false → (y : Addressed) → y ∷ asking log ≡ ys → times c rank ≤ length (asking log)
         few_pairs part y all =
-            let was = whole log in
+            let was = whole nobody log in
             let one = ap (λ b. times b rank) part in
             let other = ap (λ b. times b was.n) part in
             let even : times false rank ≤ times false was.n =
@@ -404,12 +405,13 @@ module _ (start : Start) (me : Member) (there : IsIn me (made start)) (at : Bloc
       step_high past (adds some set before more promised (pair part y z of of_too is)) =
           pair_high some set before more promised part y z of of_too (past_cases z (subst (IsPast ys) is past))
 
-  high : (rank : ℕ) → 1 ≤ rank → (log : List HostStep) (ys : List Addressed) → IsPast ys (asking log)
+  high : NobodyStarts start → (rank : ℕ) → 1 ≤ rank → (log : List HostStep) (ys : List Addressed)
+      → IsPast ys (asking log)
       → times c rank ≤ length ys → IsHigh rank (happened log) ys
-  high rank one [] ys past many =
+  high nobody rank one [] ys past many =
       absurd (omega (arith, many, times_some c rank one, ap length (past_none ys past)))
-  high rank one (e ∷ log) ys past many =
-      step_high rank log e ys many (high rank one log) past (step_adds log e)
+  high nobody rank one (e ∷ log) ys past many =
+      step_high nobody rank log e ys many (high nobody rank one log) past (step_adds nobody log e)
 
   -- what a link gives of requests
   onward_append : (xs ys : List Addressed) → onward start (xs ++ ys) ≡ onward start xs ++ onward start ys
@@ -463,10 +465,10 @@ module _ (start : Start) (me : Member) (there : IsIn me (made start)) (at : Bloc
         both = and_parts (is_fencing x.body) (is_well_formed start.shape x) wants
 
         some : 1 ≤ host
-        some = omega (arith, block_host start me there at, number_some (part_of at))
+        some = omega (arith, block_host start are.nobody me there at, number_some (part_of at))
 
         shape_is : (after start host log).standing.shape ≡ start.shape
-        shape_is = (host_home start host some (low_host start logs are host e log past) log).shape_is
+        shape_is = (host_home start are.nobody host some (low_host start logs are host e log past) log).shape_is
 
         or : IsIn x (taken_in (events_at (is_block at) host (after start host log) x))
             ⊎ (stops_by (step_after start host log e).effects.marks ≡ true)
@@ -546,7 +548,7 @@ requests_high_past start logs are me there at fenced log before number rank prom
     given_past start me there at fenced (logs main) (taken m main some)
     (given_less m main host (logs main) (taken_past m main whole) (are.right.linked main host)) in
     let one =
-    high start me there at fenced rank (omega (arith, promise.rank_is, promise.now)) (logs main) ys past
+    high start me there at fenced are.nobody rank (omega (arith, promise.rank_is, promise.now)) (logs main) ys past
     (omega (arith, many, onward_length start me there at fenced (taken m main some))) in
     let inside = filter_in (asks_fence start) (taken m main some) one.y one.inside in
     let low : number ≤ (known_of me (first_layout start.shape) one.some).promised.number =

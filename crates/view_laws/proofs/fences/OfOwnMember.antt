@@ -22,7 +22,7 @@ use Rattle.sig_core.specs.declared.view.View.{View}
 use Rattle.sig_core.specs.Part.{part_of}
 use Rattle.qmgr_block.specs.Promise.{fence_of, fences}
 use Rattle.world_core.specs.Hosts.{host_of, hosts}
-use Rattle.world_core.specs.Start.{Start, made}
+use Rattle.world_core.specs.Start.{NobodyStarts, Start, made}
 use Rattle.world_core.specs.Steps.{Addressed, HostStep}
 use Rattle.world_views.specs.Hosts.{reached}
 use Rattle.world_views.specs.Machine.{IsOwn, IsOwnWork, after, closing, comes_rightly, machine, signals_of, step_after}
@@ -68,53 +68,54 @@ module _ (start : Start) (logs : ℕ → List HostStep) where
   abbrev pub IsPromisedAt : Addressed → Type 0
   IsPromisedAt y = IsPromisedTo y.to y.signal
 
-  module _ (k : ℕ) (log : List HostStep) (e : HostStep) (past : IsPast (e ∷ log) (logs k)) where
-    from_main : (y : Addressed) (view : View) (sent : Outgoing) → y.signal.body ≡ sent.body
-        → y.to ≡ reached (made start) k view sent.to → IsOfMain start k (e ∷ log) sent → IsPromisedAt y
-    from_main y view sent body to of me there at is set says =
-        let fence = of.fence in
-        let one = fence_entry of.member.node fence.set sent fence.there in
-        let same : fence.set ≡ set =
-        same_set fence.set set (sym (ap (λ (s : Outgoing). s.body) one.is) ∙ sym body ∙ says) in
-        let reaches : reached (made start) k view (record { node = of.member.node; block = one.block })
-        ≡ host_of (made start) (part_of at) me =
-        sym (ap (λ (s : Outgoing). reached (made start) k view s.to) one.is) ∙ sym to ∙ is in
-        let number : k ≡ suc ((of.member.node - 1) * 3 + 0) = of.at ∙ main_is start of.member of.made in
-        let own : of.member ≡ me =
-        own_reaches start ((of.member.node - 1) * 3 + 0) view of.member me of.made there one.block at
-        (subst (λ k. reached (made start) k view (record { node = of.member.node; block = one.block })
-        ≡ host_of (made start) (part_of at) me) number reaches) in
-        let events : IsPast (events_of is_membership start k (e ∷ log)) (events_of is_membership start k (logs k)) =
-        events_past is_membership start k past in
-        let promised : IsIn (record { set = fence.set; adopted = false })
-        (promises_of of.member (first_layout start.shape) (events_of is_membership start k (logs k))) =
-        in_past _ (promises_past of.member (first_layout start.shape) events) fence.promised in
-        subst (λ (m : Member). HasAsked m set) own
-        (subst (HasAsked of.member) same
-        (subst (λ k. IsIn (record { set = fence.set; adopted = false })
-        (promises_of of.member (first_layout start.shape) (events_of is_membership start k (logs k)))) of.at promised))
+  module _ (nobody : NobodyStarts start) (k : ℕ) (log : List HostStep) (e : HostStep) (past : IsPast (e ∷ log) (logs k))
+    where
+      from_main : (y : Addressed) (view : View) (sent : Outgoing) → y.signal.body ≡ sent.body
+          → y.to ≡ reached (made start) k view sent.to → IsOfMain start k (e ∷ log) sent → IsPromisedAt y
+      from_main y view sent body to of me there at is set says =
+          let fence = of.fence in
+          let one = fence_entry of.member.node fence.set sent fence.there in
+          let same : fence.set ≡ set =
+          same_set fence.set set (sym (ap (λ (s : Outgoing). s.body) one.is) ∙ sym body ∙ says) in
+          let reaches : reached (made start) k view (record { node = of.member.node; block = one.block })
+          ≡ host_of (made start) (part_of at) me =
+          sym (ap (λ (s : Outgoing). reached (made start) k view s.to) one.is) ∙ sym to ∙ is in
+          let number : k ≡ suc ((of.member.node - 1) * 3 + 0) = of.at ∙ main_is start nobody of.member of.made in
+          let own : of.member ≡ me =
+          own_reaches start nobody ((of.member.node - 1) * 3 + 0) view of.member me of.made there one.block at
+          (subst (λ k. reached (made start) k view (record { node = of.member.node; block = one.block })
+          ≡ host_of (made start) (part_of at) me) number reaches) in
+          let events : IsPast (events_of is_membership start k (e ∷ log)) (events_of is_membership start k (logs k)) =
+          events_past is_membership start k past in
+          let promised : IsIn (record { set = fence.set; adopted = false })
+          (promises_of of.member (first_layout start.shape) (events_of is_membership start k (logs k))) =
+          in_past _ (promises_past of.member (first_layout start.shape) events) fence.promised in
+          subst (λ (m : Member). HasAsked m set) own
+          (subst (HasAsked of.member) same
+          (subst (λ k. IsIn (record { set = fence.set; adopted = false })
+          (promises_of of.member (first_layout start.shape) (events_of is_membership start k (logs k)))) of.at promised))
 
-    off_promised : (y : Addressed) (sent : Outgoing) → y.signal.body ≡ sent.body → IsOff sent → IsPromisedAt y
-    off_promised y sent body off me there at is set says =
-        absurd (true≢false (sym (ap is_of_fence (sym body ∙ says)) ∙ off))
+      off_promised : (y : Addressed) (sent : Outgoing) → y.signal.body ≡ sent.body → IsOff sent → IsPromisedAt y
+      off_promised y sent body off me there at is set says =
+          absurd (true≢false (sym (ap is_of_fence (sym body ∙ says)) ∙ off))
 
-    from_part : (y : Addressed) (sent : Outgoing) → y.signal.body ≡ sent.body → IsOfPart start k sent → IsPromisedAt y
-    from_part y sent body part me there at is set says =
-        absurd (cc (says, body, ap (λ (s : Outgoing). s.body) part.is))
+      from_part : (y : Addressed) (sent : Outgoing) → y.signal.body ≡ sent.body → IsOfPart start k sent → IsPromisedAt y
+      from_part y sent body part me there at is set says =
+          absurd (cc (says, body, ap (λ (s : Outgoing). s.body) part.is))
 
-    pub each_promised : k < hosts start → Each IsPromisedAt (signals_of start k log e)
-    each_promised low =
-        each_map _ _ (signals_of start k log e)
-        (λ y one. by y one.sent one.body one.to
-        (each_in _ one.sent (step_after start k log e).effects.sends (host_fences start k low log e) one.there))
-        (each_sent start k log e)
-      where
-        by : (y : Addressed) (sent : Outgoing) → y.signal.body ≡ sent.body
-            → y.to ≡ reached (made start) k (after start k (e ∷ log)).standing.view sent.to
-            → IsOff sent ⊎ IsOfMain start k (e ∷ log) sent ⊎ IsOfPart start k sent → IsPromisedAt y
-        by y sent body to (inl off) = off_promised y sent body off
-        by y sent body to (inr (inl of)) = from_main y (after start k (e ∷ log)).standing.view sent body to of
-        by y sent body to (inr (inr part)) = from_part y sent body part
+      pub each_promised : k < hosts start → Each IsPromisedAt (signals_of start k log e)
+      each_promised low =
+          each_map _ _ (signals_of start k log e)
+          (λ y one. by y one.sent one.body one.to
+          (each_in _ one.sent (step_after start k log e).effects.sends (host_fences start nobody k low log e) one.there))
+          (each_sent start k log e)
+        where
+          by : (y : Addressed) (sent : Outgoing) → y.signal.body ≡ sent.body
+              → y.to ≡ reached (made start) k (after start k (e ∷ log)).standing.view sent.to
+              → IsOff sent ⊎ IsOfMain start k (e ∷ log) sent ⊎ IsOfPart start k sent → IsPromisedAt y
+          by y sent body to (inl off) = off_promised y sent body off
+          by y sent body to (inr (inl of)) = from_main y (after start k (e ∷ log)).standing.view sent body to of
+          by y sent body to (inr (inr part)) = from_part y sent body part
 
   module _ (are : AreOfCluster start logs) where
     pub low_host : (k : ℕ) (e : HostStep) (log : List HostStep) → IsPast (e ∷ log) (logs k) → k < hosts start
@@ -131,7 +132,7 @@ module _ (start : Start) (logs : ℕ → List HostStep) where
     sent_promised i j (e ∷ log) past =
         put_each (machine start) IsPromisedAt j (sent_by (machine start) i log e) (sent (machine start) i j log)
         (sent_by_each (machine start) IsPromisedAt i log e
-        (λ runs. each_promised i log e past (low_host i e log past)))
+        (λ runs. each_promised are.nobody i log e past (low_host i e log past)))
         (sent_promised i j log (past_less e past))
 
     closing_promised : (i : ℕ) (log : List HostStep) (e : HostStep) (j : ℕ) → IsPromisedAt (closing start i log e j)

@@ -31,7 +31,7 @@ use Rattle.qmgr_block.specs.Laws.{Event}
 use Rattle.tc_views.specs.Coordinator.{coordinator_row}
 use Rattle.tc_views.specs.State.{CoordinatorState}
 use Rattle.world_core.specs.Hosts.{member_at, part_by}
-use Rattle.world_core.specs.Start.{Start, made}
+use Rattle.world_core.specs.Start.{NobodyStarts, Start, made}
 use Rattle.world_core.specs.Steps.{HostStep}
 use Rattle.world_views.specs.Hosts.{part_started, started}
 use Rattle.world_views.specs.Machine.{after}
@@ -196,7 +196,7 @@ unfolding stays_node
 along_stays node [] = refl
 along_stays node (event ∷ events) = along_stays node events
 
-module _ (start : Start) (k left : ℕ) (part : k % 3 ≡ suc left) where
+module _ (start : Start) (nobody : NobodyStarts start) (k left : ℕ) (part : k % 3 ≡ suc left) where
   begun_node : (m : Member) (left : ℕ) (b : BlockId)
       → own_node (part_started start (part_by (suc left)) m).parts b ≡ m.node
   begun_node m zero block.Dih = refl
@@ -207,7 +207,7 @@ module _ (start : Start) (k left : ℕ) (part : k % 3 ≡ suc left) where
   unfolding node_seen
   begins b =
       let m = member_at (made start) (suc k) in
-      ap (λ (s : hosts.HostBody). own_node s.parts b) (started_behind start k)
+      ap (λ (s : hosts.HostBody). own_node s.parts b) (started_behind start nobody k)
       ∙ ap (λ r. own_node (part_started start (part_by r) m).parts b) part
       ∙ begun_node m left b
 

@@ -21,7 +21,7 @@ use Rattle.node_views.specs.declared.parts.Parts.{Parts}
 use Rattle.node_views.specs.Parts.{greater, raised}
 use Rattle.qmgr_block.specs.Laws.{Event, installs, takes}
 use Rattle.world_core.specs.Hosts.{host_of, member_at, part_by}
-use Rattle.world_core.specs.Start.{Start, made}
+use Rattle.world_core.specs.Start.{NobodyStarts, Start, made}
 use Rattle.world_core.specs.Steps.{HostStep}
 use Rattle.world_views.specs.Machine.{after, step_by, told}
 use Rattle.world_views.specs.Hosts.{part_started, started}
@@ -218,31 +218,34 @@ part_begins start Tc member _ = tt
 part_begins start Ldm member block.Lqh = inl (omega arith)
 part_begins start Ldm member _ = tt
 
-host_begins : (start : Start) (h : ℕ) (at : BlockId)
+host_begins : (start : Start) (nobody : NobodyStarts start) (h : ℕ) (at : BlockId)
     → IsKept (started start h).standing.view (fence_seen at (started start h)) []
 unfolding started IsKept
-host_begins start zero at = tt
-host_begins start (suc h) at =
-    subst (λ s. IsKept s.standing.view (fence_seen at s) []) (sym (started_behind start h))
+host_begins start nobody zero at = tt
+host_begins start nobody (suc h) at =
+    subst (λ s. IsKept s.standing.view (fence_seen at s) []) (sym (started_behind start nobody h))
     (part_begins start (part_by (h % 3)) (member_at (made start) (suc h)) at)
 
 -- the hosts of fenced blocks run no membership
-module _ (start : Start) (me : Member) (there : IsIn me (made start)) where
+module _ (start : Start) (nobody : NobodyStarts start) (me : Member) (there : IsIn me (made start)) where
   beside_none : (left h : ℕ) → left < 2 → h ≡ suc ((me.node - 1) * 3 + suc left) → (log : List HostStep)
       → membership_in (after start h log).parts ≡ None
   beside_none left h few at log =
       subst (λ h. membership_in (after start h log).parts ≡ None) (sym at)
-      (no_membership_beside start ((me.node - 1) * 3 + suc left) left log
+      (no_membership_beside start nobody ((me.node - 1) * 3 + suc left) left log
       (mod-mul-add (me.node - 1) 3 (suc left) (omega (arith, few))))
 
   pub part_none : (at : BlockId) → IsFenced at → (log : List HostStep)
       → membership_in (after start (host_of (made start) (part_of at) me) log).parts ≡ None
   part_none block.Tc fenced log =
-      beside_none 0 (host_of (made start) Tc me) (omega arith) (omega (arith, block_host start me there block.Tc)) log
+      beside_none 0 (host_of (made start) Tc me) (omega arith)
+      (omega (arith, block_host start nobody me there block.Tc)) log
   part_none block.Dih fenced log =
-      beside_none 0 (host_of (made start) Tc me) (omega arith) (omega (arith, block_host start me there block.Dih)) log
+      beside_none 0 (host_of (made start) Tc me) (omega arith)
+      (omega (arith, block_host start nobody me there block.Dih)) log
   part_none block.Lqh fenced log =
-      beside_none 1 (host_of (made start) Ldm me) (omega arith) (omega (arith, block_host start me there block.Lqh)) log
+      beside_none 1 (host_of (made start) Ldm me) (omega arith)
+      (omega (arith, block_host start nobody me there block.Lqh)) log
   part_none other fenced log = absurd fenced
 
 pub raised_fences_were_promised : RaisedFencesWerePromised
@@ -251,7 +254,7 @@ raised_fences_were_promised start logs are me there at fenced above =
     let h = host_of (made start) (part_of at) me in
     let s = after start h (logs h) in
     by (fence_seen at s)
-    (log_kept at start h (part_none start me there at fenced) (host_begins start h at) (logs h))
+    (log_kept at start h (part_none start are.nobody me there at fenced) (host_begins start are.nobody h at) (logs h))
     (fence_is s.parts at s.standing.view.number)
   where
     host : ℕ

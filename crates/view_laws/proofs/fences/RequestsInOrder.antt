@@ -23,7 +23,7 @@ use Rattle.node_views.specs.WellFormed.{is_well_formed}
 use Rattle.qmgr_block.specs.Laws.{Event, installs, takes}
 use Rattle.qmgr_block.specs.State.{QmgrState}
 use Rattle.world_core.specs.Machine.{counted}
-use Rattle.world_core.specs.Start.{Start, made}
+use Rattle.world_core.specs.Start.{NobodyStarts, Start, made}
 use Rattle.world_core.specs.Steps.{Addressed, HostStep}
 use Rattle.world_views.specs.declared.sender.Sender.{Sender}
 use Rattle.world_views.specs.Hosts.{reached}
@@ -136,17 +136,18 @@ module _ (w : Member) (layout : Layout) (old : List Event) where
           later_asked next _ (sends ++ more) (other_asked _ sends (sends ++ more) (fencing_behind sends more none) are);
     }
 
-pub step_asked : (start : Start) (w : Member) (log : List HostStep) (e : HostStep) → IsIn w (made start)
+pub step_asked : (start : Start) (nobody : NobodyStarts start) (w : Member) (log : List HostStep) (e : HostStep)
+    → IsIn w (made start)
     → AreAsked w (first_layout start.shape) (events_of is_membership start (main_of start w) log)
     (events_at is_membership (main_of start w) (after start (main_of start w) log) e.step.taken)
     (step_after start (main_of start w) log e).effects.sends
-step_asked start w log e there =
+step_asked start nobody w log e there =
     let h = main_of start w in
     let s = after start h log in
     let x = e.step.taken in
     let old = events_of is_membership start h log in
     let layout = first_layout start.shape in
-    let is : membership_in s.parts ≡ Some (state_of w layout old) = (hosts_follow start w log there).state in
+    let is : membership_in s.parts ≡ Some (state_of w layout old) = (hosts_follow start nobody w log there).state in
     all_said is_membership x (AreAsked w layout old) s (front_said w layout old x s.parts is)
     (behind_said w layout old x (parts_entered s.parts x.view).state x.view
     (entered_in s.parts (state_of w layout old) x.view is))

@@ -19,7 +19,7 @@ use Rattle.qmgr_block.specs.Laws.{Event, takes}
 use Rattle.qmgr_block.specs.Promise.{fences}
 use Rattle.qmgr_block.specs.Qmgr.{qmgr_row}
 use Rattle.world_core.specs.Hosts.{hosts, member_at}
-use Rattle.world_core.specs.Start.{Start, made}
+use Rattle.world_core.specs.Start.{NobodyStarts, Start, made}
 use Rattle.world_core.specs.Steps.{HostStep}
 use Rattle.world_views.specs.Machine.{after, step_after}
 use Rattle.view_laws.specs.Ballots.{Promised}
@@ -148,12 +148,12 @@ module _ (start : Start) where
   SendsFences k log e =
       Each (λ sent. IsOff sent ⊎ IsOfMain k (e ∷ log) sent ⊎ IsOfPart k sent) (step_after start k log e).effects.sends
 
-  main_fences : (w : Member) → IsIn w (made start) → (log : List HostStep) (e : HostStep)
+  main_fences : NobodyStarts start → (w : Member) → IsIn w (made start) → (log : List HostStep) (e : HostStep)
       → SendsFences (main_of start w) log e
-  main_fences w there log e =
+  main_fences nobody w there log e =
       each_map _ _ (step_after start (main_of start w) log e).effects.sends
       (λ sent tells. by sent (is_of_fence sent.body) refl (λ is. tells (fence_told sent.body is)))
-      (memberships_tell hosts_follow start w log e there)
+      (memberships_tell hosts_follow start nobody w log e there)
     where
       k : ℕ
       k = main_of start w
@@ -194,11 +194,12 @@ module _ (start : Start) where
           one.taken.member.node one.taken.body)
           one.there
 
-  part_fences : (j left : ℕ) → j % 3 ≡ suc left → (log : List HostStep) (e : HostStep) → SendsFences (suc j) log e
-  part_fences j left part log e =
+  part_fences : NobodyStarts start → (j left : ℕ) → j % 3 ≡ suc left → (log : List HostStep) (e : HostStep)
+      → SendsFences (suc j) log e
+  part_fences nobody j left part log e =
       each_map _ _ (step_after start (suc j) log e).effects.sends by
-      (others_answer start (suc j) log e (no_membership_beside start j left log part)
-      (no_arbiter_behind start (suc j) log (omega arith))).each
+      (others_answer start (suc j) log e (no_membership_beside start nobody j left log part)
+      (no_arbiter_behind start nobody (suc j) log (omega arith))).each
     where
       node : ℕ
       node = own_node (after start (suc j) log).parts e.step.taken.to.block
@@ -211,14 +212,15 @@ module _ (start : Start) where
         left = left;
         at = refl;
         part = part;
-        is = is ∙ ap confirmation (node_after start j left part log e.step.taken.to.block);
+        is = is ∙ ap confirmation (node_after start nobody j left part log e.step.taken.to.block);
       }))
 
-  pub host_fences : (k : ℕ) → k < hosts start → (log : List HostStep) (e : HostStep) → SendsFences k log e
-  host_fences k low log e = by (host_is start k low)
+  pub host_fences : NobodyStarts start → (k : ℕ) → k < hosts start → (log : List HostStep) (e : HostStep)
+      → SendsFences k log e
+  host_fences nobody k low log e = by (host_is start nobody k low)
     where
       by : HostIs start k → SendsFences k log e
       by (of_shell at) = subst (λ k. SendsFences k log e) (sym at) (shell_fences log e)
-      by (of_main w there at) = subst (λ k. SendsFences k log e) (sym at) (main_fences w there log e)
+      by (of_main w there at) = subst (λ k. SendsFences k log e) (sym at) (main_fences nobody w there log e)
       by (of_other j left at part) =
-          subst (λ k. SendsFences k log e) (sym at) (part_fences j left part log e)
+          subst (λ k. SendsFences k log e) (sym at) (part_fences nobody j left part log e)

@@ -15,7 +15,7 @@ use Rattle.sig_core.specs.declared.view.View.{View}
 use Rattle.sig_core.specs.Part.{part_of}
 use Rattle.node_views.specs.WellFormed.{is_well_formed}
 use Rattle.world_core.specs.Hosts.{host_of}
-use Rattle.world_core.specs.Start.{Start, made}
+use Rattle.world_core.specs.Start.{NobodyStarts, Start, made}
 use Rattle.world_core.specs.Steps.{Addressed, HostStep}
 use Rattle.world_views.specs.Machine.{after, machine, stops_by}
 use Rattle.view_laws.specs.Fences.{IsFenced}
@@ -84,7 +84,8 @@ IsThere (Some fence) = Unit {0}
 
 abbrev pub FencesAreThere : Type 0
 FencesAreThere =
-    (start : Start) (me : Member) → IsIn me (made start) → (at : BlockId) → IsFenced at → (log : List HostStep)
+    (start : Start) → NobodyStarts start → (me : Member) → IsIn me (made start) → (at : BlockId) → IsFenced at
+    → (log : List HostStep)
     → IsThere (fence_seen at (after start (host_of (made start) (part_of at) me) log))
 
 pub not_below : (number view : ℕ) (fence : Option ℕ) → IsThere fence → IsFencedAt number fence
@@ -101,6 +102,7 @@ confirmed_fenced few high fences start logs are me there at fenced number confir
     high start logs are me there at fenced number heard.rank heard.is
     (omega (arith, heard.counts (in_ldm at), few start logs are me there at fenced)) in
     let low : has.set.number ≤ fence_or (fence_seen at s) s.standing.view.number =
-    not_below has.set.number s.standing.view.number (fence_seen at s) (fences start me there at fenced (logs h))
+    not_below has.set.number s.standing.view.number (fence_seen at s)
+    (fences start are.nobody me there at fenced (logs h))
     (taken_fenced start h (logs h) at has.x has.set has.says has.there) in
     subst (λ fence. number ≤ fence) (sym (fence_is s.parts at s.standing.view.number)) (omega (arith, has.high, low))

@@ -7,7 +7,7 @@ use Rattle.sig_core.specs.declared.place.Part.TheVariants.{Ldm, Main, Tc}
 use Rattle.node_views.specs.declared.host_body.HostBody as node
 use Rattle.qmgr_block.specs.Laws.{Event}
 use Rattle.world_core.specs.Hosts.{member_at, part_by}
-use Rattle.world_core.specs.Start.{Start, made}
+use Rattle.world_core.specs.Start.{NobodyStarts, Start, made}
 use Rattle.world_core.specs.Steps.{HostStep}
 use Rattle.world_views.specs.Hosts.{part_started, started}
 use Rattle.world_views.specs.Machine.{after}
@@ -61,17 +61,18 @@ module _ (start : Start) where
   pub no_membership_in_shell : (log : List HostStep) → membership_in (after start 0 log).parts ≡ None
   no_membership_in_shell log = never_joins 0 log shell_started
 
-  pub no_arbiter_behind : (h : ℕ) (log : List HostStep) → 1 ≤ h → arbiter_in (after start h log).parts ≡ None
-  no_arbiter_behind zero log some = absurd (omega (arith, some))
-  no_arbiter_behind (suc k) log some =
+  pub no_arbiter_behind : NobodyStarts start → (h : ℕ) (log : List HostStep) → 1 ≤ h
+      → arbiter_in (after start h log).parts ≡ None
+  no_arbiter_behind nobody zero log some = absurd (omega (arith, some))
+  no_arbiter_behind nobody (suc k) log some =
       never_arbitrates (suc k) log
-      (ap (λ (s : node.HostBody). arbiter_in s.parts) (started_behind start k)
+      (ap (λ (s : node.HostBody). arbiter_in s.parts) (started_behind start nobody k)
       ∙ part_arbiter start (part_by (k % 3)) (member_at (made start) (suc k)))
 
-  pub no_membership_beside : (k left : ℕ) (log : List HostStep) → k % 3 ≡ suc left
+  pub no_membership_beside : NobodyStarts start → (k left : ℕ) (log : List HostStep) → k % 3 ≡ suc left
       → membership_in (after start (suc k) log).parts ≡ None
-  no_membership_beside k left log e =
+  no_membership_beside nobody k left log e =
       never_joins (suc k) log
-      (ap (λ (s : node.HostBody). membership_in s.parts) (started_behind start k)
+      (ap (λ (s : node.HostBody). membership_in s.parts) (started_behind start nobody k)
       ∙ ap (λ n. membership_in (part_started start (part_by n) (member_at (made start) (suc k))).parts) e
       ∙ no_member_part left (member_at (made start) (suc k)))

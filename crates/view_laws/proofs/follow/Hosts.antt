@@ -13,10 +13,10 @@ use Rattle.sig_core.specs.declared.place.Part.TheVariants.{Main}
 use Rattle.sig_core.specs.Members.{nobody}
 use Rattle.node_views.specs.declared.host_body.HostBody as hosts
 use Rattle.node_views.specs.Fresh.{fresh_main}
-use Rattle.world_core.proofs.MadeFirst.{made_begins, nobody_starts}
+use Rattle.world_core.proofs.MadeFirst.{made_begins}
 use Rattle.world_core.proofs.HostNumbers.{made_at, node_host, the_member}
 use Rattle.world_core.specs.Hosts.{host_by, host_for, member_of, part_by, receiver}
-use Rattle.world_core.specs.Start.{Start, made}
+use Rattle.world_core.specs.Start.{NobodyStarts, Start, made}
 use Rattle.world_views.specs.Hosts.{part_started, started}
 use Rattle.world_views.proofs.AllBegin.{started_behind}
 use Rattle.view_laws.specs.HostEvents.{events_of, is_arbiter, is_membership}
@@ -78,25 +78,25 @@ module _ (start : Start) where
       omega (arith, by_place, by_member)
 
   -- the main host begins as the main part of its member
-  node_started : (node : ℕ) → 1 ≤ node → node ≤ start.shape.nodes
+  node_started : NobodyStarts start → (node : ℕ) → 1 ≤ node → node ≤ start.shape.nodes
       → started start (main_of start (first_start node))
       ≡ fresh_main (first_start node) (first_layout start.shape) start.epoch
-  node_started node some low =
+  node_started none_starts node some low =
       let own : node - 1 + 1 ≡ node = omega (arith, some) in
       ap (started start) (main_number node some low)
-      ∙ started_behind start ((node - 1) * 3 + 0)
+      ∙ started_behind start none_starts ((node - 1) * 3 + 0)
       ∙ ap (λ k. part_started start (part_by k) (slice_index_or (made start) (((node - 1) * 3 + 0) / 3) nobody))
       (mod-mul-add (node - 1) 3 0 (omega arith))
       ∙ ap (part_started start Main)
       (ap (λ i. slice_index_or (made start) i nobody) (div-mul-add (node - 1) 3 0 (omega arith))
       ∙ made_at start (node - 1) nobody (omega (arith, some, low)) ∙ ap first_start own)
 
-  pub main_started : (member : Member) → IsIn member (made start)
+  pub main_started : NobodyStarts start → (member : Member) → IsIn member (made start)
       → started start (main_of start member) ≡ fresh_main member (first_layout start.shape) start.epoch
-  main_started member there =
-      let first = first_of start.shape.nodes member (made_begins start (nobody_starts start) member there) in
+  main_started none_starts member there =
+      let first = first_of start.shape.nodes member (made_begins start none_starts member there) in
       ap (λ m. started start (main_of start m)) first.is
-      ∙ node_started first.node first.some first.low
+      ∙ node_started none_starts first.node first.some first.low
       ∙ sym (ap (λ m. fresh_main m (first_layout start.shape) start.epoch) first.is)
 
   shell_started : arbiter_seen (started start 0) ≡ Some (record { number = 1; members = members start.shape.nodes })
@@ -104,11 +104,11 @@ module _ (start : Start) where
   shell_started = refl
 
 pub hosts_follow : HostsFollowTheirEvents
-hosts_follow start member log there =
+hosts_follow start none_starts member log there =
     let h = main_of start member in
     let layout = first_layout start.shape in
     let events = events_of is_membership start h log in
-    let begins = main_started start member there in
+    let begins = main_started start none_starts member there in
     record {
       state =
           log_goes is_membership membership_seen to_membership membership_is_seen start h log

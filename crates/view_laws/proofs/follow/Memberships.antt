@@ -18,7 +18,7 @@ use Rattle.qmgr_block.specs.Settle.{may_settle, qmgr_settles}
 use Rattle.qmgr_block.specs.Laws.{Event, after, installs, takes}
 use Rattle.qmgr_block.specs.Qmgr.{qmgr_row}
 use Rattle.qmgr_block.specs.State.{QmgrState}
-use Rattle.world_core.specs.Start.{Start, made}
+use Rattle.world_core.specs.Start.{NobodyStarts, Start, made}
 use Rattle.world_core.specs.Steps.{HostStep}
 use Rattle.world_views.specs.Machine as machine
 use Rattle.view_laws.specs.HostEvents.{events_at, installing, is_membership, taking}
@@ -84,13 +84,14 @@ membership_steps h s q x has = by s.parts has (steps_as is_membership h s x)
     by _ has steps = absurd cc
 
 -- so it is in each step of the host of a member's membership
-pub member_steps : (start : Start) (member : Member) (log : List HostStep) (x : Signal) → IsIn member (made start)
+pub member_steps : (start : Start) (nobody : NobodyStarts start) (member : Member) (log : List HostStep) (x : Signal)
+    → IsIn member (made start)
     → MembershipSteps (membership_of start member log) (membership_of start member log).known.layout.view x
     (events_at is_membership (main_of start member) (machine.after start (main_of start member) log) x)
-member_steps start member log x there =
+member_steps start nobody member log x there =
     let h = main_of start member in
     let s = machine.after start h log in
-    let follows = hosts_follow start member log there in
+    let follows = hosts_follow start nobody member log there in
     subst (λ (view : View). MembershipSteps (membership_of start member log) view x (events_at is_membership h s x))
     follows.view
     (membership_steps h s (membership_of start member log) x follows.state)

@@ -7,7 +7,7 @@ use Rattle.run_theory.specs.Along.{Comes, IsKept}
 use Rattle.run_theory.specs.Lists.{Each}
 use Rattle.run_theory.specs.Runs.{IsWithin, log_of}
 use Rattle.world_core.specs.Hosts.{hosts}
-use Rattle.world_core.specs.Start.{Start}
+use Rattle.world_core.specs.Start.{NobodyStarts, Start}
 use Rattle.world_core.specs.Steps.{Addressed, HostStep}
 use Rattle.world_views.proofs.SentFacts.{is_stamped}
 use Rattle.world_views.specs.Machine.{closing, machine, signals_of}
@@ -30,19 +30,20 @@ module _ (start : Start) (is_shape : IsShape start.shape) where
   abbrev IsNext : List HostStep → HostStep → Type 0
   IsNext es e = Comes (machine start) IsTrueIn AreSound es e
 
-  next : (es : List HostStep) (e : HostStep) → IsNext es e → AreSound (log_of (machine start) (e ∷ es))
-  next es e come within =
+  next : NobodyStarts start → (es : List HostStep) (e : HostStep) → IsNext es e
+      → AreSound (log_of (machine start) (e ∷ es))
+  next nobody es e come within =
       let before = within_less start e es within in
       sound_next start is_shape es e within come.happens.step.fits (come.all.law before)
-      (λ asked. come.told asked before)
+      (λ asked. come.told asked before) nobody
 
-  sends_next : (es : List HostStep) (e : HostStep) → IsNext es e
+  sends_next : NobodyStarts start → (es : List HostStep) (e : HostStep) → IsNext es e
       → Each (λ x. IsTrueIn x (log_of (machine start) (e ∷ es)))
       (signals_of start e.host (log_of (machine start) es e.host) e)
-  sends_next es e come =
+  sends_next nobody es e come =
       all_within (signals_of start e.host (log_of (machine start) es e.host) e)
       (λ within.
-      host_sends start (log_of (machine start) (e ∷ es)) is_shape (next es e come within) e.host
+      host_sends start (log_of (machine start) (e ∷ es)) is_shape (next nobody es e come within) nobody e.host
       (host_there start e es within)
       (log_of (machine start) es e.host) e (log_of-own (machine start) e es e.host refl))
     where
@@ -56,9 +57,9 @@ module _ (start : Start) (is_shape : IsShape start.shape) where
 
   -- the closing of a host that has stopped has the view in which it stands or that of the signal that it took, and is
   -- no vote
-  closing_next : (es : List HostStep) (e : HostStep) → IsNext es e → (j : ℕ)
+  closing_next : NobodyStarts start → (es : List HostStep) (e : HostStep) → IsNext es e → (j : ℕ)
       → IsTrueIn (closing start e.host (log_of (machine start) es e.host) e j) (log_of (machine start) (e ∷ es))
-  closing_next es e come j within =
+  closing_next nobody es e come j within =
       let before = within_less start e es within in
       let old = log_of (machine start) es e.host in
       let new = log_of (machine start) (e ∷ es) in
@@ -66,19 +67,19 @@ module _ (start : Start) (is_shape : IsShape start.shape) where
         view =
             of_greater (IsGood start new) (view_after start e.host (e ∷ old)) e.step.taken.view
             (subst (λ log. IsGood start new (view_after start e.host log)) (log_of-own (machine start) e es e.host refl)
-            ((next es e come within).views e.host (host_there start e es within)))
+            ((next nobody es e come within).views e.host (host_there start e es within)))
             (true_view start is_shape es e within come.happens.step.fits (come.all.law before)
             (λ asked. come.told asked before));
         says = λ me there at. tt;
         asks = λ at. tt;
       }
 
-  pub kept : IsKept (machine start) IsTrueIn AreSound
-  kept = record {
-    start = λ within. sound_start start is_shape;
-    step = next;
-    sends = λ es e come runs. sends_next es e come;
-    closing = λ es e come stops. closing_next es e come;
+  pub kept : NobodyStarts start → IsKept (machine start) IsTrueIn AreSound
+  kept nobody = record {
+    start = λ within. sound_start start is_shape nobody;
+    step = next nobody;
+    sends = λ es e come runs. sends_next nobody es e come;
+    closing = λ es e come stops. closing_next nobody es e come;
     stays = λ es e x come is within.
         signal_more start (log_of (machine start) es) (log_of (machine start) (e ∷ es))
         (log_of-past (machine start) e es) x
@@ -90,10 +91,10 @@ have_orderly start es run =
     let logs = log_of (machine start) es in
     let sound : AreSoundLogs start logs =
     (along_signals (machine start) (IsTrueIn start run.shape) (AreSound start run.shape)
-    (kept start run.shape) es run.run).law
+    (kept start run.shape run.nobody) es run.run).law
     run.within in
     record {
-      orderly = sound_orderly start logs run.shape sound;
+      orderly = sound_orderly start logs run.shape sound run.nobody;
       chosen = λ h low. (sound.views h low).chosen;
     }
 
@@ -101,5 +102,5 @@ have_orderly start es run =
 pub logs_sound : (start : Start) (logs : ℕ → List HostStep) → AreOfCluster start logs → AreSoundLogs start logs
 logs_sound start logs are =
     (along_signals_of_logs (machine start) (is_stamped start) (IsTrueIn start are.shape) (AreSound start are.shape)
-    (kept start are.shape) (hosts start) logs are.within are.right).law
+    (kept start are.shape are.nobody) (hosts start) logs are.within are.right).law
     are.within

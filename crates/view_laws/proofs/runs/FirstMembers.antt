@@ -16,10 +16,10 @@ use Rattle.sig_core.specs.declared.place.Part.TheVariants.{Main}
 use Rattle.sig_core.specs.declared.view.View.{View}
 use Rattle.sig_core.specs.Members.{nobody}
 use Rattle.sig_core.specs.Place.{membership}
-use Rattle.world_core.proofs.MadeFirst.{begins_made, hosts_first, made_begins, made_first, nobody_starts}
+use Rattle.world_core.proofs.MadeFirst.{begins_made, hosts_first, made_begins, made_first}
 use Rattle.world_core.proofs.HostNumbers.{made_at}
 use Rattle.world_core.specs.Hosts.{host_by, hosts, member_at, member_of}
-use Rattle.world_core.specs.Start.{Start, made}
+use Rattle.world_core.specs.Start.{NobodyStarts, Start, made}
 use Rattle.world_views.specs.Hosts.{known, last_of, latest, or_itself, reached}
 use Rattle.view_laws.specs.Events.{IsSet}
 use Rattle.view_laws.specs.Sets.{AreApart, all_of}
@@ -62,46 +62,57 @@ first_set nodes few = record {
 
 module _ (start : Start) where
   -- two of one node are one
-  pub made_same : (one other : Member) → IsIn one (made start) → IsIn other (made start) → one.node ≡ other.node
+  pub made_same : NobodyStarts start → (one other : Member) → IsIn one (made start) → IsIn other (made start)
+      → one.node ≡ other.node
       → one ≡ other
-  made_same =
+  made_same none_starts =
       apart_same (made start)
-      (subst AreApart (sym (made_first start (nobody_starts start))) (made_apart start.shape.nodes))
+      (subst AreApart (sym (made_first start none_starts)) (made_apart start.shape.nodes))
 
   -- the number of the main host of one
-  pub main_is : (me : Member) → IsIn me (made start) → main_of start me ≡ suc ((me.node - 1) * 3 + 0)
-  main_is me there =
-      let first = first_of start.shape.nodes me (made_begins start (nobody_starts start) me there) in
+  pub main_is : NobodyStarts start → (me : Member) → IsIn me (made start)
+      → main_of start me ≡ suc ((me.node - 1) * 3 + 0)
+  main_is none_starts me there =
+      let first = first_of start.shape.nodes me (made_begins start none_starts me there) in
       subst (λ (m : Member). main_of start m ≡ suc ((m.node - 1) * 3 + 0)) (sym first.is)
       (main_number start first.node first.some first.low)
 
-  pub node_some : (me : Member) → IsIn me (made start) → 1 ≤ me.node
-  node_some me there =
-      let first = first_of start.shape.nodes me (made_begins start (nobody_starts start) me there) in
+  pub node_some : NobodyStarts start → (me : Member) → IsIn me (made start) → 1 ≤ me.node
+  node_some none_starts me there =
+      let first = first_of start.shape.nodes me (made_begins start none_starts me there) in
       subst (λ (m : Member). 1 ≤ m.node) (sym first.is) first.some
 
-  pub node_low : (me : Member) → IsIn me (made start) → me.node ≤ start.shape.nodes
-  node_low me there =
-      let first = first_of start.shape.nodes me (made_begins start (nobody_starts start) me there) in
+  pub node_low : NobodyStarts start → (me : Member) → IsIn me (made start) → me.node ≤ start.shape.nodes
+  node_low none_starts me there =
+      let first = first_of start.shape.nodes me (made_begins start none_starts me there) in
       subst (λ (m : Member). m.node ≤ start.shape.nodes) (sym first.is) first.low
 
   -- it is the first one of its node
-  pub first_again : (me : Member) → IsIn me (made start) → first_start me.node ≡ me
-  first_again me there =
-      let first = first_of start.shape.nodes me (made_begins start (nobody_starts start) me there) in
+  pub first_again : NobodyStarts start → (me : Member) → IsIn me (made start) → first_start me.node ≡ me
+  first_again none_starts me there =
+      let first = first_of start.shape.nodes me (made_begins start none_starts me there) in
       ap first_start (ap (λ (m : Member). m.node) first.is) ∙ sym first.is
 
   -- two of one main host are one
-  pub main_same : (one other : Member) → IsIn one (made start) → IsIn other (made start)
+  pub main_same : NobodyStarts start → (one other : Member) → IsIn one (made start) → IsIn other (made start)
       → main_of start one ≡ main_of start other → one ≡ other
-  main_same one other there there_too same =
-      made_same one other there there_too
-      (omega (arith, same, main_is one there, main_is other there_too, node_some one there, node_some other there_too))
+  main_same none_starts one other there there_too same =
+      made_same none_starts one other there there_too
+      (omega (
+        arith,
+        same,
+        main_is none_starts one there,
+        main_is none_starts other there_too,
+        node_some none_starts
+            one there,
+        node_some none_starts other there_too,
+      ))
 
   -- and it is that one's host
-  pub member_main : (me : Member) → IsIn me (made start) → member_at (made start) (main_of start me) ≡ me
-  member_main me there =
-      let first = first_of start.shape.nodes me (made_begins start (nobody_starts start) me there) in
+  pub member_main : NobodyStarts start → (me : Member) → IsIn me (made start)
+      → member_at (made start) (main_of start me) ≡ me
+  member_main none_starts me there =
+      let first = first_of start.shape.nodes me (made_begins start none_starts me there) in
       let own : first.node - 1 + 1 ≡ first.node = omega (arith, first.some) in
       ap (λ m. member_at (made start) (main_of start m)) first.is
       ∙ ap (member_at (made start)) (main_number start first.node first.some first.low)
@@ -172,11 +183,11 @@ module _ (start : Start) where
       by (Some other) e is = member_is view all node m (e ∙ is)
 
   -- what is for the membership of a node, and goes to the main host of a member, is for that one's node
-  pub reaches : (h : ℕ) (view : View) (node : ℕ) (z : Member) → IsIn z (made start)
+  pub reaches : NobodyStarts start → (h : ℕ) (view : View) (node : ℕ) (z : Member) → IsIn z (made start)
       → ((m : Member) → known (made start) h view node ≡ Some m → IsOfNode node m)
       → reached (made start) h view (membership node) ≡ main_of start z → node ≡ z.node
   unfolding reached
-  reaches h view node z there knows is = by (node == 0) refl is
+  reaches none_starts h view node z there knows is = by (node == 0) refl is
     where
       at : (found : Option Member) → known (made start) h view node ≡ found
           → host_by (made start) Main found ≡ main_of start z
@@ -185,19 +196,19 @@ module _ (start : Start) where
           absurd (omega (
             arith,
             is,
-            hosts_first start (nobody_starts start),
-            main_is z there,
-            node_low z there,
-            node_some z there,
+            hosts_first start none_starts,
+            main_is none_starts z there,
+            node_low none_starts z there,
+            node_some none_starts z there,
           ))
       at (Some m) e is =
           let one = knows m e in
-          sym one.node_is ∙ ap (λ (m : Member). m.node) (main_same m z one.made there is)
+          sym one.node_is ∙ ap (λ (m : Member). m.node) (main_same none_starts m z one.made there is)
 
       by : (b : Bool) → (node == 0) ≡ b
           → (if b then 0 else host_by (made start) Main (known (made start) h view node)) ≡ main_of start z
           → node ≡ z.node
-      by true e is = absurd (omega (arith, is, main_is z there))
+      by true e is = absurd (omega (arith, is, main_is none_starts z there))
       by false e is = at (known (made start) h view node) refl is
 
   -- a host that there is: the shell's, the main host of a member, or one of its other two
@@ -206,14 +217,14 @@ module _ (start : Start) where
     of_main : (me : Member) → IsIn me (made start) → h ≡ main_of start me → HostIs h
     of_other : (k left : ℕ) → h ≡ suc k → k % 3 ≡ suc left → HostIs h
 
-  pub host_is : (h : ℕ) → h < hosts start → HostIs h
-  host_is zero low = of_shell refl
-  host_is (suc k) low = by (k % 3) refl
+  pub host_is : NobodyStarts start → (h : ℕ) → h < hosts start → HostIs h
+  host_is none_starts zero low = of_shell refl
+  host_is none_starts (suc k) low = by (k % 3) refl
     where
       by : (left : ℕ) → k % 3 ≡ left → HostIs (suc k)
       by zero e =
           let some : 1 ≤ k / 3 + 1 = omega arith in
-          let few : k / 3 + 1 ≤ start.shape.nodes = omega (arith, low, hosts_first start (nobody_starts start)) in
+          let few : k / 3 + 1 ≤ start.shape.nodes = omega (arith, low, hosts_first start none_starts) in
           of_main (first_start (k / 3 + 1)) (begins_made start _ (first_in start.shape.nodes (k / 3 + 1) some few))
           (omega (arith, e, main_number start (k / 3 + 1) some few))
       by (suc left) e = of_other k left refl e

@@ -20,8 +20,8 @@ use Rattle.arbiter_block.specs.Arbiter.{ArbiterState, arbit_if, arbit_row, arbit
 use Rattle.arbiter_block.specs.Laws.{granted_at}
 use Rattle.arbiter_block.specs.Sets.{is_same_set, lie_in}
 use Rattle.qmgr_block.specs.Laws.{Event, installs, takes}
-use Rattle.world_core.proofs.MadeFirst.{made_begins, nobody_starts}
-use Rattle.world_core.specs.Start.{Start, made}
+use Rattle.world_core.proofs.MadeFirst.{made_begins}
+use Rattle.world_core.specs.Start.{NobodyStarts, Start, made}
 use Rattle.world_core.specs.Steps.{HostStep}
 use Rattle.view_laws.specs.Ballots.{Ballots, Granted, HasPromised, IsChosen, Promised, Proposed}
 use Rattle.view_laws.specs.Events.{AreOrderlyEvents, IsOrderly, IsSound}
@@ -277,33 +277,33 @@ module _ (start : Start) (logs : ℕ → List HostStep) (is_shape : IsShape star
         record { member_in = behind.member_in; from = special me there last set behind.from }
 
     -- all promises of a member, from an older one on
-    promises_from : (me : Member) → IsIn me (made start) → (all : List Promised)
+    promises_from : NobodyStarts start → (me : Member) → IsIn me (made start) → (all : List Promised)
         → ((p : Promised) → IsIn p all → IsIn p (promises_of me layout (events me)))
         → AreRising (map promise_number all) → IsOldest layout.view all
         → AreBehind me (installed_of layout (events me)) all
         → ArePromises ballots me all
-    promises_from me there [] are rising old behind = tt
-    promises_from me there (promise ∷ []) are rising old behind =
+    promises_from nobody me there [] are rising old behind = tt
+    promises_from nobody me there (promise ∷ []) are rising old behind =
         inl (
           subst (IsIn me) (sym (append-nil (members start.shape.nodes)))
-              (made_begins start (nobody_starts start) me there),
+              (made_begins start nobody me there),
           old,
         )
-    promises_from me there (promise ∷ last ∷ older) are rising old behind = (
+    promises_from nobody me there (promise ∷ last ∷ older) are rising old behind = (
       rising.0,
       next_promise me there last.set promise.set promise.adopted (are promise (inl refl))
           (omega (arith, rising.0, not_below layout.view (last ∷ older) rising.1 old last (inl refl))) behind.0,
-      promises_from me there (last ∷ older) (λ p i. are p (inr i)) rising.1 old behind.1,
+      promises_from nobody me there (last ∷ older) (λ p i. are p (inr i)) rising.1 old behind.1,
     )
 
-    promises_are : (me : Member) → ArePromises ballots me (ballots.promises me)
-    promises_are me = by (list_any (is_member me) (made start)) refl
+    promises_are : NobodyStarts start → (me : Member) → ArePromises ballots me (ballots.promises me)
+    promises_are nobody me = by (list_any (is_member me) (made start)) refl
       where
         by : (b : Bool) → list_any (is_member me) (made start) ≡ b
             → ArePromises ballots me (if b then promises_of me layout (events me) else [])
         by true e =
             let there = made_tested start me e in
-            promises_from me there (promises_of me layout (events me)) (λ p i. i)
+            promises_from nobody me there (promises_of me layout (events me)) (λ p i. i)
             (have_risen me layout (events me)).rising (oldest me layout (events me))
             (stand_behind me layout (events me) (orderly_events me (events me) (sound.members me there)))
         by false e = tt
@@ -427,10 +427,10 @@ module _ (start : Start) (logs : ℕ → List HostStep) (is_shape : IsShape star
             (sound.members me (made_tested start me e)).installed
         by false e = tt
 
-    pub sound_orderly : AreOrderly start.shape ballots
-    sound_orderly = record {
+    pub sound_orderly : NobodyStarts start → AreOrderly start.shape ballots
+    sound_orderly nobody = record {
       first_apart = (first_set start.shape.nodes is_shape.nodes_few).apart;
-      promises = promises_are;
+      promises = promises_are nobody;
       proposed = each_from _ ballots.proposed proposal_is;
       grants = grants_are;
       installed = installed_are;

@@ -21,7 +21,7 @@ use Rattle.sig_core.specs.declared.signal.membership.MembershipSignal.TheVariant
 use Rattle.sig_core.specs.declared.signal.Signal.{Signal}
 use Rattle.world_core.proofs.MadeFirst.{begins_made}
 use Rattle.world_core.specs.Hosts.{hosts, member_at, part_by}
-use Rattle.world_core.specs.Start.{Start, made}
+use Rattle.world_core.specs.Start.{NobodyStarts, Start, made}
 use Rattle.world_core.specs.Steps.{HostStep}
 use Rattle.world_views.specs.Hosts.{part_started, started}
 use Rattle.world_views.specs.Machine.{FitsRow, IsOwn, after, comes_rightly, machine}
@@ -96,11 +96,12 @@ module _ (start : Start) where
   part_view Ldm member = refl
 
   -- each host begins in the first view
-  pub started_view : (h : ℕ) → (started start h).standing.view ≡ first_view start.shape.nodes
+  pub started_view : NobodyStarts start → (h : ℕ) → (started start h).standing.view ≡ first_view start.shape.nodes
   unfolding started
-  started_view zero = refl
-  started_view (suc h) =
-      ap (λ s. s.standing.view) (started_behind start h) ∙ part_view (part_by (h % 3)) (member_at (made start) (suc h))
+  started_view nobody zero = refl
+  started_view nobody (suc h) =
+      ap (λ s. s.standing.view) (started_behind start nobody h)
+      ∙ part_view (part_by (h % 3)) (member_at (made start) (suc h))
 
   module _ (is_shape : IsShape start.shape) where
     abbrev layout : Layout
@@ -116,10 +117,10 @@ module _ (start : Start) where
       };
     }
 
-    pub sound_start : AreSoundLogs start (log_of (machine start) [])
-    sound_start = record {
+    pub sound_start : NobodyStarts start → AreSoundLogs start (log_of (machine start) [])
+    sound_start nobody = record {
       views = λ h low.
-          subst (IsGood start (log_of (machine start) [])) (sym (started_view h))
+          subst (IsGood start (log_of (machine start) [])) (sym (started_view nobody h))
           (first_good (log_of (machine start) []));
       members = λ me there. record { taken = tt; installed = (first_good (log_of (machine start) []), tt) };
       asked = tt;
@@ -161,8 +162,9 @@ module _ (start : Start) where
           asks = λ at. asks_more start old new more x x.body (true_before.asks at);
         }
 
-        member_now : (me : Member) → IsIn me (made start) → IsSoundMember start new me (events_in start new me)
-        member_now me there =
+        member_now : NobodyStarts start → (me : Member) → IsIn me (made start)
+            → IsSoundMember start new me (events_in start new me)
+        member_now nobody me there =
             let k = main_of start me in
             let before = member_more start old new more me (events_in start old me) (sound.members me there) in
             event_cases (machine start) e es k
@@ -171,7 +173,8 @@ module _ (start : Start) where
             (λ at past.
             steps_sound start new is_shape me there x true_now.view (true_now.says me there at)
             (events_in start old me) (events_at is_membership k (after start k (old k)) x)
-            (membership_of start me (old k)).known.layout.view past before (member_steps start me (old k) x there))
+            (membership_of start me (old k)).known.layout.view past before
+            (member_steps start nobody me (old k) x there))
             (λ apart past. before) (past_self (events_in start new me))
 
         asked_now : Each (λ x. Asks start new x x.body) (taken_in (events_of is_arbiter start 0 (new 0)))
@@ -197,11 +200,12 @@ module _ (start : Start) where
             once xs asks (inr one) = subst (Each (λ x. Asks start new x x.body)) (sym one.0) (asks, tt)
 
         -- the host of a membership stands in the view that it has installed last
-        main_view : (me : Member) → IsIn me (made start)
+        main_view : NobodyStarts start → (me : Member) → IsIn me (made start)
             → IsGood start new (view_after start (main_of start me) (new (main_of start me)))
-        main_view me there =
-            subst (IsGood start new) (sym (hosts_follow start me (new (main_of start me)) there).view)
-            (each_in (IsGood start new) _ (installed_of layout (events_in start new me)) (member_now me there).installed
+        main_view nobody me there =
+            subst (IsGood start new) (sym (hosts_follow start nobody me (new (main_of start me)) there).view)
+            (each_in (IsGood start new) _ (installed_of layout (events_in start new me))
+            (member_now nobody me there).installed
             (in_installed _ _ (have_risen me layout (events_in start new me)).installed))
 
         -- another one where it stood, or in the view of the signal
@@ -220,21 +224,21 @@ module _ (start : Start) where
             moved (inl same) = subst (IsGood start new) (sym same) before
             moved (inr entered) = subst (IsGood start new) (sym entered.1) true_now.view
 
-        view_now : (k : ℕ) → k < hosts start → IsGood start new (view_after start k (new k))
-        view_now k low = by (host_is start k low)
+        view_now : NobodyStarts start → (k : ℕ) → k < hosts start → IsGood start new (view_after start k (new k))
+        view_now nobody k low = by (host_is start nobody k low)
           where
             by : HostIs start k → IsGood start new (view_after start k (new k))
             by (of_shell at) =
                 subst (λ (k : ℕ). k < hosts start → IsGood start new (view_after start k (new k))) (sym at)
                 (λ low. other_view 0 low (no_membership_in_shell start (old 0))) low
             by (of_main me there at) =
-                subst (λ (k : ℕ). IsGood start new (view_after start k (new k))) (sym at) (main_view me there)
+                subst (λ (k : ℕ). IsGood start new (view_after start k (new k))) (sym at) (main_view nobody me there)
             by (of_other j left at part) =
                 subst (λ (k : ℕ). k < hosts start → IsGood start new (view_after start k (new k))) (sym at)
-                (λ low. other_view (suc j) low (no_membership_beside start j left (old (suc j)) part)) low
+                (λ low. other_view (suc j) low (no_membership_beside start nobody j left (old (suc j)) part)) low
 
-        pub sound_next : AreSoundLogs start new
-        sound_next = record { views = view_now; members = member_now; asked = asked_now }
+        pub sound_next : NobodyStarts start → AreSoundLogs start new
+        sound_next nobody = record { views = view_now nobody; members = member_now nobody; asked = asked_now }
 
         -- and the view of the signal that was taken is good
         pub true_view : IsGood start new x.view

@@ -20,7 +20,7 @@ use Rattle.arbiter_block.specs.Arbiter.{ArbiterState, arbit_if, arbit_row, arbit
 use Rattle.arbiter_block.specs.Laws.{granted_at}
 use Rattle.qmgr_block.specs.Laws.{Event, takes}
 use Rattle.world_core.specs.Hosts.{hosts, member_at}
-use Rattle.world_core.specs.Start.{Start, made}
+use Rattle.world_core.specs.Start.{NobodyStarts, Start, made}
 use Rattle.world_core.specs.Steps.{Addressed, HostStep}
 use Rattle.world_views.specs.Hosts.{reached}
 use Rattle.world_views.specs.Machine.{after, signals_of, step_after}
@@ -129,7 +129,8 @@ module _ (start : Start) (logs : ℕ → List HostStep) (is_shape : IsShape star
         by false e = plain_sent sent z e
 
   -- What a membership sends.
-  module _ (w : Member) (made_w : IsIn w (made start)) (log : List HostStep) (e : HostStep)
+  module _ (nobody : NobodyStarts start) (w : Member) (made_w : IsIn w (made start)) (log : List HostStep)
+      (e : HostStep)
       (same : logs (main_of start w) ≡ e ∷ log) (low : main_of start w < hosts start)
     where
       abbrev k : ℕ
@@ -157,15 +158,15 @@ module _ (start : Start) (logs : ℕ → List HostStep) (is_shape : IsShape star
           proposed_there p is = in_past p (proposed_past w layout past) is
 
           own_made : IsIn (member_at (made start) k) (made start)
-          own_made = subst (λ m. IsIn m (made start)) (sym (member_main start w made_w)) made_w
+          own_made = subst (λ m. IsIn m (made start)) (sym (member_main start nobody w made_w)) made_w
 
           -- it comes to the member of the node that it is for
           node_is : (me : Member) → IsIn me (made start)
               → reached (made start) k (view k low log e same) sent.to ≡ main_of start me
               → sent.to ≡ membership sent.to.node → sent.to.node ≡ me.node
           node_is me made_me at to =
-              reaches start k (view k low log e same) sent.to.node me made_me
-              (known_is start k (omega (arith, main_is start w made_w)) own_made (view k low log e same)
+              reaches start nobody k (view k low log e same) sent.to.node me made_me
+              (known_is start k (omega (arith, main_is start nobody w made_w)) own_made (view k low log e same)
               (all_made start (view k low log e same) (view_good k low log e same).of) sent.to.node)
               (subst (λ to. reached (made start) k (view k low log e same) to ≡ main_of start me) to at)
 
@@ -176,7 +177,7 @@ module _ (start : Start) (logs : ℕ → List HostStep) (is_shape : IsShape star
               let own = own_proposal start logs is_shape w (takes x ∷ older) sound_w request.proposal request.there in
               let of : IsOfMade start set = subst (IsOfMade start) request.is own.of in
               let one : request.member ≡ me =
-              made_same start request.member me (all_made start set of request.member request.of) made_me
+              made_same start nobody request.member me (all_made start set of request.member request.of) made_me
               (request.node_is ∙ is) in (
                 of.set,
                 subst (λ (m : Member). IsIn m (all_of set)) one request.of,
@@ -202,7 +203,7 @@ module _ (start : Start) (logs : ℕ → List HostStep) (is_shape : IsShape star
               by : IsProposedBy start logs answer.request.member answer.set → IsHeard start logs me z.member number
               by proposed =
                   let one : answer.request.member ≡ me =
-                  made_same start answer.request.member me proposed.made made_me (answer.by ∙ is) in
+                  made_same start nobody answer.request.member me proposed.made made_me (answer.by ∙ is) in
                   record {
                     proposal = proposed.proposal;
                     there =
@@ -295,15 +296,16 @@ module _ (start : Start) (logs : ℕ → List HostStep) (is_shape : IsShape star
       main_sends =
           each_sound k low log e same (λ sent there z by_k.
           if_vote k low log e same sent z (λ vote.
-          main_vote sent z (by_k ∙ member_main start w made_w)
+          main_vote sent z (by_k ∙ member_main start nobody w made_w)
           (each_in
           (λ (sent : Outgoing). is_vote sent.body ≡ true
           → IsSentAmong w layout (events_at is_membership k (after start k log) e.step.taken)
           (events_of is_membership start k log) sent)
-          sent _ (memberships_vote hosts_follow start w log e made_w) there vote)))
+          sent _ (memberships_vote hosts_follow start nobody w log e made_w) there vote)))
 
   -- What the arbitrator sends.
-  module _ (log : List HostStep) (e : HostStep) (same : logs 0 ≡ e ∷ log) (low : 0 < hosts start) where
+  module _ (nobody : NobodyStarts start) (log : List HostStep) (e : HostStep) (same : logs 0 ≡ e ∷ log)
+      (low : 0 < hosts start) where
     abbrev before : List Signal
     before = taken_in (events_of is_arbiter start 0 log)
 
@@ -328,7 +330,7 @@ module _ (start : Start) (logs : ℕ → List HostStep) (is_shape : IsShape star
           (arbiter_some start logs is_shape sound before asked_all.1) one.granted in
           let question : IsQuestion start logs x.member one.number one.group one.joins =
           subst (λ (body : Body). Asks start logs x body) one.asks asked_all.0 some in
-          let same_member : x.member ≡ me = made_same start x.member me question.made made_me node in
+          let same_member : x.member ≡ me = made_same start nobody x.member me question.made made_me node in
           record {
             grant = record { number = one.number; members = one.group; joining = one.joins };
             granted =
@@ -354,7 +356,8 @@ module _ (start : Start) (logs : ℕ → List HostStep) (is_shape : IsShape star
           (record {
             says = λ me made_me at.
                 grant_says sent me made_me one
-                (reaches start 0 (view 0 low log e same) x.member.node me made_me (latest_is start x.member.node) at);
+                (reaches start nobody 0 (view 0 low log e same) x.member.node me made_me (latest_is start x.member.node)
+                at);
             asks = λ at. tt;
           })
 
@@ -387,18 +390,19 @@ module _ (start : Start) (logs : ℕ → List HostStep) (is_shape : IsShape star
       (others_dont_vote start k log e no_membership no_arbiter) there))
 
   -- So all that a host sends in its newest step is true.
-  pub host_sends : (k : ℕ) → k < hosts start → (log : List HostStep) (e : HostStep) → logs k ≡ e ∷ log
+  pub host_sends : NobodyStarts start → (k : ℕ) → k < hosts start → (log : List HostStep) (e : HostStep)
+      → logs k ≡ e ∷ log
       → Each (IsSoundSignal start logs) (signals_of start k log e)
-  host_sends k low log e same = by (host_is start k low)
+  host_sends nobody k low log e same = by (host_is start nobody k low)
     where
       Sends : ℕ → Type 0
       Sends = λ k. (low : k < hosts start) → logs k ≡ e ∷ log
           → Each (IsSoundSignal start logs) (signals_of start k log e)
 
       by : HostIs start k → Each (IsSoundSignal start logs) (signals_of start k log e)
-      by (of_shell at) = subst Sends (sym at) (λ low same. shell_sends log e same low) low same
-      by (of_main w there at) = subst Sends (sym at) (λ low same. main_sends w there log e same low) low same
+      by (of_shell at) = subst Sends (sym at) (λ low same. shell_sends nobody log e same low) low same
+      by (of_main w there at) = subst Sends (sym at) (λ low same. main_sends nobody w there log e same low) low same
       by (of_other j left at part) =
           subst Sends (sym at) (λ low same.
-          other_sends (suc j) low log e same (no_membership_beside start j left log part)
-          (no_arbiter_behind start (suc j) log (omega arith))) low same
+          other_sends (suc j) low log e same (no_membership_beside start nobody j left log part)
+          (no_arbiter_behind start nobody (suc j) log (omega arith))) low same

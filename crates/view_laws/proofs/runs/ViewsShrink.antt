@@ -28,7 +28,7 @@ none_starting start logs is_shape sound set (inr won) =
 pub views_shrink : ViewsOnlyShrink
 views_shrink start logs are one other was was_too less =
     let sound = logs_sound start logs are in
-    chosen_shrink start.shape are.shape (ballots_of start logs) (sound_orderly start logs are.shape sound)
+    chosen_shrink start.shape are.shape (ballots_of start logs) (sound_orderly start logs are.shape sound are.nobody)
     (none_starting start logs are.shape sound) one other
     (installed_chosen have_orderly start logs are one was)
     (installed_chosen have_orderly start logs are other was_too) less

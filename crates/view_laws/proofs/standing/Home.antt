@@ -23,11 +23,11 @@ use Rattle.node_views.specs.declared.host_body.HostBody as hosts
 use Rattle.node_views.specs.Row.{is_excluded, killed_after, standing_at}
 use Rattle.node_views.specs.WellFormed.{is_well_formed}
 use Rattle.qmgr_block.specs.Laws.{Event}
-use Rattle.world_core.proofs.MadeFirst.{begins_made, hosts_first, made_begins, nobody_starts}
+use Rattle.world_core.proofs.MadeFirst.{begins_made, hosts_first, made_begins}
 use Rattle.world_core.proofs.HostNumbers.{made_at}
 use Rattle.world_core.specs.Hosts.{member_at, part_by}
 use Rattle.world_core.specs.Hosts as world
-use Rattle.world_core.specs.Start.{Start, made}
+use Rattle.world_core.specs.Start.{NobodyStarts, Start, made}
 use Rattle.world_core.specs.Steps.{HostStep}
 use Rattle.world_views.specs.Hosts.{part_started, started}
 use Rattle.world_views.specs.Machine.{after, own_stop, step_by, told}
@@ -172,16 +172,16 @@ module _ (me : Member) (shape : Shape) where
     header_has h s x home above some = by_has s x (own_stop h x) home above some
 
 -- so it is with the hosts of members that were made, as they begin and along their logs
-module _ (start : Start) where
+module _ (start : Start) (none_starts : NobodyStarts start) where
   pub host_made : (h : ℕ) → 1 ≤ h → h < world.hosts start → IsIn (member_at (made start) h) (made start)
   host_made zero some low = absurd (omega (arith, some))
   host_made (suc k) some low =
-      let few : k / 3 < start.shape.nodes = omega (arith, low, hosts_first start (nobody_starts start)) in
+      let few : k / 3 < start.shape.nodes = omega (arith, low, hosts_first start none_starts) in
       subst (λ (m : Member). IsIn m (made start)) (sym (made_at start (k / 3) nobody few))
       (begins_made start _ (first_in start.shape.nodes (k / 3 + 1) (omega arith) (omega (arith, few))))
 
   begins : (me : Member) → IsIn me (made start) → IsIn me (members start.shape.nodes)
-  begins me there = made_begins start (nobody_starts start) me there
+  begins me there = made_begins start none_starts me there
 
   first_member : (me : Member) → IsIn me (made start) → is_member (first_view start.shape.nodes) me ≡ true
   unfolding is_member
@@ -197,7 +197,7 @@ module _ (start : Start) where
   started_home zero some low = absurd (omega (arith, some))
   started_home (suc k) some low =
       let me = member_at (made start) (suc k) in
-      subst (IsHome me start.shape) (sym (started_behind start k))
+      subst (IsHome me start.shape) (sym (started_behind start none_starts k))
       (part_home (part_by (k % 3)) me (host_made (suc k) some low))
 
   pub host_home : (h : ℕ) → 1 ≤ h → h < world.hosts start → (log : List HostStep)
@@ -218,5 +218,5 @@ module _ (start : Start) where
   started_of zero some low = absurd (omega (arith, some))
   started_of (suc k) some low =
       let me = member_at (made start) (suc k) in
-      subst (λ (s : hosts.HostBody). IsIn me (all_of s.standing.view)) (sym (started_behind start k))
+      subst (λ (s : hosts.HostBody). IsIn me (all_of s.standing.view)) (sym (started_behind start none_starts k))
       (part_of (part_by (k % 3)) me (host_made (suc k) some low))

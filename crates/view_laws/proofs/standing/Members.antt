@@ -115,12 +115,13 @@ module _ (start : Start) (logs : ℕ → List HostStep) (are : AreOfCluster star
       let x = e.step.taken in
       let old = events_of is_membership start h log in
       let new = events_at is_membership h s x in
-      let before = (hosts_follow start me log there).view in
+      let before = (hosts_follow start are.nobody me log there).view in
       let home =
-      subst (λ (m : Member). IsHome m start.shape s) (member_main start me there)
-      (host_home start h some low log) in
-      subst (λ (v : View). IsIn me (all_of v)) (sym (hosts_follow start me (e ∷ log) there).view)
-      (steps_of me there x old new (events_past is_membership start h past) (member_steps start me log x there)
+      subst (λ (m : Member). IsHome m start.shape s) (member_main start are.nobody me there)
+      (host_home start are.nobody h some low log) in
+      subst (λ (v : View). IsIn me (all_of v)) (sym (hosts_follow start are.nobody me (e ∷ log) there).view)
+      (steps_of me there x old new (events_past is_membership start h past)
+      (member_steps start are.nobody me log x there)
       (λ above some.
       header_has me start.shape is_membership h s x home
       (subst (λ (v : View). v.number < x.view.number) (sym before) above) some)
@@ -145,7 +146,7 @@ module _ (start : Start) (logs : ℕ → List HostStep) (are : AreOfCluster star
       by (inl same) = subst (λ (v : View). IsIn me (all_of v)) (sym same) of
       by (inr entered) =
           subst (λ (v : View). IsIn me (all_of v)) (sym entered.1)
-          (header_has me start.shape is_membership h s x (host_home start h some low log) entered.0 happens)
+          (header_has me start.shape is_membership h s x (host_home start are.nobody h some low log) entered.0 happens)
         where
           goes : view_after start h (e ∷ log)
               ≡ along to_view (view_after start h log) (events_at is_membership h s x)
@@ -160,12 +161,13 @@ module _ (start : Start) (logs : ℕ → List HostStep) (are : AreOfCluster star
 
   host_next : (h : ℕ) → 1 ≤ h → h < hosts start → (log : List HostStep) (e : HostStep) → IsPast (e ∷ log) (logs h)
       → IsOfView h log → IsOfView h (e ∷ log)
-  host_next h some low log e past of = by (host_is start h low)
+  host_next h some low log e past of = by (host_is start are.nobody h low)
     where
       by : HostIs start h → IsOfView h (e ∷ log)
       by (of_shell at) = absurd (omega (arith, some, at))
       by (of_main me there at) =
-          let own : member_at (made start) h ≡ me = ap (member_at (made start)) at ∙ member_main start me there in
+          let own : member_at (made start) h ≡ me =
+          ap (member_at (made start)) at ∙ member_main start are.nobody me there in
           subst (λ (m : Member). IsIn m (all_of (view_after start h (e ∷ log)))) (sym own)
           (subst (λ (h : ℕ). 1 ≤ h → h < hosts start → IsPast (e ∷ log) (logs h)
           → IsIn me (all_of (view_after start h log)) → IsIn me (all_of (view_after start h (e ∷ log)))) (sym at)
@@ -174,11 +176,11 @@ module _ (start : Start) (logs : ℕ → List HostStep) (are : AreOfCluster star
       by (of_other k left at part) =
           other_next h some low log e
           (subst (λ (h : ℕ). membership_in (after start h log).parts ≡ None) (sym at)
-          (no_membership_beside start k left log part))
+          (no_membership_beside start are.nobody k left log part))
           of
 
   host_of_view : (h : ℕ) → 1 ≤ h → h < hosts start → (log : List HostStep) → IsPast log (logs h) → IsOfView h log
-  host_of_view h some low [] past = started_of start h some low
+  host_of_view h some low [] past = started_of start are.nobody h some low
   host_of_view h some low (e ∷ log) past =
       host_next h some low log e past (host_of_view h some low log (past_less e past))
 

@@ -10,7 +10,7 @@ use Rattle.sig_core.specs.declared.signal.Signal.{Signal}
 use Rattle.sig_core.specs.declared.view.View.{View}
 use Rattle.qmgr_block.specs.Laws.{Event, installs, takes}
 use Rattle.world_core.specs.Hosts.{hosts}
-use Rattle.world_core.specs.Start.{Start, made}
+use Rattle.world_core.specs.Start.{NobodyStarts, Start, made}
 use Rattle.world_core.specs.Steps.{HostStep}
 use Rattle.world_views.specs.Machine.{after}
 use Rattle.view_laws.specs.HostEvents.{events_at, events_of, is_membership}
@@ -68,7 +68,7 @@ module _ (me : Member) (layout : Layout) (x : Signal) where
       (omega (arith, same, rises, up))
 
 -- in a step of any host
-module _ (start : Start) where
+module _ (start : Start) (nobody : NobodyStarts start) where
   abbrev number_after : ℕ → List HostStep → ℕ
   number_after h log = (view_after start h log).number
 
@@ -80,11 +80,11 @@ module _ (start : Start) where
       let old = events_of is_membership start h log in
       let new = events_at is_membership h (after start h log) e.step.taken in
       let before : number_after h log ≡ number_of me layout e.step.taken old =
-      ap (λ (v : View). v.number) (hosts_follow start me log there).view in
+      ap (λ (v : View). v.number) (hosts_follow start nobody me log there).view in
       let behind : number_after h (e ∷ log) ≡ number_of me layout e.step.taken (new ++ old) =
-      ap (λ (v : View). v.number) (hosts_follow start me (e ∷ log) there).view in
+      ap (λ (v : View). v.number) (hosts_follow start nobody me (e ∷ log) there).view in
       let rises : number_of me layout e.step.taken old ≤ number_of me layout e.step.taken (new ++ old) =
-      steps_rise me layout e.step.taken old new (member_steps start me log e.step.taken there) in
+      steps_rise me layout e.step.taken old new (member_steps start nobody me log e.step.taken there) in
       omega (arith, before, behind, rises)
 
   other_rises : (h : ℕ) (log : List HostStep) (e : HostStep) → membership_in (after start h log).parts ≡ None
@@ -105,7 +105,7 @@ module _ (start : Start) where
 
   host_rises : (h : ℕ) → h < hosts start → (log : List HostStep) (e : HostStep)
       → number_after h log ≤ number_after h (e ∷ log)
-  host_rises h low log e = by (host_is start h low)
+  host_rises h low log e = by (host_is start nobody h low)
     where
       by : HostIs start h → number_after h log ≤ number_after h (e ∷ log)
       by (of_shell at) =
@@ -115,7 +115,7 @@ module _ (start : Start) where
           subst (λ (h : ℕ). number_after h log ≤ number_after h (e ∷ log)) (sym at) (main_rises me there log e)
       by (of_other k left at part) =
           subst (λ (h : ℕ). number_after h log ≤ number_after h (e ∷ log)) (sym at)
-          (other_rises (suc k) log e (no_membership_beside start k left log part))
+          (other_rises (suc k) log e (no_membership_beside start nobody k left log part))
 
   pub log_rises : (h : ℕ) → h < hosts start → (newer older : List HostStep)
       → number_after h older ≤ number_after h (newer ++ older)
@@ -129,4 +129,4 @@ module _ (start : Start) where
 pub never_fall : NumbersNeverFall
 never_fall start logs are h low older newer past among =
     subst (λ (log : List HostStep). (view_after start h older).number ≤ (view_after start h log).number) (sym past.is)
-    (log_rises start h low past.newer older)
+    (log_rises start are.nobody h low past.newer older)

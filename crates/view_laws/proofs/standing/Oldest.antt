@@ -156,11 +156,11 @@ module _ (start : Start) (logs : ℕ → List HostStep) (are : AreOfCluster star
 
     pub main_right : Right (view_after start (main_of start me) (e ∷ log))
     main_right =
-        subst Right (sym (hosts_follow start me (e ∷ log) there).view)
-        (events_right (member_steps start me log e.step.taken there))
+        subst Right (sym (hosts_follow start are.nobody me (e ∷ log) there).view)
+        (events_right (member_steps start are.nobody me log e.step.taken there))
 
 pub views_come_rightly : ViewsComeRightly
-views_come_rightly start logs are h low log e past = by (host_is start h low)
+views_come_rightly start logs are h low log e past = by (host_is start are.nobody h low)
   where
     Comes : ℕ → Type 0
     Comes k =
@@ -184,7 +184,7 @@ views_come_rightly start logs are h low log e past = by (host_is start h low)
       where
         of : Right start logs are me there log e inside (view_after start (main_of start me) (e ∷ log))
             → Comes (main_of start me)
-        of (inl same) = inl (same ∙ sym (hosts_follow start me log there).view)
+        of (inl same) = inl (same ∙ sym (hosts_follow start are.nobody me log there).view)
         of (inr (inl entered)) = inr (inl entered)
         of (inr (inr old)) = inr (inr (λ one in_made is. ap (main_of start) (old one is)))
 
@@ -192,4 +192,5 @@ views_come_rightly start logs are h low log e past = by (host_is start h low)
     by (of_shell at) = subst Comes (sym at) (other 0 (no_membership_in_shell start log))
     by (of_main me there at) =
         subst Comes (sym at) (main me there (subst (λ k. IsPast (e ∷ log) (logs k)) at past))
-    by (of_other j left at part) = subst Comes (sym at) (other (suc j) (no_membership_beside start j left log part))
+    by (of_other j left at part) =
+        subst Comes (sym at) (other (suc j) (no_membership_beside start are.nobody j left log part))

@@ -19,7 +19,7 @@ use Rattle.node_views.specs.Parts.{main_row}
 use Rattle.qmgr_block.specs.Laws.{Event, installs, takes}
 use Rattle.qmgr_block.specs.Qmgr.{qmgr_installed, qmgr_row}
 use Rattle.qmgr_block.specs.State.{QmgrState}
-use Rattle.world_core.specs.Start.{Start, made}
+use Rattle.world_core.specs.Start.{NobodyStarts, Start, made}
 use Rattle.world_core.specs.Steps.{HostStep}
 use Rattle.world_views.specs.Machine.{after, step_after}
 use Rattle.view_laws.specs.HostEvents.{events_at, events_of, is_membership, taking}
@@ -106,26 +106,27 @@ module _ (member : Member) (layout : Layout) (old : List Event) (x : Signal) whe
 -- where hosts follow their events
 abbrev pub MembershipsTell : Type 0
 MembershipsTell =
-    (start : Start) (member : Member) (log : List HostStep) (e : HostStep) → IsIn member (made start)
+    (start : Start) → NobodyStarts start → (member : Member) (log : List HostStep) (e : HostStep)
+    → IsIn member (made start)
     → Each (λ sent. is_told sent.body ≡ true → IsSentAmong member (first_layout start.shape)
     (events_at is_membership (main_of start member) (after start (main_of start member) log) e.step.taken)
     (events_of is_membership start (main_of start member) log) sent)
     (step_after start (main_of start member) log e).effects.sends
 
 pub memberships_tell : HostsFollowTheirEvents → MembershipsTell
-memberships_tell follow start member log e there =
+memberships_tell follow start nobody member log e there =
     let h = main_of start member in
     let s = after start h log in
     let x = e.step.taken in
     let old = events_of is_membership start h log in
     let layout = first_layout start.shape in
-    let is : membership_in s.parts ≡ Some (state_of member layout old) = (follow start member log there).state in
+    let is : membership_in s.parts ≡ Some (state_of member layout old) = (follow start nobody member log there).state in
     step_said is_membership x (SaysMember member layout old x) s (front_said member layout old x s.parts is)
     (behind_said member layout old x (parts_entered s.parts x.view).state x.view
     (entered_in s.parts (state_of member layout old) x.view is))
     h
 
 pub memberships_vote : HostsFollowTheirEvents → MembershipsVote
-memberships_vote follow start member log e there =
+memberships_vote follow start nobody member log e there =
     each_map _ _ (step_after start (main_of start member) log e).effects.sends
-    (λ sent tells vote. tells (vote_told sent.body vote)) (memberships_tell follow start member log e there)
+    (λ sent tells vote. tells (vote_told sent.body vote)) (memberships_tell follow start nobody member log e there)

@@ -11,4 +11,4 @@ returns c =
     c.eq.ensures
     ∙ ap₂ (pointwise is_lent_same) c.as_slice.ensures.value c.as_slice-2.ensures.value
     ∙ lent_same ones others
-    ∙ ap₂ (pointwise is_same_row) c.in_ok-ones.ensures c.in_ok-others.ensures
+    ∙ ap₂ (pointwise is_same_row) c.in_ok-ones.ensures.rows c.in_ok-others.ensures.rows

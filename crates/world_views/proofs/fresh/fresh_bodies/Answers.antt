@@ -35,7 +35,8 @@ loop-before-preserved c =
       done = pushed
           ∙ ap (λ xs. xs ++ next ∷ []) c.loop-before.invariant.done
           ∙ ap (λ host. for_each (k + 1) (started start) ++ host ∷ [])
-          (part_begins start k c.args.there.now c.first-layout.result c.part_by-part.result c.member_at-member.result
+          (part_begins start refl k c.args.there.now c.first-layout.result c.part_by-part.result
+          c.member_at-member.result
           next
           (c.requires.there ∙ sym (made_first start refl)) c.first-layout.ensures c.part_by-part.ensures
           c.member_at-member.ensures

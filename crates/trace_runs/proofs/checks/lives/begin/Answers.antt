@@ -1,8 +1,0 @@
-use Rattle.world_views.specs.WorldOf.{whole_of}
-use Rattle.trace_runs.proofs.Stays.{asked_ok}
-use Rattle.trace_runs.proofs.checks.lives.begin.Goals as goal
-
-pub returns : goal.returns
-returns c =
-    asked_ok c.ask.result c.args.request (whole_of c.args.world.now) (whole_of c.ask.new.self) c.requires
-    c.ask.ensures.ok

@@ -1,7 +1,0 @@
-use Rattle.world_views.specs.WorldOf.{whole_of}
-use Rattle.trace_runs.proofs.Stays.{driven_ok}
-use Rattle.trace_runs.proofs.checks.lives.drive.Goals as goal
-
-pub returns : goal.returns
-returns g c =
-    driven_ok c.drive.result (whole_of c.args.world.now) (whole_of c.drive.new.self) c.drive.ensures.driven c.requires
