@@ -1,8 +1,9 @@
 -- What the client's side does at each signal: what holds of each form of its steps holds of each of its steps.
 use Rattle.std.proofs.Common.{◌≡◌, ◌==◌, ◌&&◌, ◌||◌, ◌++◌, ℕ, Bool, true, false, [], ◌∷◌, refl, sym, ap, ◌∙◌}
-use Rattle.std.specs.Prelude.{Option, None, Some, if◌then◌else◌, is_some, not}
+use Rattle.std.specs.Prelude.{Option, None, Some, if◌then◌else◌, is_some, nat_lt, not}
 use Rattle.run_theory.specs.Counts.{tally}
 use Rattle.run_theory.proofs.Focus.{IsFocus}
+use Rattle.sig_core.specs.declared.member.Member.{Member}
 use Rattle.sig_core.specs.declared.member.TxId.{TxId}
 use Rattle.sig_core.specs.declared.op.Op.{Op}
 use Rattle.sig_core.specs.declared.outcome.AbortCause.TheVariants.{NodeFail}
@@ -16,7 +17,7 @@ use Rattle.sig_core.specs.declared.reply.Waiting.{Waiting}
 use Rattle.sig_core.specs.declared.request.ApiReq.{ApiReq}
 use Rattle.sig_core.specs.declared.request.ApiReq.TheVariants as request
 use Rattle.sig_core.specs.declared.signal.Body.{Body}
-use Rattle.sig_core.specs.declared.signal.Body.TheVariants.{Host, Client, Epoch, Checkpoint}
+use Rattle.sig_core.specs.declared.signal.Body.TheVariants.{Host, Client, Epoch, Checkpoint, Joining}
 use Rattle.sig_core.specs.declared.signal.Signal.{Signal}
 use Rattle.sig_core.specs.declared.signal.checkpoint.CheckpointSignal.TheVariants.{LcpRep}
 use Rattle.sig_core.specs.declared.signal.client.ClientSignal.TheVariants.{NfCompleteRep, TcBeginConf, TcCommitConf}
@@ -26,6 +27,7 @@ use Rattle.sig_core.specs.declared.signal.epoch.EpochSignal.TheVariants.{GcpRep,
 use Rattle.sig_core.specs.declared.signal.host.HostSignal.TheVariants.{Closed, Continue, Kill}
 use Rattle.sig_core.specs.declared.signal.host.Work.{Work}
 use Rattle.sig_core.specs.declared.signal.host.Work.TheVariants.{Report, Request}
+use Rattle.sig_core.specs.declared.signal.joining.JoiningSignal.TheVariants.{DrainWait, StartEnd, StartRep}
 use Rattle.sig_core.specs.declared.view.View.{View}
 use Rattle.sig_core.specs.Place.{membership}
 use Rattle.sig_core.specs.Step.{Step, sending, sends_only, stay}
@@ -40,6 +42,7 @@ use Rattle.api_block.proofs.WhereFound.{where_found, where_own}
 use Rattle.api_views.specs.declared.closings.Closing.{Closing}
 use Rattle.api_views.specs.declared.closings.Closing.TheVariants.{Gcp, Micro, Lcp}
 use Rattle.api_views.specs.declared.reports.Verdict.TheVariants.{NeverBegins}
+use Rattle.api_views.specs.declared.starts.Starting.{Starting}
 use Rattle.api_views.specs.Client.{asked_row, client_row, client_table, command_if, command_row, gone_row, is_known}
 use Rattle.api_views.specs.Client.{up_row, vouched_table, work_table}
 use Rattle.api_views.specs.Closings.{anew, asked_if, asking, closed_if, closed_row, closing_row, is_asked, view_row}
@@ -47,14 +50,19 @@ use Rattle.api_views.specs.Commands.{begin_if, begin_row, cut_body, cut_by, cut_
 use Rattle.api_views.specs.Commands.{lone_row, lowest, node_for, on_api, rows_if, rows_row, serves, show_row, to_hosts}
 use Rattle.api_views.specs.Commands.{with_cut}
 use Rattle.api_views.specs.Laws.{is_vouched}
-use Rattle.api_views.specs.Members.{first_start, is_member, noted}
-use Rattle.api_views.specs.Pending.{client_pending_row, closing_left, obstacle, obstructed, obstructed_by, waits_by}
-use Rattle.api_views.specs.Pending.{waits_if}
-use Rattle.api_views.specs.Reports.{begun_verdict, broken_by, complete_row, coordinator_member, down_outcome}
+use Rattle.api_views.specs.Members.{is_member, noted}
+use Rattle.api_views.specs.Pending.{client_pending_row, held_by, obstacle, obstructed, obstructed_by, own_behind}
+use Rattle.api_views.specs.Pending.{own_left, waits_by, waits_if}
+use Rattle.api_views.specs.Reports.{begun_verdict, broken_by, complete_row, coordinator_member, current_by, current_if}
+use Rattle.api_views.specs.Reports.{down_outcome}
 use Rattle.api_views.specs.Reports.{dump_breaks, ended_by, failed_by, failed_if, going_on, greater_of, is_due}
 use Rattle.api_views.specs.Reports.{report_row, stop_row}
 use Rattle.api_views.specs.Reports.{stop_told_if, told_if, unasked_if, unbegun_if, verdict, verdict_by, with_stop}
 use Rattle.api_views.specs.Rounds.{all_rounds, round_effects, tick_row, ticked_if}
+use Rattle.api_views.specs.Starting.{begun_start, drain_row, is_waiting, start_anew, start_by, start_is_gone, start_over}
+use Rattle.api_views.specs.Starting.{start_over_by, start_refusal, start_row, started_if, started_row, stopped_if}
+use Rattle.api_views.specs.Starting.{unjoined_row, with_behind}
+use Rattle.api_views.specs.Starts.{latest_member, next_start}
 use Rattle.api_views.specs.State.{ClientState, aside, left, telling, turned_down, with_api, within}
 use Rattle.api_views.specs.Stops.{is_down, is_sibling, is_told, runs, stop_of, tc_stopped}
 
@@ -93,7 +101,7 @@ pub record ClientOutcomes (s : ClientState) (x : Signal) (R : Step ClientState �
   pub cuts : (one other : ℕ) → IsAsked x (request.Cut one other)
       → R (record {
         state = telling (with_cut (left s) one other) (reply.Cut one other);
-        effects = sends_only (to_hosts one (cut_body other));
+        effects = sends_only (to_hosts one (cut_body s other));
       })
   pub ticks : (round of : ℕ) (last : Bool) → IsAsked x (request.Tick round of) → (round == of) ≡ last
       → R (rounds_from (ticked_if s of last))
@@ -108,9 +116,24 @@ pub record ClientOutcomes (s : ClientState) (x : Signal) (R : Step ClientState �
       })
   pub closed : (closing : Closing) (epoch : ℕ) → is_asked closing s.closing ≡ true
       → R (stay (closed_if s closing epoch true))
-  pub asks_anew : x.body ≡ Client ViewRep → R (record { state = s; effects = sends_only (anew s.closing x.view) })
+  pub asks_anew : x.body ≡ Client ViewRep
+      → R (record {
+        state = with_behind s None;
+        effects = sends_only (anew s.closing x.view ++ start_anew (start_is_gone s) s.starting x.view);
+      })
+  -- starts
+  pub starts : (node : ℕ) (own : Option ℕ) → IsAsked x (request.Start node own) → start_refusal s node ≡ None
+      → R (begun_start s (next_start s node) own)
+  pub started : (member : Member) → x.body ≡ Joining (StartRep member) → is_waiting s member ≡ true
+      → R (stay (started_if s member true))
+  pub unjoins : (member : Member) → x.body ≡ Joining (StartEnd member) → is_waiting s member ≡ true
+      → R (stopped_if s member true)
+  pub drains : (tx : TxId) → x.body ≡ Joining (DrainWait tx) → R (stay (with_behind s (Some tx)))
+  pub holds : (tx : TxId) → IsAsked x request.Pending → own_behind s ≡ Some tx → R (held_by s (Some tx))
   -- what gets no answer any more
   pub breaks : (node : ℕ) → dump_node s.api ≡ Some node → R (going_on (stay (broken_by s (Some node))))
+  pub ends_start : (starting : Starting) → s.starting ≡ Some starting → start_is_gone s ≡ true
+      → R (going_on (start_over s starting.member))
   pub never_begins : (at : ℕ) (f : IsFocus (is_due s) s.api.opened at) → f.item.tx ≡ None
       → R (going_on (stay (with_api s (over s.api at (reply.Refused f.item.name (refusal.NoMember f.item.node))))))
   pub goes_down : (at : ℕ) (f : IsFocus (is_due s) s.api.opened at) (tx : TxId) → f.item.tx ≡ Some tx
@@ -118,6 +141,7 @@ pub record ClientOutcomes (s : ClientState) (x : Signal) (R : Step ClientState �
       → R (going_on (within s (ending s.api tx (down_outcome f.item.doing) [] at f.item.name)))
   pub fails : (at : ℕ) (f : IsFocus (is_due s) s.api.opened at) (tx : TxId) (view : View) → f.item.tx ≡ Some tx
       → s.taken_over ≡ Some view → is_member view (coordinator_member tx) ≡ false
+      → nat_lt view.number s.api.view.number ≡ false
       → R (going_on (within s (ending s.api tx (Aborted (NodeFail view.number)) [] at f.item.name)))
   pub rests_on : R (going_on (stay s))
   -- stops and takeovers
@@ -200,6 +224,14 @@ module _ (s : ClientState) (x : Signal) (R : Step ClientState → Type 0) (forms
       by (Some other) e = forms.turns_down _ _ _ is
       by None e = forms.closes closing e
 
+  start_goes : (node : ℕ) (own : Option ℕ) → IsAsked x (request.Start node own) → R (start_row s node own)
+  unfolding start_row
+  start_goes node own is = by (start_refusal s node) refl
+    where
+      by : (o : Option Refusal) → start_refusal s node ≡ o → R (start_by s node own o)
+      by None e = forms.starts node own is e
+      by (Some why) e = forms.turns_down _ _ _ is
+
   up_goes : (r : ApiReq) → IsAsked x r → R (up_row s r)
   unfolding show_row
   up_goes (request.Begin name at) is = begins_goes name at is
@@ -212,6 +244,7 @@ module _ (s : ClientState) (x : Signal) (R : Step ClientState → Type 0) (forms
   up_goes request.Gcp is = closing_goes Gcp request.Gcp is
   up_goes request.Micro is = closing_goes Micro request.Micro is
   up_goes request.Lcp is = closing_goes Lcp request.Lcp is
+  up_goes (request.Start node own) is = start_goes node own is
   up_goes request.View is = forms.shows is
   up_goes request.Restart is = forms.turns_down _ _ _ is
   up_goes r is = takes_goes r is
@@ -237,15 +270,19 @@ module _ (s : ClientState) (x : Signal) (R : Step ClientState → Type 0) (forms
 
   pending_goes : IsAsked x request.Pending → R (client_pending_row s)
   unfolding client_pending_row
-  pending_goes is = by (closing_left s)
+  pending_goes is = by (own_left s)
     where
+      held : (o : Option TxId) → own_behind s ≡ o → R (held_by s o)
+      held None e = obstructed_goes is None
+      held (Some tx) e = forms.holds tx is e
+
       waits : (name : Option ℕ) (b : Bool) (ahead : Option TxId) → R (waits_by s name b ahead)
       waits name true None = obstructed_goes is name
       waits name true (Some ahead) = looks_goes request.Pending is
       waits name false ahead = looks_goes request.Pending is
 
       by : (b : Bool) → R (waits_if s b)
-      by true = obstructed_goes is None
+      by true = held (own_behind s) refl
       by false =
           where_own s.api.opened (stay s) (λ at t. waits_by s t.name (is_unanswered t.doing) t.ahead) s.api.own R
           forms.rests (λ p at f. waits f.item.name (is_unanswered f.item.doing) f.item.ahead)
@@ -255,7 +292,6 @@ module _ (s : ClientState) (x : Signal) (R : Step ClientState → Type 0) (forms
   asked_goes request.Waits is = looks_goes request.Waits is
   asked_goes request.Pending is = pending_goes is
   asked_goes (request.Batch lines) is = takes_goes (request.Batch lines) is
-  asked_goes (request.Start node own) is = takes_goes (request.Start node own) is
   asked_goes request.Crash is = takes_goes request.Crash is
   asked_goes r is = command_goes r is
 
@@ -269,19 +305,25 @@ module _ (s : ClientState) (x : Signal) (R : Step ClientState → Type 0) (forms
       on false = forms.rests_on
 
       by : (b : Bool) → R (going_on (ended_by s at f.item.name f.item.node (unbegun_if s f.item.node b)))
-      by true = on (tc_stopped s.stops (first_start f.item.node))
+      by true = on (tc_stopped s.stops (latest_member s f.item.node))
       by false = forms.rests_on
   ended_goes at f (Some tx) own = by (is_down s) refl
     where
-      member : (view : View) → s.taken_over ≡ Some view → (b : Bool) → is_member view (coordinator_member tx) ≡ b
+      member : (view : View) → s.taken_over ≡ Some view → nat_lt view.number s.api.view.number ≡ false → (b : Bool)
+          → is_member view (coordinator_member tx) ≡ b
           → R (going_on (ended_by s at f.item.name f.item.node (failed_if tx view b)))
-      member view over true out = forms.rests_on
-      member view over false out = forms.fails at f tx view own over out
+      member view over last true out = forms.rests_on
+      member view over last false out = forms.fails at f tx view own over out last
+
+      current : (view : View) → s.taken_over ≡ Some view → (b : Bool) → nat_lt view.number s.api.view.number ≡ b
+          → R (going_on (ended_by s at f.item.name f.item.node (failed_by tx (current_if view b))))
+      current view over true older = forms.rests_on
+      current view over false last = member view over last (is_member view (coordinator_member tx)) refl
 
       taken : (o : Option View) → s.taken_over ≡ o
-          → R (going_on (ended_by s at f.item.name f.item.node (failed_by tx o)))
+          → R (going_on (ended_by s at f.item.name f.item.node (failed_by tx (current_by s.api.view o))))
       taken None over = forms.rests_on
-      taken (Some view) over = member view over (is_member view (coordinator_member tx)) refl
+      taken (Some view) over = current view over (nat_lt view.number s.api.view.number) refl
 
       by : (b : Bool) → is_down s ≡ b
           → R (going_on (ended_by s at f.item.name f.item.node (begun_verdict s tx f.item.doing b)))
@@ -290,15 +332,20 @@ module _ (s : ClientState) (x : Signal) (R : Step ClientState → Type 0) (forms
 
   report_goes : R (report_row s)
   unfolding report_row verdict
-  report_goes = by (dump_breaks s)
+  report_goes = by (dump_breaks s) (start_is_gone s) refl
     where
       broken : (o : Option ℕ) → dump_node s.api ≡ o → R (going_on (stay (broken_by s o)))
       broken None is = forms.rests_on
       broken (Some node) is = forms.breaks node is
 
-      by : (b : Bool) → R (going_on (told_if s b))
-      by true = broken (dump_node s.api) refl
-      by false =
+      over : (o : Option Starting) → s.starting ≡ o → start_is_gone s ≡ true → R (going_on (start_over_by s o))
+      over None none gone = forms.rests_on
+      over (Some starting) some gone = forms.ends_start starting some gone
+
+      by : (b gone : Bool) → start_is_gone s ≡ gone → R (going_on (told_if s b gone))
+      by true gone is = broken (dump_node s.api) refl
+      by false true is = over s.starting refl is
+      by false false is =
           where_found (is_due s) s.api.opened (stay s) (λ at t. ended_by s at t.name t.node (verdict s t))
           (λ step. R (going_on step)) (λ none. forms.rests_on) (λ at f. ended_goes at f f.item.tx refl)
 
@@ -362,14 +409,33 @@ module _ (s : ClientState) (x : Signal) (R : Step ClientState → Type 0) (forms
   stop_goes cause is =
       forms.stops cause (is_sibling cause || is_told s.stops x.member) (is_down (with_stop s x.member x.from cause)) is
 
+  started_goes : (member : Member) → x.body ≡ Joining (StartRep member) → R (started_row s member)
+  unfolding started_row
+  started_goes member is = by (is_waiting s member) refl
+    where
+      by : (b : Bool) → is_waiting s member ≡ b → R (stay (started_if s member b))
+      by true e = forms.started member is e
+      by false e = forms.rests
+
+  unjoined_goes : (member : Member) → x.body ≡ Joining (StartEnd member) → R (unjoined_row s member)
+  unfolding unjoined_row
+  unjoined_goes member is = by (is_waiting s member) refl
+    where
+      by : (b : Bool) → is_waiting s member ≡ b → R (stopped_if s member b)
+      by true e = forms.unjoins member is e
+      by false e = forms.rests
+
   table_goes : (body : Body) → x.body ≡ body → R (client_table s x body)
-  unfolding view_row
+  unfolding view_row drain_row
   table_goes (Host (Continue work at)) is = work_goes work at is
   table_goes (Host (Closed cause)) is = stop_goes cause is
   table_goes (Client ViewRep) is = forms.asks_anew is
   table_goes (Epoch (GcpRep epoch)) is = closed_goes Gcp epoch
   table_goes (Epoch (MicroRep epoch)) is = closed_goes Micro epoch
   table_goes (Checkpoint (LcpRep epoch)) is = closed_goes Lcp epoch
+  table_goes (Joining (StartRep member)) is = started_goes member is
+  table_goes (Joining (StartEnd member)) is = unjoined_goes member is
+  table_goes (Joining (DrainWait tx)) is = forms.drains tx is
   table_goes (Client (TcBeginConf name tx)) is = vouches (Client (TcBeginConf name tx)) is refl
   table_goes (Client (TcCommitConf tx epoch)) is = vouches (Client (TcCommitConf tx epoch)) is refl
   table_goes (Client (TcRollbackRep tx cause)) is = vouches (Client (TcRollbackRep tx cause)) is refl

@@ -1,12 +1,13 @@
 -- What holds of each form of signal and mark of the client's side holds of all that a step of it sends and marks.
 use Rattle.std.proofs.Common.{◌≡◌, ◌+◌, ◌++◌, ℕ, Bool, true, false, refl}
-use Rattle.std.specs.Prelude.{Option, None, Some}
+use Rattle.std.specs.Prelude.{nat_lt, Option, None, Some}
 use Rattle.run_theory.specs.Lists.{Each}
 use Rattle.run_theory.proofs.EachSent.{each_mapped}
 use Rattle.run_theory.proofs.Focus.{IsFocus}
 use Rattle.run_theory.proofs.Pasts.{each_append}
 use Rattle.sig_core.specs.declared.mark.Mark.{Mark}
 use Rattle.sig_core.specs.declared.mark.Mark.TheVariants.{Reported}
+use Rattle.sig_core.specs.declared.member.Member.{Member}
 use Rattle.sig_core.specs.declared.member.TxId.{TxId}
 use Rattle.sig_core.specs.declared.op.Op.{Op}
 use Rattle.sig_core.specs.declared.outcome.AbortCause.{AbortCause}
@@ -16,7 +17,7 @@ use Rattle.sig_core.specs.declared.outs.Outgoing.{Outgoing}
 use Rattle.sig_core.specs.declared.place.BlockId.{BlockId}
 use Rattle.sig_core.specs.declared.place.BlockId.TheVariants.{Lqh, Qmgr}
 use Rattle.sig_core.specs.declared.place.Place.{Place}
-use Rattle.sig_core.specs.declared.signal.Body.TheVariants.{Host, Client}
+use Rattle.sig_core.specs.declared.signal.Body.TheVariants.{Host, Client, Joining}
 use Rattle.sig_core.specs.declared.signal.Signal.{Signal}
 use Rattle.sig_core.specs.declared.signal.client.ClientSignal.TheVariants.{DumpReq, TcBeginConf, TcBeginReq}
 use Rattle.sig_core.specs.declared.signal.client.ClientSignal.TheVariants.{TcCommitAck, TcCommitConf, TcCommitReq}
@@ -24,6 +25,7 @@ use Rattle.sig_core.specs.declared.signal.client.ClientSignal.TheVariants.{TcKey
 use Rattle.sig_core.specs.declared.signal.client.ClientSignal.TheVariants.{TcRollbackRep, TcRollbackReq, TcWaitReq}
 use Rattle.sig_core.specs.declared.signal.host.HostSignal.TheVariants.{Kill, Round}
 use Rattle.sig_core.specs.declared.signal.host.Work.TheVariants.{Report}
+use Rattle.sig_core.specs.declared.signal.joining.JoiningSignal.TheVariants.{StartGone, StartReq}
 use Rattle.sig_core.specs.declared.view.View.{View}
 use Rattle.sig_core.specs.Place.{checkpoints, client, coordinator, coordinator_of, membership, rows_of}
 use Rattle.sig_core.specs.Portion.{go_on_at}
@@ -35,12 +37,14 @@ use Rattle.api_block.specs.Members.{everyone, telling, telling_all}
 use Rattle.api_block.proofs.Walk.{ApiForms, asked_does, own_is, told_does}
 use Rattle.api_views.specs.declared.closings.Closing.{Closing}
 use Rattle.api_views.specs.declared.closings.Closing.TheVariants.{Gcp, Micro, Lcp}
+use Rattle.api_views.specs.declared.starts.Starting.{Starting}
 use Rattle.api_views.specs.Client.{client_row, is_known}
 use Rattle.api_views.specs.Closings.{anew, ask_at, ask_of}
 use Rattle.api_views.specs.Commands.{cut_body}
 use Rattle.api_views.specs.Members.{is_member, noted, president}
 use Rattle.api_views.specs.Reports.{coordinator_member, down_outcome, more_if}
 use Rattle.api_views.specs.Rounds.{all_rounds, four_rounds, is_live, rounds_if, rounds_of}
+use Rattle.api_views.specs.Starting.{gone_at, start_anew, start_at, start_is_gone, starting_of}
 use Rattle.api_views.specs.State.{ClientState}
 use Rattle.api_views.specs.Stops.{is_down}
 use Rattle.api_views.specs.Words.{ClientKeepsToItsWords, is_client_mark, is_client_word}
@@ -69,7 +73,10 @@ pub record ClientForms (s : ClientState) (x : Signal) (P : Outgoing → Type 0) 
   pub ticks : (node : ℕ) → P (to_place (rows_of node) (Host Round))
   pub beats : (node : ℕ) → P (to_place (membership node) (Host Round))
   pub kills : (node : ℕ) → P (to_place (membership node) (Host (Kill 0)))
-  pub cuts : (to : Place) (other : ℕ) → P (to_place to (cut_body other))
+  pub cuts : (to : Place) (other : ℕ) → P (to_place to (cut_body s other))
+  pub starts : (node : ℕ) (member : Member) (own : Option ℕ)
+      → P (to_place (membership node) (Joining (StartReq member own)))
+  pub gone : (node : ℕ) (member : Member) → P (to_place (membership node) (Joining (StartGone member)))
   pub closes : (closing : Closing) (node : ℕ) → P (to_place (checkpoints node) (ask_of closing))
   pub goes_on : P (go_on_at client Report 0)
   -- how a transaction that is open ends
@@ -85,7 +92,7 @@ pub record ClientForms (s : ClientState) (x : Signal) (P : Outgoing → Type 0) 
       → M (Reported tx (Aborted (NodeFail x.view.number)))
   pub failed : (p : OpenTransaction → Bool) (at : ℕ) (f : IsFocus p s.api.opened at) (tx : TxId) (view : View)
       → f.item.tx ≡ Some tx → s.taken_over ≡ Some view → is_member view (coordinator_member tx) ≡ false
-      → M (Reported tx (Aborted (NodeFail view.number)))
+      → nat_lt view.number s.api.view.number ≡ false → M (Reported tx (Aborted (NodeFail view.number)))
   pub down : (p : OpenTransaction → Bool) (at : ℕ) (f : IsFocus p s.api.opened at) (tx : TxId) → f.item.tx ≡ Some tx
       → is_down s ≡ true → M (Reported tx (down_outcome f.item.doing))
 
@@ -131,10 +138,50 @@ pub anew_each : (P : Outgoing → Type 0)
 anew_each P closes None view = tt
 anew_each P closes (Some closing) view = asking_each P closes closing (president view)
 
+-- a president is asked for a start, or told that it has closed
+pub starting_each : (P : Outgoing → Type 0)
+    → ((node : ℕ) (member : Member) (own : Option ℕ)
+    → P (to_place (membership node) (Joining (StartReq member own)))) → (starting : Starting) → (o : Option ℕ)
+    → Each P (start_at starting o)
+starting_each P starts starting None = tt
+starting_each P starts starting (Some node) = (starts node starting.member starting.own, tt)
+
+pub start_anew_each : (P : Outgoing → Type 0)
+    → ((node : ℕ) (member : Member) (own : Option ℕ)
+    → P (to_place (membership node) (Joining (StartReq member own)))) → (gone : Bool) → (o : Option Starting)
+    → (view : View) → Each P (start_anew gone o view)
+start_anew_each P starts true o view = tt
+start_anew_each P starts false None view = tt
+start_anew_each P starts false (Some starting) view = starting_each P starts starting (president view)
+
+pub gone_each : (P : Outgoing → Type 0)
+    → ((node : ℕ) (member : Member) → P (to_place (membership node) (Joining (StartGone member)))) → (member : Member)
+    → (o : Option ℕ) → Each P (gone_at member o)
+gone_each P gone member None = tt
+gone_each P gone member (Some node) = (gone node member, tt)
+
+-- what is asked for is asked for anew
+pub anew_all_each : (P : Outgoing → Type 0)
+    → ((closing : Closing) (node : ℕ) → P (to_place (checkpoints node) (ask_of closing)))
+    → ((node : ℕ) (member : Member) (own : Option ℕ)
+    → P (to_place (membership node) (Joining (StartReq member own)))) → (s : ClientState) → (view : View)
+    → Each P (anew s.closing view ++ start_anew (start_is_gone s) s.starting view)
+anew_all_each P closes starts s view =
+    each_append P (anew s.closing view) _ (anew_each P closes s.closing view)
+    (start_anew_each P starts (start_is_gone s) s.starting view)
+
 -- the block goes on, or doesn't
 pub more_each : (P : Outgoing → Type 0) → P (go_on_at client Report 0) → (b : Bool) → Each P (more_if b)
 more_each P on true = (on, tt)
 more_each P on false = tt
+
+-- a start is over, and the block goes on, or doesn't
+pub over_each : (P : Outgoing → Type 0)
+    → ((node : ℕ) (member : Member) → P (to_place (membership node) (Joining (StartGone member))))
+    → P (go_on_at client Report 0) → (member : Member) → (o : Option ℕ) → (b : Bool)
+    → Each P (gone_at member o ++ more_if b)
+over_each P gone on member o b =
+    each_append P (gone_at member o) (more_if b) (gone_each P gone member o) (more_each P on b)
 
 module _ (s : ClientState) (x : Signal) (P : Outgoing → Type 0) (M : Mark → Type 0) (forms : ClientForms s x P M) where
   of_api : ApiForms s.api x.body P M
@@ -176,11 +223,20 @@ module _ (s : ClientState) (x : Signal) (P : Outgoing → Type 0) (M : Mark → 
     obstructs = λ name on is e. (tt, tt);
     closes = λ closing none. (asking_each P forms.closes closing (president s.api.view), tt);
     closed = λ closing epoch is. (tt, tt);
-    asks_anew = λ is. (anew_each P forms.closes s.closing x.view, tt);
+    asks_anew = λ is. (anew_all_each P forms.closes forms.starts s x.view, tt);
+    starts = λ node own is free.
+        (starting_each P forms.starts (starting_of _ own) (president s.api.view), tt);
+    started = λ member is waits. (tt, tt);
+    unjoins = λ member is waits. ((forms.kills _, tt), tt);
+    drains = λ tx is. (tt, tt);
+    holds = λ tx is behind. (tt, tt);
     breaks = λ node is. (more _, tt);
+    ends_start = λ starting some gone.
+        (over_each P forms.gone forms.goes_on starting.member (president s.api.view) _, tt);
     never_begins = λ at f none. (more _, tt);
     goes_down = λ at f tx own down. (more _, (forms.down _ at f tx own down, tt));
-    fails = λ at f tx view own over out. (more _, (forms.failed _ at f tx view own over out, tt));
+    fails = λ at f tx view own over out last.
+        (more _, (forms.failed _ at f tx view own over out last, tt));
     rests_on = (more _, tt);
     stops = λ cause told down is. (more _, tt);
     completes = λ is known. (more _, tt);
@@ -216,13 +272,15 @@ client_words s x =
       beats = λ node. refl;
       kills = λ node. refl;
       cuts = λ to other. refl;
+      starts = λ node member own. refl;
+      gone = λ node member. refl;
       closes = λ closing node. asks closing;
       goes_on = refl;
       committed = λ p at f tx epoch own is. refl;
       committed_late = λ p at f tx epoch own is known. refl;
       aborted = λ p at f tx why own is. refl;
       failed_late = λ p at f tx own is known. refl;
-      failed = λ p at f tx view own over out. refl;
+      failed = λ p at f tx view own over out last. refl;
       down = λ p at f tx own low. refl;
     })
   where

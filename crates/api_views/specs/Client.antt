@@ -7,7 +7,7 @@ use Rattle.sig_core.specs.declared.reply.Refusal.TheVariants as refusal
 use Rattle.sig_core.specs.declared.request.ApiReq.{ApiReq}
 use Rattle.sig_core.specs.declared.request.ApiReq.TheVariants as request
 use Rattle.sig_core.specs.declared.signal.Body.{Body}
-use Rattle.sig_core.specs.declared.signal.Body.TheVariants.{Host, Client, Epoch, Checkpoint}
+use Rattle.sig_core.specs.declared.signal.Body.TheVariants.{Host, Client, Epoch, Checkpoint, Joining}
 use Rattle.sig_core.specs.declared.signal.Signal.{Signal}
 use Rattle.sig_core.specs.declared.signal.checkpoint.CheckpointSignal.TheVariants.{LcpRep}
 use Rattle.sig_core.specs.declared.signal.client.ClientSignal.TheVariants.{TcBeginConf, TcCommitConf, TcRollbackRep}
@@ -17,6 +17,7 @@ use Rattle.sig_core.specs.declared.signal.epoch.EpochSignal.TheVariants.{GcpRep,
 use Rattle.sig_core.specs.declared.signal.host.HostSignal.TheVariants.{Closed, Continue}
 use Rattle.sig_core.specs.declared.signal.host.Work.{Work}
 use Rattle.sig_core.specs.declared.signal.host.Work.TheVariants.{Request, Report}
+use Rattle.sig_core.specs.declared.signal.joining.JoiningSignal.TheVariants.{DrainWait, StartEnd, StartRep}
 use Rattle.sig_core.specs.Step.{Step, stay}
 use Rattle.api_block.specs.Api.{api_row, request_row}
 use Rattle.api_block.specs.Opened.{begins_at, where_at}
@@ -28,6 +29,7 @@ use Rattle.api_views.specs.Members.{is_member, noted}
 use Rattle.api_views.specs.Pending.{client_pending_row}
 use Rattle.api_views.specs.Reports.{complete_row, report_row, stop_row}
 use Rattle.api_views.specs.Rounds.{tick_row}
+use Rattle.api_views.specs.Starting.{drain_row, start_row, started_row, unjoined_row}
 use Rattle.api_views.specs.State.{ClientState, turned_down, with_api, within}
 use Rattle.api_views.specs.Stops.{is_down}
 
@@ -43,6 +45,7 @@ up_row s (request.Cut one other) = cut_row s one other
 up_row s request.Gcp = closing_row s Gcp
 up_row s request.Micro = closing_row s Micro
 up_row s request.Lcp = closing_row s Lcp
+up_row s (request.Start node own) = start_row s node own
 up_row s request.View = show_row s
 up_row s request.Restart = turned_down s None refusal.Running
 up_row s r = on_api s r
@@ -55,12 +58,11 @@ command_if s r false = up_row s r
 unfoldable pub command_row : ClientState → ApiReq → Step ClientState
 command_row s r = command_if s r (is_down s)
 
--- what the client's side does at each request. Starts, crashes and batches are left to the API
+-- what the client's side does at each request. Crashes and batches are left to the API
 unfoldable pub asked_row : ClientState → ApiReq → Step ClientState
 asked_row s request.Waits = within s (request_row s.api request.Waits)
 asked_row s request.Pending = client_pending_row s
 asked_row s (request.Batch lines) = on_api s (request.Batch lines)
-asked_row s (request.Start node own) = on_api s (request.Start node own)
 asked_row s request.Crash = on_api s request.Crash
 asked_row s r = command_row s r
 
@@ -101,6 +103,9 @@ client_table s x (Client ViewRep) = view_row s x.view
 client_table s x (Epoch (GcpRep epoch)) = closed_row s Gcp epoch
 client_table s x (Epoch (MicroRep epoch)) = closed_row s Micro epoch
 client_table s x (Checkpoint (LcpRep epoch)) = closed_row s Lcp epoch
+client_table s x (Joining (StartRep member)) = started_row s member
+client_table s x (Joining (StartEnd member)) = unjoined_row s member
+client_table s x (Joining (DrainWait tx)) = drain_row s tx
 client_table s x (Client (TcBeginConf name tx)) = vouched s x (is_known s x)
 client_table s x (Client (TcCommitConf tx epoch)) = vouched s x (is_known s x)
 client_table s x (Client (TcRollbackRep tx cause)) = vouched s x (is_known s x)

@@ -1,6 +1,6 @@
 -- The closing of epochs, and local checkpoints: at most one of them is asked for at a time, at the president's master
 -- of checkpoints.
-use Rattle.std.specs.Prelude.{ℕ, Bool, true, false, is_some, List, [], ◌∷◌, Option, None, Some}
+use Rattle.std.specs.Prelude.{ℕ, ◌++◌, Bool, true, false, is_some, List, [], ◌∷◌, Option, None, Some}
 use Rattle.sig_core.specs.declared.outs.Outgoing.{Outgoing}
 use Rattle.sig_core.specs.declared.place.BlockId.TheVariants.{Api}
 use Rattle.sig_core.specs.declared.reply.ApiReply.{ApiReply}
@@ -16,6 +16,7 @@ use Rattle.sig_core.specs.Step.{Step, sends_only, stay, to_place}
 use Rattle.api_views.specs.declared.closings.Closing.{Closing}
 use Rattle.api_views.specs.declared.closings.Closing.TheVariants.{Gcp, Micro, Lcp}
 use Rattle.api_views.specs.Members.{president}
+use Rattle.api_views.specs.Starting.{start_anew, start_is_gone, with_behind}
 use Rattle.api_views.specs.State.{ClientState, left, telling, turned_down}
 
 abbrev pub ask_of : Closing → Body
@@ -67,6 +68,10 @@ abbrev pub anew : Option Closing → View → List Outgoing
 anew None view = []
 anew (Some closing) view = asking closing view
 
--- a view was installed: what isn't answered is asked for anew, at its president
+-- a view was installed: what isn't answered is asked for anew, at its president, and a start begins anew
 unfoldable pub view_row : ClientState → View → Step ClientState
-view_row s view = record { state = s; effects = sends_only (anew s.closing view) }
+view_row s view =
+    record {
+      state = with_behind s None;
+      effects = sends_only (anew s.closing view ++ start_anew (start_is_gone s) s.starting view);
+    }

@@ -1,5 +1,5 @@
 -- The commands that look at which nodes run.
-use Rattle.std.specs.Prelude.{ℕ, ◌-◌, ◌*◌, ◌==◌, ◌&&◌, ◌||◌, ◌++◌, Bool, true, false, not, is_some, List, [], ◌∷◌}
+use Rattle.std.specs.Prelude.{ℕ, ◌==◌, ◌&&◌, ◌||◌, ◌++◌, Bool, true, false, not, is_some, List, [], ◌∷◌}
 use Rattle.std.specs.Prelude.{Option, None, Some}
 use Rattle.std.specs.List.{list_any}
 use Rattle.sig_core.specs.declared.member.Member.{Member}
@@ -20,6 +20,7 @@ use Rattle.api_block.specs.Members.{lesser}
 use Rattle.api_block.specs.Opened.{place_named}
 use Rattle.api_views.specs.declared.stops.HostStop.{HostStop}
 use Rattle.api_views.specs.State.{ClientState, aside, left, telling, turned_down, within}
+use Rattle.api_views.specs.Starts.{latest}
 use Rattle.api_views.specs.Stops.{runs, still_runs}
 
 -- the API takes a command as it is
@@ -94,13 +95,9 @@ kill_if s node false = turned_down s None (NotRunning node)
 unfoldable pub kill_row : ClientState → ℕ → Step ClientState
 kill_row s node = kill_if s node (runs s node)
 
--- the first host of a node
-abbrev pub first_host : ℕ → ℕ
-first_host node = 3 * node - 2
-
--- its hosts are to be cut off
-abbrev pub cut_body : ℕ → Body
-cut_body node = Host (Cut node (record { 0 = first_host node }))
+-- the hosts of a node's latest start are to be cut off
+abbrev pub cut_body : ClientState → ℕ → Body
+cut_body s node = Host (Cut node (latest s node).host)
 
 -- a signal for each host of a node
 abbrev pub to_hosts : ℕ → Body → List Outgoing
@@ -116,7 +113,7 @@ cut_by s one other true false = turned_down s None (NoMember other)
 cut_by s one other true true =
     record {
       state = telling (with_cut (left s) one other) (reply.Cut one other);
-      effects = sends_only (to_hosts one (cut_body other));
+      effects = sends_only (to_hosts one (cut_body s other));
     }
 
 -- a node's hosts are to be cut off from another node, both of which run

@@ -1,5 +1,7 @@
 -- What is true of the client's side under views.
-use Rattle.std.specs.Prelude.{◌≡◌, ℕ, Bool, true, false, nat_lt, List, [], ◌∷◌, remove, slice_get, Option, None, Some}
+use Rattle.std.specs.Prelude.{◌≡◌, ◌⊎◌, ℕ, Bool, true, false, nat_lt, List, [], ◌∷◌, ◌++◌, remove, slice_get, Option}
+use Rattle.std.specs.Prelude.{None, Some}
+use Rattle.run_theory.specs.Lists.{Each}
 use Rattle.sig_core.specs.declared.mark.Mark.{Mark}
 use Rattle.sig_core.specs.declared.mark.Mark.TheVariants.{Reported}
 use Rattle.sig_core.specs.declared.member.TxId.{TxId}
@@ -7,7 +9,7 @@ use Rattle.sig_core.specs.declared.reply.ApiReply.TheVariants as reply
 use Rattle.sig_core.specs.declared.request.ApiReq.{ApiReq}
 use Rattle.sig_core.specs.declared.request.ApiReq.TheVariants as request
 use Rattle.sig_core.specs.declared.signal.Body.{Body}
-use Rattle.sig_core.specs.declared.signal.Body.TheVariants.{Host, Client}
+use Rattle.sig_core.specs.declared.signal.Body.TheVariants.{Host, Client, Joining}
 use Rattle.sig_core.specs.declared.signal.Signal.{Signal}
 use Rattle.sig_core.specs.declared.signal.client.ClientSignal.TheVariants.{TcBeginConf, TcBeginRef, TcKeyConf}
 use Rattle.sig_core.specs.declared.signal.client.ClientSignal.TheVariants.{TcCommitConf, TcRollbackRep, TcKeyFailConf}
@@ -15,21 +17,34 @@ use Rattle.sig_core.specs.declared.signal.client.ClientSignal.TheVariants.{TcKey
 use Rattle.sig_core.specs.declared.signal.client.ClientSignal.TheVariants.{DumpConf}
 use Rattle.sig_core.specs.declared.signal.host.HostSignal.TheVariants.{Continue}
 use Rattle.sig_core.specs.declared.signal.host.Work.TheVariants.{Request}
+use Rattle.sig_core.specs.declared.signal.joining.JoiningSignal.TheVariants.{StartGone, StartReq}
 use Rattle.sig_core.specs.declared.view.View.{View}
-use Rattle.sig_core.specs.Step.{stay}
+use Rattle.sig_core.specs.Step.{Step, stay}
 use Rattle.api_block.specs.declared.opened.OpenTransaction.{OpenTransaction}
 use Rattle.api_block.specs.Api.{api_row}
 use Rattle.api_block.specs.State.{ApiState}
 use Rattle.api_views.specs.Client.{client_row, is_known}
 use Rattle.api_views.specs.Members.{noted}
 use Rattle.api_views.specs.Rounds.{round_effects}
+use Rattle.api_views.specs.Starts.{next_start}
 use Rattle.api_views.specs.State.{ClientState, telling, within}
 use Rattle.api_views.specs.Stops.{is_down}
 
--- no host stopped, no node was cut, and no closing of an epoch is asked for
+-- no host stopped, no node was cut, and neither a closing of an epoch nor a start was asked for
 abbrev pub calm_state : ApiState → ℕ → Option View → ClientState
 calm_state a nodes over =
-    record { api = a; nodes = nodes; stops = []; cuts = []; taken_over = over; closing = None; own = false }
+    record {
+      api = a;
+      nodes = nodes;
+      stops = [];
+      cuts = [];
+      taken_over = over;
+      closing = None;
+      own = false;
+      later = [];
+      starting = None;
+      own_start = false;
+    }
 
 -- only a member of the greatest view may say this
 abbrev pub is_vouched : Body → Bool
@@ -130,3 +145,37 @@ abbrev pub EndsAreToldOnce : Type 0
 EndsAreToldOnce =
     (s : ClientState) (x : Signal)
     → AreToldOnce s.api.opened (client_row s x).state.api.opened (client_row s x).effects.marks
+
+-- a node is to begin anew
+abbrev pub is_start : ApiReq → Bool
+is_start (request.Start node own) = true
+is_start _ = false
+
+-- that is asked for
+abbrev pub asks_start : Body → Bool
+asks_start (Host (Continue (Request r) at)) = is_start r
+asks_start _ = false
+
+-- a president is asked for a start, or told that one has closed
+abbrev pub tells_start : Body → Bool
+tells_start (Joining (StartReq member own)) = true
+tells_start (Joining (StartGone member)) = true
+tells_start _ = false
+
+-- Nobody begins anew in a step: the later starts are those from before it, and where none was asked for none is behind
+-- it, and no president is told of one
+pub record NobodyBegins (s : ClientState) (step : Step ClientState) : Type 0 where
+  pub later : step.state.later ≡ s.later
+  pub starting : s.starting ≡ None → step.state.starting ≡ None
+  pub silent : s.starting ≡ None → Each (λ sent. tells_start sent.body ≡ false) step.effects.sends
+
+-- a node does, whose start the signal asks for: it stands behind the later starts from before
+pub record SomebodyBegins (s : ClientState) (x : Signal) (step : Step ClientState) : Type 0 where
+  pub node : ℕ
+  pub asked : asks_start x.body ≡ true
+  pub later : step.state.later ≡ s.later ++ next_start s node ∷ []
+
+-- nodes begin anew only where that is asked for, one a step
+abbrev pub StartsAreAskedFor : Type 0
+StartsAreAskedFor =
+    (s : ClientState) (x : Signal) → NobodyBegins s (client_row s x) ⊎ SomebodyBegins s x (client_row s x)

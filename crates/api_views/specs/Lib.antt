@@ -6,6 +6,8 @@ pub mod Members
 pub mod Pending
 pub mod Reports
 pub mod Rounds
+pub mod Starting
+pub mod Starts
 pub mod State
 pub mod Stops
 pub mod Words

@@ -17,10 +17,6 @@ is_among members member = list_any (same_member member) members
 unfoldable pub is_member : View → Member → Bool
 is_member view member = is_among view.full member || is_among view.starting member
 
--- the start of a node that began the life
-abbrev pub first_start : ℕ → Member
-first_start node = record { node = node; start = 0 }
-
 -- the node of the first of these
 abbrev pub first_node : List Member → Option ℕ
 first_node [] = None

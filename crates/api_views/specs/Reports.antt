@@ -1,6 +1,6 @@
 -- What the client is told of commands and transactions that get no answer any more, one an event.
-use Rattle.std.specs.Prelude.{ℕ, ◌||◌, if◌then◌else◌, Bool, true, false, is_some, List, [], ◌∷◌, ◌++◌, position, Option}
-use Rattle.std.specs.Prelude.{None, Some}
+use Rattle.std.specs.Prelude.{ℕ, ◌||◌, if◌then◌else◌, Bool, true, false, is_some, nat_lt, List, [], ◌∷◌, ◌++◌, position}
+use Rattle.std.specs.Prelude.{Option, None, Some}
 use Rattle.sig_core.specs.declared.member.HostId.{HostId}
 use Rattle.sig_core.specs.declared.member.Member.{Member}
 use Rattle.sig_core.specs.declared.member.TxId.{TxId}
@@ -25,7 +25,10 @@ use Rattle.api_block.specs.State.{ApiState, replied, with_dump}
 use Rattle.api_block.specs.Views.{dump_node}
 use Rattle.api_views.specs.declared.reports.Verdict.{Verdict}
 use Rattle.api_views.specs.declared.reports.Verdict.TheVariants.{NeverBegins, Ends}
-use Rattle.api_views.specs.Members.{first_start, greater_view, is_member}
+use Rattle.api_views.specs.declared.starts.Starting.{Starting}
+use Rattle.api_views.specs.Members.{greater_view, is_member}
+use Rattle.api_views.specs.Starting.{start_is_gone, start_over_by}
+use Rattle.api_views.specs.Starts.{latest_member}
 use Rattle.api_views.specs.State.{ClientState, with_api, within}
 use Rattle.api_views.specs.Stops.{is_down, is_told, is_sibling, ldm_stopped, stop_of, tc_stopped}
 
@@ -47,14 +50,27 @@ abbrev pub failed_by : TxId → Option View → Option Verdict
 failed_by tx None = None
 failed_by tx (Some view) = failed_if tx view (is_member view (coordinator_member tx))
 
+-- A takeover says so as long as no greater view was seen: who has begun a transaction and isn't in the greatest one was
+-- in one before. Who isn't in an older view may have joined since
+abbrev pub current_if : View → Bool → Option View
+current_if view true = None
+current_if view false = Some view
+
+abbrev pub current_by : View → Option View → Option View
+current_by seen None = None
+current_by seen (Some view) = current_if view (nat_lt view.number seen.number)
+
+abbrev pub current_takeover : ClientState → Option View
+current_takeover s = current_by s.api.view s.taken_over
+
 abbrev pub begun_verdict : ClientState → TxId → Doing → Bool → Option Verdict
 begun_verdict s tx doing true = Some (Ends tx (down_outcome doing))
-begun_verdict s tx doing false = failed_by tx s.taken_over
+begun_verdict s tx doing false = failed_by tx (current_takeover s)
 
 -- a coordinator that has stopped begins nothing
 abbrev pub unbegun_if : ClientState → ℕ → Bool → Option Verdict
 unbegun_if s node false = None
-unbegun_if s node true = if tc_stopped s.stops (first_start node) then Some NeverBegins else None
+unbegun_if s node true = if tc_stopped s.stops (latest_member s node) then Some NeverBegins else None
 
 abbrev pub verdict_by : ClientState → ℕ → Doing → Option TxId → Option Verdict
 verdict_by s node doing None = unbegun_if s node (is_beginning doing)
@@ -74,14 +90,14 @@ place_due s = position (is_due s) s.api.opened
 -- the rows that are asked for don't come any more
 abbrev pub breaks : ClientState → Option ℕ → Bool
 breaks s None = false
-breaks s (Some node) = ldm_stopped s.stops (first_start node)
+breaks s (Some node) = ldm_stopped s.stops (latest_member s node)
 
 unfoldable pub dump_breaks : ClientState → Bool
 dump_breaks s = breaks s (dump_node s.api)
 
 -- something is to be told
 unfoldable pub has_more : ClientState → Bool
-has_more s = dump_breaks s || is_some (place_due s)
+has_more s = dump_breaks s || start_is_gone s || is_some (place_due s)
 
 abbrev pub more_if : Bool → List Outgoing
 more_if true = go_on_at client Report 0 ∷ []
@@ -106,13 +122,14 @@ abbrev pub broken_by : ClientState → Option ℕ → ClientState
 broken_by s None = s
 broken_by s (Some node) = with_api s (replied (with_dump s.api None) (Refused None (NoMember node) ∷ []))
 
-abbrev pub told_if : ClientState → Bool → Step ClientState
-told_if s true = stay (broken_by s (dump_node s.api))
-told_if s false = first_ended s
+abbrev pub told_if : ClientState → Bool → Bool → Step ClientState
+told_if s true gone = stay (broken_by s (dump_node s.api))
+told_if s false true = start_over_by s s.starting
+told_if s false false = first_ended s
 
 -- the next thing is told
 unfoldable pub report_row : ClientState → Step ClientState
-report_row s = going_on (told_if s (dump_breaks s))
+report_row s = going_on (told_if s (dump_breaks s) (start_is_gone s))
 
 -- a node's stop is told with the cause of the first of its hosts that didn't stop because of another
 abbrev pub stop_told_if : ApiState → ℕ → StopCause → Bool → ApiState
@@ -127,9 +144,19 @@ with_stop s member host cause =
       stops = s.stops ++ stop_of member host cause ∷ [];
     }
 
--- when the cluster is down no closing of an epoch is waited for
+-- When the cluster is down no closing of an epoch is waited for, and no start but one that is over
+abbrev pub gone_only : Option Starting → Bool → Option Starting
+gone_only starting true = starting
+gone_only starting false = None
+
 abbrev pub unasked_if : ClientState → Bool → ClientState
-unasked_if s true = record s { closing = None; own = false }
+unasked_if s true =
+    record s {
+      closing = None;
+      own = false;
+      starting = gone_only s.starting (start_is_gone s);
+      own_start = false;
+    }
 unasked_if s false = s
 
 abbrev pub unasked : ClientState → ClientState

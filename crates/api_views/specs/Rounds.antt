@@ -12,7 +12,7 @@ use Rattle.sig_core.specs.declared.signal.Body.TheVariants.{Host}
 use Rattle.sig_core.specs.declared.signal.host.HostSignal.TheVariants.{Round}
 use Rattle.sig_core.specs.Step.{Effects, Step, sends_only, to_place}
 use Rattle.api_views.specs.Commands.{serves_at}
-use Rattle.api_views.specs.Members.{first_start}
+use Rattle.api_views.specs.Starts.{latest_member}
 use Rattle.api_views.specs.State.{ClientState, left, telling}
 use Rattle.api_views.specs.Stops.{still_runs}
 
@@ -21,10 +21,10 @@ abbrev pub has_member : ClientState → ℕ → Bool
 has_member s node =
     list_any (serves_at s.stops node) s.api.view.full || list_any (serves_at s.stops node) s.api.view.starting
 
--- the node is one of the cluster, and its first start or a member of the greatest view hasn't stopped
+-- the node is one of the cluster, and its latest start or a member of the greatest view hasn't stopped
 unfoldable pub is_live : ClientState → ℕ → Bool
 is_live s node =
-    (nat_le 1 node && nat_le node s.nodes) && (still_runs s.stops (first_start node) || has_member s node)
+    (nat_le 1 node && nat_le node s.nodes) && (still_runs s.stops (latest_member s node) || has_member s node)
 
 -- a round for a block of a node
 abbrev pub rounds_if : Place → Bool → List Outgoing

@@ -6,14 +6,19 @@ use Rattle.sig_core.specs.declared.member.Member.{Member}
 use Rattle.sig_core.specs.declared.outcome.StopCause.{StopCause}
 use Rattle.sig_core.specs.declared.outcome.StopCause.TheVariants.{Sibling}
 use Rattle.api_views.specs.declared.stops.HostStop.{HostStop}
-use Rattle.api_views.specs.Members.{first_start, same_member}
+use Rattle.api_views.specs.Members.{same_member}
+use Rattle.api_views.specs.Starts.{latest_member}
 use Rattle.api_views.specs.State.{ClientState}
 
--- hosts stand in threes, main, tc and ldm, from 1 on: this one has the coordinator of its node
+-- hosts stand in threes, main, tc and ldm, from 1 on: this one has the membership of its node
+abbrev pub is_main : ℕ → Bool
+is_main host = host % 3 == 1
+
+-- this one has its coordinator
 abbrev pub is_tc : ℕ → Bool
 is_tc host = host % 3 == 2
 
--- this one has the rows of its node
+-- this one has its rows
 abbrev pub is_ldm : ℕ → Bool
 is_ldm host = host % 3 == 0
 
@@ -53,9 +58,24 @@ ends_ldm member stop = is_of member stop && is_ldm stop.host.0
 unfoldable pub ldm_stopped : List HostStop → Member → Bool
 ldm_stopped stops member = list_any (ends_ldm member) stops
 
--- the node is one of the cluster, and none of its hosts has stopped
+-- and the host of its membership
+abbrev pub ends_main : Member → HostStop → Bool
+ends_main member stop = is_of member stop && is_main stop.host.0
+
+unfoldable pub main_stopped : List HostStop → Member → Bool
+main_stopped stops member = list_any (ends_main member) stops
+
+-- all three hosts of the member have stopped
+abbrev pub all_stopped : List HostStop → Member → Bool
+all_stopped stops member = main_stopped stops member && tc_stopped stops member && ldm_stopped stops member
+
+-- the node is one of the cluster
+abbrev pub is_node : ClientState → ℕ → Bool
+is_node s node = nat_le 1 node && nat_le node s.nodes
+
+-- it is, and no host of its latest start has stopped
 unfoldable pub runs : ClientState → ℕ → Bool
-runs s node = (nat_le 1 node && nat_le node s.nodes) && not (has_stopped s.stops (first_start node))
+runs s node = is_node s node && not (has_stopped s.stops (latest_member s node))
 
 -- the member hasn't stopped
 abbrev pub still_runs : List HostStop → Member → Bool

@@ -6,24 +6,25 @@ ghost use Rattle.api_views.specs.Client.{work_table};
 ghost use Rattle.api_views.specs.Commands.{on_api};
 ghost use Rattle.api_views.specs.Members.{noted};
 ghost use Rattle.api_views.specs.Rounds.{HasAllRoom};
-ghost use Rattle.api_views.specs.Pending.{closing_left, is_open};
-ghost use Rattle.api_views.specs.State.{fresh_client, left, telling, turned_down};
+ghost use Rattle.api_views.specs.Pending.{is_open, own_left};
+ghost use Rattle.api_views.specs.State.{aside, fresh_client, left, telling, turned_down};
 ghost use Rattle.api_block.specs.State.{with_replies};
 
 use crate::closings::Closing;
 use crate::cuts::CutPair;
 use crate::members::is_member;
+use crate::starts::{NodeStart, Starting};
 use crate::stops::HostStop;
 use api_block::{Api, place_beginning_at};
 use sig_core::{
     AbortCause, Actor, ApiReply, ApiReq, Body, CheckpointSignal, ClientSignal, EpochSignal,
-    HostSignal, NoMemory, Outs, Refusal, Signal, TxId, View, Work,
+    HostSignal, JoiningSignal, NoMemory, Outs, Refusal, Signal, TxId, View, Work,
 };
 use std::alloc::Global;
 use std::marker::Model;
 
-/// The client's side of a cluster that fails: the API, what is known of stops and cuts, and the
-/// closing of an epoch that is asked for.
+/// The client's side of a cluster that fails: the API, what is known of stops, cuts and starts, and
+/// the closing of an epoch and the start that are asked for.
 #[derive(Drop)]
 pub struct Client {
     pub(crate) api: Api,
@@ -39,6 +40,13 @@ pub struct Client {
     pub(crate) closing: Option<Closing>,
     /// Whether the last command is the closing of an epoch.
     pub(crate) own: bool,
+    /// The starts of nodes later than those that began the life, in the order in which they were asked
+    /// for.
+    pub(crate) later: Vec<NodeStart>,
+    /// The start that is asked for and not answered.
+    pub(crate) starting: Option<Starting>,
+    /// Whether the last command is that.
+    pub(crate) own_start: bool,
 }
 
 impl Model for Client {
@@ -46,7 +54,7 @@ impl Model for Client {
 
     ghost Value = { ClientState };
 
-    ghost view = { λ c. record { api = c.api; nodes = c.nodes; stops = c.stops.items; cuts = c.cuts.items; taken_over = c.taken_over; closing = c.closing; own = c.own } };
+    ghost view = { λ c. record { api = c.api; nodes = c.nodes; stops = c.stops.items; cuts = c.cuts.items; taken_over = c.taken_over; closing = c.closing; own = c.own; later = c.later.items; starting = c.starting; own_start = c.own_start } };
 }
 
 impl Client {
@@ -66,6 +74,9 @@ impl Client {
             taken_over: None,
             closing: None,
             own: false,
+            later: Vec::new(alloc),
+            starting: None,
+            own_start: false,
         })
     }
 
@@ -89,21 +100,29 @@ impl Client {
     pub fn is_left_open(&self) -> bool
         ensures { result ≡ is_open self.now }
     {
-        self.is_closing_left() || self.api.is_left_open()
+        self.is_own_left() || self.api.is_left_open()
     }
 
-    // Whether the last command is the closing of an epoch, and isn't answered.
-    pub(crate) fn is_closing_left(&self) -> bool
-        ensures { result ≡ closing_left self.now }
+    // Whether the last command is the closing of an epoch or a start, and isn't answered.
+    pub(crate) fn is_own_left(&self) -> bool
+        ensures { result ≡ own_left self.now }
     {
-        self.own && self.closing.is_some()
+        (self.own && self.closing.is_some()) || (self.own_start && self.starting.is_some())
+    }
+
+    // The last command is neither the closing of an epoch nor a start.
+    pub(crate) fn set_aside(&mut self)
+        ensures { self.new ≡ aside self.old }
+    {
+        self.own = false;
+        self.own_start = false;
     }
 
     // The last command is about nothing.
     pub(crate) fn leave(&mut self)
         ensures { self.new ≡ left self.old }
     {
-        self.own = false;
+        self.set_aside();
         self.api.be_about_none();
     }
 
@@ -113,7 +132,7 @@ impl Client {
         ensures err { OnErr result (self.new ≡ self.old) }
     {
         self.api.refuse(name, refusal)?;
-        self.own = false;
+        self.set_aside();
         Ok(())
     }
 
@@ -129,7 +148,7 @@ impl Client {
         ensures err { OnErr result (IsUntouched self.old self.new out.old out.new) }
     {
         self.api.ask(alloc, request, out)?;
-        self.own = false;
+        self.set_aside();
         Ok(())
     }
 
@@ -146,9 +165,7 @@ impl Client {
         match request {
             ApiReq::Waits => self.api.ask(alloc, request, out),
             ApiReq::Pending => self.tell_wait(alloc, out),
-            ApiReq::Batch { .. } | ApiReq::Start { .. } | ApiReq::Crash => {
-                self.pass_on(alloc, request, out)
-            }
+            ApiReq::Batch { .. } | ApiReq::Crash => self.pass_on(alloc, request, out),
             _ => self.command(alloc, request, out),
         }
     }
@@ -189,6 +206,7 @@ impl Client {
             ApiReq::Gcp => self.close(Closing::Gcp, out),
             ApiReq::Micro => self.close(Closing::Micro, out),
             ApiReq::Lcp => self.close(Closing::Lcp, out),
+            ApiReq::Start { node, own } => self.start(*node, *own, out),
             ApiReq::View => self.show(),
             ApiReq::Restart => self.turn_down(None, Refusal::Running),
             _ => self.pass_on(alloc, request, out),
@@ -300,6 +318,15 @@ impl Client {
             }
             Body::Checkpoint(CheckpointSignal::LcpRep { epoch }) => {
                 self.closed(Closing::Lcp, *epoch, out)
+            }
+            Body::Joining(JoiningSignal::StartRep { member }) => self.started(member, out),
+            Body::Joining(JoiningSignal::StartEnd { member }) => {
+                self.stop_start(member, out);
+                Ok(())
+            }
+            Body::Joining(JoiningSignal::DrainWait { tx }) => {
+                self.wait_for(*tx);
+                Ok(())
             }
             Body::Client(
                 ClientSignal::TcBeginConf { .. }

@@ -35,7 +35,8 @@ fn ask_of(closing: Closing) -> Body
 // The president of a view is asked for it.
 fn ask(closing: Closing, view: &View, out: &mut Outs)
     requires { length out.old.sends < 16 }
-    ensures { out.new ≡ joined out.old (sends_only (asking closing view.now)) }
+    ensures sent { out.new ≡ joined out.old (sends_only (asking closing view.now)) }
+    ensures few { length out.new.sends ≤ length out.old.sends + 1 }
 {
     if let Some(node) = president(view) {
         out.send(checkpoints(node), ask_of(closing));
@@ -100,14 +101,24 @@ impl Client {
         Ok(())
     }
 
-    // A view was installed.
-    #[tactic(auto, unfolding(crate::specs::Closings::view_row))]
-    pub(crate) fn ask_anew(&mut self, view: &View, out: &mut Outs)
-        requires { HasRoom out.old }
-        ensures { IsTaken (view_row self.old view.now) self.new out.old out.new }
+    // What closing is asked for is asked for anew.
+    fn ask_closing_anew(&self, view: &View, out: &mut Outs)
+        requires { length out.old.sends < 16 }
+        ensures sent { out.new ≡ joined out.old (sends_only (anew self.now.closing view.now)) }
+        ensures few { length out.new.sends ≤ length out.old.sends + 1 }
     {
         if let Some(closing) = self.closing {
             ask(closing, view, out);
         }
+    }
+
+    // A view was installed.
+    #[tactic(auto, using(crate::proofs::RoundLemmas::joined_twice), unfolding(crate::specs::Closings::view_row))]
+    pub(crate) fn ask_anew(&mut self, view: &View, out: &mut Outs)
+        requires { HasRoom out.old }
+        ensures { IsTaken (view_row self.old view.now) self.new out.old out.new }
+    {
+        self.ask_closing_anew(view, out);
+        self.ask_start_anew(view, out);
     }
 }

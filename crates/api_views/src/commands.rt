@@ -2,11 +2,13 @@
 ghost use Rattle.std.specs.Prelude.{◌≡◌, ◌<◌, ◌≤◌, ◌+◌, length, None, OnOk, OnErr};
 ghost use Rattle.std.specs.List.{list_any};
 ghost use Rattle.sig_core.specs.Step.{HasRoom, IsTaken, IsUntouched, joined, sends_only, stay};
-ghost use Rattle.api_views.specs.Commands.{begin_at, begin_row, cut_body, cut_by, cut_row, kill_row, lone_row, lower};
+ghost use Rattle.api_views.specs.Commands.{begin_at, begin_row, cut_by, cut_row, kill_row, lone_row, lower};
 ghost use Rattle.api_views.specs.Commands.{lower_by, lowest, lowest_from, node_for, rows_row, serves, serves_at};
 ghost use Rattle.api_views.specs.Commands.{show_row, to_hosts, with_cut};
 ghost use Rattle.api_views.specs.State.{left, telling};
 ghost use Rattle.sig_core.specs.declared.reply.ApiReply.TheVariants as reply;
+ghost use Rattle.sig_core.specs.declared.signal.Body.TheVariants.{Host};
+ghost use Rattle.sig_core.specs.declared.signal.host.HostSignal.TheVariants.{Cut};
 
 use crate::client::Client;
 use crate::cuts::CutPair;
@@ -135,7 +137,7 @@ impl Client {
             Some(node) => {
                 let op = op.share()?;
                 self.api.ask_begin(None, node, Some(op), out)?;
-                self.own = false;
+                self.set_aside();
                 Ok(())
             }
             None => self.turn_down(None, Refusal::NoMember(0)),
@@ -205,8 +207,9 @@ impl Client {
     {
         match (first, second) {
             (true, true) => {
+                let first = self.latest(other).host;
                 self.note_cut(one, other)?;
-                send_cut(one, other, out);
+                send_cut(one, other, first, out);
                 Ok(())
             }
             (true, false) => self.turn_down(None, Refusal::NoMember(other)),
@@ -239,20 +242,18 @@ impl Client {
     }
 }
 
-// The hosts of a node are cut off from another one.
-fn send_cut(one: u8, other: u8, out: &mut Outs)
+// The hosts of a node are cut off from another one, whose first one is named.
+fn send_cut(one: u8, other: u8, first: HostId, out: &mut Outs)
     requires { HasRoom out.old }
-    ensures { out.new ≡ joined out.old (sends_only (to_hosts one (cut_body other))) }
+    ensures { out.new ≡ joined out.old (sends_only (to_hosts one (Host (Cut other first)))) }
 {
-    out.send(membership(one), cut_body(other));
-    out.send(coordinator(one), cut_body(other));
-    out.send(rows_of(one), cut_body(other));
+    out.send(membership(one), cut_body(other, first));
+    out.send(coordinator(one), cut_body(other, first));
+    out.send(rows_of(one), cut_body(other, first));
 }
 
-// Hosts stand in threes, from 1 on.
-fn cut_body(node: u8) -> Body
-    ensures { result ≡ cut_body node }
+fn cut_body(node: u8, first: HostId) -> Body
+    ensures { result ≡ Host (Cut node first) }
 {
-    let first = HostId((3 * node as u32).saturating_sub(2));
     Body::Host(HostSignal::Cut { node, first })
 }

@@ -1,5 +1,6 @@
 //! What is true of the client's side under views.
 ghost use Rattle.api_views.specs.Laws.{CalmShows, CalmSteps, CalmTicks, DroppedChangesNothing, EndsAreToldOnce};
+ghost use Rattle.api_views.specs.Laws.{StartsAreAskedFor};
 ghost use Rattle.api_views.specs.Words.{ClientKeepsToItsWords};
 
 /// Where no host stopped, no node was cut and no closing of an epoch is asked for, a step at a
@@ -24,8 +25,15 @@ pub fn ends_are_told_once()
     ensures { EndsAreToldOnce }
 {}
 
-/// It sends only requests of transactions, of rows and of closings, rounds of time, deaths and cuts,
-/// acknowledgements, and work of its own, and marks only reports.
+/// A step leaves the later starts as they are, and where no start is asked for then none is behind it,
+/// and no president is told of one; unless its signal asks for a start, which then stands behind them.
+#[tactic(auto, using(crate::proofs::StartLemmas::starts_asked))]
+pub fn starts_are_asked_for()
+    ensures { StartsAreAskedFor }
+{}
+
+/// It sends only requests of transactions, of rows, of closings and of starts, rounds of time, deaths
+/// and cuts, acknowledgements, and work of its own, and marks only reports.
 #[tactic(auto, using(crate::proofs::Walk::client_words))]
 pub fn keeps_to_its_words()
     ensures { ClientKeepsToItsWords }

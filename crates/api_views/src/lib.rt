@@ -11,6 +11,8 @@ mod members;
 mod pending;
 mod reports;
 mod rounds;
+mod starting;
+mod starts;
 mod stops;
 
 pub use client::Client;
@@ -19,4 +21,5 @@ pub use cuts::CutPair;
 pub use laws::{calm_steps, dropped_changes_nothing, ends_are_told_once, keeps_to_its_words};
 pub use members::is_member;
 pub use reports::Verdict;
+pub use starts::{NodeStart, STARTS, Starting};
 pub use stops::HostStop;

@@ -1,6 +1,6 @@
 //! Members and views.
 ghost use Rattle.std.specs.Prelude.{◌≡◌};
-ghost use Rattle.api_views.specs.Members.{first_start, greater_view, is_among, is_member, president, same_member};
+ghost use Rattle.api_views.specs.Members.{greater_view, is_among, is_member, president, same_member};
 
 use sig_core::{Member, View};
 
@@ -24,13 +24,6 @@ pub fn is_member(view: &View, member: &Member) -> bool
     ensures { result ≡ is_member view.now member.now }
 {
     is_among(view.full.as_slice(), member) || is_among(view.starting.as_slice(), member)
-}
-
-/// The start of a node that began the life.
-pub fn first_start(node: u8) -> Member
-    ensures { result ≡ first_start node }
-{
-    Member { node, start: 0 }
 }
 
 /// The president of a view: the node of its oldest full member.

@@ -2,13 +2,16 @@
 ghost use Rattle.std.specs.Prelude.{◌≡◌, ◌<◌, ◌+◌, ◌≤◌, position, length, slice_get, IfSome, OnOk, OnErr};
 ghost use Rattle.sig_core.specs.Step.{HasRoom, IsTaken, IsUntouched, joined, sends_only};
 ghost use Rattle.api_block.specs.Views.{dump_node};
-ghost use Rattle.api_views.specs.Reports.{begun_verdict, broken_by, complete_row, down_outcome, dump_breaks, ended_by};
-ghost use Rattle.api_views.specs.Reports.{failed_by, first_ended, going_on, greater_of, has_more, is_due, more_if};
-ghost use Rattle.api_views.specs.Reports.{place_due, report_row, stop_row, stop_told_if, told_if, unasked, unbegun_if};
-ghost use Rattle.api_views.specs.Reports.{verdict, with_stop};
+ghost use Rattle.api_views.specs.Reports.{begun_verdict, broken_by, complete_row, current_takeover, down_outcome};
+ghost use Rattle.api_views.specs.Reports.{dump_breaks, ended_by, failed_by, first_ended, going_on, gone_only};
+ghost use Rattle.api_views.specs.Reports.{greater_of};
+ghost use Rattle.api_views.specs.Reports.{has_more, is_due, more_if, place_due, report_row, stop_row, stop_told_if};
+ghost use Rattle.api_views.specs.Reports.{told_if, unasked, unbegun_if, verdict, with_stop};
+ghost use Rattle.api_views.specs.Starting.{start_is_gone};
 
 use crate::client::Client;
-use crate::members::{first_start, greater_view, is_member};
+use crate::members::{greater_view, is_member};
+use crate::starts::Starting;
 use crate::stops::{HostStop, is_sibling, is_told, ldm_stopped, tc_stopped};
 use api_block::{Api, Doing, OpenTransaction, is_beginning};
 use sig_core::{
@@ -33,6 +36,13 @@ fn down_outcome(doing: &Doing) -> Outcome
     }
 }
 
+// The start that is asked for, where it is over.
+fn gone_only(starting: Option<Starting>, gone: bool) -> Option<Starting>
+    ensures { result ≡ gone_only starting gone }
+{
+    if gone { starting } else { None }
+}
+
 // The end of a transaction by a complete takeover.
 fn failed_by(tx: TxId, taken_over: &Option<View>) -> Option<Verdict>
     ensures { result ≡ failed_by tx taken_over.now }
@@ -55,6 +65,17 @@ fn failed_by(tx: TxId, taken_over: &Option<View>) -> Option<Verdict>
 }
 
 impl Client {
+    // The view whose takeover is complete, unless a greater one was seen since.
+    fn current_takeover(&self) -> Option<View>
+        ensures { result ≡ current_takeover self.now }
+    {
+        match self.taken_over {
+            Some(view) if view.number < self.api.view().number => None,
+            Some(view) => Some(view),
+            None => None,
+        }
+    }
+
     // How a transaction ends that was begun, and gets no answer any more.
     fn begun_verdict(&self, tx: TxId, doing: &Doing, down: bool) -> Option<Verdict>
         ensures { result ≡ begun_verdict self.now tx doing.now down }
@@ -62,7 +83,7 @@ impl Client {
         if down {
             Some(Verdict::Ends(tx, down_outcome(doing)))
         } else {
-            failed_by(tx, &self.taken_over)
+            failed_by(tx, &self.current_takeover())
         }
     }
 
@@ -73,7 +94,7 @@ impl Client {
         if !beginning {
             return None;
         }
-        if tc_stopped(&self.stops, &first_start(node)) {
+        if tc_stopped(&self.stops, &self.latest_member(node)) {
             Some(Verdict::NeverBegins)
         } else {
             None
@@ -111,7 +132,7 @@ impl Client {
         ensures { result ≡ dump_breaks self.now }
     {
         match self.api.dump_node() {
-            Some(node) => ldm_stopped(&self.stops, &first_start(node)),
+            Some(node) => ldm_stopped(&self.stops, &self.latest_member(node)),
             None => false,
         }
     }
@@ -121,7 +142,7 @@ impl Client {
     fn has_more(&self) -> bool
         ensures { result ≡ has_more self.now }
     {
-        self.dump_breaks() || self.place_due().is_some()
+        self.dump_breaks() || self.start_is_gone() || self.place_due().is_some()
     }
 
     // Goes on, where something is to be told.
@@ -154,12 +175,14 @@ impl Client {
     // Tells what is first.
     fn tell_first(&mut self, out: &mut Outs) -> Result<(), NoMemory>
         requires { HasRoom out.old }
-        ensures ok { OnOk result (IsTaken (told_if self.old (dump_breaks self.old)) self.new out.old out.new) }
+        ensures ok { OnOk result (IsTaken (told_if self.old (dump_breaks self.old) (start_is_gone self.old)) self.new out.old out.new) }
         ensures err { OnErr result (IsUntouched self.old self.new out.old out.new) }
-        ensures few { length out.new.sends ≡ length out.old.sends }
+        ensures few { length out.new.sends ≤ length out.old.sends + 1 }
     {
         if self.dump_breaks() {
             self.break_dump()
+        } else if self.start_is_gone() {
+            self.end_start(out)
         } else {
             self.end_first(out)
         }
@@ -265,13 +288,16 @@ impl Client {
         Ok(())
     }
 
-    // When the cluster is down no closing of an epoch is waited for.
+    // When the cluster is down no closing of an epoch is waited for, and no start but one that is
+    // over.
     fn unask(&mut self)
         ensures { self.new ≡ unasked self.old }
     {
         if self.is_down() {
+            self.starting = gone_only(self.starting, self.start_is_gone());
             self.closing = None;
             self.own = false;
+            self.own_start = false;
         }
     }
 

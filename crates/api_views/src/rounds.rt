@@ -6,7 +6,6 @@ ghost use Rattle.api_views.specs.Rounds.{rounds_of, tick_row, ticked};
 
 use crate::client::Client;
 use crate::commands::some_serves;
-use crate::members::first_start;
 use crate::stops::still_runs;
 use sig_core::{ApiReply, BlockId, Body, HostSignal, NoMemory, Outs, Place};
 
@@ -20,14 +19,14 @@ impl Client {
             || some_serves(&self.stops, node, view.starting.as_slice())
     }
 
-    // Whether the node is one of the cluster, and its first start or a member of the greatest view
+    // Whether the node is one of the cluster, and its latest start or a member of the greatest view
     // hasn't stopped.
     #[tactic(auto, unfolding(crate::specs::Rounds::is_live))]
     fn is_live(&self, node: u8) -> bool
         ensures { result ≡ is_live self.now node }
     {
         (1 <= node && node <= self.nodes)
-            && (still_runs(&self.stops, &first_start(node)) || self.has_member(node))
+            && (still_runs(&self.stops, &self.latest_member(node)) || self.has_member(node))
     }
 
     // The round of a block of a node.

@@ -1,11 +1,12 @@
 //! Hosts that stopped, and what that says of their nodes.
 ghost use Rattle.std.specs.Prelude.{◌≡◌};
 ghost use Rattle.std.specs.List.{list_any};
-ghost use Rattle.api_views.specs.Stops.{ends_ldm, ends_tc, has_stopped, is_down, is_ldm, is_of, is_sibling, is_tc};
-ghost use Rattle.api_views.specs.Stops.{is_told, ldm_stopped, runs, still_runs, stop_of, tc_stopped, tells};
+ghost use Rattle.api_views.specs.Stops.{all_stopped, ends_ldm, ends_main, ends_tc, has_stopped, is_down, is_ldm};
+ghost use Rattle.api_views.specs.Stops.{is_main, is_node, is_of, is_sibling, is_tc, is_told, ldm_stopped};
+ghost use Rattle.api_views.specs.Stops.{main_stopped, runs, still_runs, stop_of, tc_stopped, tells};
 
 use crate::client::Client;
-use crate::members::{first_start, is_same};
+use crate::members::is_same;
 use sig_core::{HostId, Member, StopCause};
 
 /// A host that stopped.
@@ -40,8 +41,15 @@ pub fn is_sibling(cause: &StopCause) -> bool
     }
 }
 
-// Whether the host has the coordinator of its node: hosts stand in threes, main, tc and ldm, from 1
+// Whether the host has the membership of its node: hosts stand in threes, main, tc and ldm, from 1
 // on.
+fn is_main(host: HostId) -> bool
+    ensures { result ≡ is_main host.0 }
+{
+    host.0 % 3 == 1
+}
+
+// Whether it has the coordinator of its node.
 fn is_tc(host: HostId) -> bool
     ensures { result ≡ is_tc host.0 }
 {
@@ -65,6 +73,12 @@ fn tells(member: &Member, stop: &HostStop) -> bool
     ensures { result ≡ tells member.now stop.now }
 {
     is_of(member, stop) && !stop.sibling
+}
+
+fn ends_main(member: &Member, stop: &HostStop) -> bool
+    ensures { result ≡ ends_main member.now stop.now }
+{
+    is_of(member, stop) && is_main(stop.host)
 }
 
 fn ends_tc(member: &Member, stop: &HostStop) -> bool
@@ -95,6 +109,14 @@ pub fn is_told(stops: &[HostStop], member: &Member) -> bool
     stops.iter().any(|stop| tells(member, stop))
 }
 
+// Whether the host of the member's membership has stopped.
+#[tactic(auto, unfolding(crate::specs::Stops::main_stopped))]
+fn main_stopped(stops: &[HostStop], member: &Member) -> bool
+    ensures { result ≡ main_stopped stops.now member.now }
+{
+    stops.iter().any(|stop| ends_main(member, stop))
+}
+
 /// Whether the host of the member's coordinator has stopped.
 #[tactic(auto, unfolding(crate::specs::Stops::tc_stopped))]
 pub fn tc_stopped(stops: &[HostStop], member: &Member) -> bool
@@ -109,6 +131,13 @@ pub fn ldm_stopped(stops: &[HostStop], member: &Member) -> bool
     ensures { result ≡ ldm_stopped stops.now member.now }
 {
     stops.iter().any(|stop| ends_ldm(member, stop))
+}
+
+/// Whether all three hosts of the member have stopped.
+pub fn all_stopped(stops: &[HostStop], member: &Member) -> bool
+    ensures { result ≡ all_stopped stops.now member.now }
+{
+    main_stopped(stops, member) && tc_stopped(stops, member) && ldm_stopped(stops, member)
 }
 
 /// Whether the member hasn't stopped.
@@ -126,12 +155,19 @@ fn some_run(stops: &[HostStop], members: &[Member]) -> bool
 }
 
 impl Client {
-    // Whether the node is one of the cluster, and none of its hosts has stopped.
+    // Whether the node is one of the cluster.
+    pub(crate) fn is_node(&self, node: u8) -> bool
+        ensures { result ≡ is_node self.now node }
+    {
+        1 <= node && node <= self.nodes
+    }
+
+    // Whether it is, and no host of its latest start has stopped.
     #[tactic(auto, unfolding(crate::specs::Stops::runs))]
     pub(crate) fn runs(&self, node: u8) -> bool
         ensures { result ≡ runs self.now node }
     {
-        (1 <= node && node <= self.nodes) && !has_stopped(&self.stops, &first_start(node))
+        self.is_node(node) && !has_stopped(&self.stops, &self.latest_member(node))
     }
 
     /// Whether the cluster is down: every full member of the greatest view that was seen has

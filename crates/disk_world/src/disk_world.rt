@@ -1,6 +1,7 @@
 //! A cluster whose nodes have disks, in one of its lives.
 ghost use Rattle.std.specs.Prelude.{◌≡◌, ◌≤◌, ◌<◌, ◌+◌, ◌-◌, ◌++◌, List, [], None, Some, false, true, Ok, Err};
 ghost use Rattle.std.specs.Prelude.{IfErr, IfOk, MatchResult, OnErr, OnOk, is_ok, length, map, option_to_list};
+ghost use Rattle.api_views.specs.Laws.{is_start};
 ghost use Rattle.frag_map.specs.Shape.{IsShape};
 ghost use Rattle.host_io.specs.Call.{Call};
 ghost use Rattle.life_start.specs.Begun.{AreSlotsOf, HasBegun, end_of_epochs};
@@ -148,12 +149,14 @@ impl<D: Disk> DiskWorld<D> {
         &self.disks
     }
 
-    /// Asks the shell's host for something, in a step of it, of which no disk has anything to keep.
+    /// Asks the shell's host for something but a start, in a step of it, of which no disk has anything to
+    /// keep.
     ///
     /// # Errors
     /// As of `World::ask`.
     pub fn ask(&mut self, alloc: Global, request: ApiReq) -> Result<(), NoMemory>
-        requires { IsWorld (whole_of self.old.world) }
+        requires world { IsWorld (whole_of self.old.world) }
+        requires plain { is_start request ≡ false }
         ensures ok { (start : Start) → IsSound start (whole_of self.old.world) → OnOk result (HasAsked start request (whole_of self.old.world) (whole_of self.new.world)) }
         ensures err { OnErr result ((whole_of self.new.world).logs ≡ (whole_of self.old.world).logs) }
         ensures disks { (self.new.disks ≡ self.old.disks) × (self.new.slots ≡ self.old.slots) }

@@ -2,6 +2,7 @@ pub mod MomentHosts
 pub mod MomentMembers
 pub mod MomentRuns
 pub mod MomentSignals
+pub mod MomentStarts
 pub mod MomentTurns
 pub mod MomentViews
 pub mod MomentWalk

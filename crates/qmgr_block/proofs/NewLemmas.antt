@@ -32,7 +32,7 @@ use Rattle.qmgr_block.specs.Decide.{refused_if, refused_row, stop_row, stopping,
 use Rattle.qmgr_block.specs.Decide.{unpromised_row, with_unlike}
 use Rattle.qmgr_block.specs.Install.{commit_of, copy_of, is_some_suspect, order_if, order_row, orders, own_orders}
 use Rattle.qmgr_block.specs.Install.{work_by, work_if, work_row}
-use Rattle.qmgr_block.specs.Join.{has_node, is_settled, join, promote_row, start_by, start_row}
+use Rattle.qmgr_block.specs.Join.{has_node, join_if, joining_with, may_add, promote_row, start_by, start_row}
 use Rattle.qmgr_block.specs.Laws.{AreNew}
 use Rattle.qmgr_block.specs.Promise.{confirmed_at, confirmed_if, confirmed_place, fence_row, is_fenced, is_ldm, less}
 use Rattle.qmgr_block.specs.Promise.{may_promise, promise_by, promise_row, promising, waits_for, with_absent}
@@ -297,27 +297,30 @@ stop_new k Clock = tt
 stop_new k (Disk count) = tt
 stop_new k (Sibling host) = tt
 
-join_new : (k : Known) (member : Member) → AreNew k (join k member).state (join k member).effects.sends
+join_if_new : (k : Known) (member : Member) (own : Option ℕ) (may : Bool)
+    → AreNew k (join_if k member own may).state (join_if k member own may).effects.sends
 unfolding joined_view
-join_new k member =
+join_if_new k member own true =
     let next = next_new k k (kept_self k) in
-    proposed_if_new k k (joined_view k.layout.view (next_number k) member) (Some member) (presides k && has_number k)
+    proposed_new k (joining_with k member own) (joined_view k.layout.view (next_number k) member) (Some member)
     next.above next.higher
+join_if_new k member own false = tt
 
-start_by_new : (k : Known) (member : Member) (full in_view settled seen : Bool)
-    → AreNew k (start_by k member full in_view settled seen).state
-    (start_by k member full in_view settled seen).effects.sends
-start_by_new k member true in_view settled seen = (tt, tt)
-start_by_new k member false true settled seen = tt
-start_by_new k member false false false seen = tt
-start_by_new k member false false true true = (tt, tt)
-start_by_new k member false false true false = join_new k member
+start_by_new : (k : Known) (member : Member) (own : Option ℕ) (full in_view may seen : Bool)
+    → AreNew k (start_by k member own full in_view may seen).state
+    (start_by k member own full in_view may seen).effects.sends
+start_by_new k member own true in_view may seen = (tt, tt)
+start_by_new k member own false true may seen = tt
+start_by_new k member own false false false seen = tt
+start_by_new k member own false false true true = (tt, tt)
+start_by_new k member own false false true false = join_if_new k member own (presides k && has_number k)
 
-start_new : (k : Known) (member : Member) → AreNew k (start_row k member).state (start_row k member).effects.sends
+start_new : (k : Known) (member : Member) (own : Option ℕ)
+    → AreNew k (start_row k member own).state (start_row k member own).effects.sends
 unfolding start_row
-start_new k member =
-    start_by_new k member (is_among k.layout.view.full member) (has_node (members_of k.layout.view) member)
-    (is_settled k) (covers k.seen member)
+start_new k member own =
+    start_by_new k member own (is_among k.layout.view.full member) (has_node (members_of k.layout.view) member)
+    (may_add k) (covers k.seen member)
 
 promote_new : (k : Known) (member : Member) → AreNew k (promote_row k member).state (promote_row k member).effects.sends
 unfolding promote_row promoted_view
@@ -329,9 +332,9 @@ commits_new : (before k : Known) (members : List Member) → AreNew before k (ma
 commits_new before k [] = tt
 commits_new before k (member ∷ members) = (tt, commits_new before k members)
 
-copies_new : (before k : Known) (node : ℕ) (members : List Member) → AreNew before k (map (copy_of node) members)
-copies_new before k node [] = tt
-copies_new before k node (member ∷ members) = (tt, copies_new before k node members)
+copies_new : (before k : Known) (members : List Member) → AreNew before k (map (copy_of k) members)
+copies_new before k [] = tt
+copies_new before k (member ∷ members) = (tt, copies_new before k members)
 
 work_if_new : (before k : Known) (me : Member) (left : Bool) → AreNew before k (work_if me left)
 work_if_new before k me true = (tt, tt)
@@ -342,11 +345,11 @@ unfolding orders
 orders_new before k =
     let commits = map commit_of (members_of k.layout.view) in
     let own = own_orders k.me.node in
-    let copies = map (copy_of k.me.node) k.layout.view.starting in
+    let copies = map (copy_of k) k.layout.view.starting in
     let work = work_if k.me (is_some_suspect k.suspects) in
     let told = new_append before k commits own (commits_new before k (members_of k.layout.view)) (tt, (tt, (tt, tt))) in
     let copied = new_append before k (commits ++ own) copies told
-    (copies_new before k k.me.node k.layout.view.starting) in
+    (copies_new before k k.layout.view.starting) in
     new_append before k (commits ++ own ++ copies) work copied (work_if_new before k k.me (is_some_suspect k.suspects))
 
 rest_new : (before k : Known) (by : Place) (at : ℕ) (more : Bool) → AreNew before k (rest_if by Members at more)
@@ -397,7 +400,7 @@ membership_new s host member _ = tt
 
 joining_new : (k : Known) (signal : JoiningSignal)
     → AreNew k (joining_table k signal).state (joining_table k signal).effects.sends
-joining_new k (StartReq member own) = start_new k member
+joining_new k (StartReq member own) = start_new k member own
 joining_new k (PromoteReq member) = promote_new k member
 joining_new k (StartGone member) = close_new k member
 joining_new k _ = tt

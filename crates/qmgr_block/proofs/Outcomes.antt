@@ -28,7 +28,7 @@ use Rattle.qmgr_block.specs.Decide.{refused_cause, refused_if, refused_row, stop
 use Rattle.qmgr_block.specs.Decide.{unpromised_if, unpromised_row, with_unlike}
 use Rattle.qmgr_block.specs.Install.{is_of_view, is_oldest, is_some_suspect, order_effects, order_if, order_row}
 use Rattle.qmgr_block.specs.Install.{work_by, work_row}
-use Rattle.qmgr_block.specs.Join.{has_node, is_settled, promote_row, start_by, start_row}
+use Rattle.qmgr_block.specs.Join.{has_node, join_if, joining_with, may_add, promote_row, start_by, start_row}
 use Rattle.qmgr_block.specs.Promise.{confirmed_at, confirmed_if, confirmed_place, fence_row, fences, is_fenced, is_ldm}
 use Rattle.qmgr_block.specs.Promise.{less, may_promise, promise_by, promise_row, promising, refusal_of, waiting_promise}
 use Rattle.qmgr_block.specs.Promise.{waits_for, with_absent}
@@ -117,18 +117,19 @@ pub record QmgrOutcomes (s : QmgrState) (x : Signal) (R : Step QmgrState → Typ
       → is_among s.known.layout.view.full member ≡ true
       → R (beside s.promises (sending s.known client (Joining (StartRep member))))
   pub has_been : (member : Member) (own : Option ℕ) → x.body ≡ Joining (StartReq member own)
-      → has_node (members_of s.known.layout.view) member ≡ false → is_settled s.known ≡ true
+      → has_node (members_of s.known.layout.view) member ≡ false → may_add s.known ≡ true
       → covers s.known.seen member ≡ true
       → R (beside s.promises (sending s.known client (Joining (StartEnd member))))
   pub joins : (member : Member) (own lost : Option ℕ) → x.body ≡ Joining (StartReq member own)
       → is_among s.known.layout.view.full member ≡ false → has_node (members_of s.known.layout.view) member ≡ false
-      → is_settled s.known ≡ true → covers s.known.seen member ≡ false
+      → may_add s.known ≡ true → covers s.known.seen member ≡ false
       → (presides s.known && has_number s.known) ≡ true
       → lost_group s.known.layout.shape (joined_view s.known.layout.view (next_number s.known) member) ≡ lost
       → R (beside s.promises
-      (proposed_by s.known (joined_view s.known.layout.view (next_number s.known) member) (Some member) lost))
+      (proposed_by (joining_with s.known member own) (joined_view s.known.layout.view (next_number s.known) member)
+      (Some member) lost))
   pub promotes : (member : Member) (lost : Option ℕ) → x.body ≡ Joining (PromoteReq member)
-      → (is_settled s.known && is_among s.known.layout.view.starting member && presides s.known && has_number s.known)
+      → (may_add s.known && is_among s.known.layout.view.starting member && presides s.known && has_number s.known)
       ≡ true
       → lost_group s.known.layout.shape (promoted_view s.known.layout.view (next_number s.known) member) ≡ lost
       → R (beside s.promises
@@ -336,41 +337,42 @@ module _ (s : QmgrState) (x : Signal) (R : Step QmgrState → Type 0) (forms : Q
   stop_goes cause is = forms.stops cause is
 
   -- joins
-  start_goes : (member : Member) (own : Option ℕ) → x.body ≡ Joining (StartReq member own) → Goes (start_row k member)
+  start_goes : (member : Member) (own : Option ℕ) → x.body ≡ Joining (StartReq member own)
+      → Goes (start_row k member own)
   unfolding start_row proposed_view
   start_goes member own is =
-      by (is_among k.layout.view.full member) refl (has_node (members_of k.layout.view) member) refl (is_settled k) refl
+      by (is_among k.layout.view.full member) refl (has_node (members_of k.layout.view) member) refl (may_add k) refl
       (covers k.seen member) refl
     where
       set : View
       set = joined_view k.layout.view (next_number k) member
 
       proposed : is_among k.layout.view.full member ≡ false → has_node (members_of k.layout.view) member ≡ false
-          → is_settled k ≡ true → covers k.seen member ≡ false → (b : Bool) → (presides k && has_number k) ≡ b
-          → Goes (proposed_if k set (Some member) b)
-      proposed no_full outside settled unseen true may =
-          forms.joins member own (lost_group k.layout.shape set) is no_full outside settled unseen may refl
-      proposed no_full outside settled unseen false may = rest (Joining (StartReq member own)) is refl
+          → may_add k ≡ true → covers k.seen member ≡ false → (b : Bool) → (presides k && has_number k) ≡ b
+          → Goes (join_if k member own b)
+      proposed no_full outside adds unseen true may =
+          forms.joins member own (lost_group k.layout.shape set) is no_full outside adds unseen may refl
+      proposed no_full outside adds unseen false may = rest (Joining (StartReq member own)) is refl
 
       by : (full : Bool) → is_among k.layout.view.full member ≡ full → (in_view : Bool)
-          → has_node (members_of k.layout.view) member ≡ in_view → (settled : Bool) → is_settled k ≡ settled
-          → (seen : Bool) → covers k.seen member ≡ seen → Goes (start_by k member full in_view settled seen)
-      by true is_full in_view e settled f seen g = forms.is_full member own is is_full
-      by false no_full true inside settled f seen g = rest (Joining (StartReq member own)) is refl
-      by false no_full false outside false unsettled seen g = rest (Joining (StartReq member own)) is refl
-      by false no_full false outside true settled true seen = forms.has_been member own is outside settled seen
-      by false no_full false outside true settled false unseen =
-          proposed no_full outside settled unseen (presides k && has_number k) refl
+          → has_node (members_of k.layout.view) member ≡ in_view → (adds : Bool) → may_add k ≡ adds
+          → (seen : Bool) → covers k.seen member ≡ seen → Goes (start_by k member own full in_view adds seen)
+      by true is_full in_view e adds f seen g = forms.is_full member own is is_full
+      by false no_full true inside adds f seen g = rest (Joining (StartReq member own)) is refl
+      by false no_full false outside false waits seen g = rest (Joining (StartReq member own)) is refl
+      by false no_full false outside true adds true seen = forms.has_been member own is outside adds seen
+      by false no_full false outside true adds false unseen =
+          proposed no_full outside adds unseen (presides k && has_number k) refl
 
   promote_goes : (member : Member) → x.body ≡ Joining (PromoteReq member) → Goes (promote_row k member)
   unfolding promote_row proposed_view
   promote_goes member is =
-      by (is_settled k && is_among k.layout.view.starting member && presides k && has_number k) refl
+      by (may_add k && is_among k.layout.view.starting member && presides k && has_number k) refl
     where
       set : View
       set = promoted_view k.layout.view (next_number k) member
 
-      by : (b : Bool) → (is_settled k && is_among k.layout.view.starting member && presides k && has_number k) ≡ b
+      by : (b : Bool) → (may_add k && is_among k.layout.view.starting member && presides k && has_number k) ≡ b
           → Goes (proposed_if k set None b)
       by true may = forms.promotes member (lost_group k.layout.shape set) is may refl
       by false may = rest (Joining (PromoteReq member)) is refl

@@ -28,11 +28,11 @@ use Rattle.qmgr_block.specs.Decide.{granted_by, granted_if, granted_row, heard, 
 use Rattle.qmgr_block.specs.Decide.{refused_if, refused_row, stop_row, unpromised_by, unpromised_if, unpromised_row}
 use Rattle.qmgr_block.specs.Decide.{with_unlike}
 use Rattle.qmgr_block.specs.Install.{installed_row, installing, order_if, order_row, work_by, work_row}
-use Rattle.qmgr_block.specs.Join.{has_node, is_settled, join, promote_row, start_by, start_row}
+use Rattle.qmgr_block.specs.Join.{has_node, join_if, joining_with, may_add, promote_row, start_by, start_row}
 use Rattle.qmgr_block.specs.Promise.{confirmed_at, confirmed_if, confirmed_place, fence_row, is_fenced, is_ldm, less}
 use Rattle.qmgr_block.specs.Promise.{may_promise, promise_by, promise_row, promising, waits_for, with_absent}
 use Rattle.qmgr_block.specs.Promise.{with_missing_from}
-use Rattle.qmgr_block.specs.Propose.{has_number, next_number}
+use Rattle.qmgr_block.specs.Propose.{has_number, next_number, proposed_view}
 use Rattle.qmgr_block.specs.Qmgr.{host_table, joining_table, membership_table, qmgr_table}
 use Rattle.qmgr_block.specs.Ring.{heartbeat_by, heartbeat_row, round_by, round_row, sides, with_missing, with_round}
 use Rattle.qmgr_block.specs.Sets.{is_among, is_in, is_special, joined_view, members_of, promoted_view, same_member}
@@ -42,8 +42,8 @@ use Rattle.qmgr_block.specs.State.{QmgrState}
 use Rattle.qmgr_block.specs.Suspects.{close_row, has_more, is_kept_suspect, presides, report_row, told_if, with_closed}
 use Rattle.qmgr_block.specs.Suspects.{with_closing, with_suspect, with_suspects}
 use Rattle.qmgr_block.proofs.KeptLemmas.{Kept, all_noted_holds, closed_kept, kept_on, kept_self, next_is_high}
-use Rattle.qmgr_block.proofs.KeptLemmas.{noted_holds, proposed_if_kept, suspect_kept, suspects_kept, suspects_promised}
-use Rattle.qmgr_block.proofs.KeptLemmas.{told_kept, told_on}
+use Rattle.qmgr_block.proofs.KeptLemmas.{noted_holds, proposed_if_kept, proposed_kept, suspect_kept, suspects_kept}
+use Rattle.qmgr_block.proofs.KeptLemmas.{suspects_promised, told_kept, told_on}
 
 -- heartbeats
 round_if : (k : Known) (n : ℕ) (less : Bool) → Kept k (if less then record k { missed = n } else k)
@@ -292,25 +292,37 @@ stop_kept k (Disk count) = kept_self k
 stop_kept k (Sibling host) = kept_self k
 
 -- joins and promotions
-join_kept : (k : Known) (member : Member) → Kept k (join k member).state
+joiner_kept : (k : Known) (member : Member) (own : Option ℕ) → Kept k (joining_with k member own)
+joiner_kept k member own = record {
+  promised = omega arith;
+  proposed = omega arith;
+  closed = λ m e. e;
+  seen = λ m e. e;
+  above = λ below. below;
+}
+
+join_if_kept : (k : Known) (member : Member) (own : Option ℕ) (may : Bool) → Kept k (join_if k member own may).state
 unfolding joined_view
-join_kept k member =
-    proposed_if_kept k (joined_view k.layout.view (next_number k) member) (Some member) (presides k && has_number k)
-    (next_is_high k)
+join_if_kept k member own true =
+    let l = joining_with k member own in
+    let set = joined_view k.layout.view (next_number k) member in
+    kept_on k l (proposed_view l set (Some member)).state (joiner_kept k member own)
+    (proposed_kept l set (Some member) (next_is_high k))
+join_if_kept k member own false = kept_self k
 
-start_by_kept : (k : Known) (member : Member) (full in_view settled seen : Bool)
-    → Kept k (start_by k member full in_view settled seen).state
-start_by_kept k member true in_view settled seen = kept_self k
-start_by_kept k member false true settled seen = kept_self k
-start_by_kept k member false false false seen = kept_self k
-start_by_kept k member false false true true = kept_self k
-start_by_kept k member false false true false = join_kept k member
+start_by_kept : (k : Known) (member : Member) (own : Option ℕ) (full in_view may seen : Bool)
+    → Kept k (start_by k member own full in_view may seen).state
+start_by_kept k member own true in_view may seen = kept_self k
+start_by_kept k member own false true may seen = kept_self k
+start_by_kept k member own false false false seen = kept_self k
+start_by_kept k member own false false true true = kept_self k
+start_by_kept k member own false false true false = join_if_kept k member own (presides k && has_number k)
 
-pub start_kept : (k : Known) (member : Member) → Kept k (start_row k member).state
+pub start_kept : (k : Known) (member : Member) (own : Option ℕ) → Kept k (start_row k member own).state
 unfolding start_row
-start_kept k member =
-    start_by_kept k member (is_among k.layout.view.full member) (has_node (members_of k.layout.view) member)
-    (is_settled k) (covers k.seen member)
+start_kept k member own =
+    start_by_kept k member own (is_among k.layout.view.full member) (has_node (members_of k.layout.view) member)
+    (may_add k) (covers k.seen member)
 
 pub promote_kept : (k : Known) (member : Member) → Kept k (promote_row k member).state
 unfolding promote_row promoted_view
@@ -379,7 +391,7 @@ membership_kept s host member (StopSet cause) = stop_kept s.known cause
 membership_kept s host member _ = kept_self s.known
 
 pub joining_kept : (k : Known) (signal : JoiningSignal) → Kept k (joining_table k signal).state
-joining_kept k (StartReq member own) = start_kept k member
+joining_kept k (StartReq member own) = start_kept k member own
 joining_kept k (PromoteReq member) = promote_kept k member
 joining_kept k (StartGone member) = close_kept k member
 joining_kept k _ = kept_self k

@@ -51,7 +51,7 @@ pub record OrderForms (k : Known) (P : Outgoing → Type 0) : Type 0 where
   pub takeover : P (to_place (takeover k.me.node) (Takeover TakeoverOrd))
   pub master : P (to_place (checkpoints k.me.node) (Epoch GcpOrd))
   pub client : P (to_place client (Client ViewRep))
-  pub copies : (member : Member) → IsIn member k.layout.view.starting → P (copy_of k.me.node member)
+  pub copies : (member : Member) → IsIn member k.layout.view.starting → P (copy_of k member)
   pub works : is_some_suspect k.suspects ≡ true → P (work_left k.me)
   pub goes_on : (left : ℕ) → P (go_on_at (membership k.me.node) Members left)
 
@@ -99,14 +99,14 @@ orders_each : (k : Known) (P : Outgoing → Type 0) → OrderForms k P → Each 
 unfolding orders
 orders_each k P forms =
     each_append P
-    (map commit_of (members_of k.layout.view) ++ own_orders k.me.node ++ map (copy_of k.me.node) k.layout.view.starting)
+    (map commit_of (members_of k.layout.view) ++ own_orders k.me.node ++ map (copy_of k) k.layout.view.starting)
     (work_if k.me (is_some_suspect k.suspects))
     (each_append P (map commit_of (members_of k.layout.view) ++ own_orders k.me.node)
-    (map (copy_of k.me.node) k.layout.view.starting)
+    (map (copy_of k) k.layout.view.starting)
     (each_append P (map commit_of (members_of k.layout.view)) (own_orders k.me.node)
     (each_of P commit_of (members_of k.layout.view) forms.commits)
     (forms.takeover, (forms.master, (forms.client, tt))))
-    (each_of P (copy_of k.me.node) k.layout.view.starting forms.copies))
+    (each_of P (copy_of k) k.layout.view.starting forms.copies))
     (works (is_some_suspect k.suspects) refl)
   where
     works : (b : Bool) → is_some_suspect k.suspects ≡ b → Each P (work_if k.me b)
@@ -195,7 +195,7 @@ module _ (s : QmgrState) (x : Signal) (P : Outgoing → Type 0) (M : Mark → Ty
     stops = λ cause is. stops_each cause is;
     is_full = λ member own is full. ((forms.is_full member own is, tt), tt);
     has_been = λ member own is outside settled seen. ((forms.has_been member own is, tt), tt);
-    joins = λ member own lost is no_full outside settled unseen may lacks. (proposal_each _ lost, tt);
+    joins = λ member own lost is no_full outside adds unseen may lacks. (proposal_each _ lost, tt);
     promotes = λ member lost is may lacks. (proposal_each _ lost, tt);
     orders = λ at is own oldest low. (
       portion_each P (membership s.known.me.node) Members (orders s.known) at (forms.orders at is own oldest).goes_on

@@ -16,6 +16,7 @@ use Rattle.sig_core.specs.declared.view.View.{View}
 use Rattle.sig_core.specs.Place.{checkpoints, client, copying, membership, takeover}
 use Rattle.sig_core.specs.Portion.{portion_effects}
 use Rattle.sig_core.specs.Step.{Effects, Step, sends_only, stay, to_place}
+use Rattle.qmgr_block.specs.declared.known.Joiner.{Joiner}
 use Rattle.qmgr_block.specs.declared.known.Known.{Known}
 use Rattle.qmgr_block.specs.declared.known.Proposal.{Proposal}
 use Rattle.qmgr_block.specs.declared.install.TheConstants.{ORDERS}
@@ -82,8 +83,17 @@ installed_row k view =
 abbrev pub commit_of : Member → Outgoing
 commit_of member = to_place (membership member.node) (Membership CommitFailReq)
 
-abbrev pub copy_of : ℕ → Member → Outgoing
-copy_of node member = to_place (copying node) (Joining (CopyOrd member None))
+-- the epoch of a member's own rows, where the node has proposed that it joins
+abbrev pub own_if : Joiner → Bool → Option ℕ
+own_if joiner true = joiner.own
+own_if joiner false = None
+
+abbrev pub own_of : Option Joiner → Member → Option ℕ
+own_of None member = None
+own_of (Some joiner) member = own_if joiner (same_member joiner.member member)
+
+abbrev pub copy_of : Known → Member → Outgoing
+copy_of k member = to_place (copying k.me.node) (Joining (CopyOrd member (own_of k.joiner member)))
 
 -- to the blocks of the node that go on with the view, and to the client
 abbrev pub own_orders : ℕ → List Outgoing
@@ -103,7 +113,7 @@ unfoldable pub orders : Known → List Outgoing
 orders k =
     map commit_of (members_of k.layout.view)
     ++ own_orders k.me.node
-    ++ map (copy_of k.me.node) k.layout.view.starting
+    ++ map (copy_of k) k.layout.view.starting
     ++ work_if k.me (is_some_suspect k.suspects)
 
 -- the event is of the installed view, and no list is as long as that

@@ -47,7 +47,7 @@ membership_table s host member _ = stay s
 
 -- at the signals of joins
 abbrev pub joining_table : Known → JoiningSignal → Step Known
-joining_table k (StartReq member own) = start_row k member
+joining_table k (StartReq member own) = start_row k member own
 joining_table k (PromoteReq member) = promote_row k member
 joining_table k (StartGone member) = close_row k member
 joining_table k _ = stay k

@@ -29,6 +29,7 @@ fresh_known me layout = record {
   missed = 0;
   proposed = 0;
   outstanding = None;
+  joiner = None;
 }
 
 abbrev pub fresh_qmgr : Member → Layout → QmgrState

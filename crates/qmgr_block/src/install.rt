@@ -4,9 +4,9 @@ ghost use Rattle.sig_core.specs.Portion.{all_offered, offered, so_far};
 ghost use Rattle.sig_core.specs.Step.{HasRoom, IsTaken, joined};
 ghost use Rattle.qmgr_block.specs.Install.{commit_of, copy_of, installed_row, installing, is_oldest, is_of_view};
 ghost use Rattle.qmgr_block.specs.Install.{is_some_suspect, left_of, left_open, order_effects, order_row, orders};
-ghost use Rattle.qmgr_block.specs.Install.{own_orders, work_if};
+ghost use Rattle.qmgr_block.specs.Install.{own_of, own_orders, work_if};
 
-use crate::known::{Known, Proposal};
+use crate::known::{Joiner, Known, Proposal};
 use crate::sets::{is_in, is_same, members_of, within};
 use sig_core::{
     Body, CLIENT, ClientSignal, EpochSignal, HostSignal, JoiningSignal, Member, Members,
@@ -128,7 +128,7 @@ impl Known {
     {
         offer_commits(&members_of(self.layout.view()), portion, out);
         offer_own(self.me.node, portion, out);
-        offer_copies(self.me.node, &self.layout.view().starting, portion, out);
+        offer_copies(self, &self.layout.view().starting, portion, out);
         if self.has_suspects() {
             let work = Work::Installation;
             portion.offer(
@@ -168,22 +168,33 @@ fn offer_own(node: u8, portion: &mut Portion, out: &mut Outs)
 
 // The copying of the node is told of each starting member.
 #[tactic(auto, using(sig_core::proofs::PortionLemmas::portions))]
-fn offer_copies(node: u8, starting: &Members, portion: &mut Portion, out: &mut Outs)
+fn offer_copies(known: &Known, starting: &Members, portion: &mut Portion, out: &mut Outs)
     requires { length out.old.sends + portion.old.room ≤ 15 }
-    ensures offered { so_far portion.new out.new ≡ all_offered (so_far portion.old out.old) (map (copy_of node) starting.now) }
+    ensures offered { so_far portion.new out.new ≡ all_offered (so_far portion.old out.old) (map (copy_of known.now) starting.now) }
     ensures fits { length out.new.sends + portion.new.room ≤ 15 }
 {
     for member in starting.as_slice() {
-        offer_copy(node, *member, portion, out);
+        offer_copy(known, *member, portion, out);
     }
 }
 
 // It is told of one.
-fn offer_copy(node: u8, member: Member, portion: &mut Portion, out: &mut Outs)
+fn offer_copy(known: &Known, member: Member, portion: &mut Portion, out: &mut Outs)
     requires { length out.old.sends + portion.old.room ≤ 15 }
-    ensures offered { so_far portion.new out.new ≡ offered (so_far portion.old out.old) (copy_of node member) }
+    ensures offered { so_far portion.new out.new ≡ offered (so_far portion.old out.old) (copy_of known.now member) }
     ensures fits { length out.new.sends + portion.new.room ≤ 15 }
 {
-    let body = Body::Joining(JoiningSignal::CopyOrd { member, own: None });
-    portion.offer(copying(node), body, out);
+    let own = own_of(known.joiner, &member);
+    let body = Body::Joining(JoiningSignal::CopyOrd { member, own });
+    portion.offer(copying(known.me.node), body, out);
+}
+
+// The epoch of a member's own rows, where the node has proposed that it joins.
+fn own_of(joiner: Option<Joiner>, member: &Member) -> Option<u64>
+    ensures { result ≡ own_of joiner member.now }
+{
+    match joiner {
+        Some(joiner) if is_same(&joiner.member, member) => joiner.own,
+        _ => None,
+    }
 }

@@ -1,12 +1,15 @@
 //! Joins and promotions.
 ghost use Rattle.std.specs.Prelude.{◌≡◌, ◌≤◌, [], ◌∷◌, IfOk, length};
+ghost use Rattle.std.specs.List.{list_all};
 ghost use Rattle.sig_core.specs.declared.signal.Body.TheVariants.{Joining};
 ghost use Rattle.sig_core.specs.Place.{client};
 ghost use Rattle.sig_core.specs.Step.{to_place};
-ghost use Rattle.qmgr_block.specs.Join.{has_node, is_of_node, is_settled, join, promote_row, start_row};
+ghost use Rattle.qmgr_block.specs.Join.{has_node, is_of_node, is_settled, join, may_add, promote_row, start_row};
+ghost use Rattle.qmgr_block.specs.Join.{trusts_all};
 ghost use Rattle.qmgr_block.specs.State.{sending_all};
+ghost use Rattle.qmgr_block.specs.Suspects.{is_trusted};
 
-use crate::known::Known;
+use crate::known::{Joiner, Known};
 use crate::sends::one_signal;
 use crate::sets::{is_among, joined_view, members_of, promoted_view};
 use sig_core::{Body, CLIENT, JoiningSignal, Member, NoMemory, Outgoing};
@@ -25,6 +28,13 @@ fn has_node(members: &[Member], member: &Member) -> bool
     ensures { result ≡ has_node members.now member.now }
 {
     members.iter().any(|other| is_of_node(member, other))
+}
+
+// Whether none of the members is among the suspects.
+fn trusts_each(suspects: &[Member], members: &[Member]) -> bool
+    ensures { result ≡ list_all (is_trusted suspects.now) members.now }
+{
+    members.iter().all(|member| !is_among(suspects, member))
 }
 
 // A list of one signal for the client.
@@ -48,36 +58,66 @@ impl Known {
         self.promised.number == self.layout.view().number
     }
 
-    /// The API asks for a member to join. Gives what goes out.
+    // Whether no member of the view is a suspect.
+    #[tactic(auto, unfolding(crate::specs::Join::trusts_all))]
+    fn trusts_all(&self) -> bool
+        ensures { result ≡ trusts_all self.now }
+    {
+        trusts_each(
+            self.suspects.as_slice(),
+            members_of(self.layout.view()).as_slice(),
+        )
+    }
+
+    // Whether a member more may be proposed, or a full one more.
+    fn may_add(&self) -> bool
+        ensures { result ≡ may_add self.now }
+    {
+        self.is_settled() && self.trusts_all()
+    }
+
+    /// The API asks for a member to join, with own rows of this epoch where it has such. Gives what
+    /// goes out.
     ///
     /// # Errors
     /// `NoMemory`.
     #[tactic(auto, unfolding(crate::specs::Join::start_row))]
-    pub fn start(&mut self, alloc: Global, member: &Member) -> Result<Vec<Outgoing>, NoMemory>
-        ensures value { IfOk result (λ sends. start_row self.old member.now ≡ sending_all self.new sends.items) }
+    pub fn start(
+        &mut self,
+        alloc: Global,
+        member: &Member,
+        own: Option<u64>,
+    ) -> Result<Vec<Outgoing>, NoMemory>
+        ensures value { IfOk result (λ sends. start_row self.old member.now own ≡ sending_all self.new sends.items) }
         ensures few { IfOk result (λ sends. length sends.items ≤ 8) }
     {
         if is_among(self.layout.view().full.as_slice(), member) {
             return told(alloc, JoiningSignal::StartRep { member: *member });
         }
-        if has_node(members_of(self.layout.view()).as_slice(), member) || !self.is_settled() {
+        if has_node(members_of(self.layout.view()).as_slice(), member) || !self.may_add() {
             return Ok(Vec::new(alloc));
         }
         if self.seen.covers(member) {
             return told(alloc, JoiningSignal::StartEnd { member: *member });
         }
-        self.join(alloc, member)
+        self.join(alloc, *member, own)
     }
 
     // The president proposes the view with the member, if there is a number.
-    fn join(&mut self, alloc: Global, member: &Member) -> Result<Vec<Outgoing>, NoMemory>
-        ensures value { IfOk result (λ sends. join self.old member.now ≡ sending_all self.new sends.items) }
+    fn join(
+        &mut self,
+        alloc: Global,
+        member: Member,
+        own: Option<u64>,
+    ) -> Result<Vec<Outgoing>, NoMemory>
+        ensures value { IfOk result (λ sends. join self.old member own ≡ sending_all self.new sends.items) }
         ensures few { IfOk result (λ sends. length sends.items ≤ 8) }
     {
         match self.number_for_proposal() {
             Some(number) if self.presides() => {
-                let view = joined_view(self.layout.view(), number, *member);
-                self.propose_view(alloc, view, Some(*member))
+                let view = joined_view(self.layout.view(), number, member);
+                self.joiner = Some(Joiner { member, own });
+                self.propose_view(alloc, view, Some(member))
             }
             _ => Ok(Vec::new(alloc)),
         }
@@ -94,7 +134,7 @@ impl Known {
     {
         let is_starting = is_among(self.layout.view().starting.as_slice(), member);
         match self.number_for_proposal() {
-            Some(number) if self.is_settled() && is_starting && self.presides() => {
+            Some(number) if self.may_add() && is_starting && self.presides() => {
                 let view = promoted_view(self.layout.view(), number, *member);
                 self.propose_view(alloc, view, None)
             }

@@ -23,6 +23,14 @@ pub struct Proposal {
     pub awaited: Members,
 }
 
+/// A member that the node has proposed to join.
+#[derive(Clone, Copy)]
+pub struct Joiner {
+    pub member: Member,
+    /// The epoch of the rows that its node has of its own, where it has such.
+    pub own: Option<u64>,
+}
+
 /// What the membership of a node knows.
 #[derive(Clone, Copy)]
 pub struct Known {
@@ -46,6 +54,8 @@ pub struct Known {
     pub proposed: u64,
     /// The latest proposal, unless it or a later view was installed.
     pub outstanding: Option<Proposal>,
+    /// The member that the node has proposed last to join.
+    pub joiner: Option<Joiner>,
 }
 
 impl Known {
@@ -68,6 +78,7 @@ impl Known {
             missed: 0,
             proposed: 0,
             outstanding: None,
+            joiner: None,
         }
     }
 }

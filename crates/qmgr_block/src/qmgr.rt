@@ -322,9 +322,9 @@ impl Qmgr {
         ensures err { OnErr result (IsUntouched self.old self.new out.old out.new) }
     {
         match signal {
-            JoiningSignal::StartReq { member, own: _ } => {
+            JoiningSignal::StartReq { member, own } => {
                 let mut next = self.known;
-                let sends = next.start(alloc, member)?;
+                let sends = next.start(alloc, member, *own)?;
                 self.settle(&next, sends, out);
                 Ok(())
             }

@@ -124,10 +124,16 @@ client_counts s x unclosed =
       closes = λ closing none. refl;
       closed = λ closing epoch asked. refl;
       asks_anew = λ is. refl;
+      starts = λ node own is free. refl;
+      started = λ member is waits. refl;
+      unjoins = λ member is waits. refl;
+      drains = λ tx is. refl;
+      holds = λ tx is behind. refl;
       breaks = λ node is. refl;
+      ends_start = λ starting some gone. refl;
       never_begins = λ at f none. refl;
       goes_down = λ at f tx is low. refl;
-      fails = λ at f tx view is over out. refl;
+      fails = λ at f tx view is over out last. refl;
       rests_on = refl;
       stops = λ cause told down is. let differ : Some cause ≡ None = sym (ap closes is) ∙ unclosed in absurd cc;
       completes = λ is known. refl;

@@ -1,5 +1,6 @@
 //! What the shell asks the world for: what a command asks for, and about what it left unanswered.
-ghost use Rattle.std.specs.Prelude.{◌≡◌, ◌-◌, ◌∷◌, [], true, OnOk, OnErr};
+ghost use Rattle.std.specs.Prelude.{◌≡◌, ◌-◌, ◌∷◌, [], false, true, OnOk, OnErr};
+ghost use Rattle.api_views.specs.Laws.{is_start};
 ghost use Rattle.journal_laws.specs.Asked.{IsOfRequest};
 ghost use Rattle.script_lang.specs.declared.command.Command.{Command};
 ghost use Rattle.shell_top.specs.Asked.{IsOfWords, is_served, questions, requests_of, rounds_behind};
@@ -20,7 +21,7 @@ use sig_core::{ApiReq, HeldOp, NoMemory};
 use std::alloc::Global;
 use std::sync::Wait;
 
-/// Asks the world for something, and drives it to quiet.
+/// Asks the world for something but a start, and drives it to quiet.
 ///
 /// # Errors
 /// `NoMemory`, and then the world is of use for its logs alone.
@@ -33,6 +34,7 @@ fn ask<R: Wait, D: Disk>(
     ghost start: { Start }
     requires opened { IsSound start (whole_of world.old.world) }
     requires words { IsOfRequest request }
+    requires plain { is_start request ≡ false }
     ensures ok { OnOk result (HasServed start (request ∷ []) (whole_of world.old.world) (whole_of world.new.world)) }
     ensures err { OnErr result (AreLeftOff start (request ∷ []) (whole_of world.old.world) (whole_of world.new.world).logs) }
     ensures setting { setting_of world.new ≡ setting_of world.old }

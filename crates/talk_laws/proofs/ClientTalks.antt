@@ -54,7 +54,7 @@ use Rattle.api_views.specs.Rounds.{all_rounds, ticked_if as last_ticked_if}
 use Rattle.api_views.specs.State.{ClientState}
 use Rattle.world_core.specs.Requests.{request_in}
 use Rattle.api_views.proofs.Outcomes.{ClientOutcomes, IsAsked, client_outcomes, stopped_as}
-use Rattle.api_views.proofs.Walk.{anew_each, asking_each, more_each, rounds_each}
+use Rattle.api_views.proofs.Walk.{anew_all_each, asking_each, more_each, over_each, rounds_each, starting_each}
 use Rattle.answer_laws.proofs.ApiSteps.{is_calm}
 
 abbrev pub IsPlain : Outgoing → Type 0
@@ -274,11 +274,20 @@ module _ (s : ClientState) (x : Signal) (R : Talk) (forms : TalkForms s.api.open
     obstructs = λ name on is e. tells _ refl;
     closes = λ closing none. forms.keeps _ (asking_each IsPlain asks_plain closing (president s.api.view)) still;
     closed = λ closing epoch is. tells _ (closed_mute closing epoch);
-    asks_anew = λ is. forms.keeps _ (anew_each IsPlain asks_plain s.closing x.view) still;
+    asks_anew = λ is. forms.keeps _ (anew_all_each IsPlain asks_plain (λ node member own. refl) s x.view) still;
+    starts = λ node own is free.
+        forms.keeps _ (starting_each IsPlain (λ node member own. refl) _ (president s.api.view)) still;
+    started = λ member is waits. tells _ refl;
+    unjoins = λ member is waits. forms.keeps _ (refl, tt) still;
+    drains = λ tx is. rests;
+    holds = λ tx is behind. tells _ refl;
     breaks = λ node is. forms.keeps _ (more_plain _) (one _ refl);
+    ends_start = λ starting some gone.
+        forms.keeps _
+        (over_each IsPlain (λ node member. refl) refl starting.member (president s.api.view) _) (one _ refl);
     never_begins = λ at f none. forms.drops _ at f _ (more_plain _) (one _ refl);
     goes_down = λ at f tx own down. forms.ends _ at f tx (down_outcome f.item.doing) _ own (more_plain _);
-    fails = λ at f tx view own over out.
+    fails = λ at f tx view own over out last.
         forms.ends _ at f tx (outcome.Aborted (NodeFail view.number)) _ own (more_plain _);
     rests_on = goes_on _;
     stops = λ cause told down is. stops cause told down;

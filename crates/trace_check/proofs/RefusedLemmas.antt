@@ -336,7 +336,7 @@ some_step start told run w t (Some why) i place did at = did.step
 some_step start told [] w t None i place did at = cc
 some_step start told (q ∷ qs) w t None i place did at = did.step
 
--- where a step is refused these logs are no run in which no host stops
+-- where a step is refused these logs are no run in which no host stops and no start is asked for
 pub refused : (start : Start) (told made : List HostLog) (run : List RunStep) (why : Option StepFault)
     (place : RunStep)
     → ((s : Start) (none : LogStep) → AreNumbered told → AreLogs (machine s) (logs_at told)

@@ -19,6 +19,7 @@ use Rattle.sig_core.specs.declared.signal.Body.TheVariants.{Host}
 use Rattle.sig_core.specs.declared.signal.Signal.{Signal}
 use Rattle.sig_core.specs.declared.signal.host.HostSignal.TheVariants.{Closed, Continue, Cut}
 use Rattle.sig_core.specs.declared.signal.host.Work.TheVariants.{Request}
+use Rattle.api_views.specs.Laws.{asks_start}
 use Rattle.node_views.specs.declared.host_body.HostBody.{HostBody}
 use Rattle.node_views.specs.Row.{is_cut, stopping}
 use Rattle.world_core.specs.Hosts.{hosts}
@@ -50,7 +51,8 @@ use Rattle.world_views.proofs.LogFacts.{held_running}
 use Rattle.trace_check.specs.Answer.{IsUnbroken, is_want}
 use Rattle.trace_check.specs.declared.fault.StepFault.{StepFault}
 use Rattle.trace_check.specs.declared.fault.StepFault.TheVariants as fault
-use Rattle.trace_check.specs.Playing.{Cannot, CannotOwn, CannotTake, Does, DoesOwn, HasGone, IsWant, cannot_if}
+use Rattle.trace_check.specs.Playing.{Cannot, CannotOwn, CannotTake, Does, DoesOwn, HasGone, IsUnknown, IsWant}
+use Rattle.trace_check.specs.Playing.{cannot_if}
 use Rattle.trace_check.specs.Playing.{does_if}
 use Rattle.trace_check.specs.RightLife.{AreOfRun}
 
@@ -457,7 +459,7 @@ module _ (start : Start) (told : List HostLog) (right : AreOfRun start told) (un
         true≢false (sym cannot.1 ∙ ap (λ (s : HostBody). is_cut s.standing (record { 0 = h })) body_is
         ∙ uncut h from plain g.0 g.1)
     own_cannot fault.Wrong self cannot = cannot.1 (rightly (own_so self x.body refl cannot.0)).work
-    own_cannot fault.Unknown self cannot = want (closes x.body) refl cannot
+    own_cannot fault.Unknown self cannot = unknown x.body refl cannot
       where
         closes_own : (work : Body) (cause : StopCause) → closes work ≡ Some cause → is_own_work work ≡ true
         closes_own (Host (Closed c)) cause is = refl
@@ -467,6 +469,11 @@ module _ (start : Start) (told : List HostLog) (right : AreOfRun start told) (un
         want (Some Memory) is holds = stays (own_so self x.body refl (closes_own x.body Memory is)) Memory is
         want (Some Clock) is holds = stays (own_so self x.body refl (closes_own x.body Clock is)) Clock is
         want o is holds = absurd holds
+
+        unknown : (body : Body) → x.body ≡ body → IsUnknown body → ⊥
+        unknown (Host (Continue (Request request) at)) asked starts =
+            true≢false (sym starts ∙ (sym (ap asks_start asked) ∙ unbroken.plain h newer e log is))
+        unknown body asked holds = want (closes body) (ap closes asked) holds
     own_cannot why self cannot = absurd cannot
 
     link_cannot : (why : StepFault) → (x.from.0 == h) ≡ false → CannotTake why w h x.from → ⊥

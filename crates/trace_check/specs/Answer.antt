@@ -9,6 +9,7 @@ use Rattle.sig_core.specs.declared.mark.Mark.TheVariants.{Stopped}
 use Rattle.sig_core.specs.declared.outcome.StopCause.TheVariants.{Memory}
 use Rattle.sig_core.specs.declared.view.Shape.{Shape}
 use Rattle.sig_core.specs.declared.entry.Entry.{Entry}
+use Rattle.api_views.specs.Laws.{asks_start}
 use Rattle.trace_bytes.specs.Lives.{IsLife, read_of, step_bytes, trace_of}
 use Rattle.trace_bytes.specs.Lives as traces
 use Rattle.trace_merge.specs.declared.run.RunStep.{RunStep}
@@ -87,7 +88,7 @@ IsFaultAt told made run why (NotStep host step cause) =
 IsFaultAt told made run why NoMemory = Unit {0}
 IsFaultAt told made run why fault = ⊥
 
--- ---- lives in which no host stops
+-- ---- lives in which no host stops, and nobody is asked to start
 
 -- the host stopped for want of memory
 abbrev pub is_want : Mark → Bool
@@ -98,12 +99,14 @@ abbrev pub any_wants : List HostLog → Bool
 any_wants [] = false
 any_wants (log ∷ logs) = any_shows is_want log.steps || any_wants logs
 
--- no host of these logs stops, and there is a stamp for each step
+-- no host of these logs stops, there is a stamp for each step, and no start is asked for
 pub record IsUnbroken (logs : List HostLog) : Type 0 where
   pub goes_on : (h : ℕ) (newer : List HostStep) (e : HostStep) (before : List HostStep)
       → logs_at logs h ≡ newer ++ e ∷ before → stops_by e.step.marks ≡ false
   pub low : (h : ℕ) (newer : List HostStep) (e : HostStep) (before : List HostStep)
       → logs_at logs h ≡ newer ++ e ∷ before → is_stamp e.step.stamp ≡ true
+  pub plain : (h : ℕ) (newer : List HostStep) (e : HostStep) (before : List HostStep)
+      → logs_at logs h ≡ newer ++ e ∷ before → asks_start e.step.taken.body ≡ false
 
 -- ---- why there is no life
 
@@ -132,7 +135,7 @@ pub record IsNotMade (bytes : List ℕ) (place : RunStep) (cause : StepFault) : 
   pub made : AreMade (start_of shape life) life.logs run logs why
   pub differs : DiffersFirst life.logs logs run place
   pub caused : cause ≡ cause_of logs place why
-  -- so the logs are no run in which no host stops
+  -- so the logs are no run in which no host stops and no start is asked for
   pub wrong : AreOfRun (start_of shape life) life.logs → IsUnbroken life.logs → ⊥
 
 -- where a step is refused no host that was made anew wanted memory

@@ -11,6 +11,7 @@ use Rattle.sig_core.specs.declared.signal.Body.TheVariants.{Host}
 use Rattle.sig_core.specs.declared.signal.Signal.{Signal}
 use Rattle.sig_core.specs.declared.signal.host.HostSignal.TheVariants.{Closed, Continue, Cut}
 use Rattle.sig_core.specs.declared.signal.host.Work.TheVariants.{Request}
+use Rattle.api_views.specs.Laws.{is_start}
 use Rattle.node_views.specs.Row.{is_cut}
 use Rattle.trace_merge.specs.declared.run.RunStep.{RunStep}
 use Rattle.run_theory.specs.Lists.{IsPast}
@@ -60,6 +61,11 @@ IsWant (Some Memory) = Unit {0}
 IsWant (Some Clock) = Unit {0}
 IsWant cause = ⊥
 
+-- that is what stops it, or it is asked for a start, which no world makes
+abbrev pub IsUnknown : Body → Type 0
+IsUnknown (Host (Continue (Request request) at)) = is_start request ≡ true
+IsUnknown body = IsWant (closes body)
+
 -- why host h can't take a signal from a link
 abbrev pub CannotTake : StepFault → Whole → ℕ → HostId → Type 0
 CannotTake fault.Empty w h from = (link w.links from.0 h).signals ≡ []
@@ -72,7 +78,7 @@ CannotOwn fault.Empty start w h body = (is_own_work body ≡ false) × ((link w.
 CannotOwn fault.CutOff start w h body =
     (is_own_work body ≡ false) × (is_cut (body_at w.bodies h).standing (record { 0 = h }) ≡ true)
 CannotOwn fault.Wrong start w h body = (is_own_work body ≡ true) × (IsOwnWork start h body → ⊥)
-CannotOwn fault.Unknown start w h body = IsWant (closes body)
+CannotOwn fault.Unknown start w h body = IsUnknown body
 CannotOwn why start w h body = ⊥
 
 abbrev pub cannot_if : Bool → StepFault → Start → Whole → ℕ → Signal → Type 0

@@ -37,7 +37,8 @@ pub enum StepFault {
     /// The machine makes another one: another signal stood first, or its state gives other marks, or the
     /// stamp is another.
     Other,
-    /// It isn't known: a host stopped there for want of memory or stamps, which nobody has it do.
+    /// It isn't known: a host stopped there for want of memory or stamps, which nobody has it do, or the
+    /// shell was asked for a start, which no world makes.
     Unknown,
 }
 

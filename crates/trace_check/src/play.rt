@@ -1,5 +1,6 @@
 //! Steps of a trace, done on a world.
 ghost use Rattle.std.specs.Prelude.{◌≡◌, ◌≤◌, ℕ, false, IfNone, IfOk, IfSome, None, Some};
+ghost use Rattle.api_views.specs.Laws.{is_start};
 ghost use Rattle.sig_core.specs.declared.signal.Body.TheVariants as bodies;
 ghost use Rattle.sig_core.specs.declared.signal.host.HostSignal.TheVariants.{Closed, Continue, Cut};
 ghost use Rattle.sig_core.specs.declared.signal.host.Work.TheVariants.{Request};
@@ -162,7 +163,7 @@ fn is_own_work(body: &Body) -> bool
     }
 }
 
-// The shell's host asks for something.
+// The shell's host asks for something. A world makes no start.
 fn ask(
     alloc: Global,
     world: &mut World,
@@ -175,9 +176,22 @@ fn ask(
     if host.0 != 0 {
         return Ok(Some(StepFault::Wrong));
     }
+    if is_start(request) {
+        return Ok(Some(StepFault::Unknown));
+    }
     let copied = copy_request(alloc, request)?;
     world.ask(alloc, copied)?;
     Ok(None)
+}
+
+// Whether it is for a node to begin anew.
+fn is_start(request: &ApiReq) -> bool
+    ensures { result ≡ is_start request.now }
+{
+    match request {
+        ApiReq::Start { node: _, own: _ } => true,
+        _ => false,
+    }
 }
 
 // A host stops by itself.

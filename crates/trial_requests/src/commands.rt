@@ -1,4 +1,7 @@
 //! What a command asks the shell for.
+ghost use Rattle.std.specs.Prelude.{◌≡◌, IfOk, IfSome, false};
+ghost use Rattle.api_views.specs.Laws.{is_start};
+
 use script_lang::Command;
 use sig_core::{ApiReq, HeldOp, NoMemory};
 use std::alloc::Global;
@@ -11,11 +14,13 @@ pub fn requests(command: &Command) -> u8 {
     }
 }
 
-/// The request of a command at this place, from 0, if it is a command that is served.
+/// The request of a command at this place, from 0, if it is a command that is served; no start is.
 ///
 /// # Errors
 /// `NoMemory`.
-pub fn request_of(alloc: Global, command: &Command, at: u8) -> Result<Option<ApiReq>, NoMemory> {
+pub fn request_of(alloc: Global, command: &Command, at: u8) -> Result<Option<ApiReq>, NoMemory>
+    ensures { IfOk result (λ found. IfSome found (λ request. is_start request ≡ false)) }
+{
     Ok(match command {
         Command::Begin { name, node } => Some(ApiReq::Begin {
             name: *name,

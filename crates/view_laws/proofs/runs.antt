@@ -13,4 +13,5 @@ pub mod OrderlyBallots
 pub mod Sound
 pub mod Step
 pub mod TrueSends
+pub mod Unstarted
 pub mod ViewsShrink

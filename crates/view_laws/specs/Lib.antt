@@ -13,4 +13,5 @@ pub mod Orderly
 pub mod Runs
 pub mod Sets
 pub mod Standing
+pub mod Unstarted
 pub mod Votes

@@ -1,5 +1,6 @@
 -- Who sends the signals by which views are chosen.
 use Rattle.std.specs.Prelude.{◌≡◌, ℕ, Bool, true, false, List, [], ◌∷◌, ◌++◌, Option, None, Some}
+use Rattle.api_views.specs.Laws.{tells_start}
 use Rattle.frag_map.specs.Layout.{Layout, first_layout, members}
 use Rattle.run_theory.specs.Lists.{Each, IsIn}
 use Rattle.sig_core.specs.declared.member.Member.{Member}
@@ -94,11 +95,12 @@ pub record IsSentByArbiter (members : List Member) (new old : List Signal) (sent
   pub is : new ≡ taken ∷ []
   pub there : IsIn sent (arbiter_row (arbiter_of members old) taken).effects.sends
 
--- what the shell's host sends of votes, the arbitrator sends
+-- what the shell's host sends of votes, the arbitrator sends, but for what the client's side tells of starts
 abbrev pub ArbitersVote : Type 0
 ArbitersVote =
     (start : Start) (log : List HostStep) (e : HostStep)
-    → Each (λ sent. is_vote sent.body ≡ true → IsSentByArbiter (members start.shape.nodes)
+    → Each (λ sent. tells_start sent.body ≡ false → is_vote sent.body ≡ true
+    → IsSentByArbiter (members start.shape.nodes)
     (taken_in (events_at is_arbiter 0 (after start 0 log) e.step.taken))
     (taken_in (events_of is_arbiter start 0 log)) sent)
     (step_after start 0 log e).effects.sends

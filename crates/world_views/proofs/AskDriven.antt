@@ -5,6 +5,7 @@ use Rattle.run_theory.specs.Lists.{IsIn, IsPast}
 use Rattle.sig_core.specs.declared.reply.ApiReply.{ApiReply}
 use Rattle.sig_core.specs.declared.request.ApiReq.{ApiReq}
 use Rattle.sig_core.specs.Step.{Step}
+use Rattle.api_views.specs.Laws.{is_start}
 use Rattle.node_views.specs.declared.host_body.HostBody.{HostBody}
 use Rattle.world_core.specs.Start.{Start}
 use Rattle.world_core.specs.Steps.{Addressed, HostStep}
@@ -26,7 +27,7 @@ use Rattle.world_views.proofs.StepDriven.{log_grows, quiet_before, right_logs, w
 use Rattle.world_views.proofs.UnscheduledLemmas.{entered_unscheduled}
 
 module _ (start : Start) (given : List ApiReply) (w : Whole) (right : IsRight start given w) (request : ApiReq)
-    (runs : has_stopped (logs_at w.logs 0) ≡ false) where
+    (none : is_start request ≡ false) (runs : has_stopped (logs_at w.logs 0) ≡ false) where
   abbrev wish : Addressed
   wish = asking w 0 (request_body request)
 
@@ -34,7 +35,7 @@ module _ (start : Start) (given : List ApiReply) (w : Whole) (right : IsRight st
   step = step_by 0 (body_at w.bodies 0) wish.signal
 
   ready : (others : List ApiReply) → IsRight start others w → IsReady start others w wish step
-  ready others was = ask_ready start others w was 0 (omega arith) runs (request_body request) (refl, refl)
+  ready others was = ask_ready start others w was 0 (omega arith) runs (request_body request) (refl, refl) none
 
   log_is : logs_at (asked w request).logs 0 ≡ host_step w wish step ∷ logs_at w.logs 0
   log_is = logs_are start given w 0 wish step (ready given right) 0

@@ -29,6 +29,7 @@ pub mod ScheduleLemmas
 pub mod SentFacts
 pub mod SentWalk
 pub mod ShellLemmas
+pub mod StartsRightly
 pub mod StepDriven
 pub mod StepEach
 pub mod StepWalk

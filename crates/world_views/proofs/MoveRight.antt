@@ -87,7 +87,11 @@ module _ (start : Start) (given : List ApiReply) (w : Whole) (lost : ℕ) (x : A
         at = refl;
         stamped = omega (arith, own_next, last_is start ready.nobody x.to (logs_at w.logs x.to));
         runs = running start (logs_at w.logs x.to) ready.runs;
-        fits = record { marks = ap (λ (f : Effects). f.marks) ready.step.effects; comes = ready.comes };
+        fits = record {
+          marks = ap (λ (f : Effects). f.marks) ready.step.effects;
+          comes = ready.comes;
+          starts = ready.starts;
+        };
       }
 
   local_behind : (k : ℕ) → k < hosts start → IsLog (machine start) k (log_with w x t k)

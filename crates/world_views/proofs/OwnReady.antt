@@ -15,6 +15,7 @@ use Rattle.sig_core.specs.declared.signal.host.HostSignal.TheVariants.{Closed, C
 use Rattle.sig_core.specs.declared.signal.host.Work.TheVariants.{Request}
 use Rattle.sig_core.specs.declared.view.View.{View}
 use Rattle.sig_core.specs.Step.{Step}
+use Rattle.api_views.specs.Laws.{asks_start}
 use Rattle.node_views.specs.declared.host_body.HostBody.{HostBody}
 use Rattle.node_views.specs.Row.{stopping}
 use Rattle.world_core.specs.Hosts.{hosts}
@@ -31,6 +32,7 @@ use Rattle.world_views.specs.Right.{IsHeld, IsRight, on_link}
 use Rattle.world_views.specs.Sending.{is_asked, is_own_work}
 use Rattle.world_views.specs.World.{Whole, asking, body_at}
 use Rattle.world_views.proofs.Ready.{IsLinkedTo, IsReady, IsStepOf, host_step, log_with}
+use Rattle.world_views.proofs.StartsRightly.{starts_nobody}
 use Rattle.world_views.proofs.TakeRight.{row_step}
 
 -- the world with these hosts
@@ -91,8 +93,8 @@ module _ (start : Start) (given : List ApiReply) (w : Whole) (right : IsRight st
   -- each other host is what it was
   module _ (bodies : List HostBody) (few : length bodies ≡ hosts start)
       (others : (k : ℕ) → k < hosts start → (h == k) ≡ false → body_at bodies k ≡ body_at w.bodies k)
-      (work : Body) (own : IsOwnWork start h work) (t : Step HostBody) where
-    -- what it asked for
+      (work : Body) (own : IsOwnWork start h work) (none : asks_start work ≡ false) (t : Step HostBody) where
+    -- what it asked for, which is no start
     abbrev wish : Addressed
     wish = asking w h work
 
@@ -146,6 +148,7 @@ module _ (start : Start) (given : List ApiReply) (w : Whole) (right : IsRight st
           runs = runs;
           step = is;
           comes = subst (λ b. comes_rightly b start h (logs_at w.logs h) wish.signal) (sym asks) (asks_own work own);
+          starts = starts_nobody start (logs_at w.logs h) next h none;
           local = right.local;
           next = right.next;
           stamps = right.stamps;
@@ -159,11 +162,11 @@ module _ (start : Start) (given : List ApiReply) (w : Whole) (right : IsRight st
         }
 
   -- the host does what its row says at its own wish
-  pub ask_ready : (work : Body) → IsOwnWork start h work
+  pub ask_ready : (work : Body) → IsOwnWork start h work → asks_start work ≡ false
       → IsReady start given w (asking w h work) (step_by h (body_at w.bodies h) (asking w h work).signal)
-  ask_ready work own =
+  ask_ready work own none =
       let x = (asking w h work).signal in
-      own_ready w.bodies right.sizes.bodies (λ k low other. refl) work own (step_by h (body_at w.bodies h) x)
+      own_ready w.bodies right.sizes.bodies (λ k low other. refl) work own none (step_by h (body_at w.bodies h) x)
       (row_step h (after start h (logs_at w.logs h)) (body_at w.bodies h) x body_is)
 
   -- it stops, whatever is left of it
@@ -175,7 +178,7 @@ module _ (start : Start) (given : List ApiReply) (w : Whole) (right : IsRight st
       (stopping (body_at bodies h) cause)
   halt_ready bodies cause some own few others cut view =
       let x = (asking w h (body.Host (Closed cause))).signal in
-      own_ready bodies few others (body.Host (Closed cause)) (some, own) (stopping (body_at bodies h) cause)
+      own_ready bodies few others (body.Host (Closed cause)) (some, own) refl (stopping (body_at bodies h) cause)
       (stop_step h (after start h (logs_at w.logs h)) (body_at bodies h) x cause some
       (cut ∙ ap (λ (s : HostBody). s.standing.cut) body_is) (view ∙ ap (λ (s : HostBody). s.standing.view) body_is)
       (stops_itself w.made h (slice_index_or w.stamps h 0) (body_at w.bodies h).standing.view cause))

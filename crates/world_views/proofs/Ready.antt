@@ -15,8 +15,8 @@ use Rattle.world_core.specs.Steps.{Addressed, HostStep}
 use Rattle.world_core.specs.World.{logs_at, no_steps, of_host}
 use Rattle.world_core.specs.Machine.{last_stamp}
 use Rattle.world_views.specs.Links.{LinkState, link}
-use Rattle.world_views.specs.Machine.{after, comes_rightly, has_stopped, machine, replies_at, sent_count, step_by}
-use Rattle.world_views.specs.Machine.{stops_by, told}
+use Rattle.world_views.specs.Machine.{StartsRightly, after, comes_rightly, has_stopped, machine, replies_at, sent_count}
+use Rattle.world_views.specs.Machine.{step_by, stops_by, told}
 use Rattle.world_views.specs.Right.{IsHeld, IsOpen, on_link, replies_in}
 use Rattle.world_views.specs.Sending.{is_asked}
 use Rattle.world_views.specs.Stamps.{HaveNextStamps}
@@ -55,6 +55,7 @@ pub record IsReady (start : Start) (given : List ApiReply) (w : Whole) (x : Addr
     pub runs : has_stopped (logs_at w.logs x.to) ≡ false
     pub step : IsStepOf x.to (step_by x.to (after start x.to (logs_at w.logs x.to)) x.signal) t
     pub comes : comes_rightly (is_asked x.to x.signal) start x.to (logs_at w.logs x.to) x.signal
+    pub starts : StartsRightly start x.to (logs_at w.logs x.to) (host_step w x t)
     pub local : (h : ℕ) → h < hosts start → IsLog (machine start) h (logs_at w.logs h)
     pub next : (h : ℕ) → HaveNextStamps (logs_at w.logs h)
     pub stamps : (h : ℕ) → h < hosts start → slice_index_or w.stamps h 0 ≡ last_stamp (logs_at w.logs h)

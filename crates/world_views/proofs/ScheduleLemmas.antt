@@ -84,7 +84,7 @@ cut_driven start w v h node sound low runs some own = by (is_stamp (next_stamp w
     by true (inl same) =
         subst (IsDriven start w) (sym same)
         (entered_driven start sound.given w w.bodies w.links 0 x (step_by h (body_at w.bodies h) x.signal) sound.right
-        (λ others was. ask_ready start others w was h low runs x.signal.body own)
+        (λ others was. ask_ready start others w was h low runs x.signal.body own refl)
         (λ shell. absurd (grind (arith, nat_tests, shell, some))))
     by true (inr failed) = fail_driven start sound.given w sound.right h low runs some Memory tt v failed.1
     by false failed = fail_driven start sound.given w sound.right h low runs some Clock tt v failed.1

@@ -29,6 +29,7 @@ use Rattle.world_views.proofs.GivenFacts.{held_given, past_given}
 use Rattle.world_views.proofs.LinkFacts.{changed_from, changed_links, changed_own, changed_to}
 use Rattle.world_views.proofs.Ready.{IsLinkedTo, IsReady, IsStepOf, host_step, log_with}
 use Rattle.world_views.proofs.SentFacts.{IsBetween, held_between}
+use Rattle.world_views.proofs.StartsRightly.{starts_unasked}
 use Rattle.world_views.proofs.TakeFacts.{IsTakenFrom}
 
 -- a host makes the step of its row
@@ -237,6 +238,7 @@ module _ (start : Start) (given : List ApiReply) (w : Whole) (right : IsRight st
             step = is;
             comes = subst (λ b. comes_rightly b start at.to log at.signal) (sym fact.plain)
                 (subst (λ n. has_cut start at.to log n ≡ false) (sym sender_is) (on_open kept).takes);
+            starts = starts_unasked start log (host_step (left_of w t) arrived step) at.to fact.plain;
             local = right.local;
             next = right.next;
             stamps = right.stamps;

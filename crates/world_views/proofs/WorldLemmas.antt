@@ -9,6 +9,7 @@ use Rattle.sig_core.specs.declared.no_memory.NoMemory.{NoMemory}
 use Rattle.sig_core.specs.declared.reply.ApiReply.{ApiReply}
 use Rattle.sig_core.specs.declared.request.ApiReq.{ApiReq}
 use Rattle.sig_core.specs.declared.view.View.{View}
+use Rattle.api_views.specs.Laws.{is_start}
 use Rattle.node_views.specs.declared.host_body.HostBody.{HostBody}
 use Rattle.world_core.specs.Hosts.{hosts}
 use Rattle.world_core.specs.Labels.{AreLabelled}
@@ -93,21 +94,21 @@ shell_handles w t x shell = by (is_stamp (next_stamp w.stamps x.to x.signal.stam
     by true (inr failed) = absurd (omega (arith, failed.0, shell))
     by false failed = absurd (omega (arith, failed.0, shell))
 
-has_asked : (start : Start) (w t : Whole) (request : ApiReq) → has_stopped_in w 0 ≡ false → IsSound start w
-    → t ≡ asked w request
-    → HasAsked start request w t
-has_asked start w t request runs sound same =
+has_asked : (start : Start) (w t : Whole) (request : ApiReq) → is_start request ≡ false → has_stopped_in w 0 ≡ false
+    → IsSound start w → t ≡ asked w request → HasAsked start request w t
+has_asked start w t request none runs sound same =
     subst (HasAsked start request w) (sym same)
-    (ask.has_asked start sound.given w sound.right request (runs_there start w 0 sound (omega arith) runs))
+    (ask.has_asked start sound.given w sound.right request none (runs_there start w 0 sound (omega arith) runs))
 
 -- where the call succeeded
 pub asked_ok : (result : Result (Unit {0}) NoMemory) (w t : Whole) (x : Addressed) (request : ApiReq)
-    → has_stopped_in w 0 ≡ false → x ≡ asking w 0 (request_body request) → OnOk result (HasHandled w x t)
+    → is_start request ≡ false → has_stopped_in w 0 ≡ false → x ≡ asking w 0 (request_body request)
+    → OnOk result (HasHandled w x t)
     → (start : Start) → IsSound start w → OnOk result (HasAsked start request w t)
-asked_ok (Ok done) w t x request runs is handled start sound =
-    has_asked start w t request runs sound
+asked_ok (Ok done) w t x request none runs is handled start sound =
+    has_asked start w t request none runs sound
     (shell_handles w t x (ap (λ (y : Addressed). y.to) is) handled ∙ ap (moved w 0) is)
-asked_ok (Err fault) w t x request runs is handled start sound = tt
+asked_ok (Err fault) w t x request none runs is handled start sound = tt
 
 pub has_stepped : (w u : Whole) (t : Arrival) → take_first w.links ≡ Some t → HasTaken (left_of w t) t.taken u
     → (start : Start)

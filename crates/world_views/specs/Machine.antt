@@ -4,9 +4,10 @@
 -- and a cut, each of which a host asks of itself. A step that stops its host sends the closings of its links and
 -- nothing else, and none follows it. The replies that a step of the shell makes are told with it, so none stays in the
 -- host.
-use Rattle.std.specs.Prelude.{◌≡◌, ◌≤◌, ℕ, zero, suc, ◌/◌, ◌==◌, if◌then◌else◌, Bool, true, false, List, [], ◌∷◌, Option}
-use Rattle.std.specs.Prelude.{None, Some}
+use Rattle.std.specs.Prelude.{◌≡◌, ◌≤◌, ◌⊎◌, ℕ, zero, suc, ◌/◌, ◌==◌, if◌then◌else◌, Bool, true, false, List, [], ◌∷◌}
+use Rattle.std.specs.Prelude.{◌++◌, Option, None, Some}
 use Rattle.std.specs.List.{list_any}
+use Rattle.run_theory.specs.Lists.{IsIn}
 use Rattle.run_theory.specs.Machine.{Machine}
 use Rattle.sig_core.specs.declared.mark.Mark.{Mark}
 use Rattle.sig_core.specs.declared.mark.Mark.TheVariants.{Stopped}
@@ -16,6 +17,7 @@ use Rattle.sig_core.specs.declared.outcome.StopCause.TheVariants.{Clock, Disk, K
 use Rattle.sig_core.specs.declared.outs.Outgoing.{Outgoing}
 use Rattle.sig_core.specs.declared.reply.ApiReply.{ApiReply}
 use Rattle.sig_core.specs.declared.request.ApiReq.{ApiReq}
+use Rattle.sig_core.specs.declared.request.ApiReq.TheVariants as request
 use Rattle.sig_core.specs.declared.signal.Body.{Body}
 use Rattle.sig_core.specs.declared.signal.Body.TheVariants.{Host, Joining}
 use Rattle.sig_core.specs.declared.signal.Signal.{Signal}
@@ -24,8 +26,11 @@ use Rattle.sig_core.specs.declared.signal.host.Work.TheVariants.{Request}
 use Rattle.sig_core.specs.declared.signal.joining.JoiningSignal.TheVariants.{StartReq}
 use Rattle.sig_core.specs.declared.view.View.{View}
 use Rattle.sig_core.specs.Step.{Step}
+use Rattle.api_views.specs.declared.starts.NodeStart.{NodeStart}
 use Rattle.api_views.specs.Members.{greater_view}
 use Rattle.node_views.specs.declared.host_body.HostBody as node
+use Rattle.node_views.specs.declared.parts.Parts.{Parts}
+use Rattle.node_views.specs.declared.parts.Parts.TheVariants.{Shell}
 use Rattle.node_views.specs.Replies.{with_replies}
 use Rattle.node_views.specs.Replies as host
 use Rattle.node_views.specs.Row.{host_row, is_cut, is_stop, stopping}
@@ -34,6 +39,7 @@ use Rattle.frag_map.specs.Replicas.{is_member}
 use Rattle.world_core.specs.Hosts.{host_by, member_at}
 use Rattle.world_core.specs.Late.{Late}
 use Rattle.world_core.specs.Made.{last_of, late_at, made_stamp}
+use Rattle.world_core.specs.Requests.{request_in}
 use Rattle.world_core.specs.Start.{Start, made}
 use Rattle.world_core.specs.Steps.{Addressed, HostStep}
 use Rattle.sig_core.specs.declared.place.Part.TheVariants.{Main}
@@ -175,10 +181,48 @@ abbrev pub comes_rightly : Bool → Start → ℕ → List HostStep → Signal �
 comes_rightly true start h log x = IsOwn start h log x
 comes_rightly false start h log x = has_cut start h log x.from.0 ≡ false
 
--- after its log host h may make the step: it has the marks of its row, and its signal comes rightly
+-- the request that a host asked itself for in this step
+abbrev pub request_of : HostStep → Option ApiReq
+request_of e = if is_asked e.host e.step.taken then request_in e.step.taken.body else None
+
+-- the later starts that the client's side knows, where these blocks have it, and after a log of the shell's host
+abbrev pub later_in : Parts → List NodeStart
+later_in (Shell p) = p.client.later
+later_in parts = []
+
+abbrev pub later_after : Start → List HostStep → List NodeStart
+later_after start log = later_in (after start 0 log).parts
+
+-- one of these later starts of a life is of this member, and a step of this stamp makes it
+pub record IsMadeBy (late : List Late) (stamp : ℕ) (member : Member) : Type 0 where
+  pub one : Late
+  pub there : IsIn one late
+  pub of : one.member ≡ member
+  pub at : one.stamp ≡ stamp
+
+-- the client's side of the shell's host knows one later start more behind this step, which makes one of the life
+pub record HasStarted (start : Start) (log : List HostStep) (e : HostStep) : Type 0 where
+  pub begun : NodeStart
+  pub later : later_after start (e ∷ log) ≡ later_after start log ++ begun ∷ []
+  pub made : IsMadeBy start.late e.step.stamp begun.member
+
+-- a start that is asked for in the step is refused, or is one of the life
+abbrev pub starts_by : Option ApiReq → Start → List HostStep → HostStep → Type 0
+starts_by (Some (request.Start node own)) start log e =
+    (later_after start (e ∷ log) ≡ later_after start log) ⊎ HasStarted start log e
+starts_by asked start log e = Unit {0}
+
+-- only the shell's host is asked for one
+abbrev pub StartsRightly : Start → ℕ → List HostStep → HostStep → Type 0
+StartsRightly start zero log e = starts_by (request_of e) start log e
+StartsRightly start (suc h) log e = Unit {0}
+
+-- after its log host h may make the step: it has the marks of its row, its signal comes rightly, and so does a start
+-- that is asked for
 pub record FitsRow (start : Start) (h : ℕ) (log : List HostStep) (e : HostStep) : Type 0 where
   pub marks : e.step.marks ≡ (step_after start h log e).effects.marks
   pub comes : comes_rightly (is_asked h e.step.taken) start h log e.step.taken
+  pub starts : StartsRightly start h log e
 
 -- the body asks the others to take this member in
 abbrev pub is_asked_in : Member → Body → Bool
@@ -188,8 +232,8 @@ is_asked_in member body = false
 abbrev pub asks_for : Member → Outgoing → Bool
 asks_for member sent = is_asked_in member sent.body
 
--- The shell's step after its log makes host h, of a later start: it asks the others to take the member in, and before it
--- the shell stood in the view in which the host begins.
+-- The shell's step after its log makes host h, of a later start: it asks the others to take the member in, and before
+-- it the shell stood in the view in which the host begins.
 pub record MakesBy (start : Start) (log : List HostStep) (e : HostStep) (late : Late) : Type 0 where
   pub asks : list_any (asks_for late.member) (step_after start 0 log e).effects.sends ≡ true
   pub view : (after start 0 log).standing.view ≡ late.view

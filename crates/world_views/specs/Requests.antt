@@ -1,18 +1,13 @@
 -- The requests of the shell, and that each was asked when nothing was under way.
-use Rattle.std.specs.Prelude.{◌≡◌, ℕ, if◌then◌else◌, true, List, [], ◌∷◌, ◌++◌, Option, None, option_to_list}
+use Rattle.std.specs.Prelude.{◌≡◌, ℕ, true, List, [], ◌∷◌, ◌++◌, option_to_list}
 use Rattle.run_theory.specs.Cuts.{IsCut}
 use Rattle.run_theory.specs.Runs.{AreLogs}
 use Rattle.sig_core.specs.declared.request.ApiReq.{ApiReq}
-use Rattle.world_core.specs.Requests.{request_in}
 use Rattle.world_core.specs.Start.{Start}
 use Rattle.world_core.specs.Steps.{HostStep}
+pub use Rattle.world_views.specs.Machine.{request_of}
 use Rattle.world_views.specs.Machine.{machine}
 use Rattle.world_views.specs.Quiet.{IsQuiet}
-use Rattle.world_views.specs.Sending.{is_asked}
-
--- the request that a host asked itself for in this step
-abbrev pub request_of : HostStep → Option ApiReq
-request_of e = if is_asked e.host e.step.taken then request_in e.step.taken.body else None
 
 -- the requests in a log of host 0, in the order of time
 abbrev pub requests : List HostStep → List ApiReq

@@ -1,6 +1,7 @@
 //! The world: all hosts of a cluster that may fail, driven by one thread.
 ghost use Rattle.std.specs.Prelude.{◌≡◌, ◌≤◌, ◌||◌, ◌++◌, [], IfOk, IfSome, MatchOption, None, OnErr, OnOk, false};
 ghost use Rattle.std.specs.Prelude.{is_some, nat_lt, not, slice_index_or};
+ghost use Rattle.api_views.specs.Laws.{is_start};
 ghost use Rattle.frag_map.specs.Shape.{IsShape};
 ghost use Rattle.node_views.specs.Row.{is_cut};
 ghost use Rattle.node_views.specs.Stop.{stop_in};
@@ -106,14 +107,15 @@ impl World {
         })
     }
 
-    /// Asks the shell's host for something, in a step of it. It has no host stop, or cut off a node, as a
-    /// schedule does.
+    /// Asks the shell's host for something but a start, in a step of it. It has no host stop, or cut off a
+    /// node, as a schedule does.
     ///
     /// # Errors
     /// `NoMemory`, also where the shell's host has stopped, and then nothing is asked, and the world is of
     /// use for its logs alone.
     pub fn ask(&mut self, alloc: Global, request: ApiReq) -> Result<(), NoMemory>
-        requires { IsWorld (whole_of self.old) }
+        requires world { IsWorld (whole_of self.old) }
+        requires plain { is_start request ≡ false }
         ensures ok { (start : Start) → IsSound start (whole_of self.old) → OnOk result (HasAsked start request (whole_of self.old) (whole_of self.new)) }
         ensures err { OnErr result (self.new.logs ≡ self.old.logs) }
     {

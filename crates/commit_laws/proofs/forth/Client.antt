@@ -57,12 +57,14 @@ module _ (x : Signal) where
         beats = λ node. tt;
         kills = λ node. tt;
         cuts = λ to other. tt;
+        starts = λ node member own. tt;
+        gone = λ node member. tt;
         closes = λ closing node. asks closing;
         goes_on = tt;
         committed = λ p at f tx epoch own is. tt;
         committed_late = λ p at f tx epoch own is known. tt;
         aborted = λ p at f tx why own is. tt;
         failed_late = λ p at f tx own is known. tt;
-        failed = λ p at f tx view own over out. tt;
+        failed = λ p at f tx view own over out last. tt;
         down = λ p at f tx own low. tt;
       })).0

@@ -123,13 +123,15 @@ module _ (A : Type 0) (T : TxId → Type 0) where
           beats = λ node. tt;
           kills = λ node. tt;
           cuts = λ to other. tt;
+          starts = λ node member own. tt;
+          gone = λ node member. tt;
           closes = λ closing node. tt;
           goes_on = tt;
           committed = λ p at f tx epoch own is. told_so tx (by_coordinator epoch is);
           committed_late = λ p at f tx epoch own is known. told_so tx (by_takeover epoch is);
           aborted = λ p at f tx why own is. tt;
           failed_late = λ p at f tx own is known. tt;
-          failed = λ p at f tx view own over out. tt;
+          failed = λ p at f tx view own over out last. tt;
           down = λ p at f tx own low. down tx f.item.doing;
         })
       where

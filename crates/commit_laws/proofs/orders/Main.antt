@@ -52,7 +52,7 @@ module _ (k : Known) where
   front = map commit_of (members_of k.layout.view)
 
   abbrev copies : List Outgoing
-  copies = map (copy_of k.me.node) k.layout.view.starting
+  copies = map (copy_of k) k.layout.view.starting
 
   abbrev works : List Outgoing
   works = work_if k.me (is_some_suspect k.suspects)
@@ -85,7 +85,7 @@ module _ (k : Known) where
     refl,
     (
       refl,
-      each_append IsQuiet copies works (each_mapped IsQuiet (copy_of k.me.node) k.layout.view.starting (λ member. refl))
+      each_append IsQuiet copies works (each_mapped IsQuiet (copy_of k) k.layout.view.starting (λ member. refl))
           (works_quiet (is_some_suspect k.suspects)),
     ),
   )

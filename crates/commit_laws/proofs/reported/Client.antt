@@ -121,13 +121,15 @@ module _ (x : Signal) (s : ClientState) where
         beats = λ node. tt;
         kills = λ node. tt;
         cuts = λ to other. tt;
+        starts = λ node member own. tt;
+        gone = λ node member. tt;
         closes = λ closing node. tt;
         goes_on = tt;
         committed = λ p at f tx epoch own is. tt;
         committed_late = λ p at f tx epoch own is known. tt;
         aborted = λ p at f tx why own is. by_rollback is;
         failed_late = λ p at f tx own is known. by_failing is;
-        failed = λ p at f tx view own over out. by_view view over out f.item (is_open p t.api.opened at f) own;
+        failed = λ p at f tx view own over out last. by_view view over out f.item (is_open p t.api.opened at f) own;
         down = λ p at f tx own low. down tx f.item.doing;
       })).1
     where
@@ -152,10 +154,16 @@ module _ (x : Signal) (s : ClientState) where
         closes = λ closing none. stays refl;
         closed = λ closing epoch asked. stays refl;
         asks_anew = λ is. stays refl;
+        starts = λ node own is free. stays refl;
+        started = λ member is waits. stays refl;
+        unjoins = λ member is waits. stays refl;
+        drains = λ tx is. stays refl;
+        holds = λ tx is behind. stays refl;
         breaks = λ node is. stays refl;
+        ends_start = λ starting some gone. stays refl;
         never_begins = λ at f none. stays refl;
         goes_down = λ at f tx is low. stays refl;
-        fails = λ at f tx view is over out. stays refl;
+        fails = λ at f tx view is over out last. stays refl;
         rests_on = stays refl;
         stops = λ cause told down is. stops cause told down;
         completes = λ is known. completes is known refl;

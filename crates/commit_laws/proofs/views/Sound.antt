@@ -31,8 +31,10 @@ use Rattle.view_laws.proofs.runs.TrueSends.{host_sends}
 use Rattle.view_laws.proofs.runs.Sound.{AreSoundLogs, Asks, IsGood, IsSoundMember, IsSoundSignal}
 use Rattle.view_laws.proofs.runs.Step.{sound_next, sound_start}
 use Rattle.view_laws.proofs.runs.ChosenViews.{of_greater}
+use Rattle.view_laws.proofs.runs.Unstarted.{newest_tells}
 use Rattle.moment_laws.specs.Moments.{IsMoment, logs_of}
 use Rattle.moment_laws.proofs.MomentSignals.{EachSent, sent_next}
+use Rattle.moment_laws.proofs.MomentStarts.{moment_unstarted}
 use Rattle.moment_laws.proofs.MomentTurns.{host_low, own_log}
 use Rattle.moment_laws.proofs.MomentViews.{moment_less, moment_within}
 use Rattle.commit_laws.proofs.views.HeadersLow.{malformed_stays, told_stands}
@@ -171,9 +173,9 @@ module _ (start : Start) (all : ℕ → List HostStep) (e : HostStep) (es : List
         (signal_more start old new more) (was.sent_so i j))
         (λ goes.
         each_filter (IsSoundSignal start new) (is_sound start) (signals_of start e.host (old e.host) e)
-        (host_sends start new moment.cluster.shape are_next moment.cluster.nobody e.host
-        (host_low start all e es moment) (old e.host) e
-        (own_log start all e es moment)))
+        (host_sends start new moment.cluster.shape are_next moment.cluster.nobody
+        (newest_tells start new (moment_unstarted start all (e ∷ es) moment)) e.host
+        (host_low start all e es moment) (old e.host) e (own_log start all e es moment)))
 
     own_stops : StopsGood start new e.host (e ∷ old e.host)
     own_stops is = by plain_or_true

@@ -35,7 +35,7 @@ use Rattle.api_views.specs.Reports.{going_on, more_if, unasked_if}
 use Rattle.api_views.specs.Rounds.{all_rounds, ticked_if as last_ticked_if}
 use Rattle.api_views.specs.State.{ClientState}
 use Rattle.api_views.proofs.Outcomes.{ClientOutcomes, client_outcomes, stopped_as}
-use Rattle.api_views.proofs.Walk.{anew_each, asking_each, more_each, rounds_each}
+use Rattle.api_views.proofs.Walk.{anew_all_each, asking_each, more_each, over_each, rounds_each, starting_each}
 use Rattle.journal_laws.proofs.events.Writable.{IsWork}
 use Rattle.journal_laws.proofs.asked.WellAsked.{AsksWell, IsWellAsked, IsWellRequested}
 
@@ -151,11 +151,19 @@ module _ (s : ClientState) (x : Signal) (all : ClientWell s) (asked : IsWellAske
     obstructs = λ name on is e. (all, tt);
     closes = λ closing none. (all, asking_each AsksWell asks_well closing (president s.api.view));
     closed = λ closing epoch is. (all, tt);
-    asks_anew = λ is. (all, anew_each AsksWell asks_well s.closing x.view);
+    asks_anew = λ is. (all, anew_all_each AsksWell asks_well (λ node member own. tt) s x.view);
+    starts = λ node own is free.
+        (all, starting_each AsksWell (λ node member own. tt) _ (president s.api.view));
+    started = λ member is waits. (all, tt);
+    unjoins = λ member is waits. (all, (tt, tt));
+    drains = λ tx is. (all, tt);
+    holds = λ tx is behind. (all, tt);
     breaks = λ node is. (all, on _);
+    ends_start = λ starting some gone.
+        (all, over_each AsksWell (λ node member. tt) tt starting.member (president s.api.view) _);
     never_begins = λ at f none. (gone at, on _);
     goes_down = λ at f tx own_tx down. (gone at, on _);
-    fails = λ at f tx view own_tx over out. (gone at, on _);
+    fails = λ at f tx view own_tx over out last. (gone at, on _);
     rests_on = (all, on _);
     stops = λ cause told down is. stops cause told down;
     completes = λ is known. (all, on _);

@@ -9,7 +9,7 @@ use Rattle.sig_core.specs.declared.mark.Mark.{Mark}
 use Rattle.sig_core.specs.declared.member.TxId.{TxId}
 use Rattle.sig_core.specs.declared.outs.Outgoing.{Outgoing}
 use Rattle.sig_core.specs.declared.signal.Body.{Body}
-use Rattle.sig_core.specs.declared.signal.Body.TheVariants.{Host, Client, Epoch, Checkpoint}
+use Rattle.sig_core.specs.declared.signal.Body.TheVariants.{Host, Client, Epoch, Checkpoint, Joining}
 use Rattle.sig_core.specs.declared.signal.Signal.{Signal}
 use Rattle.sig_core.specs.declared.signal.checkpoint.CheckpointSignal.TheVariants.{LcpReq}
 use Rattle.sig_core.specs.declared.signal.client.ClientSignal.TheVariants.{TcBeginReq, TcKeyReq, TcCommitAck}
@@ -43,6 +43,7 @@ module _ (D : TxId → ℕ → Type 0) (B : TxId → Type 0) where
   plain_tells (Epoch (GcpReq by)) is = tt
   plain_tells (Epoch MicroReq) is = tt
   plain_tells (Checkpoint LcpReq) is = tt
+  plain_tells (Joining told) is = tt
   plain_tells (Client (TcBeginReq name)) is = tt
   plain_tells (Client (TcKeyReq tx op)) is = tt
   plain_tells (Client (TcRollbackReq tx)) is = tt

@@ -15,7 +15,7 @@ use Rattle.sig_core.specs.declared.outcome.Outcome.{Outcome}
 use Rattle.sig_core.specs.declared.outcome.Outcome.TheVariants as outcome
 use Rattle.sig_core.specs.declared.outs.Outgoing.{Outgoing}
 use Rattle.sig_core.specs.declared.signal.Body.{Body}
-use Rattle.sig_core.specs.declared.signal.Body.TheVariants.{Host, Client, Epoch, Checkpoint}
+use Rattle.sig_core.specs.declared.signal.Body.TheVariants.{Host, Client, Epoch, Checkpoint, Joining}
 use Rattle.sig_core.specs.declared.signal.Signal.{Signal}
 use Rattle.sig_core.specs.declared.signal.checkpoint.CheckpointSignal.TheVariants.{LcpReq}
 use Rattle.sig_core.specs.declared.signal.client.ClientSignal.TheVariants.{TcBeginReq, TcKeyReq, TcCommitReq}
@@ -92,6 +92,7 @@ plain_wish tx (Host told) is = refl
 plain_wish tx (Epoch (GcpReq by)) is = refl
 plain_wish tx (Epoch MicroReq) is = refl
 plain_wish tx (Checkpoint LcpReq) is = refl
+plain_wish tx (Joining told) is = refl
 plain_wish tx (Client (TcBeginReq name)) is = refl
 plain_wish tx (Client (TcKeyReq other op)) is = refl
 plain_wish tx (Client (TcRollbackReq other)) is = refl

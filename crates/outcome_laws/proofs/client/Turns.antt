@@ -17,7 +17,7 @@ use Rattle.sig_core.specs.declared.outs.Outgoing.{Outgoing}
 use Rattle.sig_core.specs.declared.place.BlockId.TheVariants.{Lqh, Qmgr}
 use Rattle.sig_core.specs.declared.request.ApiReq.{ApiReq}
 use Rattle.sig_core.specs.declared.signal.Body.{Body}
-use Rattle.sig_core.specs.declared.signal.Body.TheVariants.{Host, Client, Epoch, Checkpoint}
+use Rattle.sig_core.specs.declared.signal.Body.TheVariants.{Host, Client, Epoch, Checkpoint, Joining}
 use Rattle.sig_core.specs.declared.signal.Signal.{Signal}
 use Rattle.sig_core.specs.declared.signal.checkpoint.CheckpointSignal.TheVariants.{LcpReq}
 use Rattle.sig_core.specs.declared.signal.client.ClientSignal.TheVariants.{TcBeginReq, TcBeginConf, TcKeyReq}
@@ -52,7 +52,7 @@ use Rattle.api_views.specs.Reports.{down_outcome, going_on, more_if, unasked_if}
 use Rattle.api_views.specs.Rounds.{all_rounds, ticked_if as last_ticked_if}
 use Rattle.api_views.specs.State.{ClientState}
 use Rattle.api_views.proofs.Outcomes.{ClientOutcomes, client_outcomes, stopped_as}
-use Rattle.api_views.proofs.Walk.{anew_each, asking_each, more_each, rounds_each}
+use Rattle.api_views.proofs.Walk.{anew_all_each, asking_each, more_each, over_each, rounds_each, starting_each}
 use Rattle.outcome_laws.specs.Counts.{is_committing}
 
 -- a signal of the client's side that tells nothing of a transaction: all are that but the wish to commit
@@ -62,6 +62,7 @@ is_plain (Host told) = true
 is_plain (Epoch (GcpReq by)) = true
 is_plain (Epoch MicroReq) = true
 is_plain (Checkpoint LcpReq) = true
+is_plain (Joining told) = true
 is_plain (Client (TcBeginReq name)) = true
 is_plain (Client (TcKeyReq tx op)) = true
 is_plain (Client (TcRollbackReq tx)) = true
@@ -218,11 +219,20 @@ module _ (s : ClientState) (x : Signal) (R : List OpenTransaction → List Outgo
     obstructs = λ name on is e. rests;
     closes = λ closing none. forms.keeps _ (asking_each IsPlain asks_plain closing (president s.api.view));
     closed = λ closing epoch is. rests;
-    asks_anew = λ is. forms.keeps _ (anew_each IsPlain asks_plain s.closing x.view);
+    asks_anew = λ is. forms.keeps _ (anew_all_each IsPlain asks_plain (λ node member own. refl) s x.view);
+    starts = λ node own is free.
+        forms.keeps _ (starting_each IsPlain (λ node member own. refl) _ (president s.api.view));
+    started = λ member is waits. rests;
+    unjoins = λ member is waits. forms.keeps _ (refl, tt);
+    drains = λ tx is. rests;
+    holds = λ tx is behind. rests;
     breaks = λ node is. goes_on _;
+    ends_start = λ starting some gone.
+        forms.keeps _
+        (over_each IsPlain (λ node member. refl) refl starting.member (president s.api.view) _);
     never_begins = λ at f none. forms.drops _ at f _ (more_plain _);
     goes_down = λ at f tx own down. fallen at _ f tx own _ f.item.doing refl (more_plain _);
-    fails = λ at f tx view own over out. forms.fails _ at f tx view.number _ own (more_plain _);
+    fails = λ at f tx view own over out last. forms.fails _ at f tx view.number _ own (more_plain _);
     rests_on = goes_on _;
     stops = λ cause told down is. stops cause told down;
     completes = λ is known. goes_on _;

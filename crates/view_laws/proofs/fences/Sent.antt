@@ -10,11 +10,12 @@ use Rattle.run_theory.proofs.Pasts.{each_in, each_map, in_past}
 use Rattle.sig_core.specs.declared.member.Member.{Member}
 use Rattle.sig_core.specs.declared.outs.Outgoing.{Outgoing}
 use Rattle.sig_core.specs.declared.signal.Body.{Body}
-use Rattle.sig_core.specs.declared.signal.Body.TheVariants.{Membership}
+use Rattle.sig_core.specs.declared.signal.Body.TheVariants.{Joining, Membership}
 use Rattle.sig_core.specs.declared.signal.membership.MembershipSignal.TheVariants.{ArbitReq}
 use Rattle.sig_core.specs.declared.signal.Signal.{Signal}
 use Rattle.sig_core.specs.declared.view.View.{View}
 use Rattle.arbiter_block.specs.Arbiter.{ArbiterState, arbit_if, arbit_row, arbiter_table, is_granted}
+use Rattle.api_views.specs.Laws.{tells_start}
 use Rattle.qmgr_block.specs.Laws.{Event, takes}
 use Rattle.qmgr_block.specs.Promise.{fences}
 use Rattle.qmgr_block.specs.Qmgr.{qmgr_row}
@@ -47,6 +48,11 @@ fence_told body is = by (is_vote body)
     by : (b : Bool) → (b || is_of_fence body) ≡ true
     by true = refl
     by false = is
+
+-- and of no start
+fence_plain : (body : Body) → is_of_fence body ≡ true → tells_start body ≡ false
+fence_plain (Joining signal) is = absurd cc
+fence_plain body is = refl
 
 pub untold_fence : (body : Body) → is_told body ≡ false → is_of_fence body ≡ false
 untold_fence body off = by (is_vote body) off
@@ -177,7 +183,8 @@ module _ (start : Start) where
   shell_fences : (log : List HostStep) (e : HostStep) → SendsFences 0 log e
   shell_fences log e =
       each_map _ _ (step_after start 0 log e).effects.sends
-      (λ sent tells. inl (by sent (is_of_fence sent.body) refl (λ is. tells (fence_told sent.body is))))
+      (λ sent tells.
+      inl (by sent (is_of_fence sent.body) refl (λ is. tells (fence_plain sent.body is) (fence_told sent.body is))))
       (arbiters_tell arbiters_follow start log e)
     where
       by : (sent : Outgoing) (b : Bool) → is_of_fence sent.body ≡ b

@@ -24,6 +24,7 @@ use Rattle.qmgr_block.specs.declared.known.Proposal.{Proposal}
 use Rattle.qmgr_block.specs.declared.promise.Promise.{Promise}
 use Rattle.qmgr_block.specs.Decide.{awaits, confirmed_all, confirmed_one, heard, is_asked, stopping, with_unlike}
 use Rattle.qmgr_block.specs.Install.{commit_of, copy_of, is_some_suspect, orders, own_orders, work_if}
+use Rattle.qmgr_block.specs.Join.{joining_with}
 use Rattle.qmgr_block.specs.Promise.{confirmed_if, fences, is_ldm, less, promising, refusal_of, with_absent}
 use Rattle.qmgr_block.specs.Propose.{greatest_number, next_number, proposal_by, proposal_sends, remaining_view, stop_of}
 use Rattle.qmgr_block.specs.Propose.{stop_sends}
@@ -133,14 +134,14 @@ unfolding orders
 orders_plain k =
     let commits = map commit_of (members_of k.layout.view) in
     let own = own_orders k.me.node in
-    let copies = map (copy_of k.me.node) k.layout.view.starting in
+    let copies = map (copy_of k) k.layout.view.starting in
     let work = work_if k.me (is_some_suspect k.suspects) in
     let told =
     each_append IsPlain commits own (each_mapped IsPlain commit_of (members_of k.layout.view) (λ member. refl))
     (refl, (refl, (refl, tt))) in
     let copied =
     each_append IsPlain (commits ++ own) copies told
-    (each_mapped IsPlain (copy_of k.me.node) k.layout.view.starting (λ member. refl)) in
+    (each_mapped IsPlain (copy_of k) k.layout.view.starting (λ member. refl)) in
     each_append IsPlain (commits ++ own ++ copies) work copied (work_plain k.me (is_some_suspect k.suspects))
 
 module _ (s : QmgrState) (x : Signal) where
@@ -309,7 +310,8 @@ module _ (s : QmgrState) (x : Signal) where
         is_full = λ member own is full. sends_plain k k.promised _ (like_self k) (refl, tt);
         has_been = λ member own is outside settled seen. sends_plain k k.promised _ (like_self k) (refl, tt);
         joins = λ member own lost is no_full outside settled unseen may lacks.
-            proposes k (joined_view k.layout.view (next_number k) member) (Some member) lost []
+            proposes (joining_with k member own) (joined_view k.layout.view (next_number k) member) (Some member) lost
+            []
             (above_last k k k.promised (like_self k)) tt;
         promotes = λ member lost is may lacks.
             proposes k (promoted_view k.layout.view (next_number k) member) None lost []

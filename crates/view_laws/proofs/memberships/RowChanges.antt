@@ -12,7 +12,7 @@ use Rattle.sig_core.specs.declared.view.View.{View}
 use Rattle.sig_core.specs.Step.{Step, stay}
 use Rattle.qmgr_block.specs.declared.known.Known.{Known}
 use Rattle.qmgr_block.specs.declared.known.Proposal.{Proposal}
-use Rattle.qmgr_block.specs.Join.{has_node}
+use Rattle.qmgr_block.specs.Join.{has_node, joining_with}
 use Rattle.qmgr_block.specs.Propose.{greatest_number, has_number, next_number, proposal_by, propose, proposed_if}
 use Rattle.qmgr_block.specs.Propose.{proposed_view, remaining_view}
 use Rattle.qmgr_block.specs.Sets.{is_among, members_of, with_member, without}
@@ -31,6 +31,10 @@ pub record Like (k l : Known) (last : View) : Type 0 where
 
 pub like_self : (k : Known) → Like k k k.promised
 like_self k = record { me = refl; layout = refl; promised = refl; proposed = refl; outstanding = refl }
+
+-- who is to join is remembered beside that
+pub joining_like : (k : Known) (member : Member) (own : Option ℕ) → Like k (joining_with k member own) k.promised
+joining_like k member own = record { me = refl; layout = refl; promised = refl; proposed = refl; outstanding = refl }
 
 pub like_on : (k l m : Known) (promised : View) → Like k l promised → Like l m l.promised → Like k m promised
 like_on k l m promised one other = record {

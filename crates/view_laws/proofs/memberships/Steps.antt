@@ -32,7 +32,7 @@ use Rattle.sig_core.specs.Place.{client}
 use Rattle.sig_core.specs.Step.{sending}
 use Rattle.qmgr_block.specs.Decide.{confirmed_all, granted_if, heard, refused_cause, stop_by, stopping, with_unlike}
 use Rattle.qmgr_block.specs.Install.{order_effects}
-use Rattle.qmgr_block.specs.Join.{is_settled}
+use Rattle.qmgr_block.specs.Join.{joining_with, may_add}
 use Rattle.qmgr_block.specs.Promise.{fences, refusal_of}
 use Rattle.qmgr_block.specs.Propose.{has_number, next_number, proposed_by, proposed_view}
 use Rattle.qmgr_block.specs.Qmgr.{qmgr_row}
@@ -44,8 +44,8 @@ use Rattle.qmgr_block.proofs.Outcomes.{ToldForms, is_of_promises, qmgr_outcomes}
 use Rattle.view_laws.proofs.memberships.RowsAlike.{absent_like, closing_like, keeps_heard, missed_like, promised_like}
 use Rattle.view_laws.proofs.memberships.RowsAlike.{starting_if, told_moves, unlike_like}
 use Rattle.view_laws.proofs.memberships.RowChanges.{Brings, Form, IsNotAbove, Keeps, Like, Moves, closed_like}
-use Rattle.view_laws.proofs.memberships.RowChanges.{fills_one, has_one, like_self, moves_like, moves_proposed}
-use Rattle.view_laws.proofs.memberships.RowChanges.{moves_sent, moves_stay, suspects_like}
+use Rattle.view_laws.proofs.memberships.RowChanges.{fills_one, has_one, joining_like, like_self, moves_like}
+use Rattle.view_laws.proofs.memberships.RowChanges.{moves_proposed, moves_sent, moves_stay, suspects_like}
 
 -- one of these promises has the number
 abbrev pub HasNumber : List Promise → ℕ → Type 0
@@ -201,14 +201,14 @@ module _ (s : QmgrState) (x : Signal) where
         silent = silent;
       })
 
-  proposed_steps : (set : View) (joining : Option Member) (lost : Option ℕ) → set.number ≡ next_number k
-      → Form A k.me k.layout.view set joining → lost_group k.layout.shape set ≡ lost
-      → Comes (beside s.promises (proposed_by k set joining lost))
+  proposed_steps : (l : Known) → Like k l k.promised → (set : View) (joining : Option Member) (lost : Option ℕ)
+      → set.number ≡ next_number l → Form A l.me l.layout.view set joining → lost_group l.layout.shape set ≡ lost
+      → Comes (beside s.promises (proposed_by l set joining lost))
   unfolding proposed_view
-  proposed_steps set joining lost next form is =
-      subst (λ lost. Comes (beside s.promises (proposed_by k set joining lost))) is
-      (steps_beside s x.body (proposed_by k set joining (lost_group k.layout.shape set))
-      (moves_proposed A k k k.promised (like_self k) (omega arith) set joining next form))
+  proposed_steps l like set joining lost next form is =
+      subst (λ lost. Comes (beside s.promises (proposed_by l set joining lost))) is
+      (steps_beside s x.body (proposed_by l set joining (lost_group l.layout.shape set))
+      (moves_proposed A k l k.promised like (omega arith) set joining next form))
 
   stop_steps : (cause : StopCause) → Comes (beside s.promises (stop_by k cause))
   stop_steps (NoGroup group) = like_steps (stop_by k (NoGroup group)) (like_self k) refl
@@ -283,12 +283,13 @@ module _ (s : QmgrState) (x : Signal) where
         has_been = λ member own is outside settled seen.
             like_steps (sending k client (Joining (StartEnd member))) (like_self k) refl;
         joins = λ member own lost is no_full outside settled unseen may lacks.
-            proposed_steps (joined_view k.layout.view (next_number k) member) (Some member) lost refl
+            proposed_steps (joining_with k member own) (joining_like k member own)
+            (joined_view k.layout.view (next_number k) member) (Some member) lost refl
             (has_one member (λ sound. subst (IsSound k.me) is sound) outside refl refl refl) lacks;
         promotes = λ member lost is may lacks.
-            proposed_steps (promoted_view k.layout.view (next_number k) member) None lost refl
+            proposed_steps k (like_self k) (promoted_view k.layout.view (next_number k) member) None lost refl
             (fills_one member
-            (starting_if (is_settled k) (is_among k.layout.view.starting member) (presides k) (has_number k) may)
+            (starting_if (may_add k) (is_among k.layout.view.starting member) (presides k) (has_number k) may)
             refl refl refl)
             lacks;
         orders = λ at is own oldest low.

@@ -18,6 +18,7 @@ use Rattle.view_laws.proofs.runs.TrueSends.{host_sends}
 use Rattle.view_laws.proofs.runs.Sound.{AreSoundLogs, IsGood, IsSoundSignal}
 use Rattle.view_laws.proofs.runs.Step.{host_there, sound_next, sound_start, true_view}
 use Rattle.view_laws.proofs.runs.ChosenViews.{of_greater, within_less}
+use Rattle.view_laws.proofs.runs.Unstarted.{newest_tells, run_unstarted}
 
 module _ (start : Start) (is_shape : IsShape start.shape) where
   -- all is sound in logs of the hosts that there are, and so is each signal on its way
@@ -43,8 +44,10 @@ module _ (start : Start) (is_shape : IsShape start.shape) where
   sends_next nobody es e come =
       all_within (signals_of start e.host (log_of (machine start) es e.host) e)
       (λ within.
-      host_sends start (log_of (machine start) (e ∷ es)) is_shape (next nobody es e come within) nobody e.host
-      (host_there start e es within)
+      host_sends start (log_of (machine start) (e ∷ es)) is_shape (next nobody es e come within) nobody
+      (newest_tells start (log_of (machine start) (e ∷ es))
+      (run_unstarted start nobody (e ∷ es) (come.run, come.happens)))
+      e.host (host_there start e es within)
       (log_of (machine start) es e.host) e (log_of-own (machine start) e es e.host refl))
     where
       -- what holds of each where the logs are of the hosts that there are

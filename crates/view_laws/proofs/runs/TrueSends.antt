@@ -18,6 +18,7 @@ use Rattle.sig_core.specs.declared.view.View.{View}
 use Rattle.sig_core.specs.Place.{membership}
 use Rattle.arbiter_block.specs.Arbiter.{ArbiterState, arbit_if, arbit_row, arbiter_table, is_granted}
 use Rattle.arbiter_block.specs.Laws.{granted_at}
+use Rattle.api_views.specs.Laws.{tells_start}
 use Rattle.qmgr_block.specs.Laws.{Event, takes}
 use Rattle.world_core.specs.Hosts.{hosts, member_at}
 use Rattle.world_core.specs.Start.{NobodyStarts, Start, made}
@@ -32,6 +33,7 @@ use Rattle.view_laws.specs.HostEvents.{events_at, events_of, is_arbiter, is_memb
 use Rattle.view_laws.specs.Members.{confirmed_of, effects_at, proposed_of, state_of}
 use Rattle.view_laws.specs.Runs.{ballots_of, events_in, view_after}
 use Rattle.view_laws.specs.Sets.{all_of}
+use Rattle.view_laws.specs.Unstarted.{TellsNoStart}
 use Rattle.view_laws.specs.Votes.{IsSentAmong, IsSentByArbiter, arbiter_in, is_vote, main_of, membership_in}
 use Rattle.view_laws.proofs.follow.Hosts.{arbiters_follow, hosts_follow}
 use Rattle.view_laws.proofs.follow.HostKinds.{no_arbiter_behind, no_membership_beside}
@@ -361,15 +363,16 @@ module _ (start : Start) (logs : ℕ → List HostStep) (is_shape : IsShape star
             asks = λ at. tt;
           })
 
-    pub shell_sends : Each (IsSoundSignal start logs) (signals_of start 0 log e)
-    shell_sends =
+    pub shell_sends : TellsNoStart start log e → Each (IsSoundSignal start logs) (signals_of start 0 log e)
+    shell_sends silent =
         each_sound 0 low log e same (λ sent there z by_shell.
         if_vote 0 low log e same sent z (λ vote. by sent z
         (each_in
-        (λ (sent : Outgoing). is_vote sent.body ≡ true
+        (λ (sent : Outgoing). tells_start sent.body ≡ false → is_vote sent.body ≡ true
         → IsSentByArbiter (members start.shape.nodes)
         (taken_in (events_at is_arbiter 0 (after start 0 log) e.step.taken)) before sent)
-        sent _ (arbiters_vote arbiters_follow start log e) there vote)))
+        sent _ (arbiters_vote arbiters_follow start log e) there
+        (each_in (λ (sent : Outgoing). tells_start sent.body ≡ false) sent _ silent there) vote)))
       where
         by : (sent : Outgoing) (z : Signal)
             → IsSentByArbiter (members start.shape.nodes)
@@ -389,18 +392,20 @@ module _ (start : Start) (logs : ℕ → List HostStep) (is_shape : IsShape star
       (each_in (λ (sent : Outgoing). is_vote sent.body ≡ false) sent _
       (others_dont_vote start k log e no_membership no_arbiter) there))
 
-  -- So all that a host sends in its newest step is true.
-  pub host_sends : NobodyStarts start → (k : ℕ) → k < hosts start → (log : List HostStep) (e : HostStep)
-      → logs k ≡ e ∷ log
+  -- So all that a host sends in its newest step is true, where the shell's tells of no start.
+  pub host_sends : NobodyStarts start
+      → ((log : List HostStep) (e : HostStep) → logs 0 ≡ e ∷ log → TellsNoStart start log e) → (k : ℕ)
+      → k < hosts start → (log : List HostStep) (e : HostStep) → logs k ≡ e ∷ log
       → Each (IsSoundSignal start logs) (signals_of start k log e)
-  host_sends nobody k low log e same = by (host_is start nobody k low)
+  host_sends nobody silent k low log e same = by (host_is start nobody k low)
     where
       Sends : ℕ → Type 0
       Sends = λ k. (low : k < hosts start) → logs k ≡ e ∷ log
           → Each (IsSoundSignal start logs) (signals_of start k log e)
 
       by : HostIs start k → Each (IsSoundSignal start logs) (signals_of start k log e)
-      by (of_shell at) = subst Sends (sym at) (λ low same. shell_sends nobody log e same low) low same
+      by (of_shell at) =
+          subst Sends (sym at) (λ low same. shell_sends nobody log e same low (silent log e same)) low same
       by (of_main w there at) = subst Sends (sym at) (λ low same. main_sends nobody w there log e same low) low same
       by (of_other j left at part) =
           subst Sends (sym at) (λ low same.

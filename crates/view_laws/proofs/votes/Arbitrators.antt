@@ -1,5 +1,5 @@
--- What the shell's part sends of votes, the arbitrator sends at the one signal that it takes.
-use Rattle.std.proofs.Common.{◌≡◌, ◌∙◌, true, List, [], ◌∷◌, refl, sym, subst}
+-- What the shell's part sends of votes, but for starts, the arbitrator sends at the one signal that it takes.
+use Rattle.std.proofs.Common.{◌≡◌, ◌∙◌, false, true, List, [], ◌∷◌, refl, sym, subst}
 use Rattle.std.specs.Prelude.{Some}
 use Rattle.std.proofs.lemmas.Bool.{false≢true}
 use Rattle.frag_map.specs.Layout.{members}
@@ -11,6 +11,7 @@ use Rattle.sig_core.specs.declared.place.BlockId.{BlockId}
 use Rattle.sig_core.specs.declared.place.BlockId.TheVariants as block
 use Rattle.sig_core.specs.declared.signal.Signal.{Signal}
 use Rattle.sig_core.specs.declared.view.View.{View}
+use Rattle.api_views.specs.Laws.{tells_start}
 use Rattle.arbiter_block.specs.Arbiter.{ArbiterState, arbiter_row}
 use Rattle.node_views.specs.Blocks.{parts_entered, parts_row}
 use Rattle.node_views.specs.declared.parts.Parts.{Parts}
@@ -28,16 +29,18 @@ use Rattle.view_laws.proofs.votes.OtherBlocks.{client_none}
 use Rattle.view_laws.proofs.votes.NoVotes.{IsNoVote, is_told, vote_told}
 use Rattle.view_laws.proofs.votes.EachSignal.{IsSaid, Saying, behind_view, step_said}
 
--- P is of each vote that the arbitrator sends at the signal, and of what is no vote
+-- P is of each vote that the arbitrator sends at the signal, and of what is no vote unless it tells of a start
 record IsOfVotes (P : Saying) (a : ArbiterState) (x : Signal) : Type 0 where
   votes : (sent : Outgoing) → IsIn sent (arbiter_row a x).effects.sends → P (takes x ∷ []) sent
-  none : (events : List Event) (sent : Outgoing) → IsNoVote sent → P events sent
+  none : (events : List Event) (sent : Outgoing) → (tells_start sent.body ≡ false → IsNoVote sent) → P events sent
 
 row_by : (P : Saying) (p : ShellPart) (x : Signal) → IsOfVotes P p.arbiter x → (b : BlockId)
     → Each (P (taking is_arbiter x (is_arbiter b))) (shell_row p b x).effects.sends
 unfolding shell_row
 row_by P p x of block.Arbiter = each_from (P (takes x ∷ [])) (arbiter_row p.arbiter x).effects.sends of.votes
-row_by P p x of block.Api = each_map IsNoVote (P []) _ (of.none []) (client_none p.client x)
+row_by P p x of block.Api =
+    each_map (λ (sent : Outgoing). tells_start sent.body ≡ false → IsNoVote sent) (P []) _ (of.none [])
+    (client_none p.client x)
 row_by P p x of _ = tt
 
 row_said : (P : Saying) (parts : Parts) (a : ArbiterState) (x : Signal) → arbiter_in parts ≡ Some a
@@ -58,19 +61,20 @@ entered_in (Tc p) a view is = absurd cc
 entered_in (Ldm p) a view is = absurd cc
 
 module _ (among : List Member) (old : List Signal) (x : Signal) where
-  -- each vote is one of the arbitrator
+  -- each vote is one of the arbitrator, unless it tells of a start
   abbrev SaysArbiter : Saying
-  SaysArbiter = λ events sent. is_told sent.body ≡ true → IsSentByArbiter among (taken_in events) old sent
+  SaysArbiter = λ events sent. tells_start sent.body ≡ false → is_told sent.body ≡ true
+      → IsSentByArbiter among (taken_in events) old sent
 
   front_said : (parts : Parts) → arbiter_in parts ≡ Some (arbiter_of among old) → IsSaid is_arbiter SaysArbiter parts x
   front_said parts is = record {
     row =
         row_said SaysArbiter parts (arbiter_of among old) x is (record {
-          votes = λ sent there vote. record { taken = x; is = refl; there = there };
-          none = λ events sent off vote. absurd (false≢true (sym off ∙ vote));
+          votes = λ sent there plain vote. record { taken = x; is = refl; there = there };
+          none = λ events sent off plain vote. absurd (false≢true (sym (off plain) ∙ vote));
         });
     later = λ view sent was. was;
-    none = λ events sent off vote. absurd (false≢true (sym off ∙ vote));
+    none = λ events sent off plain vote. absurd (false≢true (sym off ∙ vote));
   }
 
   behind_said : (parts : Parts) (view : View) → arbiter_in parts ≡ Some (arbiter_of among old)
@@ -78,18 +82,19 @@ module _ (among : List Member) (old : List Signal) (x : Signal) where
   behind_said parts view is = record {
     row =
         row_said (behind_view view SaysArbiter) parts (arbiter_of among old) x is (record {
-          votes = λ sent there vote. record { taken = x; is = refl; there = there };
-          none = λ events sent off vote. absurd (false≢true (sym off ∙ vote));
+          votes = λ sent there plain vote. record { taken = x; is = refl; there = there };
+          none = λ events sent off plain vote. absurd (false≢true (sym (off plain) ∙ vote));
         });
     later = λ next sent was. was;
-    none = λ events sent off vote. absurd (false≢true (sym off ∙ vote));
+    none = λ events sent off plain vote. absurd (false≢true (sym off ∙ vote));
   }
 
 -- where arbitrators follow their signals
 abbrev pub ArbitersTell : Type 0
 ArbitersTell =
     (start : Start) (log : List HostStep) (e : HostStep)
-    → Each (λ sent. is_told sent.body ≡ true → IsSentByArbiter (members start.shape.nodes)
+    → Each (λ sent. tells_start sent.body ≡ false → is_told sent.body ≡ true
+    → IsSentByArbiter (members start.shape.nodes)
     (taken_in (events_at is_arbiter 0 (after start 0 log) e.step.taken)) (taken_in (events_of is_arbiter start 0 log))
     sent)
     (step_after start 0 log e).effects.sends
@@ -107,5 +112,6 @@ arbiters_tell follow start log e =
 
 pub arbiters_vote : ArbitersFollowTheirSignals → ArbitersVote
 arbiters_vote follow start log e =
-    each_map _ _ (step_after start 0 log e).effects.sends (λ sent tells vote. tells (vote_told sent.body vote))
+    each_map _ _ (step_after start 0 log e).effects.sends
+    (λ sent tells plain vote. tells plain (vote_told sent.body vote))
     (arbiters_tell follow start log e)

@@ -1,14 +1,18 @@
--- Takeovers, coordinators, epochs, rows, masters of checkpoints and the client's side send no vote; coordinators,
--- epochs and rows confirm their fence where they are asked to.
+-- Takeovers, coordinators, epochs, rows, masters of checkpoints and the client's side, but for starts, send no vote;
+-- coordinators, epochs and rows confirm their fence where they are asked to.
 use Rattle.std.proofs.Common.{◌≡◌, ℕ, true, false, refl, ap, inl, inr, ⊎_elim, Bool}
+use Rattle.run_theory.specs.Lists.{Each}
 use Rattle.run_theory.proofs.Pasts.{each_map}
 use Rattle.sig_core.specs.declared.mark.Mark.{Mark}
+use Rattle.sig_core.specs.declared.outs.Outgoing.{Outgoing}
 use Rattle.sig_core.specs.declared.rows.PendingRecord.{PendingRecord}
 use Rattle.sig_core.specs.declared.signal.Body.{Body}
 use Rattle.sig_core.specs.declared.signal.Body.TheVariants.{Joining, Membership}
 use Rattle.sig_core.specs.declared.signal.Signal.{Signal}
+use Rattle.sig_core.specs.declared.signal.joining.JoiningSignal.TheVariants.{StartGone, StartReq}
 use Rattle.sig_core.specs.declared.view.View.{View}
 use Rattle.api_views.specs.Client.{client_row}
+use Rattle.api_views.specs.Laws.{tells_start}
 use Rattle.api_views.specs.State.{ClientState}
 use Rattle.dih_node.specs.Dih.{dih_row}
 use Rattle.dih_node.specs.Orders as dih
@@ -48,10 +52,12 @@ coordinators (Membership signal) is = absurd cc
 coordinators (Joining signal) is = absurd cc
 coordinators body is = refl
 
-clients : (body : Body) → is_of_client body ≡ true → is_told body ≡ false
-clients (Membership signal) is = absurd cc
-clients (Joining signal) is = absurd cc
-clients body is = refl
+clients : (body : Body) → is_of_client body ≡ true → tells_start body ≡ false → is_told body ≡ false
+clients (Membership signal) is plain = absurd cc
+clients (Joining (StartReq member own)) is plain = absurd cc
+clients (Joining (StartGone member)) is plain = absurd cc
+clients (Joining signal) is plain = absurd cc
+clients body is plain = refl
 
 pub takeover_none : (s : TakeoverState) (x : Signal) → SendsNoVote (takeover_row s x)
 takeover_none s x = each_of_kinds is_of_takeover (λ body. is_told body ≡ false) _ takeovers (takeover_kinds s x)
@@ -67,8 +73,11 @@ pub coordinator_installs_none : (s : CoordinatorState) (view : View) → SendsNo
 coordinator_installs_none s view =
     each_of_kinds is_of_coordinator (λ body. is_told body ≡ false) _ coordinators (coordinator_installs_kinds s view)
 
-pub client_none : (s : ClientState) (x : Signal) → SendsNoVote (client_row s x)
-client_none s x = each_of_kinds is_of_client (λ body. is_told body ≡ false) _ clients (client_kinds s x)
+-- but for starts
+pub client_none : (s : ClientState) (x : Signal)
+    → Each (λ (sent : Outgoing). tells_start sent.body ≡ false → IsNoVote sent) (client_row s x).effects.sends
+client_none s x =
+    each_of_kinds is_of_client (λ body. tells_start body ≡ false → is_told body ≡ false) _ clients (client_kinds s x)
 
 masters : (body : Body) → is_master_word body ≡ true → is_told body ≡ false
 masters (Membership signal) is = absurd cc

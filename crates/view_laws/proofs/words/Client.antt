@@ -2,11 +2,12 @@
 use Rattle.std.proofs.Common.{◌≡◌, true, refl}
 use Rattle.run_theory.proofs.Pasts.{each_map}
 use Rattle.sig_core.specs.declared.signal.Body.{Body}
-use Rattle.sig_core.specs.declared.signal.Body.TheVariants.{Client, Epoch, Checkpoint, Host}
+use Rattle.sig_core.specs.declared.signal.Body.TheVariants.{Client, Epoch, Checkpoint, Host, Joining}
 use Rattle.sig_core.specs.declared.signal.Signal.{Signal}
 use Rattle.sig_core.specs.declared.signal.checkpoint.CheckpointSignal.TheVariants.{LcpReq}
 use Rattle.sig_core.specs.declared.signal.client.ClientSignal.TheVariants.{TcBeginReq}
 use Rattle.sig_core.specs.declared.signal.epoch.EpochSignal.TheVariants.{GcpReq}
+use Rattle.sig_core.specs.declared.signal.joining.JoiningSignal.TheVariants.{StartReq}
 use Rattle.step_forms.specs.Does.{IsWord}
 use Rattle.api_views.specs.Client.{client_row}
 use Rattle.api_views.specs.State.{ClientState}
@@ -20,6 +21,7 @@ of_words (Host signal) is = refl
 of_words (Client (TcBeginReq name)) is = is
 of_words (Epoch (GcpReq by)) is = is
 of_words (Checkpoint LcpReq) is = is
+of_words (Joining (StartReq member own)) is = is
 of_words body is = is
 
 pub client_kinds : (s : ClientState) (x : Signal) → SendsOf is_of_client (client_row s x)

@@ -34,7 +34,7 @@ returns-clause-grown g c =
 
 pub returns-clause-lived : goal.returns-clause-lived
 returns-clause-lived g c =
-    asked_lives g.start g.D.Disk.told c.lives_go_on.ensures c.args.request c.requires.1.1.1 c.drive.result
+    asked_lives g.start g.D.Disk.told c.lives_go_on.ensures c.args.request c.requires.1.1.1.0 c.drive.result
     c.args.world.now c.ask.new.self c.drive.new.self (c.in_ok-ask.ensures.ok g.start c.requires.1.1.0) c.ask.ensures.disks c.drive.ensures.way
 
 pub drive-requires : goal.drive-requires

@@ -10,8 +10,8 @@ pub returns-clause-ok : goal.returns-clause-ok
 returns-clause-ok c =
     let w = whole_of c.args.self.now in
     let x = arriving 0 c.in_ok-signal.signal in
-    let read = body_read w.bodies 0 c.index.result.now (first_there w c.requires).bodies c.index.ensures in
-    asked_ok c.handle.result w (whole_of c.handle.new.self) x c.args.request
+    let read = body_read w.bodies 0 c.index.result.now (first_there w c.requires.world).bodies c.index.ensures in
+    asked_ok c.handle.result w (whole_of c.handle.new.self) x c.args.request c.requires.plain
     (not_stopped (has_stopped_in w 0) c.runs.result c.runs.ensures c.if-not-runs.false)
     (ap (arriving 0) c.in_ok-signal.ensures
     ∙ wishes w c.in_ok-view.view c.args.request c.index.result.now c.in_ok-view.ensures read)
