@@ -178,5 +178,6 @@ module _ (start : Start) where
   all_go nobody i j (e ∷ log) =
       put_each (machine start) GoesToEpochs j (sent_by (machine start) i log e) (sent (machine start) i j log)
       (sent_by_each (machine start) GoesToEpochs i log e
-      (λ goes. each_map _ GoesToEpochs (signals_of start i log e) (sent_goes nobody i log e) (each_sent start i log e)))
+      (λ goes.
+      each_map _ GoesToEpochs (signals_of start i log e) (sent_goes nobody i log e) (each_sent start i log e nobody)))
       (all_go nobody i j log)

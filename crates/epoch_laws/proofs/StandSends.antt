@@ -496,4 +496,5 @@ module _ (start : Start) (all : ℕ → List HostStep) (e : HostStep) (es : List
     new_true goes =
         each_filter (IsTrue start new) (is_sound start) (signals_of start e.host (old e.host) e)
         (each_map _ (IsTrue start new) (signals_of start e.host (old e.host) e)
-        (sent_true (stands_behind start all e es moment goes)) (each_sent start e.host (old e.host) e))
+        (sent_true (stands_behind start all e es moment goes))
+        (each_sent start e.host (old e.host) e moment.cluster.nobody))

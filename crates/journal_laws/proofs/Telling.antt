@@ -24,7 +24,7 @@ use Rattle.world_views.proofs.SentFacts.{is_stamped}
 use Rattle.world_views.specs.Hosts.{started}
 use Rattle.world_views.specs.Machine.{IsOwn, after, comes_rightly, machine, signals_of, step_after, step_by, told}
 use Rattle.world_views.specs.Sending.{is_asked}
-use Rattle.view_laws.proofs.follow.Senders.{each_sent}
+use Rattle.view_laws.proofs.follow.Senders.{each_from}
 use Rattle.view_laws.specs.Runs.{AreOfCluster}
 
 -- what is so of each where something else is so
@@ -80,7 +80,7 @@ module _ (start : Start) (G : (ℕ → List HostStep) → Type 0) (IsWell : Body
           subst IsWell (sym one.body)
           (each_in IsWellSent one.sent (step_after start h log e).effects.sends
           (stepped h log e (host_well h log takes.1) takes.0).1 one.there))
-          (each_sent start h log e)
+          (each_from start h log e)
 
       abbrev AllTake : (ℕ → List HostStep) → Type 0
       AllTake logs = G logs → (h : ℕ) → Each TakesWell (logs h)

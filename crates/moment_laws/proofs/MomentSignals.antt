@@ -27,7 +27,7 @@ use Rattle.world_views.specs.Sending.{is_asked}
 use Rattle.view_laws.specs.Order.{is_sound, sound_machine}
 use Rattle.view_laws.specs.Runs.{view_after}
 use Rattle.view_laws.proofs.eras.Rises.{view_rises}
-use Rattle.view_laws.proofs.follow.Senders.{each_sent}
+use Rattle.view_laws.proofs.follow.Senders.{each_from}
 use Rattle.moment_laws.specs.Moments.{IsMoment, logs_of}
 use Rattle.moment_laws.proofs.MomentViews.{current_above, current_number, moment_within}
 
@@ -65,7 +65,7 @@ module _ (start : Start) where
           let same : x.signal.view.number ≡ (view_after start i (e ∷ log)).number =
           ap (λ (v : View). v.number) one.view_is in
           omega (arith, same))
-          (each_sent start i log e))
+          (each_from start i log e))
 
       old : (x : Addressed) → x.signal.view.number ≤ (view_after start i log).number → IsLow x
       old x low = let rises = view_rises start nobody i log e in omega (arith, low, rises)

@@ -56,7 +56,7 @@ use Rattle.world_views.specs.Sending.{is_asked}
 use Rattle.world_views.specs.Shell.{finds_down}
 use Rattle.view_laws.specs.Runs.{AreOfCluster, WasInstalled, view_after}
 use Rattle.view_laws.proofs.ballots.SharedByGroups.{viable_manned}
-use Rattle.view_laws.proofs.follow.Senders.{each_sent}
+use Rattle.view_laws.proofs.follow.Senders.{each_from}
 use Rattle.view_laws.proofs.runs.AllSound.{have_orderly}
 use Rattle.view_laws.proofs.runs.ChosenViews.{viable}
 use Rattle.moment_laws.specs.PartSteps.{PartEnters, PartTakes, ShellDoes, handles, ignores, installs, remains}
@@ -305,7 +305,7 @@ module _ (start : Start) where
       subst (λ body. closes body ≡ None) (sym one.body)
       (each_in (λ (sent : Outgoing). closes sent.body ≡ None) one.sent (step_after start h log e).effects.sends said
       one.there))
-      (each_sent start h log e)
+      (each_from start h log e)
     where
       said : Each (λ (sent : Outgoing). closes sent.body ≡ None) (step_after start h log e).effects.sends
       said =

@@ -45,7 +45,7 @@ AreAskedFor start ending commands log = AreAsked start (reverse commands) log
 pub record AreLived (start : Start) (ending : Ending) (commands : List Command) (logs : List HostLog) : Type 0 where
   pub labelled : AreLabelled start logs
   pub right : AreLogs (machine start) (logs_at logs)
-  pub next_stamps : (h : ℕ) → HaveNextStamps (logs_at logs h)
+  pub next_stamps : (h : ℕ) → HaveNextStamps start h (logs_at logs h)
   pub within : IsWithin (hosts start) (logs_at logs)
   pub asked : AreAskedFor start ending commands (logs_at logs 0)
   pub at_quiet : AreAskedAtQuiet start (logs_at logs)

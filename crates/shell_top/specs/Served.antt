@@ -77,7 +77,7 @@ pub record HasServedOwn (start : Start) (command : Command) (w t : Whole) : Type
 pub record AreLeftOff (start : Start) (asked : List ApiReq) (w : Whole) (logs : List HostLog) : Type 0 where
   pub labelled : AreLabelled start logs
   pub right : AreLogs (machine start) (logs_at logs)
-  pub next_stamps : (h : ℕ) → HaveNextStamps (logs_at logs h)
+  pub next_stamps : (h : ℕ) → HaveNextStamps start h (logs_at logs h)
   pub within : IsWithin (hosts start) (logs_at logs)
   pub more : (h : ℕ) → IsPast (logs_at w.logs h) (logs_at logs h)
   pub part : ℕ

@@ -15,6 +15,7 @@ use Rattle.sig_core.specs.declared.signal.Signal.{Signal}
 use Rattle.tc_block.specs.Complete.{one_if}
 use Rattle.node_views.specs.declared.standing.Standing.{Standing}
 use Rattle.world_core.specs.Machine.{counted}
+use Rattle.world_core.specs.Made.{made_before}
 use Rattle.world_core.specs.Start.{Start, made}
 use Rattle.world_core.specs.Steps.{Addressed, HostStep}
 use Rattle.world_views.specs.declared.sender.Sender.{Sender}
@@ -68,8 +69,8 @@ module _ {A : Type 0} (f : Body → Option A) where
         subst (λ xs. AreAmong xs (pick_sends f (step_after start h log e).effects.sends all))
         (sym (addressed_same (sender (made start) h e.step.stamp (after start h (e ∷ log)).standing.view)
         (sent_count start h log) (routed_after start h log e) few))
-        (routed_among (made start) h (after start h (e ∷ log)).standing (step_after start h log e).effects.sends few all
-        among)
+        (routed_among (made_before start e.step.stamp) h (after start h (e ∷ log)).standing
+        (step_after start h log e).effects.sends few all among)
 
     put_among : (j : ℕ) (xs before : List Addressed) (all : List A) → AreAmong (on_link f before) all
         → AreAmong (on_link f (put (machine start) j xs before)) (picked (λ (x : Addressed). f x.signal.body) xs all)

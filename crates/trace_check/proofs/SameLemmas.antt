@@ -42,11 +42,12 @@ use Rattle.world_views.specs.Requests.{request_of, requests}
 use Rattle.world_views.specs.Right.{IsOpen, on_link}
 use Rattle.world_views.specs.Schedule.{HasPickedFrom, is_discarded, left_of, taken_if}
 use Rattle.world_views.specs.Sending.{is_asked, is_own_work}
-use Rattle.world_views.specs.Stamps.{HaveNextStamps}
+use Rattle.world_views.specs.Stamps.{HaveNextStamps, next_unless}
 use Rattle.world_views.specs.World.{HasFailed, HasHandled, Whole, body_at, cutting, halting, handled_by}
 use Rattle.world_views.specs.World.{has_stopped_in, is_stamp, moved, step_made, with_body}
 use Rattle.world_views.proofs.Entered.{entered_by}
 use Rattle.world_views.proofs.GivenFacts.{held_given, running_given}
+use Rattle.world_views.proofs.Latest.{other_first}
 use Rattle.world_views.proofs.LogFacts.{held_running}
 use Rattle.trace_check.specs.Answer.{IsUnbroken, is_want}
 use Rattle.trace_check.specs.declared.fault.StepFault.{StepFault}
@@ -108,9 +109,10 @@ same_step e f host stamp taken marks =
       step = record { stamp = f.step.stamp; taken = f.step.taken; marks = ms };
     }) marks
 
-pub next_of : (newer log : List HostStep) → HaveNextStamps (newer ++ log) → HaveNextStamps log
-next_of [] log next = next
-next_of (e ∷ newer) log next = next_of newer log next.1
+pub next_of : (start : Start) (h : ℕ) (newer log : List HostStep) → HaveNextStamps start h (newer ++ log)
+    → HaveNextStamps start h log
+next_of start h [] log next = next
+next_of start h (e ∷ newer) log next = next_of start h newer log next.1
 
 -- the host wanted memory at a step
 pub record Wants (w : Whole) : Type 0 where
@@ -149,9 +151,14 @@ module _ (start : Start) (told : List HostLog) (right : AreOfRun start told) (un
   abbrev body : HostBody
   body = after start h log
 
-  -- its stamp is the next
-  stamp_is : e.step.stamp ≡ max (last_stamp log) e.step.taken.stamp + 1
-  stamp_is = (next_of newer (e ∷ log) (subst HaveNextStamps is (right.next h))).0
+  -- it doesn't ask for a start, so its stamp is the next
+  no_start : asks_start e.step.taken.body ≡ false
+  no_start = unbroken.plain h newer e log is
+
+  stamp_is : e.step.stamp ≡ max (last_of start h log) e.step.taken.stamp + 1
+  stamp_is =
+      subst (λ b. next_unless b (last_of start h log) e) no_start
+      (next_of start h newer (e ∷ log) (subst (HaveNextStamps start h) is (right.next h))).0
 
   -- its host runs
   runs : has_stopped log ≡ false
@@ -169,9 +176,12 @@ module _ (start : Start) (told : List HostLog) (right : AreOfRun start told) (un
   made_same f now same =
       let local : IsLog (machine start) h (f ∷ log) = subst (IsLog (machine start) h) now (gone.sound.right.local h low)
       in
-      let next : HaveNextStamps (f ∷ log) = subst HaveNextStamps now (gone.sound.right.next h) in
+      let next : HaveNextStamps start h (f ∷ log) = subst (HaveNextStamps start h) now (gone.sound.right.next h) in
+      let f_next : f.step.stamp ≡ max (last_of start h log) f.step.taken.stamp + 1 =
+      subst (λ b. next_unless b (last_of start h log) f)
+      (ap (λ (x : Signal). asks_start x.body) same ∙ no_start) next.0 in
       same_step f e (local.0.at ∙ sym step.at)
-      (next.0 ∙ ap (λ (x : Signal). max (last_stamp log) x.stamp + 1) same ∙ sym stamp_is) same
+      (f_next ∙ ap (λ (x : Signal). max (last_of start h log) x.stamp + 1) same ∙ sym stamp_is) same
       (local.0.fits.marks ∙ ap (λ (x : Signal). (step_by h body x).effects.marks) same ∙ sym step.fits.marks)
 
   -- a world with these logs and stamps handled a signal, the one that the step took
@@ -214,8 +224,9 @@ module _ (start : Start) (told : List HostLog) (right : AreOfRun start told) (un
     fits : is_stamp (next_stamp v.stamps h z.stamp) ≡ true
     fits =
         ap (λ ns. is_stamp (next_stamp ns h z.stamp)) stamps
-        ∙ ap (λ n. is_stamp (max n z.stamp + 1)) (sound.right.stamps h low)
-        ∙ ap (λ (x : Signal). is_stamp (max (last_stamp log) x.stamp + 1)) same
+        ∙ ap (λ n. is_stamp (max n z.stamp + 1))
+        (sound.right.stamps h low ∙ sym (last_first start sound.right.nobody h log))
+        ∙ ap (λ (x : Signal). is_stamp (max (last_of start h log) x.stamp + 1)) same
         ∙ ap is_stamp (sym stamp_is) ∙ unbroken.low h newer e log is
 
     handled : HasHandled v asked_of t → Makes w t h e
@@ -356,7 +367,7 @@ module _ (start : Start) (told : List HostLog) (right : AreOfRun start told) (un
         ∙ ap (λ n. own_signal (made start) h (last_of start h log) body.standing.view (Host (Cut node (record {
           0 = n;
         }))))
-        (sym work.1.is_first)
+        (sym (other_first start sound.right.nobody h node first.0 work.1))
         ∙ ap (own_signal (made start) h (last_of start h log) body.standing.view) (sym is_cut)
         ∙ sym rightly.is in
         handled w z refl refl same done
@@ -472,7 +483,7 @@ module _ (start : Start) (told : List HostLog) (right : AreOfRun start told) (un
 
         unknown : (body : Body) → x.body ≡ body → IsUnknown body → ⊥
         unknown (Host (Continue (Request request) at)) asked starts =
-            true≢false (sym starts ∙ (sym (ap asks_start asked) ∙ unbroken.plain h newer e log is))
+            true≢false (sym starts ∙ (sym (ap asks_start asked) ∙ no_start))
         unknown body asked holds = want (closes body) (ap closes asked) holds
     own_cannot why self cannot = absurd cannot
 

@@ -22,7 +22,7 @@ pub record AreOfRun (start : Start) (logs : List HostLog) : Type 0 where
   -- merged in the order of stamps and hosts, they are a run
   pub run : LogsRun (machine start) (hosts start) (logs_at logs)
   -- no stamp is skipped
-  pub next : (h : ℕ) → HaveNextStamps (logs_at logs h)
+  pub next : (h : ℕ) → HaveNextStamps start h (logs_at logs h)
   -- there is one for each host, which says whose it is
   pub labels : AreLabelled start logs
   pub within : IsWithin (hosts start) (logs_at logs)

@@ -1,5 +1,9 @@
 -- Since when hosts are there: from the beginning, or from the step of the shell's host that makes them.
-use Rattle.std.specs.Prelude.{ℕ, zero, suc, ◌-◌, ◌/◌, nat_lt, not, if◌then◌else◌, Bool, List, [], ◌∷◌, Option, None, Some, slice_get}
+use Rattle.std.specs.Prelude.{ℕ, zero, suc, ◌-◌, ◌/◌, nat_lt, not, if◌then◌else◌, Bool, List, [], ◌∷◌, ◌++◌, map}
+use Rattle.std.specs.Prelude.{Option, None, Some, slice_get}
+use Rattle.sig_core.specs.declared.member.Member.{Member}
+use Rattle.sig_core.specs.Members.{nobody}
+use Rattle.frag_map.specs.Layout.{members}
 use Rattle.world_core.specs.Late.{Late}
 use Rattle.world_core.specs.Start.{Start}
 use Rattle.world_core.specs.Steps.{HostStep}
@@ -25,3 +29,12 @@ last_of start h (e ∷ log) = e.step.stamp
 -- host h is there where the shell's host has this log
 abbrev pub is_made : Start → ℕ → List HostStep → Bool
 is_made start h log = not (nat_lt (last_of start 0 log) (made_stamp start h))
+
+-- the member of a later start that is made before this stamp; the place of one that isn't is nobody's
+abbrev pub unless_later : ℕ → Late → Member
+unless_later stamp late = if nat_lt late.stamp stamp then late.member else nobody
+
+-- The members that are made before this stamp, each at its place among all of the life. A step of this stamp sends to
+-- them alone, so that what it sends, and where, doesn't rest on who starts behind it.
+abbrev pub made_before : Start → ℕ → List Member
+made_before start stamp = members start.shape.nodes ++ map (unless_later stamp) start.late

@@ -18,6 +18,7 @@ use Rattle.api_views.specs.Members.{greater_view}
 use Rattle.node_views.specs.declared.host_body.HostBody.{HostBody}
 use Rattle.node_views.specs.Row.{is_cut, is_one_of}
 use Rattle.world_core.specs.Hosts.{hosts}
+use Rattle.world_core.specs.Made.{made_before}
 use Rattle.world_core.specs.Start.{Start, made}
 use Rattle.world_core.specs.Steps.{Addressed, HostStep}
 use Rattle.world_core.specs.World.{logs_at}
@@ -150,7 +151,7 @@ module _ (start : Start) (given : List ApiReply) (w : Whole) (lost : ℕ) (x : A
   none_sent j =
       let standing = (after start x.to (e ∷ older)).standing in
       ap (λ (sends : List Outgoing).
-      count_routed (routed_all (made start) x.to standing sends) (sent_count start x.to older) j)
+      count_routed (routed_all (made_before start e.step.stamp) x.to standing sends) (sent_count start x.to older) j)
       step_silent
 
   -- of the links to other hosts those stay open that the machine's step has cut off

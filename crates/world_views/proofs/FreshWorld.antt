@@ -91,7 +91,7 @@ module _ (start : Start) where
           logs = each_length (hosts start) no_steps;
         };
         local = λ h low. subst (IsLog (machine start) h) (sym (no_log h)) tt;
-        next = λ h. subst HaveNextStamps (sym (no_log h)) tt;
+        next = λ h. subst (HaveNextStamps start h) (sym (no_log h)) tt;
         stamps = λ h low. get_or-replicate (hosts start) h 0 0 low ∙ ap last_stamp (sym (no_log h));
         labels = λ h low.
             subst (IsLabelled start h) (sym (each_at (hosts start) no_steps h (no_steps 0) low)) (record {

@@ -16,6 +16,7 @@ pub mod FreshWorld
 pub mod FrontLemmas
 pub mod GivenFacts
 pub mod HandleLemmas
+pub mod Latest
 pub mod LinkFacts
 pub mod LogFacts
 pub mod MarkWalk

@@ -12,23 +12,26 @@ use Rattle.run_theory.specs.Logs.{IsLog, IsRunning, IsStep}
 use Rattle.sig_core.specs.declared.reply.ApiReply.{ApiReply}
 use Rattle.sig_core.specs.Step.{Effects, Step}
 use Rattle.world_core.proofs.LogIndex.{label_other, label_own, logs_at_other, logs_at_own, with_step_length}
+use Rattle.world_core.proofs.MadeFirst.{last_first}
 use Rattle.world_core.specs.Hosts.{hosts}
 use Rattle.world_core.specs.Right.{IsLabelled}
 use Rattle.world_core.specs.Start.{Start, made}
 use Rattle.world_core.specs.Steps.{Addressed, HostStep}
 use Rattle.world_core.specs.World.{logs_at, no_steps}
 use Rattle.world_core.specs.Machine.{last_stamp}
+use Rattle.world_core.specs.Made.{last_of}
 use Rattle.world_views.specs.Links.{LinkState, Links, link}
 use Rattle.world_views.specs.Machine.{after, has_stopped, machine, replies_at, sent_count, step_by, stops_by, told}
 use Rattle.world_views.specs.Right.{IsLinked, IsRight, replies_in}
-use Rattle.world_views.specs.Stamps.{HaveNextStamps}
+use Rattle.world_views.specs.Stamps.{HaveNextStamps, next_unless}
 use Rattle.world_views.specs.World.{Whole, body_at, entered, step_made}
 use Rattle.world_views.proofs.CloseRight.{close_right}
 use Rattle.world_views.proofs.Entered.{AreRightLinks, behind_step, entered_is, links_by, new_links}
 use Rattle.world_views.proofs.LogFacts.{apart, was_open}
 use Rattle.world_views.proofs.PutRight.{put_right}
 use Rattle.world_views.proofs.Ready.{IsReady, host_step, log_with}
-use Rattle.world_views.proofs.SentFacts.{last_is}
+use Rattle.world_views.proofs.SentFacts.{last_by}
+use Rattle.api_views.specs.Laws.{asks_start}
 
 -- a host that hasn't stopped runs
 pub running : (start : Start) (log : List HostStep) → has_stopped log ≡ false → IsRunning (machine start) log
@@ -78,14 +81,21 @@ module _ (start : Start) (given : List ApiReply) (w : Whole) (lost : ℕ) (x : A
   pub logs_are : (k : ℕ) → logs_at (entered w lost x t).logs k ≡ log_with w x t k
   logs_are k = ap (λ (v : Whole). logs_at v.logs k) (entered_is start given w lost x t ready) ∙ logs_behind k
 
-  own_next : e.step.stamp ≡ max (last_stamp (logs_at w.logs x.to)) x.signal.stamp + 1
-  own_next = ap (λ n. max n x.signal.stamp + 1) (ready.stamps x.to ready.there)
+  own_next : e.step.stamp ≡ max (last_of start x.to (logs_at w.logs x.to)) x.signal.stamp + 1
+  own_next =
+      ap (λ n. max n x.signal.stamp + 1)
+      (ready.stamps x.to ready.there ∙ sym (last_first start ready.nobody x.to (logs_at w.logs x.to)))
+
+  -- a step that asks for a start has the next stamp all the same
+  next_even : (asks : Bool) → next_unless asks (last_of start x.to (logs_at w.logs x.to)) e
+  next_even true = tt
+  next_even false = own_next
 
   own_step : IsStep (machine start) x.to (logs_at w.logs x.to) e
   own_step =
       record {
         at = refl;
-        stamped = omega (arith, own_next, last_is start ready.nobody x.to (logs_at w.logs x.to));
+        stamped = omega (arith, own_next, last_by start x.to (logs_at w.logs x.to));
         runs = running start (logs_at w.logs x.to) ready.runs;
         fits = record {
           marks = ap (λ (f : Effects). f.marks) ready.step.effects;
@@ -104,13 +114,13 @@ module _ (start : Start) (given : List ApiReply) (w : Whole) (lost : ℕ) (x : A
       )
       go false differs = ready.local k low
 
-  next_behind : (k : ℕ) → HaveNextStamps (log_with w x t k)
+  next_behind : (k : ℕ) → HaveNextStamps start k (log_with w x t k)
   next_behind k = go (x.to == k) refl
     where
-      go : (b : Bool) → (x.to == k) ≡ b → HaveNextStamps (grown b k)
+      go : (b : Bool) → (x.to == k) ≡ b → HaveNextStamps start k (grown b k)
       go true same = (
-        subst (λ n. e.step.stamp ≡ max (last_stamp (logs_at w.logs n)) x.signal.stamp + 1) (eqb-true x.to k same)
-            own_next,
+        subst (λ n. next_unless (asks_start x.signal.body) (last_of start n (logs_at w.logs n)) e)
+            (eqb-true x.to k same) (next_even (asks_start x.signal.body)),
         ready.next k,
       )
       go false differs = ready.next k
@@ -225,7 +235,7 @@ module _ (start : Start) (given : List ApiReply) (w : Whole) (lost : ℕ) (x : A
           logs = with_step_length w.logs x.to (step_made w x t) ∙ ready.sizes.logs;
         };
         local = λ k low. subst (IsLog (machine start) k) (sym (logs_behind k)) (local_behind k low);
-        next = λ k. subst HaveNextStamps (sym (logs_behind k)) (next_behind k);
+        next = λ k. subst (HaveNextStamps start k) (sym (logs_behind k)) (next_behind k);
         stamps = λ k low. stamps_behind k low ∙ ap last_stamp (sym (logs_behind k));
         labels = labels_behind;
         stopped = λ k low. stopped_behind k low ∙ ap has_stopped (sym (logs_behind k));

@@ -9,13 +9,16 @@ use Rattle.run_theory.specs.Lists.{Each, IsPast}
 use Rattle.sig_core.specs.declared.reply.ApiReply.{ApiReply}
 use Rattle.sig_core.specs.declared.signal.Signal.{Signal}
 use Rattle.sig_core.specs.Step.{Step}
+use Rattle.sig_core.specs.declared.member.Member.{Member}
 use Rattle.node_views.specs.declared.host_body.HostBody.{HostBody}
+use Rattle.world_core.proofs.MadeFirst.{before_first}
 use Rattle.world_core.specs.Hosts.{hosts}
 use Rattle.world_core.specs.Right.{arriving}
 use Rattle.world_core.specs.Start.{Start, made}
 use Rattle.world_core.specs.Steps.{Addressed, HostStep}
 use Rattle.world_core.specs.World.{logs_at}
 use Rattle.world_core.specs.Machine.{counted}
+use Rattle.world_core.specs.Made.{made_before}
 use Rattle.world_views.specs.declared.sender.Sender.{Sender}
 use Rattle.world_views.specs.Links.{AreLinks, LinkState, Links, behind, link, put_all}
 use Rattle.world_views.specs.Links as network
@@ -121,8 +124,9 @@ module _ (start : Start) (given : List ApiReply) (w : Whole) (lost : ℕ) (x : A
   abbrev by : Step HostBody → Sender
   by s = sender (made start) x.to (step_made w x t).stamp (told x.to s).standing.view
 
-  abbrev routed_by : Step HostBody → List Routed
-  routed_by s = routed_all (made start) x.to (told x.to s).standing s.effects.sends
+  -- to these members
+  abbrev routed_by : List Member → Step HostBody → List Routed
+  routed_by among s = routed_all among x.to (told x.to s).standing s.effects.sends
 
   abbrev the_step : Step HostBody
   the_step = step_by x.to (after start x.to (logs_at w.logs x.to)) x.signal
@@ -149,19 +153,24 @@ module _ (start : Start) (given : List ApiReply) (w : Whole) (lost : ℕ) (x : A
       let h = x.to in
       let Open = IsOpen start h j (logs_at w.logs j) in
       let was = ready.linked h j ready.there low in
+      let stamp = (step_made w x t).stamp in
       subst (λ (s : Step HostBody).
-      IsPutting (hosts start) (put_all w.links (by s) (routed_by s)) h j
+      IsPutting (hosts start) (put_all w.links (by s) (routed_by (made start) s)) h j
       (sent_count start h (host_step w x t ∷ older)) Open (all_sent j) (before j))
       (sym same)
+      (subst (λ (among : List Member).
+      IsPutting (hosts start) (put_all w.links (by the_step) (routed_by among the_step)) h j
+      (sent_count start h (host_step w x t ∷ older)) Open (all_sent j) (before j))
+      (before_first start ready.nobody stamp)
       (all_put start (hosts start) (by the_step) j Open ready.there low w.links (sent_count start h older)
-      (sent (machine start) h j older) (before j) (routed_by the_step)
+      (sent (machine start) h j older) (before j) (routed_by (made_before start stamp) the_step)
       (record {
         are = ready.sizes.links;
         counts = λ k k_low. ready.counts h k ready.there k_low;
         from = was.from;
         holds = λ is_open.
             held_running start h j older (on_link j (link w.links h j) ++ before j) ready.runs (was.held is_open);
-      }))
+      })))
 
   own_linked : (j : ℕ) → j < hosts start
       → IsLinked start x.to j (host_step w x t ∷ older) (log_with w x t j) (link new_links x.to j)
@@ -185,8 +194,8 @@ module _ (start : Start) (given : List ApiReply) (w : Whole) (lost : ℕ) (x : A
   pub put_right : AreRightLinks start w x t new_links
   put_right =
       record {
-        are = put_all_links (hosts start) w.links (by t) (routed_by t) ready.sizes.links;
-        other = λ i j differs. put_all_other w.links (by t) (routed_by t) i j differs;
+        are = put_all_links (hosts start) w.links (by t) (routed_by (made start) t) ready.sizes.links;
+        other = λ i j differs. put_all_other w.links (by t) (routed_by (made start) t) i j differs;
         counts = λ j low. (own_links j low).counts j low;
         linked = own_linked;
       }

@@ -57,7 +57,7 @@ pub record IsReady (start : Start) (given : List ApiReply) (w : Whole) (x : Addr
     pub comes : comes_rightly (is_asked x.to x.signal) start x.to (logs_at w.logs x.to) x.signal
     pub starts : StartsRightly start x.to (logs_at w.logs x.to) (host_step w x t)
     pub local : (h : ℕ) → h < hosts start → IsLog (machine start) h (logs_at w.logs h)
-    pub next : (h : ℕ) → HaveNextStamps (logs_at w.logs h)
+    pub next : (h : ℕ) → HaveNextStamps start h (logs_at w.logs h)
     pub stamps : (h : ℕ) → h < hosts start → slice_index_or w.stamps h 0 ≡ last_stamp (logs_at w.logs h)
     pub labels : (h : ℕ) → h < hosts start → IsLabelled start h (slice_index_or w.logs h (no_steps 0))
     pub stopped : (h : ℕ) → h < hosts start → slice_index_or w.stopped h true ≡ has_stopped (logs_at w.logs h)

@@ -1,8 +1,8 @@
 -- What picks come to.
 use Rattle.std.proofs.Common.{◌≡◌, ◌⊎◌, inl, inr, ℕ, ◌+◌, ◌<◌, ◌≤◌, List, [], ◌∷◌, ◌++◌, length, take, Bool, true}
 use Rattle.std.proofs.Common.{false, refl, ap, sym, ◌∙◌, subst, arith}
-use Rattle.std.specs.Prelude.{◌==◌, ◌&&◌, nat_lt, not, get_or, None, Some, Err}
-use Rattle.std.proofs.lemmas.Bool.{and_parts, cases_lt, true≢false}
+use Rattle.std.specs.Prelude.{◌==◌, ◌&&◌, nat_le, nat_lt, not, get_or, None, Some, Err}
+use Rattle.std.proofs.lemmas.Bool.{and_parts, cases_lt, leb-true, true≢false}
 use Rattle.std.proofs.lemmas.Bool.Decides.{nat_tests}
 use Rattle.std.proofs.lemmas.List.{get_or_past, take_more}
 use Rattle.std.proofs.lemmas.Option.{slice_get-get_or}
@@ -11,8 +11,11 @@ use Rattle.sig_core.specs.declared.outcome.StopCause.{StopCause}
 use Rattle.sig_core.specs.declared.outcome.StopCause.TheVariants.{Clock, Killed, Memory}
 use Rattle.sig_core.specs.declared.view.Shape.{Shape}
 use Rattle.node_views.specs.WellFormed.{is_node}
-use Rattle.world_core.specs.Hosts.{hosts, member_at}
-use Rattle.world_core.specs.Start.{Start}
+use Rattle.frag_map.specs.Replicas.{first_start}
+use Rattle.sig_core.specs.declared.place.Part.TheVariants.{Main}
+use Rattle.world_core.proofs.MadeFirst.{begins_made, first_in}
+use Rattle.world_core.specs.Hosts.{host_by, hosts, member_at}
+use Rattle.world_core.specs.Start.{Start, made}
 use Rattle.world_core.specs.World.{logs_at, next_stamp}
 use Rattle.world_core.specs.Steps.{Addressed}
 use Rattle.world_views.specs.declared.schedule.Pick.{Pick}
@@ -27,6 +30,7 @@ use Rattle.world_views.specs.Schedule.{StopsAt, host_of, is_discarded, is_other,
 use Rattle.world_views.specs.World.{body_at, cutting, handled_by, has_stopped_in, HasHandled, is_stamp, IsThere}
 use Rattle.world_views.specs.World.{stopped, Whole}
 use Rattle.world_views.proofs.FailDriven.{fail_driven, stop_driven}
+use Rattle.world_views.proofs.Latest.{latest_found}
 use Rattle.world_views.proofs.OwnReady.{ask_ready}
 use Rattle.world_views.proofs.StepDriven.{entered_driven}
 use Rattle.world_views.proofs.TakeDriven.{taken_driven, taken_is_given}
@@ -62,12 +66,22 @@ positive h e = grind (arith, nat_tests, e)
 cuts_rightly : (start : Start) (w : Whole) (h node : ℕ) → IsSound start w → 1 ≤ h → is_other w h node ≡ true
     → IsOwnWork start h (cutting w h node).signal.body
 cuts_rightly start w h node sound some other =
-    let parts = and_parts (is_node w.shape node) (not ((member_at w.made h).node == node)) other in (
+    let parts = and_parts (is_node w.shape node) (not ((member_at w.made h).node == node)) other in
+    let there : is_node start.shape node ≡ true =
+    subst (λ (shape : Shape). is_node shape node ≡ true) sound.right.shape parts.0 in
+    let low = and_parts (nat_le 1 node) (nat_le node start.shape.nodes) there in
+    let found =
+    latest_found (made start) (first_start node)
+    (begins_made start (first_start node)
+    (first_in start.shape.nodes node (leb-true 1 node low.0) (leb-true node start.shape.nodes low.1))) in (
       some,
       record {
-        there = subst (λ (shape : Shape). is_node shape node ≡ true) sound.right.shape parts.0;
+        there = there;
         other = subst (λ ms. ((member_at ms h).node == node) ≡ false) sound.right.made (not_true _ parts.1);
-        is_first = ap (λ ms. first_of ms node) sound.right.made;
+        member = found.member;
+        is_made = found.there;
+        of = found.of;
+        is_first = ap (λ ms. first_of ms node) sound.right.made ∙ ap (host_by (made start) Main) found.is;
       },
     )
 

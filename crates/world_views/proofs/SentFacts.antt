@@ -1,6 +1,6 @@
 -- What each signal that was sent tells of its header.
 use Rattle.std.proofs.Common.{◌≡◌, ◌≢◌, ◌⊎◌, inl, inr, ℕ, ◌≤◌, List, [], ◌∷◌, Bool, true, false, refl, sym, ◌∙◌, subst}
-use Rattle.std.proofs.Common.{arith}
+use Rattle.std.proofs.Common.{ap, arith}
 use Rattle.std.specs.Prelude.{if◌then◌else◌, ◌==◌, ◌&&◌, ◌||◌}
 use Rattle.std.proofs.lemmas.Bool.{cases_eq, eqb-true, true≢false}
 use Rattle.run_theory.proofs.Links.{sent_by_each, step_above}
@@ -16,7 +16,8 @@ use Rattle.node_views.specs.Row.{is_cut}
 use Rattle.world_core.specs.Start.{NobodyStarts, Start, made}
 use Rattle.world_core.specs.Steps.{Addressed, HostStep}
 use Rattle.world_core.specs.Machine.{counted, last_stamp}
-use Rattle.world_core.proofs.MadeFirst.{made_at_first}
+use Rattle.world_core.specs.Made.{last_of, made_before}
+use Rattle.world_core.proofs.MadeFirst.{before_first, made_at_first}
 use Rattle.world_views.specs.declared.sender.Sender.{Sender}
 use Rattle.world_views.specs.Hosts.{reached}
 use Rattle.world_views.specs.Machine.{after, closing, has_cut, has_stopped, machine, routed_after, sender, sent_count}
@@ -115,9 +116,24 @@ module _ (start : Start) where
       (λ runs.
       addressed_each (sender (made start) h e.step.stamp (after start h (e ∷ log)).standing.view)
       (sent_count start h log) (routed_after start h log e)
-      (routed_plain (made start) h (after start h (e ∷ log)).standing (step_after start h log e).effects.sends))
+      (routed_plain (made_before start e.step.stamp) h (after start h (e ∷ log)).standing
+      (step_after start h log e).effects.sends))
 
-  -- the newest stamp, as the theory of runs has it
+  -- where nobody starts later a step sends to the members of the life
+  pub routed_first : NobodyStarts start → (h : ℕ) (log : List HostStep) (e : HostStep)
+      → routed_after start h log e
+      ≡ routed_all (made start) h (after start h (e ∷ log)).standing (step_after start h log e).effects.sends
+  routed_first nobody h log e =
+      ap (λ (ms : List Member).
+      routed_all ms h (after start h (e ∷ log)).standing (step_after start h log e).effects.sends)
+      (before_first start nobody e.step.stamp)
+
+  -- the stamp of the newest step, or of the making of the host, as the theory of runs has it
+  pub last_by : (h : ℕ) (log : List HostStep) → last (machine start) h log ≡ last_of start h log
+  last_by h [] = refl
+  last_by h (e ∷ log) = refl
+
+  -- and where nobody starts later, that of the newest step
   pub last_is : NobodyStarts start → (h : ℕ) (log : List HostStep) → last (machine start) h log ≡ last_stamp log
   last_is nobody h [] = made_at_first start nobody h
   last_is nobody h (e ∷ log) = refl

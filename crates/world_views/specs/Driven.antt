@@ -30,7 +30,7 @@ pub record IsWorld (w : Whole) : Type 0 where
 pub record HaveGrown (start : Start) (old new : ℕ → List HostStep) : Type 0 where
   pub more : (h : ℕ) → IsPast (old h) (new h)
   pub right : AreLogs (machine start) new
-  pub next : (h : ℕ) → HaveNextStamps (new h)
+  pub next : (h : ℕ) → HaveNextStamps start h (new h)
   pub within : IsWithin (hosts start) new
   pub requests : requests (new 0) ≡ requests (old 0)
   pub asked : AreAskedAtQuiet start old → AreAskedAtQuiet start new
@@ -48,7 +48,7 @@ pub record HasAsked (start : Start) (request : ApiReq) (w t : Whole) : Type 0 wh
   pub right : (given : List ApiReply) → IsRight start given w → IsRight start given t
   pub more : (h : ℕ) → IsPast (logs_at w.logs h) (logs_at t.logs h)
   pub logs : AreLogs (machine start) (logs_at t.logs)
-  pub next_stamps : (h : ℕ) → HaveNextStamps (logs_at t.logs h)
+  pub next_stamps : (h : ℕ) → HaveNextStamps start h (logs_at t.logs h)
   pub within : IsWithin (hosts start) (logs_at t.logs)
   pub requests : requests (logs_at t.logs 0) ≡ requests (logs_at w.logs 0) ++ request ∷ []
   -- if nothing was under way, it was asked at quiet

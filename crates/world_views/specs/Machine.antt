@@ -36,9 +36,9 @@ use Rattle.node_views.specs.Replies as host
 use Rattle.node_views.specs.Row.{host_row, is_cut, is_stop, stopping}
 use Rattle.node_views.specs.WellFormed.{is_node}
 use Rattle.frag_map.specs.Replicas.{is_member}
-use Rattle.world_core.specs.Hosts.{host_by, member_at}
+use Rattle.world_core.specs.Hosts.{host_by, host_of, member_at}
 use Rattle.world_core.specs.Late.{Late}
-use Rattle.world_core.specs.Made.{last_of, late_at, made_stamp}
+use Rattle.world_core.specs.Made.{last_of, late_at, made_before, made_stamp}
 use Rattle.world_core.specs.Requests.{request_in}
 use Rattle.world_core.specs.Start.{Start, made}
 use Rattle.world_core.specs.Steps.{Addressed, HostStep}
@@ -104,10 +104,11 @@ has_cut start h log other = is_cut (after start h log).standing (record { 0 = ot
 abbrev pub sender : List Member → ℕ → ℕ → View → Sender
 sender made h stamp view = record { host = h; member = member_at made h; stamp = stamp; view = view }
 
--- what a step of host h sends, and where
+-- what a step of host h sends, and where: to members that are made before it
 abbrev pub routed_after : Start → ℕ → List HostStep → HostStep → List Routed
 routed_after start h log e =
-    routed_all (made start) h (after start h (e ∷ log)).standing (step_after start h log e).effects.sends
+    routed_all (made_before start e.step.stamp) h (after start h (e ∷ log)).standing
+    (step_after start h log e).effects.sends
 
 -- how many signals the steps of host h's log sent to each host
 abbrev pub sent_count : Start → ℕ → List HostStep → ℕ → ℕ
@@ -158,11 +159,14 @@ IsOwnCause (Disk count) = Unit {0}
 IsOwnCause Killed = Unit {0}
 IsOwnCause cause = ⊥
 
--- another node of the cluster, and the first host of its latest start
+-- another node of the cluster, and the first host of a member of it
 pub record IsOther (start : Start) (h node first : ℕ) : Type 0 where
   pub there : is_node start.shape node ≡ true
   pub other : (member_at (made start) h).node == node ≡ false
-  pub is_first : first ≡ first_of (made start) node
+  pub member : Member
+  pub is_made : IsIn member (made start)
+  pub of : member.node ≡ node
+  pub is_first : first ≡ host_of (made start) Main member
 
 -- what host h may ask of itself: the shell for a request, a part of a node to stop or to cut off another node
 abbrev pub IsOwnWork : Start → ℕ → Body → Type 0

@@ -15,6 +15,7 @@ use Rattle.world_core.specs.Machine.{counted}
 use Rattle.world_core.specs.Start.{NobodyStarts, Start, made}
 use Rattle.world_core.specs.Steps.{Addressed, HostStep}
 use Rattle.world_views.proofs.LogFacts.{sent_going_on}
+use Rattle.world_views.proofs.SentFacts.{routed_first}
 use Rattle.world_views.specs.declared.sender.Sender.{Sender}
 use Rattle.world_views.specs.Hosts.{reached}
 use Rattle.world_views.specs.Machine.{after, machine, sender, sent_count, step_after, stops_by}
@@ -121,7 +122,7 @@ module _ (start : Start) (nobody : NobodyStarts start) (i : ℕ) (log : List Hos
   sent_is =
       sent_going_on start i j log e goes_on
       ∙ ap (λ rs. put (machine start) j (all_addressed by (sent_count start i log) rs) (sent (machine start) i j log))
-      (ap (routed_all (made start) i (after start i (e ∷ log)).standing) are
+      (routed_first start nobody i log e ∙ ap (routed_all (made start) i (after start i (e ∷ log)).standing) are
       ∙ all_routed start nobody i (after start i (e ∷ log)).standing ease i sends fine)
 
   pub sent_length : length (sent (machine start) i j (e ∷ log))

@@ -32,7 +32,7 @@ use Rattle.world_views.specs.Machine.{after, machine, signals_of, step_after}
 use Rattle.view_laws.specs.Order.{is_sound}
 use Rattle.view_laws.specs.Runs.{view_after}
 use Rattle.view_laws.specs.Votes.{main_of}
-use Rattle.view_laws.proofs.follow.Senders.{IsSentBy, each_sent}
+use Rattle.view_laws.proofs.follow.Senders.{IsSentFrom, each_from}
 use Rattle.moment_laws.specs.Moments.{IsMoment, logs_of}
 use Rattle.moment_laws.specs.PartSteps.{PartEnters, PartTakes, TcDoes, handles, ignores, installs, remains, tc_kind}
 use Rattle.moment_laws.specs.Places.{ldm_of, tc_of}
@@ -303,7 +303,7 @@ module _ (start : Start) (all : ℕ → List HostStep) (e : HostStep) (es : List
             (tc_ends me there at)
         by (of_rows me there at) = rows_send_end now me there at
 
-    sent_end_true : (y : Addressed) → IsSentBy (made start) e.host stood sends y → IsEndTrue start new y
+    sent_end_true : (y : Addressed) → IsSentFrom (made start) e.host stood sends y → IsEndTrue start new y
     sent_end_true y one =
         subst (λ (m : Member). TellsEnd (epochs_of start new m) y.signal.body) (sym one.member)
         (subst (TellsEnd (epochs_of start new (member_at (made start) e.host))) (sym one.body)
@@ -315,7 +315,7 @@ module _ (start : Start) (all : ℕ → List HostStep) (e : HostStep) (es : List
     new_ends =
         each_filter (IsEndTrue start new) (is_sound start) (signals_of start e.host (old e.host) e)
         (each_map _ (IsEndTrue start new) (signals_of start e.host (old e.host) e) sent_end_true
-        (each_sent start e.host (old e.host) e))
+        (each_from start e.host (old e.host) e))
 
     -- so it is of all that was sent
     pub ends_next : EachSent start (IsEndTrue start old) old → EachSent start (IsEndTrue start new) new

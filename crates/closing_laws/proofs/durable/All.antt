@@ -24,7 +24,7 @@ use Rattle.view_laws.specs.Runs.{view_after}
 use Rattle.view_laws.specs.Votes.{main_of}
 use Rattle.view_laws.proofs.eras.Order.{run_in_views}
 use Rattle.view_laws.proofs.follow.Hosts.{main_started}
-use Rattle.view_laws.proofs.follow.Senders.{IsSentBy, each_sent}
+use Rattle.view_laws.proofs.follow.Senders.{IsSentFrom, each_from}
 use Rattle.moment_laws.specs.Moments.{IsMoment, logs_of}
 use Rattle.moment_laws.specs.Places.{tc_of}
 use Rattle.moment_laws.proofs.MomentHosts.{tc_started}
@@ -93,7 +93,7 @@ module _ (start : Start) (all : ℕ → List HostStep) (e : HostStep) (es : List
         by (of_rows me there at) = ldm_said start all e es moment stand reached noted me there at
 
     one_said : (y : Addressed)
-        → IsSentBy (made start) e.host (view_after start e.host (e ∷ old e.host)) sends y → IsTrulySaid start new y
+        → IsSentFrom (made start) e.host (view_after start e.host (e ∷ old e.host)) sends y → IsTrulySaid start new y
     one_said y one =
         subst (IsSaidTruly start new) (sym one.body)
         (each_in (λ (sent : Outgoing). IsSaidTruly start new sent.body) one.sent sends sent_now one.there)
@@ -102,7 +102,7 @@ module _ (start : Start) (all : ℕ → List HostStep) (e : HostStep) (es : List
     new_said =
         each_filter (IsTrulySaid start new) (is_sound start) (signals_of start e.host (old e.host) e)
         (each_map _ (IsTrulySaid start new) (signals_of start e.host (old e.host) e) one_said
-        (each_sent start e.host (old e.host) e))
+        (each_from start e.host (old e.host) e))
 
     -- an epoch that becomes durable now is that of a run that was closed
     durable_now : (epoch : ℕ) → IsIn (Durable epoch) e.step.marks → WasClosed start old epoch

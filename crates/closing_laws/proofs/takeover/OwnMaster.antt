@@ -232,7 +232,7 @@ module _ (start : Start) (all : ℕ → List HostStep) (e : HostStep) (es : List
         (λ goes.
         each_filter (IsOverTrue start) (is_sound start) (signals_of start e.host (old e.host) e)
         (each_map _ (IsOverTrue start) (signals_of start e.host (old e.host) e) sent_own
-        (each_sent start e.host (old e.host) e)))
+        (each_sent start e.host (old e.host) e moment.cluster.nobody)))
 
 -- so it is at each moment
 pub ends_own : (start : Start) (all : ℕ → List HostStep) (es : List HostStep) → start.start_epoch < start.epoch

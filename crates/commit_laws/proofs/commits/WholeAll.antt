@@ -20,7 +20,7 @@ use Rattle.world_core.specs.Steps.{Addressed, HostStep}
 use Rattle.world_views.specs.Machine.{after, signals_of, step_after}
 use Rattle.view_laws.specs.Order.{is_sound, sound_machine}
 use Rattle.view_laws.specs.Runs.{view_after}
-use Rattle.view_laws.proofs.follow.Senders.{IsSentBy, each_sent}
+use Rattle.view_laws.proofs.follow.Senders.{IsSentFrom, each_from}
 use Rattle.moment_laws.specs.Moments.{IsMoment, logs_of}
 use Rattle.moment_laws.specs.Places.{ldm_of}
 use Rattle.moment_laws.proofs.MomentSignals.{EachSent, sent_next}
@@ -162,7 +162,7 @@ module _ (start : Start) (all : ℕ → List HostStep) (e : HostStep) (es : List
                 (sym (ap is_of_rows about)
                 ∙ each_in IsAside o sends (beside_sends start e.host first (old e.host) e) inside))
 
-    comes : (y : Addressed) → IsSentBy (made start) e.host (after start e.host (e ∷ old e.host)).standing.view sends y
+    comes : (y : Addressed) → IsSentFrom (made start) e.host (after start e.host (e ∷ old e.host)).standing.view sends y
         → GoesWholeIf start new y.signal.view y.signal.body
     comes y one =
         subst (λ v. GoesWholeIf start new v y.signal.body) (sym one.view_is) (by y.signal.body refl)
@@ -192,7 +192,7 @@ module _ (start : Start) (all : ℕ → List HostStep) (e : HostStep) (es : List
             (signals_of start e.host (old e.host) e)
             (each_map _ (λ (y : Addressed). GoesWholeIf start new y.signal.view y.signal.body)
             (signals_of start e.host (old e.host) e) comes
-            (each_sent start e.host (old e.host) e)))
+            (each_from start e.host (old e.host) e)))
 
 pub commits_go_whole : CommitsGoWhole
 commits_go_whole start all [] moment = λ i j. tt

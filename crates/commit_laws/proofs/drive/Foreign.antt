@@ -29,7 +29,7 @@ use Rattle.world_core.specs.Steps.{Addressed, HostStep}
 use Rattle.world_views.specs.Machine.{signals_of, step_after}
 use Rattle.view_laws.specs.Order.{is_sound, sound_machine}
 use Rattle.view_laws.specs.Runs.{WasInstalled, view_after}
-use Rattle.view_laws.proofs.follow.Senders.{each_sent}
+use Rattle.view_laws.proofs.follow.Senders.{each_from}
 use Rattle.moment_laws.specs.Moments.{IsMoment, logs_of}
 use Rattle.moment_laws.specs.PartSteps.{PartEnters, PartTakes, handles, ignores, installs, ldm_kind, remains, tc_kind}
 use Rattle.moment_laws.specs.Places.{ldm_of, tc_of}
@@ -89,7 +89,7 @@ module _ (start : Start) (h : ℕ) (log : List HostStep) (e : HostStep) (number 
         each_filter _ (is_sound start) (signals_of start h log e)
         (each_map _ (λ (y : Addressed). y.signal.view.number ≡ seen) (signals_of start h log e)
         (λ y one. ap (λ (v : View). v.number) one.view_is)
-        (each_sent start h log e))))
+        (each_from start h log e))))
 
 -- the coordinator of the transaction is a full member of each view of this number that was installed
 abbrev pub IsLedIn : Start → (ℕ → List HostStep) → TxId → ℕ → Type 0

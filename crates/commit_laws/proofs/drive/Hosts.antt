@@ -36,7 +36,7 @@ use Rattle.world_views.specs.Machine.{signals_of, step_after}
 use Rattle.world_views.specs.Sending.{is_own_work}
 use Rattle.view_laws.specs.Order.{is_sound, sound_machine}
 use Rattle.view_laws.specs.Runs.{view_after}
-use Rattle.view_laws.proofs.follow.Senders.{each_sent}
+use Rattle.view_laws.proofs.follow.Senders.{each_from}
 use Rattle.view_laws.proofs.words.Coordinator.{coordinator_installs_kinds, coordinator_kinds}
 use Rattle.view_laws.proofs.words.Sent.{IsOf}
 use Rattle.view_laws.proofs.words.Takeover.{is_of_takeover, takeover_kinds}
@@ -268,4 +268,4 @@ module _ (start : Start) (all : ℕ → List HostStep) (e : HostStep) (es : List
           (each_map _ (λ (y : Addressed). y.signal.view.number ≡ now) (signals_of start e.host old e)
           (λ y one.
           ap (λ (v : View). v.number) (one.view_is ∙ stands_behind start all e es moment goes_on))
-          (each_sent start e.host old e))))
+          (each_from start e.host old e))))

@@ -24,7 +24,7 @@ use Rattle.world_core.specs.Steps.{Addressed, HostStep}
 use Rattle.world_views.specs.Machine.{after, signals_of, step_after}
 use Rattle.view_laws.specs.Order.{is_sound}
 use Rattle.view_laws.specs.Runs.{view_after}
-use Rattle.view_laws.proofs.follow.Senders.{IsSentBy, each_sent}
+use Rattle.view_laws.proofs.follow.Senders.{IsSentFrom, each_from}
 use Rattle.view_laws.proofs.words.Sent.{each_of_kinds}
 use Rattle.view_laws.proofs.words.Takeover.{is_of_takeover, takeover_kinds}
 use Rattle.moment_laws.specs.Moments.{IsMoment, logs_of}
@@ -179,7 +179,7 @@ module _ (start : Start) (all : ℕ → List HostStep) (e : HostStep) (es : List
             (beside_ends start moment.cluster.nobody e.host first (λ tx. Unit {0}) (old e.host) e (λ sound tx told. tt))
 
     sent_own : (y : Addressed)
-        → IsSentBy (made start) e.host (after start e.host (e ∷ old e.host)).standing.view (sends_at e.host) y
+        → IsSentFrom (made start) e.host (after start e.host (e ∷ old e.host)).standing.view (sends_at e.host) y
         → IsToldByOwn y
     sent_own y one =
         subst (λ m. IsOfOwn m y.signal.body) (sym one.member)
@@ -193,7 +193,7 @@ module _ (start : Start) (all : ℕ → List HostStep) (e : HostStep) (es : List
         (λ goes.
         each_filter IsToldByOwn (is_sound start) (signals_of start e.host (old e.host) e)
         (each_map _ IsToldByOwn (signals_of start e.host (old e.host) e) sent_own
-        (each_sent start e.host (old e.host) e)))
+        (each_from start e.host (old e.host) e)))
 
 -- so it is at each moment
 pub own_tellers : (start : Start) (all : ℕ → List HostStep) (es : List HostStep) → IsMoment start all es

@@ -138,7 +138,7 @@ module _ (start : Start) (all : ℕ → List HostStep) (one : Member) (there : I
               subst (λ (v : View). AreBehind tx key Marked v.number (link j log)
               → NoEndIn v j sends ⊎ (HasTold tx key Marked v.number (link j log) ⊎ IsShut start h (e ∷ log) v j)
               → AreBehind tx key Marked v.number (link j (e ∷ log))) stood
-              (stay_behind tx key Marked start node_is h j log e) (was.ends_behind j)
+              (stay_behind tx key Marked start node_is h j log e moment.cluster.nobody) (was.ends_behind j)
 
           told_here : (to : ℕ) → stops_by e.step.marks ≡ false → Tells tx key Marked to sends → IsTold (e ∷ log) to
           told_here to on tells =
@@ -146,7 +146,8 @@ module _ (start : Start) (all : ℕ → List HostStep) (one : Member) (there : I
               (link (reached (made start) h v (takeover to)) (e ∷ log))
               ⊎ IsShut start h (e ∷ log) v (reached (made start) h v (takeover to))) stood
               (told_comes tx key Marked start node_is h
-              (reached (made start) h (view_after start h (e ∷ log)) (takeover to)) log e to refl on tells)
+              (reached (made start) h (view_after start h (e ∷ log)) (takeover to)) log e to refl
+              moment.cluster.nobody on tells)
 
         module _ (at : e.host ≡ ldm_of start one) where
           own_log : new h ≡ e ∷ log
@@ -175,7 +176,7 @@ module _ (start : Start) (all : ℕ → List HostStep) (one : Member) (there : I
 
           quiet_links : IsQuiet start all e es moment one there → EndsBehind (e ∷ log)
           quiet_links quiet j =
-              still_behind tx key Marked start node_is h j log e view.number (was.ends_behind j)
+              still_behind tx key Marked start node_is h j log e view.number moment.cluster.nobody (was.ends_behind j)
               (each_map IsOfSaver (λ (o : Outgoing). o.body ≡ Takeover LqhTransEnd → ⊥) sends
               (λ o own is. true≢false (sym own ∙ ap is_of_saver is)) quiet.sends)
 

@@ -8,12 +8,13 @@ use Rattle.run_theory.proofs.Links.{sent_by_stop}
 use Rattle.sig_core.specs.declared.outs.Outgoing.{Outgoing}
 use Rattle.node_views.specs.declared.standing.Standing.{Standing}
 use Rattle.world_core.specs.Machine.{counted}
-use Rattle.world_core.specs.Start.{Start, made}
+use Rattle.world_core.specs.Start.{NobodyStarts, Start, made}
 use Rattle.world_core.specs.Steps.{Addressed, HostStep}
+use Rattle.world_views.proofs.SentFacts.{routed_first}
 use Rattle.world_views.specs.declared.sender.Sender.{Sender}
 use Rattle.world_views.specs.Hosts.{reached}
 use Rattle.world_views.specs.Machine.{after, sender, sent_count, signals_of, step_after, stops_by}
-use Rattle.world_views.specs.Sending.{addressed, all_addressed, is_kept_back, routed, routed_all, routed_if}
+use Rattle.world_views.specs.Sending.{Routed, addressed, all_addressed, is_kept_back, routed, routed_all, routed_if}
 use Rattle.view_laws.specs.Order.{is_sound, sound_machine}
 
 module _ (start : Start) (h j : ℕ) (standing : Standing) (stamp : ℕ) where
@@ -104,17 +105,24 @@ module _ (start : Start) (h j : ℕ) (log : List HostStep) (e : HostStep) where
   before_it = sent (sound_machine start) h j log
 
   -- so it is along the sends of a step
-  pub step_over : (So : List Outgoing → List Addressed → Type 0)
+  pub step_over : NobodyStarts start → (So : List Outgoing → List Addressed → Type 0)
       → GoesOver start h j (after start h (e ∷ log)).standing e.step.stamp So → stops_by e.step.marks ≡ false
       → So (step_after start h log e).effects.sends (sent (sound_machine start) h j log)
       → So [] (sent (sound_machine start) h j (e ∷ log))
-  step_over So goes on so =
+  step_over nobody So goes on so =
       subst
       (λ b. So []
       (put (sound_machine start) j (if b then [] else filter (is_sound start) (signals_of start h log e))
       (sent (sound_machine start) h j log)))
       (sym on)
-      (go_over start h j after_it e.step.stamp So goes sends_then (sent_count start h log) before_it so)
+      (subst
+      (λ (rs : List Routed). So []
+      (put (sound_machine start) j
+      (filter (is_sound start)
+      (all_addressed (sender (made start) h e.step.stamp after_it.view) (sent_count start h log) rs))
+      (sent (sound_machine start) h j log)))
+      (sym (routed_first start nobody h log e))
+      (go_over start h j after_it e.step.stamp So goes sends_then (sent_count start h log) before_it so))
 
   -- a step that stops the host sends nothing
   pub stopped_same : stops_by e.step.marks ≡ true

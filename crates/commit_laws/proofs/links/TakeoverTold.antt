@@ -20,7 +20,7 @@ use Rattle.node_views.specs.declared.standing.Standing.{Standing}
 use Rattle.node_views.specs.Row.{is_cut}
 use Rattle.node_views.specs.WellFormed.{is_body_sound, is_sender, is_tx, is_view, is_well_formed}
 use Rattle.world_core.specs.Hosts.{member_at}
-use Rattle.world_core.specs.Start.{Start, made}
+use Rattle.world_core.specs.Start.{NobodyStarts, Start, made}
 use Rattle.world_core.specs.Steps.{Addressed, HostStep}
 use Rattle.world_views.specs.Hosts.{reached}
 use Rattle.world_views.specs.Machine.{after, has_cut, step_after, stops_by}
@@ -180,10 +180,11 @@ module _ (tx : TxId) (key : List ℕ) (Marked : Type 0) (start : Start) (node_is
       }
 
       -- so it comes
-      pub told_comes : stops_by e.step.marks ≡ false → Tells tx key Marked to (step_after start h log e).effects.sends
+      pub told_comes : NobodyStarts start → stops_by e.step.marks ≡ false
+          → Tells tx key Marked to (step_after start h log e).effects.sends
           → HasTold tx key Marked (view_after start h (e ∷ log)).number (sent (sound_machine start) h j (e ∷ log))
           ⊎ IsShut start h (e ∷ log) (view_after start h (e ∷ log)) j
-      told_comes on tells = by (step_over start h j log e ToTell told_over on (inr tells))
+      told_comes nobody on tells = by (step_over start h j log e nobody ToTell told_over on (inr tells))
         where
           by : ToTell [] now → HasIt now ⊎ Shut
           by (inl done) = done
@@ -239,16 +240,17 @@ module _ (tx : TxId) (key : List ℕ) (Marked : Type 0) (start : Start) (node_is
       comes = λ o left ys n out sound at so. comes_by o left ys n out sound at so;
     }
 
-    pub stay_behind : AreBehind tx key Marked (view_after start h (e ∷ log)).number (sent (sound_machine start) h j log)
+    pub stay_behind : NobodyStarts start
+        → AreBehind tx key Marked (view_after start h (e ∷ log)).number (sent (sound_machine start) h j log)
         → NoEndTo (step_after start h log e).effects.sends
         ⊎ (HasTold tx key Marked (view_after start h (e ∷ log)).number (sent (sound_machine start) h j log)
         ⊎ IsShut start h (e ∷ log) (view_after start h (e ∷ log)) j)
         → AreBehind tx key Marked (view_after start h (e ∷ log)).number (sent (sound_machine start) h j (e ∷ log))
-    stay_behind are how = by (stops_by e.step.marks) refl
+    stay_behind nobody are how = by (stops_by e.step.marks) refl
       where
         by : (b : Bool) → stops_by e.step.marks ≡ b → Behind now
         by true stops = subst Behind (sym (stopped_same start h j log e stops)) are
-        by false on = (step_over start h j log e Fronted fronted_over on (are, how)).0
+        by false on = (step_over start h j log e nobody Fronted fronted_over on (are, how)).0
 
     -- where no end is sent at all, those that were are behind, whatever the view
     module _ (m : ℕ) where
@@ -266,11 +268,11 @@ module _ (tx : TxId) (key : List ℕ) (Marked : Type 0) (start : Start) (node_is
         comes = λ o left ys n out sound at so. ((λ ends same. absurd (so.1.0 ends), so.0), so.1.1);
       }
 
-      pub still_behind : AreBehind tx key Marked m (sent (sound_machine start) h j log)
+      pub still_behind : NobodyStarts start → AreBehind tx key Marked m (sent (sound_machine start) h j log)
           → AreUnended (step_after start h log e).effects.sends
           → AreBehind tx key Marked m (sent (sound_machine start) h j (e ∷ log))
-      still_behind are unended = by (stops_by e.step.marks) refl
+      still_behind nobody are unended = by (stops_by e.step.marks) refl
         where
           by : (b : Bool) → stops_by e.step.marks ≡ b → AreBehind tx key Marked m now
           by true stops = subst (AreBehind tx key Marked m) (sym (stopped_same start h j log e stops)) are
-          by false on = (step_over start h j log e BehindStill still_over on (are, unended)).0
+          by false on = (step_over start h j log e nobody BehindStill still_over on (are, unended)).0

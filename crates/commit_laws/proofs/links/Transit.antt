@@ -19,7 +19,7 @@ use Rattle.run_laws.specs.Transit.{joined, taken_by}
 use Rattle.run_laws.proofs.transit.Runs.{IsLast, chosen, chosen_without, is_on, last_chosen}
 use Rattle.world_views.specs.Machine.{cause_in, signals_of}
 use Rattle.view_laws.specs.Order.{is_sound, sound_machine}
-use Rattle.view_laws.proofs.follow.Senders.{each_sent}
+use Rattle.view_laws.proofs.follow.Senders.{each_from}
 use Rattle.moment_laws.specs.Moments.{IsMoment, logs_of}
 use Rattle.moment_laws.proofs.MomentViews.{moment_less}
 use Rattle.commit_laws.specs.Transit.{AreInTransit, MomentsHaveTransit, Takes, is_closing}
@@ -97,7 +97,7 @@ module _ (start : Start) where
   from_host h log e =
       sent_by_each n IsFrom h log e
       (λ goes. each_filter IsFrom (is_sound start) (signals_of start h log e)
-      (each_map _ IsFrom (signals_of start h log e) (λ x one. one.from) (each_sent start h log e)))
+      (each_map _ IsFrom (signals_of start h log e) (λ x one. one.from) (each_from start h log e)))
     where
       IsFrom : Addressed → Type 0
       IsFrom x = x.signal.from.0 ≡ h

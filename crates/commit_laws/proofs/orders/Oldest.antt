@@ -27,7 +27,7 @@ use Rattle.world_views.specs.Machine.{machine, signals_of}
 use Rattle.view_laws.specs.Runs.{AreOfCluster, view_after}
 use Rattle.view_laws.specs.Votes.{main_of}
 use Rattle.view_laws.proofs.eras.Rises.{view_rises}
-use Rattle.view_laws.proofs.follow.Senders.{each_sent}
+use Rattle.view_laws.proofs.follow.Senders.{each_from}
 use Rattle.view_laws.proofs.runs.Step.{host_there, started_view}
 use Rattle.view_laws.proofs.runs.ChosenViews.{of_greater, within_less}
 use Rattle.moment_laws.specs.Moments.{logs_of}
@@ -171,7 +171,7 @@ module _ (come_rightly : ViewsComeRightly) (start : Start) (nobody : NobodyStart
         (signals_of start e.host (log_of (machine start) es e.host) e)
         (λ x one within.
         subst (IsAhead (log_of (machine start) (e ∷ es))) (sym one.view_is) (own_ahead es e come within))
-        (each_sent start e.host (log_of (machine start) es e.host) e);
+        (each_from start e.host (log_of (machine start) es e.host) e);
     closing = λ es e come stops j within.
         of_greater (IsAhead (log_of (machine start) (e ∷ es)))
         (view_after start e.host (e ∷ log_of (machine start) es e.host)) e.step.taken.view (own_ahead es e come within)

@@ -11,11 +11,12 @@ use Rattle.sig_core.specs.declared.signal.Body.{Body}
 use Rattle.tc_block.specs.Complete.{one_if}
 use Rattle.node_views.specs.declared.standing.Standing.{Standing}
 use Rattle.world_core.specs.Machine.{counted}
+use Rattle.world_core.specs.Made.{made_before}
 use Rattle.world_core.specs.Start.{Start, made}
 use Rattle.world_core.specs.Steps.{Addressed, HostStep}
 use Rattle.world_views.specs.declared.sender.Sender.{Sender}
 use Rattle.world_views.specs.Hosts.{reached}
-use Rattle.world_views.specs.Machine.{after, sender, sent_count, signals_of, step_after, stops_by}
+use Rattle.world_views.specs.Machine.{after, routed_after, sender, sent_count, signals_of, step_after, stops_by}
 use Rattle.world_views.specs.Sending.{Routed, addressed, all_addressed, is_kept_back, routed, routed_all, routed_if}
 use Rattle.view_laws.specs.Order.{is_sound, sound_machine}
 use Rattle.outcome_laws.proofs.coordinators.Lists.{count_more}
@@ -110,8 +111,8 @@ module _ (q : Place → Body → Bool) where
               filter_count in_view (is_sound start) (signals_of start h log e),
               count_less in_view in_less (signals_of start h log e),
               addressed_count (sender (made start) h e.step.stamp standing.view) (sent_count start h log)
-                  (routed_all (made start) h standing sends),
-              routed_count (made start) h standing sends,
+                  (routed_after start h log e),
+              routed_count (made_before start e.step.stamp) h standing sends,
             )
 
         by : (stops : Bool)

@@ -25,7 +25,7 @@ use Rattle.world_views.specs.Machine.{cause_in, machine, signals_of}
 use Rattle.world_views.specs.Sending.{is_own_work}
 use Rattle.view_laws.specs.Order.{sound_machine}
 use Rattle.view_laws.specs.Runs.{AreOfCluster, WasInstalled}
-use Rattle.view_laws.proofs.follow.Senders.{each_sent}
+use Rattle.view_laws.proofs.follow.Senders.{each_from}
 use Rattle.view_laws.proofs.runs.Headers.{headers_installed}
 use Rattle.view_laws.proofs.runs.AllSound.{have_orderly}
 use Rattle.view_laws.proofs.runs.ChosenViews.{one_view}
@@ -91,7 +91,7 @@ module _ (start : Start) where
       (λ y one.
       subst (λ (member : Member). is_sender start.shape member ≡ true) (sym one.member)
       (sender_sound none_starts i low))
-      (each_sent start i log e)))
+      (each_from start i log e)))
       (sent_from none_starts i j low log)
 
   module _ (all : ℕ → List HostStep) (cluster : AreOfCluster start all) where

@@ -14,7 +14,7 @@ use Rattle.world_core.specs.Steps.{Addressed, HostStep}
 use Rattle.world_views.specs.Machine.{signals_of}
 use Rattle.view_laws.specs.Order.{is_sound, sound_machine}
 use Rattle.view_laws.specs.Runs.{view_after}
-use Rattle.view_laws.proofs.follow.Senders.{each_sent}
+use Rattle.view_laws.proofs.follow.Senders.{each_from}
 use Rattle.outcome_laws.proofs.coordinators.Lists.{count_more}
 
 module _ (start : Start) (h : ℕ) (log : List HostStep) (e : HostStep) (number : ℕ) (q : Signal → Bool)
@@ -50,4 +50,4 @@ module _ (start : Start) (h : ℕ) (log : List HostStep) (e : HostStep) (number 
         each_filter _ (is_sound start) (signals_of start h log e)
         (each_map _ (λ (y : Addressed). y.signal.view.number ≡ seen) (signals_of start h log e)
         (λ y one. ap (λ (v : View). v.number) one.view_is)
-        (each_sent start h log e))))
+        (each_from start h log e))))

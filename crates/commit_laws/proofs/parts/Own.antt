@@ -27,7 +27,7 @@ use Rattle.world_core.specs.Steps.{Addressed, HostStep}
 use Rattle.world_views.specs.Machine.{signals_of, step_after}
 use Rattle.view_laws.specs.Order.{is_sound, sound_machine}
 use Rattle.view_laws.specs.Runs.{view_after}
-use Rattle.view_laws.proofs.follow.Senders.{each_sent}
+use Rattle.view_laws.proofs.follow.Senders.{each_from}
 use Rattle.moment_laws.specs.Moments.{IsMoment, current, logs_of}
 use Rattle.moment_laws.specs.Places.{ldm_of}
 use Rattle.outcome_laws.specs.Counts.{coordinator_member}
@@ -58,7 +58,7 @@ bodies_sent start h log e Q all =
     (λ goes. each_filter (λ (x : Addressed). Q x.signal.body) (is_sound start) (signals_of start h log e)
     (each_map _ _ (signals_of start h log e)
     (λ x one. subst Q (sym one.body) (each_in (λ (o : Outgoing). Q o.body) one.sent _ all one.there))
-    (each_sent start h log e)))
+    (each_from start h log e)))
 
 -- where no token is sent no request is
 pub no_request : (tx : TxId) (sends : List Outgoing) → Each (λ (o : Outgoing). is_token tx o.body ≡ false) sends

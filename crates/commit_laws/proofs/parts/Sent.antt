@@ -31,7 +31,7 @@ use Rattle.world_core.specs.Start.{Start, made}
 use Rattle.world_core.specs.Steps.{Addressed, HostStep}
 use Rattle.world_views.specs.Machine.{signals_of, step_after}
 use Rattle.view_laws.specs.Order.{is_sound, sound_machine}
-use Rattle.view_laws.proofs.follow.Senders.{each_sent}
+use Rattle.view_laws.proofs.follow.Senders.{each_from}
 use Rattle.moment_laws.specs.Moments.{logs_of}
 use Rattle.moment_laws.specs.Places.{ldm_of}
 use Rattle.moment_laws.proofs.MomentViews.{moment_less}
@@ -89,7 +89,7 @@ places_sent start h log e Q all =
     (λ x one.
     subst (λ to. Q to x.signal.body) (sym one.place)
     (subst (Q one.sent.to) (sym one.body) (each_in (λ (o : Outgoing). Q o.to o.body) one.sent _ all one.there)))
-    (each_sent start h log e)))
+    (each_from start h log e)))
 
 pub both_each : {A : Type 0} (P Q R : A → Type 0) (xs : List A) → ((x : A) → P x → Q x → R x) → Each P xs → Each Q xs
     → Each R xs

@@ -21,6 +21,7 @@ use Rattle.node_views.specs.Row.{is_cut}
 use Rattle.node_views.specs.WellFormed.{is_body_sound, is_sender, is_view, is_well_formed}
 use Rattle.world_core.specs.Hosts.{member_at}
 use Rattle.world_core.specs.Machine.{counted}
+use Rattle.world_core.specs.Made.{made_before}
 use Rattle.world_core.specs.Start.{Start, made}
 use Rattle.world_core.specs.Steps.{Addressed, HostStep}
 use Rattle.world_views.specs.declared.sender.Sender.{Sender}
@@ -29,7 +30,7 @@ use Rattle.world_views.specs.Machine.{after, own_stop, routed_after, sender, sen
 use Rattle.world_views.specs.Machine.{step_after, stops_by, told}
 use Rattle.world_views.specs.Sending.{Routed, addressed, all_addressed, is_kept_back, is_own_work, routed, routed_all}
 use Rattle.world_views.specs.Sending.{routed_if}
-use Rattle.view_laws.proofs.follow.Senders.{IsSentBy, each_sent}
+use Rattle.view_laws.proofs.follow.Senders.{IsSentFrom, each_from}
 use Rattle.view_laws.specs.Order.{is_sound, sound_machine}
 use Rattle.view_laws.specs.Runs.{view_after}
 use Rattle.outcome_laws.proofs.order.BeforeInLists.{kept_in}
@@ -226,7 +227,7 @@ module _ (start : Start) (h : ℕ) (log : List HostStep) (e : HostStep) where
 
   -- a signal that a step puts on the link
   pub record IsNew (y : Addressed) : Type 0 where
-    pub by : IsSentBy (made start) h (view_after start h (e ∷ log)) (step_after start h log e).effects.sends y
+    pub by : IsSentFrom (made start) h (view_after start h (e ∷ log)) (step_after start h log e).effects.sends y
     pub can : CanTell start h (e ∷ log)
 
   pub new_sent : (y : Addressed) → IsIn y (sent_by (sound_machine start) h log e) → y.to ≡ 0 → IsNew y
@@ -236,12 +237,12 @@ module _ (start : Start) (h : ℕ) (log : List HostStep) (e : HostStep) where
       of_filter : IsIn y (filter (is_sound start) (signals_of start h log e)) → IsNew y
       of_filter inside =
           let kept = kept_in (is_sound start) y (signals_of start h log e) inside in
-          let by = each_in (IsSentBy (made start) h standing.view sends) y (signals_of start h log e)
-          (each_sent start h log e) kept.there in
+          let by = each_in (IsSentFrom (made start) h standing.view sends) y (signals_of start h log e)
+          (each_from start h log e) kept.there in
           let uncut =
           each_in (λ (z : Addressed). is_cut standing (record { 0 = z.to }) ≡ false) y (signals_of start h log e)
           (addressed_uncut (sender (made start) h e.step.stamp standing.view) standing (sent_count start h log)
-          (routed_after start h log e) (each_uncut (made start) h standing sends)) kept.there in
+          (routed_after start h log e) (each_uncut (made_before start e.step.stamp) h standing sends)) kept.there in
           let sound : (is_sender start.shape y.signal.member
           && is_view start.shape y.signal.view && is_body_sound start.shape y.signal.body) ≡ true = kept.passes in
           record {
@@ -307,7 +308,7 @@ module _ (start : Start) (h : ℕ) (log : List HostStep) (e : HostStep) where
       way =
           addressed_there (sender (made start) h e.step.stamp standing.view) (sent_count start h log)
           (routed_after start h log e) (routed 0 o)
-          (routed_there (made start) h standing o sends inside
+          (routed_there (made_before start e.step.stamp) h standing o sends inside
           (both_off (is_cut standing (record { 0 = 0 })) (0 == h) (is_own_work body) can.uncut other))
 
       three : (a b c : Bool) → a ≡ true → b ≡ true → c ≡ true → (a && b && c) ≡ true

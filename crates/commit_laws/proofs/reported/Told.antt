@@ -56,7 +56,7 @@ use Rattle.world_core.specs.Steps.{Addressed, HostStep}
 use Rattle.world_views.specs.Machine.{after, cause_in, machine, signals_of, step_after, stops_by}
 use Rattle.world_views.specs.Sending.{is_own_work}
 use Rattle.view_laws.proofs.eras.Rises.{view_rises}
-use Rattle.view_laws.proofs.follow.Senders.{each_sent}
+use Rattle.view_laws.proofs.follow.Senders.{each_from}
 use Rattle.view_laws.proofs.runs.AllSound.{have_orderly}
 use Rattle.view_laws.proofs.runs.ViewsShrink.{views_shrink}
 use Rattle.view_laws.proofs.runs.ChosenViews.{one_view}
@@ -115,7 +115,7 @@ sent_members start i j (e ∷ log) =
     put_each (sound_machine start) IsOwn j (sent_by (sound_machine start) i log e) (sent (sound_machine start) i j log)
     (sent_by_each (sound_machine start) IsOwn i log e (λ goes.
     each_filter IsOwn (is_sound start) (signals_of start i log e)
-    (each_map _ IsOwn (signals_of start i log e) (λ y one. one.member) (each_sent start i log e))))
+    (each_map _ IsOwn (signals_of start i log e) (λ y one. one.member) (each_from start i log e))))
     (sent_members start i j log)
   where
     IsOwn : Addressed → Type 0

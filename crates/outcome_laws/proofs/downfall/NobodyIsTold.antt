@@ -24,7 +24,7 @@ use Rattle.world_views.specs.Hosts.{part_started, started}
 use Rattle.world_views.specs.Machine.{after, machine, signals_of, step_after, told}
 use Rattle.world_views.specs.Sending.{is_asked, is_own_work}
 use Rattle.world_views.proofs.AllBegin.{started_behind}
-use Rattle.view_laws.proofs.follow.Senders.{each_sent}
+use Rattle.view_laws.proofs.follow.Senders.{each_from}
 use Rattle.outcome_laws.specs.Down.{NoDownIsTold, PartsHaveNoDown, TakesNoDown, TellsNoDown}
 use Rattle.outcome_laws.proofs.downfall.Parts.{step_down_none}
 use Rattle.outcome_laws.proofs.downfall.Sends.{SendsNoDown}
@@ -88,7 +88,7 @@ module _ (start : Start) (nobody : NobodyStarts start) where
       subst TellsNoDown (sym one.body)
       (each_in _ one.sent (step_after start h log e).effects.sends (stepped h log e (host_up h log takes.1) takes.0).1
       one.there))
-      (each_sent start h log e)
+      (each_from start h log e)
 
   abbrev HaveNone : (ℕ → List HostStep) → Type 0
   HaveNone logs = (h : ℕ) → Each TakesNoDown (logs h)

@@ -244,7 +244,7 @@ module _ (start : Start) where
             (λ goes.
             each_filter IsRightly (is_sound start) (signals_of start e.host (logs_of start es e.host) e)
             (each_map SentNow IsRightly (signals_of start e.host (logs_of start es e.host) e) asked_now
-            (each_sent start e.host (logs_of start es e.host) e)));
+            (each_sent start e.host (logs_of start es e.host) e moment.cluster.nobody)));
       }
 
   -- so it is at each moment

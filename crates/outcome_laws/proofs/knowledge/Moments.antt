@@ -29,7 +29,7 @@ use Rattle.world_views.proofs.FreshBodies.{none_pending}
 use Rattle.world_views.proofs.AllBegin.{started_behind}
 use Rattle.view_laws.specs.Order.{is_sound, sound_machine}
 use Rattle.view_laws.proofs.eras.Shapes.{shape_stays}
-use Rattle.view_laws.proofs.follow.Senders.{IsSentBy, each_sent}
+use Rattle.view_laws.proofs.follow.Senders.{IsSentFrom, each_from}
 use Rattle.moment_laws.specs.Moments.{IsMoment, logs_of}
 use Rattle.moment_laws.specs.Places.{tc_of}
 use Rattle.moment_laws.proofs.MomentSignals.{EachSent, IsClosed, sent_next, taken_told}
@@ -218,7 +218,7 @@ module _ (start : Start) where
           (λ h other. old_right h)
 
       sent_true : (y : Addressed)
-          → IsSentBy (made start) e.host (after start e.host (e ∷ old e.host)).standing.view
+          → IsSentFrom (made start) e.host (after start e.host (e ∷ old e.host)).standing.view
           (step_after start e.host (old e.host) e).effects.sends y → TellsTruly start new y
       sent_true y one =
           subst (Tells D B) (sym one.body)
@@ -234,7 +234,7 @@ module _ (start : Start) where
             (λ goes.
             each_filter (TellsTruly start new) (is_sound start) (signals_of start e.host (old e.host) e)
             (each_map _ (TellsTruly start new) (signals_of start e.host (old e.host) e) sent_true
-            (each_sent start e.host (old e.host) e)));
+            (each_from start e.host (old e.host) e)));
       }
 
 pub moments_know : MomentsKnow

@@ -11,6 +11,7 @@ use Rattle.tc_block.specs.Complete.{one_if}
 use Rattle.node_views.specs.declared.parts.Parts.{Parts}
 use Rattle.node_views.specs.declared.standing.Standing.{Standing}
 use Rattle.world_core.specs.Machine.{counted}
+use Rattle.world_core.specs.Made.{made_before}
 use Rattle.world_core.specs.Start.{Start, made}
 use Rattle.world_core.specs.Steps.{Addressed, HostStep}
 use Rattle.world_views.specs.declared.sender.Sender.{Sender}
@@ -73,7 +74,8 @@ module _ (p : Body → Bool) where
           arith,
           addressed_count (sender (made start) h e.step.stamp (after start h (e ∷ log)).standing.view)
               (sent_count start h log) (routed_after start h log e),
-          routed_count (made start) h (after start h (e ∷ log)).standing (step_after start h log e).effects.sends,
+          routed_count (made_before start e.step.stamp) h (after start h (e ∷ log)).standing
+              (step_after start h log e).effects.sends,
         )
 
     -- and nothing where the host stops

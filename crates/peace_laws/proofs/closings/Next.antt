@@ -123,11 +123,11 @@ module _ (hosts_level : HostsAreLevel) (start : Start) (shape : IsShape start.sh
           later = later hosts_level start shape es e happens within low kept nobody;
           sends = all_for (is_beating h) refl;
           links = λ j here takes.
-              sent_same start h log e ease
+              sent_same start h log e ease nobody
               (masters_aside start nobody h (after start h (e ∷ log)).standing ease sends (masters here)) j takes
               goes_on;
           counts = λ j here takes.
-              count_same start h log e ease
+              count_same start h log e ease nobody
               (masters_aside start nobody h (after start h (e ∷ log)).standing ease sends (masters here)) j takes;
           took = took;
           asked = λ here. unasked ∙ sym (closing_asks x.to.block x.body (takes_it h x closing));

@@ -18,6 +18,7 @@ use Rattle.world_core.specs.Machine.{counted}
 use Rattle.world_core.specs.Start.{NobodyStarts, Start, made}
 use Rattle.world_core.specs.Steps.{Addressed, HostStep}
 use Rattle.world_views.proofs.LogFacts.{sent_going_on}
+use Rattle.world_views.proofs.SentFacts.{routed_first}
 use Rattle.world_views.specs.declared.sender.Sender.{Sender}
 use Rattle.world_views.specs.Hosts.{reached}
 use Rattle.world_views.specs.Machine.{after, machine, sender, sent_count, step_after, stops_by}
@@ -276,7 +277,8 @@ module _ (start : Start) (base : ℕ → List HostStep) (es : List HostStep) (e 
         sent_going_on start h b (log h) e goes_on
         ∙ ap (λ rs.
         put (machine start) b (all_addressed by (sent_count start h (log h)) rs) (sent (machine start) h b (log h)))
-        (ap (routed_all (made start) h (after start h (e ∷ log h)).standing) are
+        (routed_first start nobody h (log h) e
+        ∙ ap (routed_all (made start) h (after start h (e ∷ log h)).standing) are
         ∙ all_routed start nobody h (after start h (e ∷ log h)).standing ease sends given)
 
     abbrev Sent : ℕ → ℕ → Type 0

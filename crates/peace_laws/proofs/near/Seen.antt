@@ -5,6 +5,7 @@ use Rattle.node_views.specs.declared.standing.Standing.{Standing}
 use Rattle.run_theory.proofs.Links.{put_each, sent_by_each}
 use Rattle.run_theory.specs.Links.{sent, sent_by}
 use Rattle.run_theory.specs.Lists.{Each}
+use Rattle.sig_core.specs.declared.member.Member.{Member}
 use Rattle.sig_core.specs.declared.outs.Outgoing.{Outgoing}
 use Rattle.sig_core.specs.declared.place.BlockId.{BlockId}
 use Rattle.sig_core.specs.declared.place.BlockId.TheVariants as block
@@ -14,6 +15,7 @@ use Rattle.sig_core.specs.declared.view.View.{View}
 use Rattle.sig_core.specs.Place.{client}
 use Rattle.world_core.specs.Hosts.{member_at}
 use Rattle.world_core.specs.Machine.{counted}
+use Rattle.world_core.specs.Made.{made_before}
 use Rattle.world_core.specs.Start.{Start, made}
 use Rattle.world_core.specs.Steps.{Addressed, HostStep}
 use Rattle.world_views.specs.Hosts.{reached}
@@ -23,7 +25,6 @@ use Rattle.calm_laws.specs.Alike.{first}
 use Rattle.calm_laws.specs.Plain.{is_beating}
 use Rattle.calm_laws.specs.Steps.{IsForViews, IsPlainSend, is_of_parts, is_of_views, round_for}
 use Rattle.calm_laws.proofs.lives.CalmSignals.{is_client}
-use Rattle.sig_core.specs.declared.member.Member.{Member}
 use Rattle.peace_laws.specs.Peace.{is_for_closing}
 use Rattle.peace_laws.specs.Steps.{IsForMaster, IsOfClosing, asks_master}
 
@@ -138,13 +139,13 @@ module _ (start : Start) (h : ℕ) where
   seen_if true to sent rs one all = all
   seen_if false to sent rs one all = (one, all)
 
-  routed_seen : (standing : Standing) (sends : List Outgoing) → Each (IsSentFor h) sends
-      → Each IsRoutedFor (routed_all (made start) h standing sends)
-  routed_seen standing [] all = tt
-  routed_seen standing (sent ∷ more) all =
-      seen_if (is_kept_back h standing (reached (made start) h standing.view sent.to) sent)
-      (reached (made start) h standing.view sent.to) sent (routed_all (made start) h standing more) all.0
-      (routed_seen standing more all.1)
+  routed_seen : (among : List Member) (standing : Standing) (sends : List Outgoing) → Each (IsSentFor h) sends
+      → Each IsRoutedFor (routed_all among h standing sends)
+  routed_seen among standing [] all = tt
+  routed_seen among standing (sent ∷ more) all =
+      seen_if (is_kept_back h standing (reached among h standing.view sent.to) sent)
+      (reached among h standing.view sent.to) sent (routed_all among h standing more) all.0
+      (routed_seen among standing more all.1)
 
   addressed_seen : (stamp : ℕ) (view : View) (count : ℕ → ℕ) (rs : List Routed) → view ≡ first start
       → Each IsRoutedFor rs → Each (IsSeen start h) (all_addressed (sender (made start) h stamp view) count rs)
@@ -165,5 +166,6 @@ module _ (start : Start) (h : ℕ) where
       (λ goes_on.
       addressed_seen e.step.stamp (after start h (e ∷ log)).standing.view (sent_count start h log)
       (routed_after start h log e) view
-      (routed_seen (after start h (e ∷ log)).standing (step_after start h log e).effects.sends all)))
+      (routed_seen (made_before start e.step.stamp) (after start h (e ∷ log)).standing
+      (step_after start h log e).effects.sends all)))
       before

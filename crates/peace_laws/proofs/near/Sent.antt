@@ -1,6 +1,6 @@
 -- A step sends to the hosts that are no main parts what its plain one does, but for epochs.
 use Rattle.std.proofs.Common.{◌≡◌, ◌≤◌, ◌+◌, ℕ, List, [], ◌∷◌, ◌++◌, Bool, true, false, refl, ap, sym, ◌∙◌}
-use Rattle.std.proofs.Common.{arith, eqb-true, ne_eqb}
+use Rattle.std.proofs.Common.{arith, eqb-true, ne_eqb, subst}
 use Rattle.std.specs.Prelude.{if◌then◌else◌, ◌==◌, map}
 use Rattle.std.proofs.lemmas.Bool.{true≢false}
 use Rattle.node_views.specs.declared.standing.Standing.{Standing}
@@ -22,9 +22,10 @@ use Rattle.world_core.specs.Machine.{counted, one_more}
 use Rattle.world_core.specs.Start.{NobodyStarts, Start, made}
 use Rattle.world_core.specs.Steps.{Addressed, HostStep}
 use Rattle.world_views.proofs.LogFacts.{sent_going_on}
+use Rattle.world_views.proofs.SentFacts.{routed_first}
 use Rattle.world_views.specs.declared.sender.Sender.{Sender}
 use Rattle.world_views.specs.Hosts.{reached}
-use Rattle.world_views.specs.Machine.{after, machine, sender, sent_count, step_after, stops_by}
+use Rattle.world_views.specs.Machine.{after, machine, routed_after, sender, sent_count, step_after, stops_by}
 use Rattle.world_views.specs.Sending.{Routed, addressed, all_addressed, count_routed, is_kept_back, routed}
 use Rattle.world_views.specs.Sending.{routed_all, routed_if}
 use Rattle.calm_laws.specs.Alike.{IsAtEase, first}
@@ -175,9 +176,10 @@ module _ (start : Start) (nobody : NobodyStarts start) (h : ℕ) (log : List Hos
   abbrev rest : List Routed
   rest = routed_all (made start) h standing extra
 
-  routed_are : routed_all (made start) h standing (step_after start h log e).effects.sends ≡ plainly start both ++ rest
+  routed_are : routed_after start h log e ≡ plainly start both ++ rest
   routed_are =
-      ap (routed_all (made start) h standing) sends ∙ routed_alike start h standing ease nobody both extra plain_ones
+      routed_first start nobody h log e ∙ ap (routed_all (made start) h standing) sends
+      ∙ routed_alike start h standing ease nobody both extra plain_ones
 
   sent_are : stops_by e.step.marks ≡ false
       → sent (machine start) h j (e ∷ log)
@@ -234,19 +236,20 @@ module _ (start : Start) (nobody : NobodyStarts start) (h : ℕ) (log : List Hos
 
 -- A step of which all goes aside.
 module _ (start : Start) (h : ℕ) (log : List HostStep) (e : HostStep)
-    (ease : IsAtEase start (after start h (e ∷ log)).standing)
+    (ease : IsAtEase start (after start h (e ∷ log)).standing) (nobody : NobodyStarts start)
     (aside : Each IsAside
     (routed_all (made start) h (after start h (e ∷ log)).standing (step_after start h log e).effects.sends))
     (j : ℕ) (takes : is_beating j ≡ false) where
+  all_aside : Each IsAside (routed_after start h log e)
+  all_aside = subst (Each IsAside) (sym (routed_first start nobody h log e)) aside
+
   pub sent_same : stops_by e.step.marks ≡ false → sent (machine start) h j (e ∷ log) ≡ sent (machine start) h j log
   sent_same goes_on =
       sent_going_on start h j log e goes_on
       ∙ aside_put start j takes
       (sender (made start) h e.step.stamp (after start h (e ∷ log)).standing.view) (sent_count start h log)
-      (routed_all (made start) h (after start h (e ∷ log)).standing (step_after start h log e).effects.sends)
-      (sent (machine start) h j log) aside
+      (routed_after start h log e) (sent (machine start) h j log) all_aside
 
   pub count_same : sent_count start h (e ∷ log) j ≡ sent_count start h log j
   count_same =
-      aside_count start j takes (sent_count start h log)
-      (routed_all (made start) h (after start h (e ∷ log)).standing (step_after start h log e).effects.sends) aside
+      aside_count start j takes (sent_count start h log) (routed_after start h log e) all_aside

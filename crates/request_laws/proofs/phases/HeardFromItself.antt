@@ -262,7 +262,8 @@ module _ (start : Start) (logs : ℕ → List HostStep) (are : AreOfCluster star
         one : One x
         one =
             each_in One x (sent_by m i sent.before sent.step)
-            (sent_by_each m One i sent.before sent.step (λ goes. each_sent start i sent.before sent.step)) inside
+            (sent_by_each m One i sent.before sent.step
+            (λ goes. each_sent start i sent.before sent.step are.nobody)) inside
 
         says : one.sent.body ≡ request tx ops
         says = sym one.body ∙ body

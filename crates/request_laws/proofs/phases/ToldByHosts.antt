@@ -20,7 +20,7 @@ use Rattle.world_core.specs.Start.{Start}
 use Rattle.world_core.specs.Steps.{Addressed, HostStep}
 use Rattle.world_views.specs.Machine.{signals_of, step_after}
 use Rattle.view_laws.specs.Order.{is_sound, sound_machine}
-use Rattle.view_laws.proofs.follow.Senders.{each_sent}
+use Rattle.view_laws.proofs.follow.Senders.{each_from}
 use Rattle.moment_laws.specs.Places.{tc_of}
 use Rattle.outcome_laws.specs.Counts.{coordinator_member}
 use Rattle.outcome_laws.specs.Decided.{IsMarked}
@@ -57,7 +57,7 @@ module _ (start : Start) (h : ℕ) where
           each_filter Now (is_sound start) (signals_of start h log e)
           (each_map _ Now (signals_of start h log e)
           (λ x one. inl (record { one = one.sent; there = one.there; says = sym one.body }))
-          (each_sent start h log e))
+          (each_from start h log e))
 
 module _ (start : Start) (member : Member) where
   -- The step, behind this log of the host of the member's coordinator, has the marks of its row. If an epoch is asked

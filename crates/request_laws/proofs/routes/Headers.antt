@@ -22,7 +22,7 @@ use Rattle.world_core.specs.Steps.{Addressed, HostStep}
 use Rattle.world_views.specs.Machine.{IsOwnWork, signals_of, step_after}
 use Rattle.view_laws.specs.Order.{is_sound}
 use Rattle.view_laws.specs.Runs.{WasInstalled, view_after}
-use Rattle.view_laws.proofs.follow.Senders.{IsSentBy, each_sent}
+use Rattle.view_laws.proofs.follow.Senders.{IsSentFrom, each_from}
 use Rattle.view_laws.proofs.runs.Headers.{headers_installed, installed_at}
 use Rattle.view_laws.proofs.runs.AllSound.{have_orderly}
 use Rattle.view_laws.proofs.runs.ChosenViews.{one_view}
@@ -94,7 +94,7 @@ pub sent_so : (start : Start) (h : ℕ) (log : List HostStep) (e : HostStep) (Q 
     (filter (is_sound start) (signals_of start h log e))
 sent_so start h log e Q all =
     each_filter So (is_sound start) (signals_of start h log e)
-    (each_map SentNow So (signals_of start h log e) one (each_sent start h log e))
+    (each_map SentNow So (signals_of start h log e) one (each_from start h log e))
   where
     view : View
     view = view_after start h (e ∷ log)
@@ -103,7 +103,7 @@ sent_so start h log e Q all =
     sends = (step_after start h log e).effects.sends
 
     SentNow : Addressed → Type 0
-    SentNow = IsSentBy (made start) h (view_after start h (e ∷ log)) (step_after start h log e).effects.sends
+    SentNow = IsSentFrom (made start) h (view_after start h (e ∷ log)) (step_after start h log e).effects.sends
 
     So : Addressed → Type 0
     So y = Q y.signal.view y.signal.to y.signal.body

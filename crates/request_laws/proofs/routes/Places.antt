@@ -110,7 +110,7 @@ module _ (start : Start) where
       (λ goes.
       each_filter (IsPlaced start) (is_sound start) (signals_of start e.host old e)
       (each_map (SentNow e.host old e) (IsPlaced start) (signals_of start e.host old e) (placed_now e.host old e)
-      (each_sent start e.host old e)))
+      (each_sent start e.host old e moment.cluster.nobody)))
 
   -- one that comes to rows is for them
   module _ (all : ℕ → List HostStep) (e : HostStep) (es : List HostStep) (moment : IsMoment start all (e ∷ es)) where

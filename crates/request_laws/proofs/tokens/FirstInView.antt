@@ -23,7 +23,7 @@ use Rattle.world_views.specs.Machine.{signals_of}
 use Rattle.view_laws.specs.Order.{is_sound, sound_machine}
 use Rattle.view_laws.specs.Runs.{view_after}
 use Rattle.view_laws.proofs.eras.Rises.{view_rises}
-use Rattle.view_laws.proofs.follow.Senders.{each_sent}
+use Rattle.view_laws.proofs.follow.Senders.{each_from}
 use Rattle.moment_laws.specs.Moments.{IsMoment, logs_of}
 use Rattle.moment_laws.proofs.MomentTurns.{host_low, other_log, own_log}
 use Rattle.moment_laws.proofs.MomentViews.{current_above, current_number}
@@ -142,7 +142,7 @@ module _ (start : Start) (nobody : NobodyStarts start) (q : Body → Bool) (numb
             (λ goes. each_filter _ (is_sound start) (signals_of start h log e)
             (each_map _ (λ (x : Addressed). x.signal.view.number < number) (signals_of start h log e)
             (λ x one. let same = ap (λ (v : View). v.number) one.view_is in omega (arith, same, low))
-            (each_sent start h log e)))),
+            (each_from start h log e)))),
         sent_low_none h log (omega (arith, low, rises)),
       )
 

@@ -28,11 +28,12 @@ use Rattle.node_views.specs.Fence.{is_body_fenced, is_fenced}
 use Rattle.node_views.specs.Parts.{ldm_row}
 use Rattle.node_views.specs.WellFormed.{is_well_formed}
 use Rattle.world_core.specs.Machine.{counted}
+use Rattle.world_core.specs.Made.{made_before}
 use Rattle.world_core.specs.Start.{Start, made}
 use Rattle.world_core.specs.Steps.{Addressed, HostStep}
 use Rattle.world_views.specs.declared.sender.Sender.{Sender}
 use Rattle.world_views.specs.Hosts.{reached}
-use Rattle.world_views.specs.Machine.{after, sender, sent_count, signals_of, step_after, stops_by}
+use Rattle.world_views.specs.Machine.{after, routed_after, sender, sent_count, signals_of, step_after, stops_by}
 use Rattle.world_views.specs.Sending.{Routed, addressed, all_addressed, is_kept_back, is_own_work, routed, routed_all}
 use Rattle.world_views.specs.Sending.{routed_if}
 use Rattle.view_laws.specs.Order.{is_sound, sound_machine}
@@ -139,8 +140,8 @@ module _ (start : Start) (q : Body → Bool) (number : ℕ) where
             filter_count p (is_sound start) (signals_of start h log e),
             count_less p (λ (x : Addressed). q x.signal.body) in_less (signals_of start h log e),
             addressed_count q (sender (made start) h e.step.stamp standing.view) (sent_count start h log)
-                (routed_all (made start) h standing sends),
-            routed_count q (made start) h standing sends,
+                (routed_after start h log e),
+            routed_count q (made_before start e.step.stamp) h standing sends,
           )
 
       by : (stops : Bool)

@@ -15,6 +15,7 @@ use Rattle.sig_core.specs.declared.signal.host.HostSignal.TheVariants.{Closed}
 use Rattle.node_views.specs.declared.standing.Standing.{Standing}
 use Rattle.world_core.specs.Hosts.{hosts}
 use Rattle.world_core.specs.Machine.{counted}
+use Rattle.world_core.specs.Made.{made_before}
 use Rattle.world_core.specs.Start.{Start, made}
 use Rattle.world_core.specs.Steps.{Addressed, HostStep}
 use Rattle.world_views.specs.declared.sender.Sender.{Sender}
@@ -92,12 +93,12 @@ module _ (Q : Body → Type 0) where
     pub signals_each : Each SaysSo sends → Each IsSo (signals_of start h log e)
     signals_each all =
         addressed_each by (sent_count start h log) (routed_after start h log e)
-        (routed_each (made start) h standing sends all)
+        (routed_each (made_before start e.step.stamp) h standing sends all)
 
     pub signals_but_last : EachButLast SaysSo sends → EachButLast IsSo (signals_of start h log e)
     signals_but_last all =
         addressed_but_last by (sent_count start h log) (routed_after start h log e)
-        (routed_but_last (made start) h standing sends all)
+        (routed_but_last (made_before start e.step.stamp) h standing sends all)
 
 -- What a host tells by a log: all that a step sends by which it goes on is so by the log with it, and all but the last
 -- by the log before. Whatever is so stays so, and a closing tells nothing. Its blocks don't stop it.

@@ -43,7 +43,7 @@ use Rattle.world_core.specs.Steps.{Addressed, HostStep}
 use Rattle.world_views.proofs.StepEach.{step_words}
 use Rattle.world_views.specs.Machine.{after, signals_of, step_after}
 use Rattle.view_laws.proofs.follow.Hosts.{main_started}
-use Rattle.view_laws.proofs.follow.Senders.{IsSentBy, each_sent}
+use Rattle.view_laws.proofs.follow.Senders.{IsSentFrom, each_from}
 use Rattle.view_laws.specs.Order.{is_sound, sound_machine}
 use Rattle.view_laws.specs.Runs.{view_after}
 use Rattle.view_laws.specs.Votes.{main_of}
@@ -335,12 +335,13 @@ module _ (start : Start) (all : ℕ → List HostStep) (e : HostStep) (es : List
     new_told =
         each_filter (λ (y : Addressed). IsToldDurable start new y.signal.body) (is_sound start)
         (signals_of start e.host (old e.host) e)
-        (each_map (IsSentBy (made start) e.host stood sends) (λ (y : Addressed). IsToldDurable start new y.signal.body)
+        (each_map (IsSentFrom (made start) e.host stood sends)
+        (λ (y : Addressed). IsToldDurable start new y.signal.body)
         (signals_of start e.host (old e.host) e)
         (λ y one.
         subst (IsToldDurable start new) (sym one.body)
         (each_in (λ (sent : Outgoing). IsToldDurable start new sent.body) one.sent sends sent_now one.there))
-        (each_sent start e.host (old e.host) e))
+        (each_from start e.host (old e.host) e))
 
     durable_next : AllDurable start new
     durable_next = record {

@@ -22,7 +22,7 @@ use Rattle.gcp_master.specs.declared.phase.Run.{Run}
 use Rattle.world_core.specs.Start.{Start, made}
 use Rattle.world_core.specs.Steps.{Addressed, HostStep}
 use Rattle.world_views.specs.Machine.{signals_of, step_after}
-use Rattle.view_laws.proofs.follow.Senders.{IsSentBy, each_sent}
+use Rattle.view_laws.proofs.follow.Senders.{IsSentFrom, each_from}
 use Rattle.view_laws.specs.Order.{is_sound, sound_machine}
 use Rattle.view_laws.specs.Runs.{view_after}
 use Rattle.view_laws.specs.Votes.{main_of}
@@ -242,7 +242,7 @@ module _ (start : Start) (all : ℕ → List HostStep) (e : HostStep) (es : List
 
     -- what is sent now
     module _ (y : Addressed)
-        (one : IsSentBy (made start) e.host (view_after start e.host (e ∷ old e.host)) sends y)
+        (one : IsSentFrom (made start) e.host (view_after start e.host (e ∷ old e.host)) sends y)
         (header : y.signal.view.number ≡ (current start new).number)
       where
         abbrev At : Body → Type 0
@@ -288,6 +288,6 @@ module _ (start : Start) (all : ℕ → List HostStep) (e : HostStep) (es : List
         sent_next start (IsTrueOrder start new) all e es moment old_true
         (λ goes.
         each_filter (IsTrueOrder start new) (is_sound start) (signals_of start e.host (old e.host) e)
-        (each_map (IsSentBy (made start) e.host (view_after start e.host (e ∷ old e.host)) sends)
+        (each_map (IsSentFrom (made start) e.host (view_after start e.host (e ∷ old e.host)) sends)
         (IsTrueOrder start new) (signals_of start e.host (old e.host) e) sent_true
-        (each_sent start e.host (old e.host) e)))
+        (each_from start e.host (old e.host) e)))

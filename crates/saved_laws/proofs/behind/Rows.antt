@@ -33,7 +33,7 @@ use Rattle.world_core.specs.Start.{Start, made}
 use Rattle.world_core.specs.Steps.{Addressed, HostStep}
 use Rattle.world_views.specs.Machine.{after, machine, signals_of, step_after}
 use Rattle.world_views.specs.Sending.{is_asked}
-use Rattle.view_laws.proofs.follow.Senders.{IsSentBy, each_sent}
+use Rattle.view_laws.proofs.follow.Senders.{IsSentFrom, each_from}
 use Rattle.view_laws.specs.Order.{is_sound, sound_machine}
 use Rattle.view_laws.specs.Runs.{view_after}
 use Rattle.moment_laws.proofs.MomentHosts.{part_some}
@@ -89,7 +89,7 @@ module _ (start : Start) (all : ℕ → List HostStep) (e : HostStep) (es : List
         (λ at. (host_rises start moment.cluster.nobody member there (old (ldm_of start member)) e).rises)
         (λ other. omega arith)
 
-    sent_rightly : (y : Addressed) → IsSentBy (made start) e.host (view_after start e.host (e ∷ old e.host)) sends y
+    sent_rightly : (y : Addressed) → IsSentFrom (made start) e.host (view_after start e.host (e ∷ old e.host)) sends y
         → IsToldRightly start new y
     sent_rightly y one member there from epoch tells = by (one.from)
       where
@@ -123,9 +123,9 @@ module _ (start : Start) (all : ℕ → List HostStep) (e : HostStep) (es : List
         (before i j))
         (λ goes.
         each_filter (IsToldRightly start new) (is_sound start) (signals_of start e.host (old e.host) e)
-        (each_map (IsSentBy (made start) e.host (view_after start e.host (e ∷ old e.host)) sends)
+        (each_map (IsSentFrom (made start) e.host (view_after start e.host (e ∷ old e.host)) sends)
         (IsToldRightly start new) (signals_of start e.host (old e.host) e) sent_rightly
-        (each_sent start e.host (old e.host) e)))
+        (each_from start e.host (old e.host) e)))
 
     -- what has been taken of a member's rows, by whom ever
     module _ (member : Member) (there : IsIn member (made start))

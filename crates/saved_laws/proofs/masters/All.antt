@@ -32,7 +32,7 @@ use Rattle.view_laws.specs.Order.{is_sound, sound_machine}
 use Rattle.view_laws.specs.Runs.{WasInstalled, view_after}
 use Rattle.view_laws.specs.Votes.{main_of}
 use Rattle.view_laws.proofs.follow.Hosts.{main_started}
-use Rattle.view_laws.proofs.follow.Senders.{IsSentBy, each_sent}
+use Rattle.view_laws.proofs.follow.Senders.{IsSentFrom, each_from}
 use Rattle.world_core.proofs.MadeFirst.{all_made}
 use Rattle.moment_laws.specs.Moments.{IsMoment, logs_of}
 use Rattle.moment_laws.specs.Places.{ldm_of, tc_of}
@@ -172,11 +172,11 @@ module _ (start : Start) (all : ℕ → List HostStep) (e : HostStep) (es : List
     new_right : Each (IsRightOrder start new) (filter (is_sound start) (signals_of start e.host (old e.host) e))
     new_right =
         each_filter (IsRightOrder start new) (is_sound start) (signals_of start e.host (old e.host) e)
-        (each_map (IsSentBy (made start) e.host (view_after start e.host (e ∷ old e.host)) sends)
+        (each_map (IsSentFrom (made start) e.host (view_after start e.host (e ∷ old e.host)) sends)
         (IsRightOrder start new) (signals_of start e.host (old e.host) e) one
-        (each_sent start e.host (old e.host) e))
+        (each_from start e.host (old e.host) e))
       where
-        one : (y : Addressed) → IsSentBy (made start) e.host (view_after start e.host (e ∷ old e.host)) sends y
+        one : (y : Addressed) → IsSentFrom (made start) e.host (view_after start e.host (e ∷ old e.host)) sends y
             → IsRightOrder start new y
         one y is =
             subst (IsOrderedRightly start new) (sym is.body)

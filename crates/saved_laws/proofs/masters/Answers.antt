@@ -23,7 +23,7 @@ use Rattle.world_views.proofs.StepEach.{step_words}
 use Rattle.view_laws.specs.Order.{is_sound}
 use Rattle.view_laws.specs.Runs.{view_after}
 use Rattle.view_laws.specs.Votes.{main_of}
-use Rattle.view_laws.proofs.follow.Senders.{IsSentBy, each_sent}
+use Rattle.view_laws.proofs.follow.Senders.{IsSentFrom, each_from}
 use Rattle.moment_laws.specs.Moments.{IsMoment, logs_of}
 use Rattle.moment_laws.specs.Places.{ldm_of, tc_of}
 use Rattle.moment_laws.proofs.MomentHosts.{ldm_member, tc_apart, tc_member}
@@ -121,7 +121,7 @@ module _ (start : Start) (all : ℕ → List HostStep) (e : HostStep) (es : List
     sends = (step_after start e.host (old e.host) e).effects.sends
 
     abbrev IsSent : Addressed → Type 0
-    IsSent y = IsSentBy (made start) e.host (view_after start e.host (e ∷ old e.host)) sends y
+    IsSent y = IsSentFrom (made start) e.host (view_after start e.host (e ∷ old e.host)) sends y
 
     -- what the host of these parts may say
     said : (parts : Parts) → (after start e.host (old e.host)).parts ≡ parts
@@ -192,7 +192,7 @@ module _ (start : Start) (all : ℕ → List HostStep) (e : HostStep) (es : List
         (λ goes.
         each_filter (IsRightlyTold start) (is_sound start) (signals_of start e.host (old e.host) e)
         (each_map IsSent (IsRightlyTold start) (signals_of start e.host (old e.host) e) sent_rightly
-        (each_sent start e.host (old e.host) e)))
+        (each_from start e.host (old e.host) e)))
 
 -- so it is at each moment
 pub all_rightly_told : (start : Start) (all : ℕ → List HostStep) (es : List HostStep) → IsMoment start all es

@@ -45,7 +45,7 @@ use Rattle.world_views.specs.Machine.{FitsRow, after, machine, signals_of, step_
 use Rattle.world_views.proofs.StepWalk.{step_so}
 use Rattle.world_views.proofs.AllBegin.{started_behind}
 use Rattle.view_laws.specs.Order.{is_sound, sound_machine}
-use Rattle.view_laws.proofs.follow.Senders.{IsSentBy, each_sent}
+use Rattle.view_laws.proofs.follow.Senders.{IsSentFrom, each_from}
 use Rattle.view_laws.proofs.ballots.MadeSets.{in_front}
 use Rattle.moment_laws.specs.Moments.{logs_of}
 use Rattle.outcome_laws.specs.Decided.{IsMarked}
@@ -317,14 +317,14 @@ module _ (start : Start) (h : ℕ) where
 
       next_sent : Each (λ (y : Addressed). TellsOnly (Marked (e ∷ log)) y.signal.body) (signals_of start h log e)
       next_sent =
-          each_map (IsSentBy (made start) h (after start h (e ∷ log)).standing.view step.effects.sends)
+          each_map (IsSentFrom (made start) h (after start h (e ∷ log)).standing.view step.effects.sends)
           (λ (y : Addressed). TellsOnly (Marked (e ∷ log)) y.signal.body) (signals_of start h log e)
           (λ y one.
           subst (TellsOnly (Marked (e ∷ log))) (sym one.body)
           (each_in (λ (sent : Outgoing). TellsOnly (Marked (e ∷ log)) sent.body) one.sent step.effects.sends
           (tell_more (WithMarks (Marked log) step.effects.marks) (Marked (e ∷ log)) now step.effects.sends own.1)
           one.there))
-          (each_sent start h log e)
+          (each_from start h log e)
 
   log_ended : NobodyStarts start → (log : List HostStep) → IsLog (machine start) h log
       → EndedIn (Marked log) (after start h log).parts

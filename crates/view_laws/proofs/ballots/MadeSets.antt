@@ -4,13 +4,9 @@ use Rattle.run_theory.specs.Lists.{Each, IsIn}
 use Rattle.run_theory.proofs.Pasts.{each_from, each_in, each_map, in_append}
 use Rattle.sig_core.specs.declared.member.Member.{Member}
 use Rattle.sig_core.specs.declared.view.View.{View}
+pub use Rattle.world_core.proofs.MadeFirst.{in_front}
 use Rattle.view_laws.specs.Sets.{Change, Change.shrinks, Change.joins, Change.promotes, IsAllowed, IsApart, IsJoining}
 use Rattle.view_laws.specs.Sets.{IsMadeOf, IsPart, IsPromoted, all_of}
-
-pub in_front : {A : Type 0} (x : A) (xs ys : List A) → IsIn x xs → IsIn x (xs ++ ys)
-in_front x [] ys i = absurd i
-in_front x (y ∷ xs) ys (inl e) = inl e
-in_front x (y ∷ xs) ys (inr i) = inr (in_front x xs ys i)
 
 pub in_either : {A : Type 0} (x : A) (xs ys : List A) → IsIn x (xs ++ ys) → IsIn x xs ⊎ IsIn x ys
 in_either x [] ys i = inr i

@@ -22,7 +22,7 @@ use Rattle.run_theory.specs.Ranks.{IsCausalRank}
 use Rattle.view_laws.specs.Runs.{view_after}
 use Rattle.view_laws.proofs.eras.Rises.{header_reached, view_rises}
 use Rattle.view_laws.proofs.eras.SoundLogs.{in_filter}
-use Rattle.view_laws.proofs.follow.Senders.{each_sent}
+use Rattle.view_laws.proofs.follow.Senders.{each_from}
 use Rattle.view_laws.proofs.follow.Senders as sends
 
 -- the greater of two views isn't below either
@@ -99,9 +99,9 @@ module _ (start : Start) where
         in_filter (is_sound start) x (signals_of start i s.before s.step) there in
         let view : x.signal.view ≡ view_after start i (s.step ∷ s.before) =
         (each_in
-        (sends.IsSentBy (made start) i (view_after start i (s.step ∷ s.before))
+        (sends.IsSentFrom (made start) i (view_after start i (s.step ∷ s.before))
         (step_after start i s.before s.step).effects.sends)
-        x (signals_of start i s.before s.step) (each_sent start i s.before s.step) was).view_is in
+        x (signals_of start i s.before s.step) (each_from start i s.before s.step) was).view_is in
         era_going i s.before s.step e ∙ sym (ap (λ (v : View). v.number) view)
 
     header : era start i (s.step ∷ s.before) ≡ x.signal.view.number

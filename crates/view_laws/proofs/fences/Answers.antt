@@ -36,6 +36,7 @@ use Rattle.world_core.proofs.MadeFirst.{hosts_first}
 use Rattle.world_core.proofs.HostNumbers.{made_at}
 use Rattle.world_core.specs.Hosts.{host_of, hosts, member_at}
 use Rattle.world_core.specs.Machine.{counted}
+use Rattle.world_core.specs.Made.{made_before}
 use Rattle.world_core.specs.Start.{Start, made}
 use Rattle.world_core.specs.Steps.{Addressed, HostStep}
 use Rattle.world_views.proofs.SentFacts.{is_stamped}
@@ -202,7 +203,8 @@ module _ (start : Start) (logs : ℕ → List HostStep) (are : AreOfCluster star
       by (inl (there, at)) =
           let in_signals =
           sent_by_none (stops_by s.step.step.marks) y (signals_of start k s.before s.step) there in
-          let one = each_in _ y (signals_of start k s.before s.step) (each_sent start k s.before s.step) in_signals in
+          let one =
+          each_in _ y (signals_of start k s.before s.step) (each_sent start k s.before s.step are.nobody) in_signals in
           or one.sent one.body one.to
           (each_in _ one.sent (step_after start k s.before s.step).effects.sends
           (host_fences start are.nobody k low s.before s.step) one.there)
@@ -421,7 +423,7 @@ module _ (start : Start) (logs : ℕ → List HostStep) (are : AreOfCluster star
 
           addressed : tally confirms_fence (signals_of start host log e) ≤ tally confirms sends
           addressed =
-              addressed_few (made start) host (after start host (e ∷ log)).standing
+              addressed_few (made_before start e.step.stamp) host (after start host (e ∷ log)).standing
               (sender (made start) host e.step.stamp (after start host (e ∷ log)).standing.view) sends
               (sent_count start host log)
 

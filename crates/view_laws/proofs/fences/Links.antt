@@ -34,10 +34,11 @@ use Rattle.qmgr_block.specs.State.{QmgrState}
 use Rattle.world_core.specs.Hosts.{host_of, number_of}
 use Rattle.world_core.specs.Start.{NobodyStarts, Start, made}
 use Rattle.world_core.specs.Steps.{Addressed, HostStep}
+use Rattle.world_views.proofs.SentFacts.{routed_first}
 use Rattle.world_views.specs.declared.sender.Sender.{Sender}
 use Rattle.world_views.specs.Hosts.{reached}
 use Rattle.world_views.specs.Machine.{after, machine, sender, sent_count, signals_of, step_after, stops_by}
-use Rattle.world_views.specs.Sending.{headed}
+use Rattle.world_views.specs.Sending.{all_addressed, headed}
 use Rattle.view_laws.specs.Fences.{IsFenced}
 use Rattle.view_laws.specs.HostEvents.{events_at, events_of, is_membership, taken_in}
 use Rattle.view_laws.specs.Members.{known_of, state_of}
@@ -255,7 +256,13 @@ module _ (start : Start) (me : Member) (there : IsIn me (made start)) (at : Bloc
         or true = keeps refl
         or false =
             asked_add _
-            (line start main host standing by sends (sent_count start main log) (sent (machine start) main host log))
+            (subst
+            (λ rs. IsLine (fencing sends)
+            (onward start
+            (put (machine start) host (all_addressed by (sent_count start main log) rs)
+            (sent (machine start) main host log))))
+            (sym (routed_first start nobody main log e))
+            (line start main host standing by sends (sent_count start main log) (sent (machine start) main host log)))
             (step_asked start nobody me log e there)
 
   asked_past : {some events : List Event} → IsPast some events → asked_of me layout some ≤ asked_of me layout events

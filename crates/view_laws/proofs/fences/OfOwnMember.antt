@@ -108,7 +108,7 @@ module _ (start : Start) (logs : ℕ → List HostStep) where
           each_map _ _ (signals_of start k log e)
           (λ y one. by y one.sent one.body one.to
           (each_in _ one.sent (step_after start k log e).effects.sends (host_fences start nobody k low log e) one.there))
-          (each_sent start k log e)
+          (each_sent start k log e nobody)
         where
           by : (y : Addressed) (sent : Outgoing) → y.signal.body ≡ sent.body
               → y.to ≡ reached (made start) k (after start k (e ∷ log)).standing.view sent.to

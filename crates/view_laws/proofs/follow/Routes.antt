@@ -71,4 +71,4 @@ go_to_members start logs are (suc k) some low log e past =
     each_map _ _ (signals_of start (suc k) log e)
     (λ x one.
     goes start k _ one.sent.to x (are_of_views start logs are (suc k) some low (e ∷ log) past) one.view_is one.to)
-    (each_sent start (suc k) log e)
+    (each_sent start (suc k) log e are.nobody)

@@ -16,6 +16,7 @@ use Rattle.sig_core.specs.declared.place.Part.TheVariants.{Main}
 use Rattle.sig_core.specs.declared.view.View.{View}
 use Rattle.sig_core.specs.Members.{nobody}
 use Rattle.sig_core.specs.Place.{membership}
+pub use Rattle.world_core.proofs.MadeFirst.{first_again, first_in}
 use Rattle.world_core.proofs.MadeFirst.{begins_made, hosts_first, made_begins, made_first}
 use Rattle.world_core.proofs.HostNumbers.{made_at}
 use Rattle.world_core.specs.Hosts.{host_by, hosts, member_at, member_of}
@@ -29,16 +30,6 @@ use Rattle.view_laws.proofs.follow.Hosts.{first_of, main_number}
 use Rattle.view_laws.proofs.ballots.DistinctNodes.{apart_same}
 use Rattle.view_laws.proofs.ballots.MadeSets.{in_front}
 use Rattle.view_laws.proofs.memberships.SetTests.{any_in, any_is, filter_in}
-
--- each node begins with a member
-pub first_in : (n node : ℕ) → 1 ≤ node → node ≤ n → IsIn (first_start node) (members n)
-first_in zero node some low = absurd (omega (arith, some, low))
-first_in (suc n) node some low = by (first_in n node some) (node == n + 1) refl
-  where
-    by : (node ≤ n → IsIn (first_start node) (members n)) → (b : Bool) → (node == n + 1) ≡ b
-        → IsIn (first_start node) (members n ++ first_start (n + 1) ∷ [])
-    by before true e = in_append _ (members n) _ (inl (ap first_start (eqb-true node (n + 1) e)))
-    by before false e = in_front _ (members n) _ (before (grind (arith, nat_tests, e, low)))
 
 each_up : (n : ℕ) → Each (λ (member : Member). member.node ≤ n) (members n)
 each_up n = each_from _ (members n) (λ member is. let one = first_of n member is in
@@ -86,12 +77,6 @@ module _ (start : Start) where
   node_low none_starts me there =
       let first = first_of start.shape.nodes me (made_begins start none_starts me there) in
       subst (λ (m : Member). m.node ≤ start.shape.nodes) (sym first.is) first.low
-
-  -- it is the first one of its node
-  pub first_again : NobodyStarts start → (me : Member) → IsIn me (made start) → first_start me.node ≡ me
-  first_again none_starts me there =
-      let first = first_of start.shape.nodes me (made_begins start none_starts me there) in
-      ap first_start (ap (λ (m : Member). m.node) first.is) ∙ sym first.is
 
   -- two of one main host are one
   pub main_same : NobodyStarts start → (one other : Member) → IsIn one (made start) → IsIn other (made start)

@@ -17,7 +17,7 @@ use Rattle.world_views.specs.Machine.{comes_rightly, machine, signals_of}
 use Rattle.world_views.specs.Sending.{is_asked}
 use Rattle.view_laws.specs.Runs.{WasInstalled, view_after}
 use Rattle.view_laws.specs.Standing.{HeadersAreInstalled}
-use Rattle.view_laws.proofs.follow.Senders.{each_sent, own_view}
+use Rattle.view_laws.proofs.follow.Senders.{each_from, own_view}
 use Rattle.view_laws.proofs.runs.Step.{host_there}
 use Rattle.view_laws.proofs.runs.ChosenViews.{of_greater, within_less}
 
@@ -106,7 +106,7 @@ module _ (start : Start) where
         (λ x one within.
         subst (WasInstalled start (log_of (machine start) (e ∷ es))) (sym one.view_is)
         (view_now nobody es e come within))
-        (each_sent start e.host (log_of (machine start) es e.host) e);
+        (each_from start e.host (log_of (machine start) es e.host) e);
     closing = λ es e come stops j within.
         of_greater (WasInstalled start (log_of (machine start) (e ∷ es)))
         (view_after start e.host (e ∷ log_of (machine start) es e.host)) e.step.taken.view

@@ -115,12 +115,14 @@ module _ (start : Start) (logs : ℕ → List HostStep) (is_shape : IsShape star
       asks = λ at. subst (Asks start logs y.signal) (sym one.body) (is.asks (sym one.to ∙ at));
     }
 
-    each_sound : ((sent : Outgoing) → IsIn sent (step_after start k log e).effects.sends → (z : Signal)
+    each_sound : NobodyStarts start
+        → ((sent : Outgoing) → IsIn sent (step_after start k log e).effects.sends → (z : Signal)
         → z.member ≡ member_at (made start) k → IsTrueSent sent z)
         → Each (IsSoundSignal start logs) (signals_of start k log e)
-    each_sound is =
+    each_sound nobody is =
         each_map _ _ (signals_of start k log e)
-        (λ y one. one_sound y one (is one.sent one.there y.signal one.member)) (each_sent start k log e)
+        (λ y one. one_sound y one (is one.sent one.there y.signal one.member))
+        (each_sent start k log e nobody)
 
     -- one that is a vote only if it is true is true
     if_vote : (sent : Outgoing) (z : Signal) → (is_vote sent.body ≡ true → IsTrueSent sent z) → IsTrueSent sent z
@@ -296,7 +298,7 @@ module _ (start : Start) (logs : ℕ → List HostStep) (is_shape : IsShape star
 
       pub main_sends : Each (IsSoundSignal start logs) (signals_of start k log e)
       main_sends =
-          each_sound k low log e same (λ sent there z by_k.
+          each_sound k low log e same nobody (λ sent there z by_k.
           if_vote k low log e same sent z (λ vote.
           main_vote sent z (by_k ∙ member_main start nobody w made_w)
           (each_in
@@ -365,7 +367,7 @@ module _ (start : Start) (logs : ℕ → List HostStep) (is_shape : IsShape star
 
     pub shell_sends : TellsNoStart start log e → Each (IsSoundSignal start logs) (signals_of start 0 log e)
     shell_sends silent =
-        each_sound 0 low log e same (λ sent there z by_shell.
+        each_sound 0 low log e same nobody (λ sent there z by_shell.
         if_vote 0 low log e same sent z (λ vote. by sent z
         (each_in
         (λ (sent : Outgoing). tells_start sent.body ≡ false → is_vote sent.body ≡ true
@@ -383,11 +385,12 @@ module _ (start : Start) (logs : ℕ → List HostStep) (is_shape : IsShape star
             (each_in (IsAnswer arbiter one.taken) sent _ (arbiter_answers arbiter one.taken) one.there)
 
   -- Others send no votes.
-  pub other_sends : (k : ℕ) (low : k < hosts start) (log : List HostStep) (e : HostStep) → logs k ≡ e ∷ log
+  pub other_sends : NobodyStarts start → (k : ℕ) (low : k < hosts start) (log : List HostStep) (e : HostStep)
+      → logs k ≡ e ∷ log
       → membership_in (after start k log).parts ≡ None → arbiter_in (after start k log).parts ≡ None
       → Each (IsSoundSignal start logs) (signals_of start k log e)
-  other_sends k low log e same no_membership no_arbiter =
-      each_sound k low log e same (λ sent there z by_k.
+  other_sends nobody k low log e same no_membership no_arbiter =
+      each_sound k low log e same nobody (λ sent there z by_k.
       plain_sent k low log e same sent z
       (each_in (λ (sent : Outgoing). is_vote sent.body ≡ false) sent _
       (others_dont_vote start k log e no_membership no_arbiter) there))
@@ -409,5 +412,5 @@ module _ (start : Start) (logs : ℕ → List HostStep) (is_shape : IsShape star
       by (of_main w there at) = subst Sends (sym at) (λ low same. main_sends nobody w there log e same low) low same
       by (of_other j left at part) =
           subst Sends (sym at) (λ low same.
-          other_sends (suc j) low log e same (no_membership_beside start nobody j left log part)
+          other_sends nobody (suc j) low log e same (no_membership_beside start nobody j left log part)
           (no_arbiter_behind start nobody (suc j) log (omega arith))) low same

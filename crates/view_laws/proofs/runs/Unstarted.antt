@@ -52,7 +52,7 @@ use Rattle.world_views.proofs.SentFacts.{is_stamped}
 use Rattle.world_views.proofs.StepEach.{step_words}
 use Rattle.world_views.proofs.StepWalk.{IsTaken, IsWalked, next_comes}
 use Rattle.view_laws.specs.Unstarted.{AreWithoutStarts, HasNoStart, NobodyBeginsAnew, TellsNoStart}
-use Rattle.view_laws.proofs.follow.Senders.{each_sent}
+use Rattle.view_laws.proofs.follow.Senders.{each_from}
 
 abbrev IsSilent : Outgoing → Type 0
 IsSilent sent = tells_start sent.body ≡ false
@@ -279,7 +279,7 @@ sends_none start h log e =
     each_map _ _ (signals_of start h log e)
     (λ y one. ap asks_start one.body
     ∙ each_in (λ (sent : Outgoing). asks_start sent.body ≡ false) one.sent _ words one.there)
-    (each_sent start h log e)
+    (each_from start h log e)
   where
     words : Each (λ (sent : Outgoing). asks_start sent.body ≡ false) (step_after start h log e).effects.sends
     words =
