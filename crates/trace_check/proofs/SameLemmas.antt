@@ -23,7 +23,6 @@ use Rattle.api_views.specs.Laws.{asks_start}
 use Rattle.node_views.specs.declared.host_body.HostBody.{HostBody}
 use Rattle.node_views.specs.Row.{is_cut, stopping}
 use Rattle.world_core.specs.Hosts.{hosts}
-use Rattle.world_core.specs.Machine.{last_stamp}
 use Rattle.world_core.proofs.MadeFirst.{last_first}
 use Rattle.world_core.specs.Made.{last_of}
 use Rattle.world_core.specs.Marks.{has_mark}

@@ -3,6 +3,7 @@ pub mod HostNumbers
 pub mod LogIndex
 pub mod MadeFirst
 pub mod MemberLemmas
+pub mod MoreStarts
 pub mod Replies
 pub mod SentFacts
 pub mod Stamped

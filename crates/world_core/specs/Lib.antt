@@ -8,6 +8,7 @@ pub mod Lives
 pub mod Machine
 pub mod Made
 pub mod Marks
+pub mod More
 pub mod Quiet
 pub mod Requests
 pub mod Rest

@@ -1,5 +1,5 @@
 -- The latest start of a node is one of those that are made; where nobody starts later, each is the latest of its node.
-use Rattle.std.proofs.Common.{◌≡◌, ◌⊎◌, ◌==◌, ◌∙◌, ℕ, Bool, true, false, List, [], ◌∷◌}
+use Rattle.std.proofs.Common.{◌≡◌, ◌⊎◌, ◌==◌, ◌++◌, ◌∙◌, ℕ, Bool, true, false, List, [], ◌∷◌}
 use Rattle.std.proofs.Common.{refl, ap, sym, inl, inr}
 use Rattle.std.proofs.lemmas.Bool.{eq-eqb, eqb-true}
 use Rattle.std.specs.Prelude.{if◌then◌else◌, Option, None, Some}
@@ -25,7 +25,7 @@ found_behind : (m : Member) (ms : List Member) (node : ℕ) (found : Option Memb
 found_behind m ms node found one = record { member = one.member; is = one.is; there = inr one.there; of = one.of }
 
 -- the last of them is the one before them, or one of them
-last_is : (before : Option Member) (ms : List Member) (node : ℕ)
+pub last_is : (before : Option Member) (ms : List Member) (node : ℕ)
     → (last_of before ms node ≡ before) ⊎ IsFound ms node (last_of before ms node)
 last_is before [] node = inl refl
 last_is before (m ∷ ms) node = by (m.node == node) refl (λ o. last_is o ms node)
@@ -47,6 +47,12 @@ last_is before (m ∷ ms) node = by (m.node == node) refl (λ o. last_is o ms no
         or (inl same) =
             inr (record { member = m; is = same; there = inl refl; of = eqb-true m.node node own })
         or (inr found) = inr (found_behind m ms node (last_of (Some m) ms node) found)
+
+-- where one more stands behind the others
+pub last_behind : (before : Option Member) (made : List Member) (m : Member) (node : ℕ)
+    → last_of before (made ++ m ∷ []) node ≡ (if m.node == node then Some m else last_of before made node)
+last_behind before [] m node = refl
+last_behind before (x ∷ made) m node = last_behind (if x.node == node then Some x else before) made m node
 
 -- where one of them is of the node there is one
 last_some : (m : Member) (before : Option Member) (ms : List Member) → IsIn m ms

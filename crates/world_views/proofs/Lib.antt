@@ -39,3 +39,4 @@ pub mod TakeFacts
 pub mod TakeRight
 pub mod UnscheduledLemmas
 pub mod WorldLemmas
+pub mod more

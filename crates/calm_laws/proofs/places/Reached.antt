@@ -18,15 +18,10 @@ use Rattle.world_core.proofs.MadeFirst.{made_first}
 use Rattle.world_core.proofs.HostNumbers.{beyond_host, no_member, node_host, the_member, made_at, members_length}
 use Rattle.world_core.specs.Hosts.{host_by, host_for, member_at, member_of, number_of, part_by, receiver}
 use Rattle.world_core.specs.Start.{NobodyStarts, Start, made}
-use Rattle.world_views.specs.Hosts.{known, last_of, latest, or_itself, reached}
+use Rattle.world_views.proofs.Latest.{last_behind}
+use Rattle.world_views.specs.Hosts.{known, latest, or_itself, reached}
 use Rattle.calm_laws.specs.Alike.{first}
 use Rattle.calm_laws.specs.Plain.{is_beating, is_main}
-
--- the last member of a node, where one more stands behind the others
-last_behind : (before : Option Member) (made : List Member) (m : Member) (node : ℕ)
-    → last_of before (made ++ m ∷ []) node ≡ (if m.node == node then Some m else last_of before made node)
-last_behind before [] m node = refl
-last_behind before (x ∷ made) m node = last_behind (if x.node == node then Some x else before) made m node
 
 -- the latest start of a node, where all begin the life
 latest_none : (n node : ℕ) → n < node → latest (members n) node ≡ None
