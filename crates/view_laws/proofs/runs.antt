@@ -8,6 +8,7 @@ pub mod Grants
 pub mod Growth
 pub mod Headers
 pub mod MembershipStep
+pub mod MoreStarts
 pub mod NobodyJoins
 pub mod OrderlyBallots
 pub mod Sound

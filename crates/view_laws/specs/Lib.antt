@@ -8,6 +8,7 @@ pub mod Heard
 pub mod HostEvents
 pub mod Kept
 pub mod Members
+pub mod MoreStarts
 pub mod Order
 pub mod Orderly
 pub mod Runs

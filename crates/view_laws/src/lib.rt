@@ -25,7 +25,8 @@ pub use order_laws::{
     actors_have_the_greatest_view, entries_stand_in_order, right_logs_run_in_views,
 };
 pub use run_laws::{
-    nobody_begins_anew, one_view_of_a_number, runs_have_orderly_ballots, views_are_viable,
+    nobody_begins_anew, one_view_of_a_number, right_logs_stay_right, runs_have_orderly_ballots,
+    views_are_viable,
 };
 pub use standing_laws::{
     headers_are_installed, hosts_are_of_their_views, numbers_never_fall, signals_go_to_members,

@@ -1,4 +1,5 @@
 //! Views in runs of the machine, whatever stops and is cut off.
+ghost use Rattle.view_laws.specs.MoreStarts.{LogsStayRight};
 ghost use Rattle.view_laws.specs.Runs.{OneViewOfANumber, RunsHaveOrderlyBallots, ViewsAreViable};
 ghost use Rattle.view_laws.specs.Unstarted.{NobodyBeginsAnew};
 
@@ -25,4 +26,11 @@ pub fn views_are_viable()
 #[tactic(auto, using(crate::proofs::runs::Unstarted::logs_unstarted))]
 pub fn nobody_begins_anew()
     ensures { NobodyBeginsAnew }
+{}
+
+/// Right logs stay right where one later start more stands behind the others, if no step of theirs has a
+/// stamp above that of the start.
+#[tactic(auto, using(crate::proofs::runs::MoreStarts::stay_right))]
+pub fn right_logs_stay_right()
+    ensures { LogsStayRight }
 {}

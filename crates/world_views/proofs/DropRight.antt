@@ -69,6 +69,7 @@ module _ (start : Start) (given : List ApiReply) (w : Whole) (new : Links) (i j 
           stamps = right.sizes.stamps;
           logs = right.sizes.logs;
         };
+        there = right.there;
         local = right.local;
         next = right.next;
         stamps = right.stamps;

@@ -90,6 +90,7 @@ module _ (start : Start) where
           stamps = length-replicate (hosts start) 0;
           logs = each_length (hosts start) no_steps;
         };
+        there = λ h low. inl (made_at_first start nobody h);
         local = λ h low. subst (IsLog (machine start) h) (sym (no_log h)) tt;
         next = λ h. subst (HaveNextStamps start h) (sym (no_log h)) tt;
         stamps = λ h low. get_or-replicate (hosts start) h 0 0 low ∙ ap last_stamp (sym (no_log h));

@@ -8,7 +8,10 @@ use Rattle.frag_map.specs.Layout.{first_layout}
 use Rattle.node_views.specs.declared.host_body.HostBody.{HostBody}
 use Rattle.node_views.specs.Fresh.{fresh_shell}
 use Rattle.run_theory.specs.Links.{taken}
-use Rattle.run_theory.specs.Logs.{IsLog, IsRunning, IsStep}
+use Rattle.run_theory.proofs.Pasts.{past_more, past_self}
+use Rattle.run_theory.proofs.Runs.{there_past}
+use Rattle.run_theory.specs.Lists.{IsPast}
+use Rattle.run_theory.specs.Logs.{IsLog, IsRunning, IsStep, IsThere}
 use Rattle.sig_core.specs.declared.reply.ApiReply.{ApiReply}
 use Rattle.sig_core.specs.Step.{Effects, Step}
 use Rattle.world_core.proofs.LogIndex.{label_other, label_own, logs_at_other, logs_at_own, with_step_length}
@@ -80,6 +83,14 @@ module _ (start : Start) (given : List ApiReply) (w : Whole) (lost : ℕ) (x : A
 
   pub logs_are : (k : ℕ) → logs_at (entered w lost x t).logs k ≡ log_with w x t k
   logs_are k = ap (λ (v : Whole). logs_at v.logs k) (entered_is start given w lost x t ready) ∙ logs_behind k
+
+  -- the shell's log only grows
+  grows : IsPast (logs_at w.logs 0) (log_with w x t 0)
+  grows = go (x.to == 0)
+    where
+      go : (b : Bool) → IsPast (logs_at w.logs 0) (grown b 0)
+      go true = past_more e (past_self (logs_at w.logs 0))
+      go false = past_self (logs_at w.logs 0)
 
   own_next : e.step.stamp ≡ max (last_of start x.to (logs_at w.logs x.to)) x.signal.stamp + 1
   own_next =
@@ -234,6 +245,9 @@ module _ (start : Start) (given : List ApiReply) (w : Whole) (lost : ℕ) (x : A
           stamps = length-set w.stamps x.to (step_made w x t).stamp ∙ ready.sizes.stamps;
           logs = with_step_length w.logs x.to (step_made w x t) ∙ ready.sizes.logs;
         };
+        there = λ k low.
+            subst (IsThere (machine start) k) (sym (logs_behind 0))
+            (there_past (machine start) k grows (ready.all_there k low));
         local = λ k low. subst (IsLog (machine start) k) (sym (logs_behind k)) (local_behind k low);
         next = λ k. subst (HaveNextStamps start k) (sym (logs_behind k)) (next_behind k);
         stamps = λ k low. stamps_behind k low ∙ ap last_stamp (sym (logs_behind k));

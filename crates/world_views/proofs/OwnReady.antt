@@ -149,6 +149,7 @@ module _ (start : Start) (given : List ApiReply) (w : Whole) (right : IsRight st
           step = is;
           comes = subst (λ b. comes_rightly b start h (logs_at w.logs h) wish.signal) (sym asks) (asks_own work own);
           starts = starts_nobody start (logs_at w.logs h) next h none;
+          all_there = right.there;
           local = right.local;
           next = right.next;
           stamps = right.stamps;

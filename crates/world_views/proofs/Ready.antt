@@ -3,7 +3,7 @@ use Rattle.std.proofs.Common.{◌≡◌, ℕ, ◌<◌, ◌≤◌, List, [], ◌�
 use Rattle.std.specs.Prelude.{if◌then◌else◌, ◌==◌, slice_index_or}
 use Rattle.run_theory.specs.Links.{IsGiven, taken}
 use Rattle.run_theory.specs.Lists.{Each}
-use Rattle.run_theory.specs.Logs.{IsLog}
+use Rattle.run_theory.specs.Logs.{IsLog, IsThere}
 use Rattle.sig_core.specs.declared.reply.ApiReply.{ApiReply}
 use Rattle.sig_core.specs.declared.signal.Signal.{Signal}
 use Rattle.sig_core.specs.Step.{Step}
@@ -56,6 +56,7 @@ pub record IsReady (start : Start) (given : List ApiReply) (w : Whole) (x : Addr
     pub step : IsStepOf x.to (step_by x.to (after start x.to (logs_at w.logs x.to)) x.signal) t
     pub comes : comes_rightly (is_asked x.to x.signal) start x.to (logs_at w.logs x.to) x.signal
     pub starts : StartsRightly start x.to (logs_at w.logs x.to) (host_step w x t)
+    pub all_there : (h : ℕ) → h < hosts start → IsThere (machine start) h (logs_at w.logs 0)
     pub local : (h : ℕ) → h < hosts start → IsLog (machine start) h (logs_at w.logs h)
     pub next : (h : ℕ) → HaveNextStamps start h (logs_at w.logs h)
     pub stamps : (h : ℕ) → h < hosts start → slice_index_or w.stamps h 0 ≡ last_stamp (logs_at w.logs h)

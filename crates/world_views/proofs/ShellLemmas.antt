@@ -47,6 +47,7 @@ module _ (start : Start) (given : List ApiReply) (w : Whole) (right : IsRight st
           stamps = right.sizes.stamps;
           logs = right.sizes.logs;
         };
+        there = right.there;
         local = right.local;
         next = right.next;
         stamps = right.stamps;

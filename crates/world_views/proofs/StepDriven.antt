@@ -6,8 +6,8 @@ use Rattle.std.proofs.lemmas.Bool.{true≢false, cases_lt}
 use Rattle.std.proofs.lemmas.List.{append-nil}
 use Rattle.run_theory.proofs.Pasts.{past_more, past_nil, past_self, past_trans}
 use Rattle.run_theory.specs.Links.{IsGiven, taken}
-use Rattle.run_theory.specs.Lists.{IsPast}
-use Rattle.run_theory.specs.Logs.{IsLog}
+use Rattle.run_theory.specs.Lists.{HasEntry, IsPast}
+use Rattle.run_theory.specs.Logs.{IsLog, IsThere}
 use Rattle.run_theory.specs.Runs.{AreLogs, IsWithin}
 use Rattle.sig_core.specs.declared.reply.ApiReply.{ApiReply}
 use Rattle.sig_core.specs.Step.{Step}
@@ -22,7 +22,6 @@ use Rattle.world_views.specs.Driven.{HaveGrown, IsDriven}
 use Rattle.world_views.specs.Links.{Links}
 use Rattle.world_views.specs.Machine.{machine}
 use Rattle.world_views.specs.Requests.{AreAskedAtQuiet, QuietBefore, requests}
-use Rattle.world_core.proofs.MadeFirst.{made_at_first}
 use Rattle.world_views.specs.Right.{IsRight}
 use Rattle.world_views.specs.Sending.{is_asked}
 use Rattle.world_views.specs.World.{Whole, entered}
@@ -36,7 +35,7 @@ module _ (start : Start) where
   right_logs given w right =
       record {
         local = λ h. local (cases_lt h (hosts start));
-        there = λ h has. inl (made_at_first start right.nobody h);
+        there = λ h has. there has (cases_lt h (hosts start));
         linked = λ i j. linked i j (cases_lt i (hosts start)) (cases_lt j (hosts start));
       }
     where
@@ -44,6 +43,12 @@ module _ (start : Start) where
       local {h} (inl low) = right.local h low
       local {h} (inr high) =
           subst (IsLog (machine start) h) (sym (logs_at_past w.logs h (omega (arith, high, right.sizes.logs)))) tt
+
+      there : {h : ℕ} → HasEntry (logs_at w.logs h) → (h < hosts start) ⊎ (hosts start ≤ h)
+          → IsThere (machine start) h (logs_at w.logs 0)
+      there {h} has (inl low) = right.there h low
+      there {h} has (inr high) =
+          absurd (subst HasEntry (logs_at_past w.logs h (omega (arith, high, right.sizes.logs))) has)
 
       -- what nothing was taken of may have given that
       none : (i j : ℕ) → taken (machine start) i (logs_at w.logs j) ≡ []

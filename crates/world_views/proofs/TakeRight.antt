@@ -239,6 +239,7 @@ module _ (start : Start) (given : List ApiReply) (w : Whole) (right : IsRight st
             comes = subst (λ b. comes_rightly b start at.to log at.signal) (sym fact.plain)
                 (subst (λ n. has_cut start at.to log n ≡ false) (sym sender_is) (on_open kept).takes);
             starts = starts_unasked start log (host_step (left_of w t) arrived step) at.to fact.plain;
+            all_there = right.there;
             local = right.local;
             next = right.next;
             stamps = right.stamps;

@@ -252,6 +252,7 @@ told_right start given w t reply same right =
         stamps = was.sizes.stamps;
         logs = was.sizes.logs;
       };
+      there = was.there;
       local = was.local;
       next = was.next;
       stamps = was.stamps;

@@ -2,7 +2,7 @@
 use Rattle.std.specs.Prelude.{◌≡◌, ◌<◌, ◌≤◌, ℕ, Bool, true, false, List, [], ◌∷◌, ◌++◌, map, reverse, slice_index_or}
 use Rattle.run_theory.specs.Links.{IsClosing, IsGiven, sent, taken}
 use Rattle.run_theory.specs.Lists.{Each, IsPast}
-use Rattle.run_theory.specs.Logs.{IsLog}
+use Rattle.run_theory.specs.Logs.{IsLog, IsThere}
 use Rattle.sig_core.specs.declared.reply.ApiReply.{ApiReply}
 use Rattle.sig_core.specs.declared.signal.Signal.{Signal}
 use Rattle.world_core.specs.Hosts.{hosts}
@@ -57,6 +57,8 @@ pub record IsRight (start : Start) (given : List ApiReply) (w : Whole) : Type 0 
   pub made : w.made ≡ made start
   pub nobody : NobodyStarts start
   pub sizes : IsOf (hosts start) w
+  -- it begins the life, or the shell's host has made it
+  pub there : (h : ℕ) → h < hosts start → IsThere (machine start) h (logs_at w.logs 0)
   pub local : (h : ℕ) → h < hosts start → IsLog (machine start) h (logs_at w.logs h)
   pub next : (h : ℕ) → HaveNextStamps start h (logs_at w.logs h)
   pub stamps : (h : ℕ) → h < hosts start → slice_index_or w.stamps h 0 ≡ last_stamp (logs_at w.logs h)
