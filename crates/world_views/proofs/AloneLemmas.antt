@@ -77,7 +77,7 @@ module _ (start : Start) (w : Whole) (t : Arrival) (sound : IsSound start w)
         let wish : Addressed = halting a x.to (body_at v.bodies x.to).standing.view cause in
         let by : Step HostBody = stopping (body_at a.bodies x.to) cause in
         one_more w u x.to (step_made a wish by) there
-            (ap (λ (b : Whole). b.logs) failed.is ∙ logs_of_entered a 0 wish by)
+        (ap (λ (b : Whole). b.logs) failed.is ∙ logs_of_entered a 0 wish by)
         (links_behind 0 wish by a.bodies u failed.is)
         (λ unasked. absurd (true≢false (sym (ap (λ b. b && true) (eq-eqb x.to x.to refl)) ∙ unasked)))
         (λ count stops.

@@ -80,7 +80,7 @@ module _ {A : Type 0} (p : A → Bool) where
   is_first [] = tt
   is_first (x ∷ xs) =
       subst (λ at. IsFirst at (x ∷ xs)) (sym (position-cons p x xs))
-          (placed x xs (p x) refl (position p xs) (is_first xs))
+      (placed x xs (p x) refl (position p xs) (is_first xs))
 
   -- nothing stands before the first that does
   pub before_first : (xs : List A) (at : ℕ) → position p xs ≡ Some at → list_any p (take at xs) ≡ false

@@ -98,10 +98,13 @@ module _ (start : Start) (late : Late) where
   closing_more : (i j : ℕ) → i < hosts start → j < hosts start → (log : List HostStep) (e : HostStep) → e.host ≡ i
       → closing (more start late) i log e j ≡ closing start i log e j
   closing_more i j low below log e at =
-      ap (λ (by : Sender). record { to = j; signal = headed by 0 (record {
-        to = to_more;
-        body = Host (Closed (cause_in e.step.marks));
-      }) })
+      ap (λ (by : Sender). record {
+        to = j;
+        signal = headed by 0 (record {
+          to = to_more;
+          body = Host (Closed (cause_in e.step.marks));
+        });
+      })
       (sender_more start late e.host (subst (λ k. k < hosts start) (sym at) low) e.step.stamp view_now
       ∙ ap (λ (s : node.HostBody).
       sender (made start) e.host e.step.stamp (greater_view s.standing.view e.step.taken.view))

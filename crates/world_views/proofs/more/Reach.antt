@@ -1,7 +1,8 @@
 -- Where a host sends something, as one place more is nobody's: to the same host, or to no host that there is, before as
 -- after.
 use Rattle.std.proofs.Common.{◌≡◌, ◌≢◌, ◌⊎◌, ◌==◌, ◌&&◌, ◌+◌, ◌*◌, ◌/◌, ◌<◌, ◌≤◌, ◌++◌, ◌∙◌, ℕ, zero, suc, nat_lt}
-use Rattle.std.proofs.Common.{Bool, true, false, List, [], ◌∷◌, cond, filter, length, not, refl, ap, sym, subst, arith, inl, inr}
+use Rattle.std.proofs.Common.{Bool, true, false, List, [], ◌∷◌, cond, filter, length, not, refl, ap, sym, subst}
+use Rattle.std.proofs.Common.{arith, inl, inr}
 use Rattle.std.proofs.lemmas.Bool.{cases_lt, eq-eqb, eqb-true, lt-ltb, le-ltb, ne_eqb, true≢false}
 use Rattle.std.proofs.lemmas.List.{length_push}
 use Rattle.std.proofs.lemmas.List.Folds.{position_or_len_push}
@@ -166,7 +167,7 @@ reached_more ms h view to = by (to.node == 0) refl
     by : (b : Bool) → (to.node == 0) ≡ b
         → Reaches (length ms * 3 + 1) (if b then 0 else host_by ms (part_of to.block) (known ms h view to.node))
         (if b then 0 else host_by (ms ++ nobody ∷ []) (part_of to.block)
-            (known (ms ++ nobody ∷ []) h view to.node))
+        (known (ms ++ nobody ∷ []) h view to.node))
     by true shell = inl (refl, omega arith)
     by false off =
         let some : to.node ≢ 0 = λ none. true≢false (sym (ap (λ k. k == 0) none) ∙ off) in

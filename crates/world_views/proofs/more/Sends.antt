@@ -134,7 +134,8 @@ module _ (ms : List Member) (h : ℕ) (standing : Standing) where
           ∙ go (is_kept_back h standing (was sent) sent)
         where
           go : (kept : Bool)
-              → filter (goes_low n) (routed_if kept (routed (was sent) sent) (routed_all (ms ++ nobody ∷ []) h standing sends))
+              → filter (goes_low n)
+              (routed_if kept (routed (was sent) sent) (routed_all (ms ++ nobody ∷ []) h standing sends))
               ≡ filter (goes_low n) (routed_if kept (routed (was sent) sent) (routed_all ms h standing sends))
           go true = rest
           go false =

@@ -36,7 +36,7 @@ returns-in-Ok-clause-ok c =
     c.get-2.ensures
     c.in-Ok.ensures.taken) in
     has_moved c.enter_step.result w (whole_of c.enter_step.new.self) (arriving h c.args.signal) c.step.new.self
-        c.step.new.out at
+    c.step.new.out at
     c.requires.there.bodies taken c.requires.given c.enter_step.ensures.ok
 
 pub returns-in-Err-clause-ok : goal.returns-in-Err-clause-ok

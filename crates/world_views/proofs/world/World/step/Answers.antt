@@ -51,5 +51,5 @@ pub returns-clause-made : goal.returns-clause-made
 returns-clause-made c =
     step_more (whole_of c.args.self.now) (whole_of c.take_if.new.self)
     (arrival c.in-Some.arrived.host c.in-Some.arrived.signal c.take.new.self) c.is_discarded-handled.result
-        c.get.result.now
+    c.get.result.now
     c.requires c.in-Some.ensures.taken c.in_ok-take_if.ensures.ok c.get.ensures c.is_discarded-handled.ensures
