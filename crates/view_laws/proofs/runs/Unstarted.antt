@@ -87,11 +87,11 @@ module _ (p : ShellPart) (none : p.client.starting ≡ None) (x : Signal) where
   -- these blocks know of starts what the client's side did before
   module _ (q : ShellPart) (later : q.client.later ≡ p.client.later) (unasked : q.client.starting ≡ None)
       (before : List Outgoing) (silent : Each IsSilent before) where
-    abbrev Comes : Step Parts → Type 0
-    Comes step = IsUnasked step.state (before ++ step.effects.sends)
+    abbrev IsBehind : Step Parts → Type 0
+    IsBehind step = IsUnasked step.state (before ++ step.effects.sends)
 
     client_comes : NobodyBegins q.client (client_row q.client x) ⊎ SomebodyBegins q.client x (client_row q.client x)
-        → Comes (in_shell (in_client q (client_row q.client x)))
+        → IsBehind (in_shell (in_client q (client_row q.client x)))
     client_comes (inl nobody) =
         record {
           part = record { client = (client_row q.client x).state; arbiter = q.arbiter };
@@ -121,13 +121,13 @@ module _ (p : ShellPart) (none : p.client.starting ≡ None) (x : Signal) where
               (ap (λ (c : ClientState). c.starting) same ∙ unasked, each_append IsSilent before more silent quiet);
         }
 
-    row_unasked : Comes (parts_row (Shell q) x)
+    row_unasked : IsBehind (parts_row (Shell q) x)
     row_unasked =
-        parts_outcomes (Shell q) x Comes (record {
+        parts_outcomes (Shell q) x IsBehind (record {
           stays = still (Shell q) [] q refl refl tt;
           client = λ own is to.
               let same : q ≡ own = cc in
-              subst (λ (o : ShellPart). Comes (in_shell (in_client o (client_row o.client x)))) same
+              subst (λ (o : ShellPart). IsBehind (in_shell (in_client o (client_row o.client x)))) same
               (client_comes (starts_asked q.client x));
           arbiter = λ own is to.
               let same : q ≡ own = cc in
@@ -333,11 +333,11 @@ had_each start [] each log past = subst (HasNoStart start) (none past.newer past
     none : (newer : List HostStep) → [] ≡ newer ++ log → [] ≡ log
     none [] is = is
     none (e ∷ newer) is = absurd cc
-had_each start (f ∷ whole) each log past = by (past_cases f past)
+had_each start (f ∷ whole) each log past = by (past_cases f past) (had_each start whole each.1 log)
   where
-    by : (f ∷ whole ≡ log) ⊎ IsPast log whole → HasNoStart start log
-    by (inl same) = subst (HasNoStart start) same each.0
-    by (inr inside) = had_each start whole each.1 log inside
+    by : (f ∷ whole ≡ log) ⊎ IsPast log whole → (IsPast log whole → HasNoStart start log) → HasNoStart start log
+    by (inl same) further = subst (HasNoStart start) same each.0
+    by (inr inside) further = further inside
 
 without : (start : Start) (nobody : NobodyStarts start) (logs : ℕ → List HostStep) → EachUnstarted start (logs 0)
     → AreWithoutStarts start logs
