@@ -240,16 +240,16 @@ module _ (start : Start) (h : ℕ) (log : List HostStep) (e : HostStep)
     (aside : Each IsAside
     (routed_all (made start) h (after start h (e ∷ log)).standing (step_after start h log e).effects.sends))
     (j : ℕ) (takes : is_beating j ≡ false) where
-  all_aside : Each IsAside (routed_after start h log e)
-  all_aside = subst (Each IsAside) (sym (routed_first start nobody h log e)) aside
+  goes_aside : Each IsAside (routed_after start h log e)
+  goes_aside = subst (Each IsAside) (sym (routed_first start nobody h log e)) aside
 
   pub sent_same : stops_by e.step.marks ≡ false → sent (machine start) h j (e ∷ log) ≡ sent (machine start) h j log
   sent_same goes_on =
       sent_going_on start h j log e goes_on
       ∙ aside_put start j takes
       (sender (made start) h e.step.stamp (after start h (e ∷ log)).standing.view) (sent_count start h log)
-      (routed_after start h log e) (sent (machine start) h j log) all_aside
+      (routed_after start h log e) (sent (machine start) h j log) goes_aside
 
   pub count_same : sent_count start h (e ∷ log) j ≡ sent_count start h log j
   count_same =
-      aside_count start j takes (sent_count start h log) (routed_after start h log e) all_aside
+      aside_count start j takes (sent_count start h log) (routed_after start h log e) goes_aside
