@@ -30,7 +30,6 @@ pub fn nobody_begins_anew()
 
 /// Right logs stay right where one later start more stands behind the others, if no step of theirs has a
 /// stamp above that of the start.
-#[tactic(auto, using(crate::proofs::runs::MoreStarts::stay_right))]
 pub fn right_logs_stay_right()
     ensures { LogsStayRight }
 {}
