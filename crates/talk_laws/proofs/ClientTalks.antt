@@ -55,6 +55,8 @@ use Rattle.api_views.specs.State.{ClientState}
 use Rattle.world_core.specs.Requests.{request_in}
 use Rattle.api_views.proofs.Outcomes.{ClientOutcomes, IsAsked, client_outcomes, stopped_as}
 use Rattle.api_views.proofs.Walk.{anew_all_each, asking_each, more_each, over_each, rounds_each, starting_each}
+use Rattle.api_views.specs.Starting.{starting_of}
+use Rattle.api_views.specs.Starts.{next_start}
 use Rattle.answer_laws.proofs.ApiSteps.{is_calm}
 
 abbrev pub IsPlain : Outgoing → Type 0
@@ -276,7 +278,8 @@ module _ (s : ClientState) (x : Signal) (R : Talk) (forms : TalkForms s.api.open
     closed = λ closing epoch is. tells _ (closed_mute closing epoch);
     asks_anew = λ is. forms.keeps _ (anew_all_each IsPlain asks_plain (λ node member own. refl) s x.view) still;
     starts = λ node own is free.
-        forms.keeps _ (starting_each IsPlain (λ node member own. refl) _ (president s.api.view)) still;
+        forms.keeps _ (starting_each IsPlain (λ node member own. refl) (starting_of (next_start s node).member own)
+        (president s.api.view)) still;
     started = λ member is waits. tells _ refl;
     unjoins = λ member is waits. forms.keeps _ (refl, tt) still;
     drains = λ tx is. rests;

@@ -34,7 +34,7 @@ use Rattle.world_views.specs.Machine.{machine, signals_of, step_after}
 use Rattle.view_laws.specs.Order.{is_sound, sound_machine}
 use Rattle.view_laws.specs.Runs.{view_after}
 use Rattle.view_laws.specs.Votes.{main_of}
-use Rattle.view_laws.proofs.follow.Senders.{each_from}
+use Rattle.view_laws.proofs.follow.Senders.{each_from as sent_from}
 use Rattle.moment_laws.specs.Moments.{IsMoment, current, logs_of}
 use Rattle.moment_laws.specs.Parts.{IsPassed}
 use Rattle.moment_laws.specs.PartSteps.{PartEnters, PartTakes, handles, ignores, installs, remains, tc_kind}
@@ -335,7 +335,7 @@ module _ (start : Start) (all : ℕ → List HostStep) (e : HostStep) (es : List
           each_in (λ (o : Outgoing). o.body ≡ Takeover TakeoverEnd → AreStanding start new) one.sent
           (step_after start h log e).effects.sends
           (ends_over at (ap (λ (v : View). v.number) (sym one.view_is) ∙ number)) one.there (sym one.body ∙ body))
-          (each_from start h log e))))
+          (sent_from start h log e))))
           (old_over j))
           (λ other. old_over j)
 

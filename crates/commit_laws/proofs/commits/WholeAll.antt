@@ -20,7 +20,7 @@ use Rattle.world_core.specs.Steps.{Addressed, HostStep}
 use Rattle.world_views.specs.Machine.{after, signals_of, step_after}
 use Rattle.view_laws.specs.Order.{is_sound, sound_machine}
 use Rattle.view_laws.specs.Runs.{view_after}
-use Rattle.view_laws.proofs.follow.Senders.{IsSentFrom, each_from}
+use Rattle.view_laws.proofs.follow.Senders.{IsSentFrom, each_from as sent_from}
 use Rattle.moment_laws.specs.Moments.{IsMoment, logs_of}
 use Rattle.moment_laws.specs.Places.{ldm_of}
 use Rattle.moment_laws.proofs.MomentSignals.{EachSent, sent_next}
@@ -192,7 +192,7 @@ module _ (start : Start) (all : ℕ → List HostStep) (e : HostStep) (es : List
             (signals_of start e.host (old e.host) e)
             (each_map _ (λ (y : Addressed). GoesWholeIf start new y.signal.view y.signal.body)
             (signals_of start e.host (old e.host) e) comes
-            (each_from start e.host (old e.host) e)))
+            (sent_from start e.host (old e.host) e)))
 
 pub commits_go_whole : CommitsGoWhole
 commits_go_whole start all [] moment = λ i j. tt

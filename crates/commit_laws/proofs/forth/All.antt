@@ -38,7 +38,7 @@ use Rattle.world_views.proofs.FreshBodies.{none_pending}
 use Rattle.world_views.proofs.AllBegin.{started_behind}
 use Rattle.view_laws.specs.Order.{is_sound, sound_machine}
 use Rattle.view_laws.proofs.eras.Shapes.{shape_stays}
-use Rattle.view_laws.proofs.follow.Senders.{IsSentFrom, each_from}
+use Rattle.view_laws.proofs.follow.Senders.{IsSentFrom, each_from as sent_from}
 use Rattle.moment_laws.specs.Moments.{IsMoment, logs_of}
 use Rattle.moment_laws.specs.Places.{ldm_of, tc_of}
 use Rattle.moment_laws.proofs.MomentHosts.{HasNoTc, TcHost, of_none, of_tc, part_some, tc_host_is}
@@ -354,7 +354,7 @@ module _ (start : Start) where
             (λ goes.
             each_filter (SpeaksTruly start new) (is_sound start) (signals_of start e.host (old e.host) e)
             (each_map _ (SpeaksTruly start new) (signals_of start e.host (old e.host) e) sent_true
-            (each_from start e.host (old e.host) e)));
+            (sent_from start e.host (old e.host) e)));
         known = is_now.known;
       }
 

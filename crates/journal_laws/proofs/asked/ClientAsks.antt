@@ -36,6 +36,8 @@ use Rattle.api_views.specs.Rounds.{all_rounds, ticked_if as last_ticked_if}
 use Rattle.api_views.specs.State.{ClientState}
 use Rattle.api_views.proofs.Outcomes.{ClientOutcomes, client_outcomes, stopped_as}
 use Rattle.api_views.proofs.Walk.{anew_all_each, asking_each, more_each, over_each, rounds_each, starting_each}
+use Rattle.api_views.specs.Starting.{starting_of}
+use Rattle.api_views.specs.Starts.{next_start}
 use Rattle.journal_laws.proofs.events.Writable.{IsWork}
 use Rattle.journal_laws.proofs.asked.WellAsked.{AsksWell, IsWellAsked, IsWellRequested}
 
@@ -152,8 +154,11 @@ module _ (s : ClientState) (x : Signal) (all : ClientWell s) (asked : IsWellAske
     closes = λ closing none. (all, asking_each AsksWell asks_well closing (president s.api.view));
     closed = λ closing epoch is. (all, tt);
     asks_anew = λ is. (all, anew_all_each AsksWell asks_well (λ node member own. tt) s x.view);
-    starts = λ node own is free.
-        (all, starting_each AsksWell (λ node member own. tt) _ (president s.api.view));
+    starts = λ node own is free. (
+      all,
+      starting_each AsksWell (λ node member own. tt) (starting_of (next_start s node).member own)
+          (president s.api.view),
+    );
     started = λ member is waits. (all, tt);
     unjoins = λ member is waits. (all, (tt, tt));
     drains = λ tx is. (all, tt);

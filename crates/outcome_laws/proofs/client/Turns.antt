@@ -53,6 +53,8 @@ use Rattle.api_views.specs.Rounds.{all_rounds, ticked_if as last_ticked_if}
 use Rattle.api_views.specs.State.{ClientState}
 use Rattle.api_views.proofs.Outcomes.{ClientOutcomes, client_outcomes, stopped_as}
 use Rattle.api_views.proofs.Walk.{anew_all_each, asking_each, more_each, over_each, rounds_each, starting_each}
+use Rattle.api_views.specs.Starting.{starting_of}
+use Rattle.api_views.specs.Starts.{next_start}
 use Rattle.outcome_laws.specs.Counts.{is_committing}
 
 -- a signal of the client's side that tells nothing of a transaction: all are that but the wish to commit
@@ -221,7 +223,8 @@ module _ (s : ClientState) (x : Signal) (R : List OpenTransaction → List Outgo
     closed = λ closing epoch is. rests;
     asks_anew = λ is. forms.keeps _ (anew_all_each IsPlain asks_plain (λ node member own. refl) s x.view);
     starts = λ node own is free.
-        forms.keeps _ (starting_each IsPlain (λ node member own. refl) _ (president s.api.view));
+        forms.keeps _ (starting_each IsPlain (λ node member own. refl) (starting_of (next_start s node).member own)
+        (president s.api.view));
     started = λ member is waits. rests;
     unjoins = λ member is waits. forms.keeps _ (refl, tt);
     drains = λ tx is. rests;

@@ -22,7 +22,7 @@ use Rattle.gcp_master.specs.declared.phase.Run.{Run}
 use Rattle.world_core.specs.Start.{Start, made}
 use Rattle.world_core.specs.Steps.{Addressed, HostStep}
 use Rattle.world_views.specs.Machine.{signals_of, step_after}
-use Rattle.view_laws.proofs.follow.Senders.{IsSentFrom, each_from}
+use Rattle.view_laws.proofs.follow.Senders.{IsSentFrom, each_from as sent_from}
 use Rattle.view_laws.specs.Order.{is_sound, sound_machine}
 use Rattle.view_laws.specs.Runs.{view_after}
 use Rattle.view_laws.specs.Votes.{main_of}
@@ -290,4 +290,4 @@ module _ (start : Start) (all : ℕ → List HostStep) (e : HostStep) (es : List
         each_filter (IsTrueOrder start new) (is_sound start) (signals_of start e.host (old e.host) e)
         (each_map (IsSentFrom (made start) e.host (view_after start e.host (e ∷ old e.host)) sends)
         (IsTrueOrder start new) (signals_of start e.host (old e.host) e) sent_true
-        (each_from start e.host (old e.host) e)))
+        (sent_from start e.host (old e.host) e)))
