@@ -11,6 +11,6 @@ loop-member-preserved c =
     let items = c.as_slice-member-items.result.now in
     let before = so_far c.loop-member.portion c.loop-member.out in
     let next = so_far c.offer_copy.new.portion c.offer_copy.new.out in
-    let more = map_offer_more (copy_of c.args.known) items c.loop-member.member-index nobody before next
+    let more = map_offer_more (copy_of c.args.known.now) items c.loop-member.member-index nobody before next
     c.loop-member-test.true c.offer_copy.ensures.offered in
     record { left = more ∙ c.loop-member.invariant.left; fits = c.offer_copy.ensures.fits }
