@@ -153,7 +153,12 @@ module _ (start : Start) (given : List ApiReply) (shape : IsShape start.shape) (
       standing = ease;
       parts = (
         ap (λ (c : ClientState).
-            record c { api = with_replies (about p.client.api None) []; closing = Some closing; own = true }) near.0,
+            record c {
+              api = with_replies (about p.client.api None) [];
+              closing = Some closing;
+              own = true;
+              own_start = false;
+            }) near.0,
         (
           near.1.0,
           (
