@@ -6,7 +6,7 @@ use Rattle.sig_core.specs.declared.request.ApiReq.{ApiReq}
 use Rattle.world_core.specs.Start.{NobodyStarts, Start}
 use Rattle.world_views.specs.declared.schedule.ScheduleFault.{ScheduleFault}
 use Rattle.world_views.specs.declared.schedule.ScheduleFault.TheVariants as schedule
-use Rattle.world_views.specs.Driven.{HasAsked, IsDriven, IsSound, IsStepped, IsWorld}
+use Rattle.world_views.specs.Driven.{IsAsked, IsDriven, IsSound, IsStepped, IsWorld}
 use Rattle.world_views.specs.Schedule.{LeavesRight}
 use Rattle.world_views.specs.World.{Whole, new_world}
 use Rattle.world_views.proofs.WorldLemmas.{asked_world, begun_world, driven_world, stays_sound}
@@ -17,7 +17,7 @@ begun_ok (Ok w) whole start nobody same = begun_world (whole w) start nobody sam
 begun_ok (Err fault) whole start nobody same = tt
 
 pub asked_ok : (result : Result (Unit {0}) NoMemory) (request : ApiReq) (w t : Whole) → IsWorld w
-    → ((start : Start) → IsSound start w → OnOk result (HasAsked start request w t)) → OnOk result (IsWorld t)
+    → ((start : Start) → IsSound start w → OnOk result (IsAsked start request w t)) → OnOk result (IsWorld t)
 asked_ok (Ok done) request w t is asked = asked_world request w t asked is
 asked_ok (Err fault) request w t is asked = tt
 

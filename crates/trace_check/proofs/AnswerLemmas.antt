@@ -123,8 +123,8 @@ because bytes shape life run logs why (NotStep host step cause) told merged orde
       made = made;
       differs = differs.0;
       caused = differs.1;
-      wrong = refused (start_of shape life) life.logs logs run why (record { host = host; step = step }) ordered made
-          unwanted differs.0;
+      wrong = refused (start_of shape life) refl life.logs logs run why (record { host = host; step = step }) ordered
+          made unwanted differs.0;
     }
 because bytes shape life run logs why NoMemory told merged ordered made unwanted differs = tt
 because bytes shape life run logs why NotHosts told merged ordered made unwanted differs = absurd differs

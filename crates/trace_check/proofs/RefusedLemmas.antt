@@ -134,7 +134,8 @@ module _ (start : Start) where
 
 -- ---- a right life, step by step
 
-module _ (start : Start) (told : List HostLog) (right : AreOfRun start told) (unbroken : IsUnbroken told)
+module _ (start : Start) (nobody : NobodyStarts start) (told : List HostLog) (right : AreOfRun start told)
+    (unbroken : IsUnbroken told)
     (none : LogStep) (run : List RunStep) (ordered : IsRunOf start told (events_of told none run)) where
   abbrev es : List RunStep → List HostStep
   es places = events_of told none places
@@ -237,7 +238,7 @@ module _ (start : Start) (told : List HostLog) (right : AreOfRun start told) (un
     -- it is done as told, and then the world has made it too
     goes : (t : Whole) → HasGone start w t → Does start w h e.taken t → State t (ps ++ p ∷ [])
     goes t gone does =
-        go (does_so start told right unbroken w t sound gone h low f (log_of (machine start) (es qs) h) own_part step
+        go (does_so start nobody told right unbroken w t sound gone h low f (log_of (machine start) (es qs) h) own_part step
         given
         does)
       where
@@ -262,7 +263,7 @@ module _ (start : Start) (told : List HostLog) (right : AreOfRun start told) (un
     -- and it can be done
     not_stopped : (why : StepFault) → Cannot why start w h e.taken → ⊥
     not_stopped why cannot =
-        cannot_not start told right unbroken w w sound
+        cannot_not start nobody told right unbroken w w sound
         (record { sound = sound; more = λ k. past_self (logs_at w.logs k) }) h low f
         (log_of (machine start) (es qs) h) own_part step given why cannot
 
@@ -293,10 +294,10 @@ module _ (start : Start) (told : List HostLog) (right : AreOfRun start told) (un
   fresh : Same (new_world start) []
   fresh k = none_yet start k
 
-  not_run : NobodyStarts start → (t : Whole) (why : Option StepFault) (made : List HostLog) (place : RunStep)
+  not_run : (t : Whole) (why : Option StepFault) (made : List HostLog) (place : RunStep)
       → DidAll start told run (new_world start) t why → made ≡ t.logs → any_wants made ≡ false
       → DiffersFirst told made run place → ⊥
-  not_run nobody t None made place did is unwanted differs =
+  not_run t None made place did is unwanted differs =
       go (all [] run [] (new_world start) t (sym (append-nil run)) (fresh_sound start nobody) (inl fresh) did).1
     where
       h : ℕ
@@ -317,7 +318,7 @@ module _ (start : Start) (told : List HostLog) (right : AreOfRun start told) (un
             in_made = ap (λ es. slice_get es place.step) steps ∙ there.1;
             bytes = refl;
           })
-  not_run nobody t (Some why) made place did is unwanted differs =
+  not_run t (Some why) made place did is unwanted differs =
       let cut = split_at run did.at did.place did.is in
       let came = all [] (take did.at run) (did.place ∷ cut.0) (new_world start) t cut.1 (fresh_sound start nobody)
       (inl fresh) did.before in
@@ -337,15 +338,15 @@ some_step start told [] w t None i place did at = cc
 some_step start told (q ∷ qs) w t None i place did at = did.step
 
 -- where a step is refused these logs are no run in which no host stops and no start is asked for
-pub refused : (start : Start) (told made : List HostLog) (run : List RunStep) (why : Option StepFault)
-    (place : RunStep)
+pub refused : (start : Start) → NobodyStarts start → (told made : List HostLog) (run : List RunStep)
+    (why : Option StepFault) (place : RunStep)
     → ((s : Start) (none : LogStep) → AreNumbered told → AreLogs (machine s) (logs_at told)
     → IsRunOf s told (events_of told none run))
     → AreMade start told run made why → any_wants made ≡ false → DiffersFirst told made run place
     → AreOfRun start told → IsUnbroken told → ⊥
-refused start told made run why place ordered m unwanted differs right unbroken =
+refused start nobody told made run why place ordered m unwanted differs right unbroken =
     let none = some_step start told run (new_world start) m.world why differs.at place m.did differs.is in
     let numbered : AreNumbered told =
     record { hosts = λ h inside. (right.labels.labels h (omega (arith, inside, right.labels.one_each))).host } in
-    not_run start told right unbroken none run (ordered start none numbered right.right) m.sound.right.nobody m.world
-    why made place m.did m.is unwanted differs
+    not_run start nobody told right unbroken none run (ordered start none numbered right.right) m.world why
+    made place m.did m.is unwanted differs

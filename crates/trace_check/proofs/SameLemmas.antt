@@ -28,7 +28,7 @@ use Rattle.world_core.specs.Made.{last_of}
 use Rattle.world_core.specs.Marks.{has_mark}
 use Rattle.world_core.specs.Requests.{request_in}
 use Rattle.world_core.specs.Right.{arriving}
-use Rattle.world_core.specs.Start.{Start, made}
+use Rattle.world_core.specs.Start.{NobodyStarts, Start, made}
 use Rattle.world_core.specs.Steps.{Addressed, HostStep}
 use Rattle.world_core.specs.World.{logs_at, next_stamp, of_host, with_step}
 use Rattle.world_core.proofs.LogIndex.{logs_at_other, logs_at_own, logs_at_past}
@@ -140,8 +140,8 @@ one_item : {A : Type 0} (o : Option A) (x : A) → option_to_list o ≡ x ∷ []
 one_item None x is = cc
 one_item (Some y) x is = let same : y ≡ x = cc in ap (λ z. Some z) same
 
-module _ (start : Start) (told : List HostLog) (right : AreOfRun start told) (unbroken : IsUnbroken told)
-    (w t : Whole) (sound : IsSound start w) (gone : HasGone start w t) (h : ℕ) (low : h < hosts start)
+module _ (start : Start) (nobody : NobodyStarts start) (told : List HostLog) (right : AreOfRun start told)
+    (unbroken : IsUnbroken told) (w t : Whole) (sound : IsSound start w) (gone : HasGone start w t) (h : ℕ) (low : h < hosts start)
     (e : HostStep) (newer : List HostStep) (is : logs_at told h ≡ newer ++ e ∷ logs_at w.logs h)
     (step : IsStep (machine start) h (logs_at w.logs h) e) where
   abbrev log : List HostStep
@@ -224,7 +224,7 @@ module _ (start : Start) (told : List HostLog) (right : AreOfRun start told) (un
     fits =
         ap (λ ns. is_stamp (next_stamp ns h z.stamp)) stamps
         ∙ ap (λ n. is_stamp (max n z.stamp + 1))
-        (sound.right.stamps h low ∙ sym (last_first start sound.right.nobody h log))
+        (sound.right.stamps h low)
         ∙ ap (λ (x : Signal). is_stamp (max (last_of start h log) x.stamp + 1)) same
         ∙ ap is_stamp (sym stamp_is) ∙ unbroken.low h newer e log is
 
@@ -360,13 +360,13 @@ module _ (start : Start) (told : List HostLog) (right : AreOfRun start told) (un
         (Host (Cut node (record { 0 = first_of ms node })))) sound.right.made
         ∙ ap (λ n. own_signal (made start) h n (body_at w.bodies h).standing.view
         (Host (Cut node (record { 0 = first_of (made start) node }))))
-        (sound.right.stamps h low ∙ sym (last_first start sound.right.nobody h log))
+        (sound.right.stamps h low)
         ∙ ap (λ (s : HostBody). own_signal (made start) h (last_of start h log) s.standing.view
         (Host (Cut node (record { 0 = first_of (made start) node })))) body_is
         ∙ ap (λ n. own_signal (made start) h (last_of start h log) body.standing.view (Host (Cut node (record {
           0 = n;
         }))))
-        (sym (other_first start sound.right.nobody h node first.0 work.1))
+        (sym (other_first start nobody h node first.0 work.1))
         ∙ ap (own_signal (made start) h (last_of start h log) body.standing.view) (sym is_cut)
         ∙ sym rightly.is in
         handled w z refl refl same done

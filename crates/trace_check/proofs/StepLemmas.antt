@@ -1,4 +1,5 @@
 -- What a world that does one step of a trace comes to.
+use Rattle.api_views.specs.Laws.{is_start}
 use Rattle.std.proofs.Common.{◌≡◌, ◌≤◌, ℕ, zero, suc, List, [], ◌∷◌, Bool, true, false, refl, ap, subst, sym, ◌∙◌}
 use Rattle.std.proofs.Common.{arith}
 use Rattle.std.specs.Prelude.{◌==◌, ◌&&◌, nat_lt, not, Option, None, Some, IfOk, Result, Ok, Err}
@@ -24,13 +25,13 @@ use Rattle.world_views.specs.declared.schedule.Pick.{Pick}
 use Rattle.world_views.specs.declared.schedule.Pick.TheVariants as pick
 use Rattle.world_views.specs.declared.schedule.ScheduleFault.{ScheduleFault}
 use Rattle.world_views.specs.declared.schedule.ScheduleFault.TheVariants as schedule
-use Rattle.world_views.specs.Driven.{HasAsked, IsDriven, IsSound, IsWorld}
+use Rattle.world_views.specs.Driven.{HasAsked, IsAsked, IsDriven, IsSound, IsWorld}
 use Rattle.world_views.specs.Machine.{IsOther}
 use Rattle.world_views.specs.Schedule.{HasPicked, IsEmpty, IsGone, IsScheduled, LeavesRight, StopsAt}
 use Rattle.world_views.specs.Schedule.{may_be}
 use Rattle.world_views.specs.Sending.{is_own_work}
 use Rattle.world_views.specs.World.{Whole, has_stopped_in, stopped}
-use Rattle.world_views.proofs.WorldLemmas.{asked_sound, stays_sound}
+use Rattle.world_views.proofs.WorldLemmas.{asked_plain, asked_sound, stays_sound}
 use Rattle.trace_check.specs.declared.fault.StepFault.{StepFault}
 use Rattle.trace_check.specs.declared.fault.StepFault.TheVariants as fault
 use Rattle.trace_check.specs.Playing.{CameOut, Did, DidAt, DidOwn, DidPick, HasGone, Took, step_in}
@@ -99,13 +100,14 @@ took_ok (Ok why) w t host from runs did start sound = took why w t host from sta
 
 -- ---- what a host has from itself
 
-pub asked_own : (w t : Whole) (h at : ℕ) (request copied : ApiReq) (start : Start) → copied ≡ request → h ≡ 0
-    → IsSound start w
-    → HasAsked start copied w t → DidOwn start w h (Host (Continue (Request request) at)) t None
-asked_own w t h at request copied start same shell sound asked = (
-  record { sound = asked_sound start copied w t asked sound; more = asked.more },
-  (shell, subst (λ r. HasAsked start r w t) same asked),
-)
+pub asked_own : (w t : Whole) (h at : ℕ) (request copied : ApiReq) (start : Start) → copied ≡ request
+    → is_start request ≡ false → h ≡ 0 → IsSound start w
+    → IsAsked start copied w t → DidOwn start w h (Host (Continue (Request request) at)) t None
+asked_own w t h at request copied start same none shell sound asked =
+    let here = asked_plain start copied w t (ap is_start same ∙ none) asked in (
+      record { sound = asked_sound start copied w t here sound; more = here.more },
+      (shell, subst (λ r. HasAsked start r w t) same here),
+    )
 
 pub stopped_own : (why : Option StepFault) (w t : Whole) (host : HostId) (start : Start) → 1 ≤ host.0
     → has_stopped_in w host.0 ≡ false

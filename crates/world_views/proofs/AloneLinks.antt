@@ -16,7 +16,7 @@ use Rattle.world_views.specs.Hosts.{front_of}
 use Rattle.world_views.specs.Links.{AreLinks, Arrival, LinkState, Links, changed, link, lose, rest_on}
 use Rattle.world_views.specs.Machine.{cause_in, sender, stops_by}
 use Rattle.world_views.specs.Sending.{headed, routed_all}
-use Rattle.world_views.specs.World.{Whole, entered, is_unclosed, step_made}
+use Rattle.world_views.specs.World.{Whole, entered, is_unclosed, made_in, step_made}
 use Rattle.world_views.proofs.Entered.{entered_by, left_by, links_by, sent_links}
 use Rattle.world_views.proofs.LinkFacts.{changed_from, changed_own, changed_to, close_other, lose_other, put_all_other}
 use Rattle.world_views.proofs.TakeFacts.{IsTakenFrom}
@@ -26,26 +26,26 @@ pub entered_other : (w : Whole) (lost : ℕ) (x : Addressed) (t : Step HostBody)
     → link (entered w lost x t).links i j ≡ link w.links i j
 entered_other w lost x t i j apart =
     ap (λ (v : Whole). link v.links i j) (entered_by w lost x t)
-    ∙ by (stops_by t.effects.marks) w.made (left_by w lost x t).standing
+    ∙ by (stops_by t.effects.marks) w.made (made_in w (step_made w x t).stamp) (left_by w lost x t).standing
   where
-    put_other : (made : List Member) (standing : Standing)
-        → link (sent_links w lost x t made standing) i j ≡ link w.links i j
-    put_other made standing =
+    put_other : (made among : List Member) (standing : Standing)
+        → link (sent_links w lost x t made among standing) i j ≡ link w.links i j
+    put_other made among standing =
         put_all_other w.links (sender made x.to (step_made w x t).stamp standing.view)
-        (routed_all made x.to standing t.effects.sends) i j apart
+        (routed_all among x.to standing t.effects.sends) i j apart
 
-    by : (b : Bool) (made : List Member) (standing : Standing)
-        → link (links_by w lost x t b made standing) i j ≡ link w.links i j
-    by true made standing =
-        close_other (length made * 3 + 1) (lose (sent_links w lost x t made standing) x.to lost) x.to
+    by : (b : Bool) (made among : List Member) (standing : Standing)
+        → link (links_by w lost x t b made among standing) i j ≡ link w.links i j
+    by true made among standing =
+        close_other (length made * 3 + 1) (lose (sent_links w lost x t made among standing) x.to lost) x.to
         (is_unclosed x.to standing)
         (λ k.
         headed (sender made x.to (step_made w x t).stamp (greater_view standing.view x.signal.view)) 0
         (record { to = front_of made k; body = body.Host (Closed (cause_in t.effects.marks)) }))
         i j apart
-        ∙ lose_other (sent_links w lost x t made standing) x.to lost i j apart
-        ∙ put_other made standing
-    by false made standing = put_other made standing
+        ∙ lose_other (sent_links w lost x t made among standing) x.to lost i j apart
+        ∙ put_other made among standing
+    by false made among standing = put_other made among standing
 
 -- what is left was there before
 pub left_was_there : (n : ℕ) (links : Links) (t : Arrival) → AreLinks n links → IsTakenFrom n links t

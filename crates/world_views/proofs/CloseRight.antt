@@ -124,13 +124,13 @@ module _ (start : Start) (given : List ApiReply) (w : Whole) (lost : ℕ) (x : A
   abbrev closed_links : Links
   closed_links = close_below (length (made start) * 3 + 1) shorter x.to stays last_to
 
-  links_are : links_by w lost x t true (made start) (told x.to t).standing ≡ closed_links
+  links_are : links_by w lost x t true (made start) (made_before start e.step.stamp) (told x.to t).standing ≡ closed_links
   links_are =
       let standing = (told x.to t).standing in
       let by = sender (made start) x.to (step_made w x t).stamp standing.view in
       ap (λ (sends : List Outgoing).
       close_below (length (made start) * 3 + 1)
-      (lose (put_all w.links by (routed_all (made start) x.to standing sends)) x.to lost) x.to stays
+      (lose (put_all w.links by (routed_all (made_before start e.step.stamp) x.to standing sends)) x.to lost) x.to stays
       (last_in standing.view))
       silent
       ∙ ap (λ (view : View). close_below (length (made start) * 3 + 1) shorter x.to stays (last_in view))
@@ -216,5 +216,6 @@ module _ (start : Start) (given : List ApiReply) (w : Whole) (lost : ℕ) (x : A
         linked = closed_linked;
       }
 
-  pub close_right : AreRightLinks start w x t (links_by w lost x t true (made start) (told x.to t).standing)
+  pub close_right : AreRightLinks start w x t
+      (links_by w lost x t true (made start) (made_before start e.step.stamp) (told x.to t).standing)
   close_right = subst (λ (links : Links). AreRightLinks start w x t links) (sym links_are) right_links

@@ -61,7 +61,7 @@ module _ (start : Start) (given : List ApiReply) (w : Whole) (new : Links) (i j 
       record {
         shape = right.shape;
         made = right.made;
-        nobody = right.nobody;
+        since = right.since;
         sizes = record {
           bodies = right.sizes.bodies;
           stopped = right.sizes.stopped;
@@ -76,6 +76,8 @@ module _ (start : Start) (given : List ApiReply) (w : Whole) (new : Links) (i j 
         labels = right.labels;
         stopped = right.stopped;
         bodies = right.bodies;
+        views = right.views;
+        cuts = right.cuts;
         counts = λ k l k_low low.
             counts_kept (hosts start) w.links new i j short k l k_low low ∙ right.counts k l k_low low;
         linked = linked;

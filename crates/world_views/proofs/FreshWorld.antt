@@ -1,4 +1,7 @@
 -- A fresh world is right: nothing was sent, taken or asked.
+use Rattle.world_core.specs.Made.{last_of}
+use Rattle.world_views.specs.declared.since.MadeSince.{MadeSince}
+use Rattle.world_views.specs.World.{body_at, since_of}
 use Rattle.std.proofs.Common.{◌≡◌, ◌⊎◌, inl, inr, ℕ, ◌+◌, ◌*◌, ◌<◌, ◌≤◌, List, [], ◌∷◌, ◌++◌, length, Bool, false, refl}
 use Rattle.std.proofs.Common.{ap, ap₂, sym, ◌∙◌, subst, arith, replicate, reverse}
 use Rattle.std.specs.Prelude.{map, slice_index_or}
@@ -77,12 +80,19 @@ module _ (start : Start) where
       (subst (λ log. IsLinked start i j log (logs_at (new_world start).logs j) new_link) (sym (no_log i))
       (subst (λ log. IsLinked start i j [] log new_link) (sym (no_log j)) (new_linked i j)))
 
+  begins_so : (h : ℕ) → h < hosts start
+      → body_at (new_world start).bodies h ≡ after start h (logs_at (new_world start).logs h)
+  begins_so h low =
+      each_at (hosts start) (started start) h
+      (fresh_shell (first_layout (record { nodes = 0; replicas = 0; fragments = 0 }))) low
+      ∙ ap (after start h) (sym (no_log h))
+
   pub fresh_right : NobodyStarts start → IsRight start [] (new_world start)
   fresh_right nobody =
       record {
         shape = refl;
         made = refl;
-        nobody = nobody;
+        since = refl;
         sizes = record {
           bodies = each_length (hosts start) (started start);
           stopped = length-replicate (hosts start) false;
@@ -93,17 +103,18 @@ module _ (start : Start) where
         there = λ h low. inl (made_at_first start nobody h);
         local = λ h low. subst (IsLog (machine start) h) (sym (no_log h)) tt;
         next = λ h. subst (HaveNextStamps start h) (sym (no_log h)) tt;
-        stamps = λ h low. get_or-replicate (hosts start) h 0 0 low ∙ ap last_stamp (sym (no_log h));
+        stamps = λ h low.
+            get_or-replicate (hosts start) h 0 0 low ∙ sym (made_at_first start nobody h)
+            ∙ ap (last_of start h) (sym (no_log h));
         labels = λ h low.
             subst (IsLabelled start h) (sym (each_at (hosts start) no_steps h (no_steps 0) low)) (record {
               host = refl;
               made = sym (made_at_first start nobody h);
             });
         stopped = λ h low. get_or-replicate (hosts start) h false _ low ∙ ap has_stopped (sym (no_log h));
-        bodies = λ h low runs.
-            each_at (hosts start) (started start) h
-            (fresh_shell (first_layout (record { nodes = 0; replicas = 0; fragments = 0 }))) low
-            ∙ ap (after start h) (sym (no_log h));
+        bodies = λ h low runs. begins_so h low;
+        views = λ h low. ap (λ (s : HostBody). s.standing.view) (begins_so h low);
+        cuts = λ h low. ap (λ (s : HostBody). s.standing.cut) (begins_so h low);
         counts = λ i j i_low low.
             ap (λ (l : LinkState). l.sent) (no_signal i j i_low low)
             ∙ ap (λ log. sent_count start i log j) (sym (no_log i));
@@ -138,15 +149,16 @@ module _ (start : Start) where
   fresh_quiet i j = ap (λ (l : LinkState). l.signals) (inbox_idle (hosts start) j i (cases_lt j (hosts start)))
 
 -- a world of what each part of it begins as
-pub begins : (start : Start) (made_now : List Member) (n : ℕ) (bodies : List HostBody) (stopped : List Bool)
+pub begins : (start : Start) (made_now : List Member) (since_now : List MadeSince) (n : ℕ) (bodies : List HostBody) (stopped : List Bool)
     (links : Links)
     (stamps : List ℕ) (logs : List HostLog) (replies : List ApiReply) → made_now ≡ made start
-    → n ≡ length made_now * 3 + 1
+    → since_now ≡ since_of start → n ≡ length made_now * 3 + 1
     → bodies ≡ for_each (hosts start) (started start) → stopped ≡ replicate n false
     → links ≡ replicate n (replicate n new_link) → stamps ≡ replicate n 0 → logs ≡ for_each n no_steps → replies ≡ []
     → record {
       shape = start.shape;
       made = made_now;
+      since = since_now;
       bodies = bodies;
       stopped = stopped;
       links = links;
@@ -154,12 +166,24 @@ pub begins : (start : Start) (made_now : List Member) (n : ℕ) (bodies : List H
       logs = logs;
       replies = replies;
     } ≡ new_world start
-begins start made_now n bodies stopped links stamps logs replies are count bodies_are stopped_are links_are stamps_are
+begins start made_now since_now n bodies stopped links stamps logs replies are since_are count bodies_are stopped_are links_are stamps_are
     logs_are none =
     let all : n ≡ hosts start = count ∙ ap (λ ms. length ms * 3 + 1) are in
-    ap₂ (λ ms bs. record {
+    ap (λ ones. record {
+      shape = start.shape;
+      made = made_now;
+      since = ones;
+      bodies = bodies;
+      stopped = stopped;
+      links = links;
+      stamps = stamps;
+      logs = logs;
+      replies = replies;
+    }) since_are
+    ∙ ap₂ (λ ms bs. record {
       shape = start.shape;
       made = ms;
+      since = since_of start;
       bodies = bs;
       stopped = stopped;
       links = links;
@@ -170,6 +194,7 @@ begins start made_now n bodies stopped links stamps logs replies are count bodie
     ∙ ap₂ (λ ss ls. record {
       shape = start.shape;
       made = made start;
+      since = since_of start;
       bodies = for_each (hosts start) (started start);
       stopped = ss;
       links = ls;
@@ -180,6 +205,7 @@ begins start made_now n bodies stopped links stamps logs replies are count bodie
     ∙ ap₂ (λ ts ls. record {
       shape = start.shape;
       made = made start;
+      since = since_of start;
       bodies = for_each (hosts start) (started start);
       stopped = replicate (hosts start) false;
       links = replicate (hosts start) (replicate (hosts start) new_link);

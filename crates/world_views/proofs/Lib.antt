@@ -21,6 +21,7 @@ pub mod LinkFacts
 pub mod LogFacts
 pub mod MarkWalk
 pub mod MoveRight
+pub mod NextStamp
 pub mod OwnReady
 pub mod PutRight
 pub mod QuietLemmas
@@ -30,6 +31,7 @@ pub mod ScheduleLemmas
 pub mod SentFacts
 pub mod SentWalk
 pub mod ShellLemmas
+pub mod SinceLemmas
 pub mod StartsRightly
 pub mod StepDriven
 pub mod StepEach
@@ -40,3 +42,4 @@ pub mod TakeRight
 pub mod UnscheduledLemmas
 pub mod WorldLemmas
 pub mod more
+pub mod begun

@@ -1,4 +1,5 @@
 -- A step keeps a world right.
+use Rattle.world_core.specs.Made.{made_before}
 use Rattle.std.proofs.Common.{◌≡◌, ℕ, zero, suc, ◌+◌, ◌<◌, List, [], ◌∷◌, ◌++◌, append_assoc, append-nil, Bool, true}
 use Rattle.std.proofs.Common.{false, refl, ap, sym, ◌∙◌, subst, arith}
 use Rattle.std.specs.Prelude.{if◌then◌else◌, ◌==◌, max, slice_index_or}
@@ -64,7 +65,7 @@ module _ (start : Start) (given : List ApiReply) (w : Whole) (lost : ℕ) (x : A
   links_right = go (stops_by t.effects.marks) refl
     where
       go : (b : Bool) → stops_by t.effects.marks ≡ b
-          → AreRightLinks start w x t (links_by w lost x t b (made start) (told x.to t).standing)
+          → AreRightLinks start w x t (links_by w lost x t b (made start) (made_before start e.step.stamp) (told x.to t).standing)
       go true stops = close_right start given w lost x t ready stops
       go false going_on = put_right start given w lost x t ready (runs_on start given w x t ready going_on) going_on
 
@@ -84,29 +85,11 @@ module _ (start : Start) (given : List ApiReply) (w : Whole) (lost : ℕ) (x : A
   pub logs_are : (k : ℕ) → logs_at (entered w lost x t).logs k ≡ log_with w x t k
   logs_are k = ap (λ (v : Whole). logs_at v.logs k) (entered_is start given w lost x t ready) ∙ logs_behind k
 
-  -- the shell's log only grows
-  grows : IsPast (logs_at w.logs 0) (log_with w x t 0)
-  grows = go (x.to == 0)
-    where
-      go : (b : Bool) → IsPast (logs_at w.logs 0) (grown b 0)
-      go true = past_more e (past_self (logs_at w.logs 0))
-      go false = past_self (logs_at w.logs 0)
-
-  own_next : e.step.stamp ≡ max (last_of start x.to (logs_at w.logs x.to)) x.signal.stamp + 1
-  own_next =
-      ap (λ n. max n x.signal.stamp + 1)
-      (ready.stamps x.to ready.there ∙ sym (last_first start ready.nobody x.to (logs_at w.logs x.to)))
-
-  -- a step that asks for a start has the next stamp all the same
-  next_even : (asks : Bool) → next_unless asks (last_of start x.to (logs_at w.logs x.to)) e
-  next_even true = tt
-  next_even false = own_next
-
   own_step : IsStep (machine start) x.to (logs_at w.logs x.to) e
   own_step =
       record {
         at = refl;
-        stamped = omega (arith, own_next, last_by start x.to (logs_at w.logs x.to));
+        stamped = omega (arith, ready.stamped, last_by start x.to (logs_at w.logs x.to));
         runs = running start (logs_at w.logs x.to) ready.runs;
         fits = record {
           marks = ap (λ (f : Effects). f.marks) ready.step.effects;
@@ -131,20 +114,20 @@ module _ (start : Start) (given : List ApiReply) (w : Whole) (lost : ℕ) (x : A
       go : (b : Bool) → (x.to == k) ≡ b → HaveNextStamps start k (grown b k)
       go true same = (
         subst (λ n. next_unless (asks_start x.signal.body) (last_of start n (logs_at w.logs n)) e)
-            (eqb-true x.to k same) (next_even (asks_start x.signal.body)),
+            (eqb-true x.to k same) ready.skips,
         ready.next k,
       )
       go false differs = ready.next k
 
-  stamps_behind : (k : ℕ) → k < hosts start → slice_index_or behind.stamps k 0 ≡ last_stamp (log_with w x t k)
+  stamps_behind : (k : ℕ) → k < hosts start → slice_index_or behind.stamps k 0 ≡ last_of start k (log_with w x t k)
   stamps_behind k low = go (x.to == k) refl
     where
-      go : (b : Bool) → (x.to == k) ≡ b → slice_index_or behind.stamps k 0 ≡ last_stamp (grown b k)
+      go : (b : Bool) → (x.to == k) ≡ b → slice_index_or behind.stamps k 0 ≡ last_of start k (grown b k)
       go true same =
           subst (λ n. slice_index_or behind.stamps n 0 ≡ (step_made w x t).stamp) (eqb-true x.to k same)
           (get_or-set_same w.stamps x.to (step_made w x t).stamp 0 (omega (arith, ready.there, ready.sizes.stamps)))
       go false differs =
-          get_or-set_other w.stamps x.to k (step_made w x t).stamp 0 (apart x.to k differs) ∙ ready.stamps k low
+          get_or-set_other w.stamps x.to k (step_made w x t).stamp 0 (apart x.to k differs) ∙ ready.stamps k low differs
 
   labels_behind : (k : ℕ) → k < hosts start → IsLabelled start k (slice_index_or behind.logs k (no_steps 0))
   labels_behind k low = go (x.to == k) refl
@@ -184,6 +167,24 @@ module _ (start : Start) (given : List ApiReply) (w : Whole) (lost : ℕ) (x : A
       go false differs runs =
           get_or-set_other w.bodies x.to k (told x.to t) nobody_there (apart x.to k differs)
           ∙ ready.bodies k low differs runs
+
+  -- whichever part of it one looks at
+  part_behind : {A : Type 0} (part : HostBody → A)
+      → part (told x.to t) ≡ part (told x.to (step_by x.to (after start x.to (logs_at w.logs x.to)) x.signal))
+      → ((k : ℕ) → k < hosts start → (x.to == k) ≡ false
+      → part (body_at w.bodies k) ≡ part (after start k (logs_at w.logs k)))
+      → (k : ℕ) → k < hosts start → part (body_at behind.bodies k) ≡ part (after start k (log_with w x t k))
+  part_behind part own others k low = go (x.to == k) refl
+    where
+      go : (b : Bool) → (x.to == k) ≡ b → part (body_at behind.bodies k) ≡ part (after start k (grown b k))
+      go true same =
+          subst (λ n. part (body_at behind.bodies n) ≡ part (after start n (e ∷ logs_at w.logs n)))
+          (eqb-true x.to k same)
+          (ap part (get_or-set_same w.bodies x.to (told x.to t) nobody_there
+          (omega (arith, ready.there, ready.sizes.bodies))) ∙ own)
+      go false differs =
+          ap part (get_or-set_other w.bodies x.to k (told x.to t) nobody_there (apart x.to k differs))
+          ∙ others k low differs
 
   counts_behind : (i j : ℕ) → i < hosts start → j < hosts start
       → (link links i j).sent ≡ sent_count start i (log_with w x t i) j
@@ -237,7 +238,7 @@ module _ (start : Start) (given : List ApiReply) (w : Whole) (lost : ℕ) (x : A
       record {
         shape = ready.shape;
         made = ready.made;
-        nobody = ready.nobody;
+        since = ready.since;
         sizes = record {
           bodies = length-set w.bodies x.to (told x.to t) ∙ ready.sizes.bodies;
           stopped = length-set w.stopped x.to (stops_by t.effects.marks) ∙ ready.sizes.stopped;
@@ -247,15 +248,21 @@ module _ (start : Start) (given : List ApiReply) (w : Whole) (lost : ℕ) (x : A
         };
         there = λ k low.
             subst (IsThere (machine start) k) (sym (logs_behind 0))
-            (there_past (machine start) k grows (ready.all_there k low));
+            (ready.all_there k low);
         local = λ k low. subst (IsLog (machine start) k) (sym (logs_behind k)) (local_behind k low);
         next = λ k. subst (HaveNextStamps start k) (sym (logs_behind k)) (next_behind k);
-        stamps = λ k low. stamps_behind k low ∙ ap last_stamp (sym (logs_behind k));
+        stamps = λ k low. stamps_behind k low ∙ ap (last_of start k) (sym (logs_behind k));
         labels = labels_behind;
         stopped = λ k low. stopped_behind k low ∙ ap has_stopped (sym (logs_behind k));
         bodies = λ k low runs.
             bodies_behind k low (ap has_stopped (sym (logs_behind k)) ∙ runs)
             ∙ ap (after start k) (sym (logs_behind k));
+        views = λ k low.
+            part_behind (λ (s : HostBody). s.standing.view) ready.step.view ready.views k low
+            ∙ ap (λ log. (after start k log).standing.view) (sym (logs_behind k));
+        cuts = λ k low.
+            part_behind (λ (s : HostBody). s.standing.cut) ready.step.cut ready.cuts k low
+            ∙ ap (λ log. (after start k log).standing.cut) (sym (logs_behind k));
         counts = λ i j i_low low.
             counts_behind i j i_low low ∙ ap (λ log. sent_count start i log j) (sym (logs_behind i));
         linked = λ i j i_low low.

@@ -1,4 +1,5 @@
 -- What a host asks of itself makes it ready for a step, whatever its world is otherwise.
+use Rattle.world_views.proofs.NextStamp.{own_skips, own_stamped, still_there}
 use Rattle.std.proofs.Common.{◌≡◌, ℕ, zero, suc, ◌<◌, ◌≤◌, List, ◌∷◌, ◌++◌, length, Bool, true, false, refl, ap, sym}
 use Rattle.std.proofs.Common.{◌∙◌, subst, arith}
 use Rattle.std.specs.Prelude.{if◌then◌else◌, ◌==◌, ◌&&◌, Option, None, Some, slice_index_or}
@@ -84,7 +85,7 @@ module _ (start : Start) (given : List ApiReply) (w : Whole) (right : IsRight st
       record {
         is = ap (λ ms. own_signal ms h (slice_index_or w.stamps h 0) view work) right.made
             ∙ ap (λ n. own_signal (made start) h n view work)
-            (right.stamps h there ∙ sym (last_first start right.nobody h (logs_at w.logs h)))
+            (right.stamps h there)
             ∙ ap (λ (s : HostBody). own_signal (made start) h (last_of start h (logs_at w.logs h)) s.standing.view work)
             body_is;
         work = own;
@@ -136,7 +137,7 @@ module _ (start : Start) (given : List ApiReply) (w : Whole) (right : IsRight st
         record {
           shape = right.shape;
           made = right.made;
-          nobody = right.nobody;
+          since = right.since;
           sizes = record {
             bodies = few;
             stopped = right.sizes.stopped;
@@ -149,13 +150,19 @@ module _ (start : Start) (given : List ApiReply) (w : Whole) (right : IsRight st
           step = is;
           comes = subst (λ b. comes_rightly b start h (logs_at w.logs h) wish.signal) (sym asks) (asks_own work own);
           starts = starts_nobody start (logs_at w.logs h) next h none;
-          all_there = right.there;
+          all_there = still_there start given w right wish next;
           local = right.local;
           next = right.next;
-          stamps = right.stamps;
+          stamps = λ k low other. right.stamps k low;
+          stamped = own_stamped start given w right h there wish.signal.stamp;
+          skips = own_skips start given w right h there next refl (asks_start work);
           labels = right.labels;
           stopped = right.stopped;
           bodies = λ k low other running. others k low other ∙ right.bodies k low running;
+          views = λ k low other.
+              ap (λ (s : HostBody). s.standing.view) (others k low other) ∙ right.views k low;
+          cuts = λ k low other.
+              ap (λ (s : HostBody). s.standing.cut) (others k low other) ∙ right.cuts k low;
           counts = right.counts;
           linked = linked_own;
           no_others = λ i j high. same_taken i j ∙ right.no_others i j high;

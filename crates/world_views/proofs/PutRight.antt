@@ -144,7 +144,7 @@ module _ (start : Start) (given : List ApiReply) (w : Whole) (lost : ℕ) (x : A
       put (machine start) j (signals_of start x.to older (host_step w x t)) (sent (machine start) x.to j older)
 
   abbrev new_links : Links
-  new_links = sent_links w lost x t (made start) (told x.to t).standing
+  new_links = sent_links w lost x t (made start) (made_before start (step_made w x t).stamp) (told x.to t).standing
 
   own_links : (j : ℕ) → j < hosts start
       → IsPutting (hosts start) new_links x.to j (sent_count start x.to (host_step w x t ∷ older))
@@ -155,13 +155,9 @@ module _ (start : Start) (given : List ApiReply) (w : Whole) (lost : ℕ) (x : A
       let was = ready.linked h j ready.there low in
       let stamp = (step_made w x t).stamp in
       subst (λ (s : Step HostBody).
-      IsPutting (hosts start) (put_all w.links (by s) (routed_by (made start) s)) h j
+      IsPutting (hosts start) (put_all w.links (by s) (routed_by (made_before start stamp) s)) h j
       (sent_count start h (host_step w x t ∷ older)) Open (all_sent j) (before j))
       (sym same)
-      (subst (λ (among : List Member).
-      IsPutting (hosts start) (put_all w.links (by the_step) (routed_by among the_step)) h j
-      (sent_count start h (host_step w x t ∷ older)) Open (all_sent j) (before j))
-      (before_first start ready.nobody stamp)
       (all_put start (hosts start) (by the_step) j Open ready.there low w.links (sent_count start h older)
       (sent (machine start) h j older) (before j) (routed_by (made_before start stamp) the_step)
       (record {
@@ -170,7 +166,7 @@ module _ (start : Start) (given : List ApiReply) (w : Whole) (lost : ℕ) (x : A
         from = was.from;
         holds = λ is_open.
             held_running start h j older (on_link j (link w.links h j) ++ before j) ready.runs (was.held is_open);
-      })))
+      }))
 
   own_linked : (j : ℕ) → j < hosts start
       → IsLinked start x.to j (host_step w x t ∷ older) (log_with w x t j) (link new_links x.to j)
@@ -194,8 +190,8 @@ module _ (start : Start) (given : List ApiReply) (w : Whole) (lost : ℕ) (x : A
   pub put_right : AreRightLinks start w x t new_links
   put_right =
       record {
-        are = put_all_links (hosts start) w.links (by t) (routed_by (made start) t) ready.sizes.links;
-        other = λ i j differs. put_all_other w.links (by t) (routed_by (made start) t) i j differs;
+        are = put_all_links (hosts start) w.links (by t) (routed_by (made_before start (step_made w x t).stamp) t) ready.sizes.links;
+        other = λ i j differs. put_all_other w.links (by t) (routed_by (made_before start (step_made w x t).stamp) t) i j differs;
         counts = λ j low. (own_links j low).counts j low;
         linked = own_linked;
       }

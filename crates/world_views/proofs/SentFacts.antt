@@ -139,32 +139,32 @@ module _ (start : Start) where
   last_is nobody h (e ∷ log) = refl
 
   -- all that a host sent another
-  pub sent_between : NobodyStarts start → (i j : ℕ) (log : List HostStep) → IsLog (machine start) i log
-      → Each (λ x. IsBetween i j (last_stamp log) x) (sent (machine start) i j log)
-  sent_between nobody i j [] local = tt
-  sent_between nobody i j (e ∷ log) local =
+  pub sent_between : (i j : ℕ) (log : List HostStep) → IsLog (machine start) i log
+      → Each (λ x. IsBetween i j (last_of start i log) x) (sent (machine start) i j log)
+  sent_between i j [] local = tt
+  sent_between i j (e ∷ log) local =
       put_between i j e.step.stamp (sent_by (machine start) i log e) (sent (machine start) i j log)
       (step_each i log e)
-      (each_map (λ x. IsBetween i j (last_stamp log) x) (λ x. IsBetween i j e.step.stamp x)
-      (sent (machine start) i j log) (λ x was. later x was) (sent_between nobody i j log local.1))
+      (each_map (λ x. IsBetween i j (last_of start i log) x) (λ x. IsBetween i j e.step.stamp x)
+      (sent (machine start) i j log) (λ x was. later x was) (sent_between i j log local.1))
     where
-      later : (x : Addressed) → IsBetween i j (last_stamp log) x → IsBetween i j e.step.stamp x
+      later : (x : Addressed) → IsBetween i j (last_of start i log) x → IsBetween i j e.step.stamp x
       later x was =
           record {
             from = was.from;
             to = was.to;
-            early = omega (arith, was.early, step_above (machine start) i log e local.0, last_is nobody i log);
+            early = omega (arith, was.early, step_above (machine start) i log e local.0, last_by i log);
             plain = was.plain;
           }
 
   -- and the closing of a host that stopped
-  closing_between : NobodyStarts start → (i j : ℕ) (log : List HostStep) (xs : List Addressed) → i ≢ j
+  closing_between : (i j : ℕ) (log : List HostStep) (xs : List Addressed) → i ≢ j
       → IsLog (machine start) i log
-      → IsClosing (machine start) i j log xs → Each (λ x. IsBetween i j (last_stamp log) x) xs
-  closing_between nobody i j [] xs apart local c = absurd c
-  closing_between nobody i j (e ∷ log) xs apart local c =
+      → IsClosing (machine start) i j log xs → Each (λ x. IsBetween i j (last_of start i log) x) xs
+  closing_between i j [] xs apart local c = absurd c
+  closing_between i j (e ∷ log) xs apart local c =
       subst (Each (λ x. IsBetween i j e.step.stamp x)) (sym c.is)
-      (last, each_past (λ x. IsBetween i j e.step.stamp x) c.past (sent_between nobody i j (e ∷ log) local))
+      (last, each_past (λ x. IsBetween i j e.step.stamp x) c.past (sent_between i j (e ∷ log) local))
     where
       last : IsBetween i j e.step.stamp (closing start i log e j)
       last =
@@ -176,19 +176,19 @@ module _ (start : Start) where
           }
 
   -- all that a link holds, and has given
-  pub held_between : NobodyStarts start → (i j : ℕ) (log : List HostStep) (xs : List Addressed)
+  pub held_between : (i j : ℕ) (log : List HostStep) (xs : List Addressed)
       → i ≢ j ⊎ (has_stopped log ≡ false)
-      → IsLog (machine start) i log → IsHeld start i j log xs → Each (λ x. IsBetween i j (last_stamp log) x) xs
-  held_between nobody i j log xs apart local held = go apart (has_stopped log) refl held
+      → IsLog (machine start) i log → IsHeld start i j log xs → Each (λ x. IsBetween i j (last_of start i log) x) xs
+  held_between i j log xs apart local held = go apart (has_stopped log) refl held
     where
-      by : (b : Bool) → i ≢ j → stopped_holds b start i j log xs → Each (λ x. IsBetween i j (last_stamp log) x) xs
-      by true apart past = each_past (λ x. IsBetween i j (last_stamp log) x) past (sent_between nobody i j log local)
-      by false apart c = closing_between nobody i j log xs apart local c
+      by : (b : Bool) → i ≢ j → stopped_holds b start i j log xs → Each (λ x. IsBetween i j (last_of start i log) x) xs
+      by true apart past = each_past (λ x. IsBetween i j (last_of start i log) x) past (sent_between i j log local)
+      by false apart c = closing_between i j log xs apart local c
 
       go : i ≢ j ⊎ (has_stopped log ≡ false) → (b : Bool) → has_stopped log ≡ b → holds_by b start i j log xs
-          → Each (λ x. IsBetween i j (last_stamp log) x) xs
+          → Each (λ x. IsBetween i j (last_of start i log) x) xs
       go apart false e is =
-          subst (Each (λ x. IsBetween i j (last_stamp log) x)) (sym is) (sent_between nobody i j log local)
+          subst (Each (λ x. IsBetween i j (last_of start i log) x)) (sym is) (sent_between i j log local)
       go (inl apart) true e held = by (has_cut start i log j) apart held
       go (inr runs) true e held = absurd (true≢false (sym e ∙ runs))
 

@@ -39,7 +39,7 @@ module _ (start : Start) (given : List ApiReply) (w : Whole) (right : IsRight st
       record {
         shape = right.shape;
         made = right.made;
-        nobody = right.nobody;
+        since = right.since;
         sizes = record {
           bodies = right.sizes.bodies;
           stopped = right.sizes.stopped;
@@ -54,6 +54,8 @@ module _ (start : Start) (given : List ApiReply) (w : Whole) (right : IsRight st
         labels = right.labels;
         stopped = right.stopped;
         bodies = right.bodies;
+        views = right.views;
+        cuts = right.cuts;
         counts = right.counts;
         linked = right.linked;
         no_others = right.no_others;

@@ -1,4 +1,7 @@
 -- Taking a signal of a link leaves a world ready to make its step, or right where the signal is discarded.
+use Rattle.world_core.specs.Made.{last_of}
+use Rattle.api_views.specs.Laws.{asks_start}
+use Rattle.world_views.proofs.NextStamp.{own_skips, own_stamped, still_there}
 use Rattle.std.proofs.Common.{◌≡◌, ◌≢◌, ◌⊎◌, inl, inr, ℕ, ◌<◌, ◌≤◌, List, [], ◌∷◌, ◌++◌, reverse, Bool, true, false}
 use Rattle.std.proofs.Common.{refl, ap, sym, ◌∙◌, subst, subst₂, arith}
 use Rattle.std.specs.Prelude.{if◌then◌else◌, ◌==◌, map}
@@ -133,11 +136,11 @@ module _ (start : Start) (given : List ApiReply) (w : Whole) (right : IsRight st
         ((right.linked at.from at.to at.from_low at.to_low).held (on_open kept))
 
     -- the header of the signal is that of its link
-    pub fact : IsBetween at.from at.to (last_stamp (logs_at w.logs at.from)) arrived
+    pub fact : IsBetween at.from at.to (last_of start at.from (logs_at w.logs at.from)) arrived
     fact =
-        each_in (λ y. IsBetween at.from at.to (last_stamp (logs_at w.logs at.from)) y) arrived
+        each_in (λ y. IsBetween at.from at.to (last_of start at.from (logs_at w.logs at.from)) y) arrived
         (on_link at.to (link t.left at.from at.to) ++ (arrived ∷ before))
-        (held_between start right.nobody at.from at.to (logs_at w.logs at.from)
+        (held_between start at.from at.to (logs_at w.logs at.from)
         (on_link at.to (link t.left at.from at.to) ++ (arrived ∷ before))
         (apart (cases_eq at.from at.to)) (right.local at.from at.from_low) held)
         (in_append arrived (on_link at.to (link t.left at.from at.to)) (arrived ∷ before) (inl refl))
@@ -225,7 +228,7 @@ module _ (start : Start) (given : List ApiReply) (w : Whole) (right : IsRight st
           record {
             shape = right.shape;
             made = right.made;
-            nobody = right.nobody;
+            since = right.since;
             sizes = record {
               bodies = right.sizes.bodies;
               stopped = right.sizes.stopped;
@@ -239,13 +242,17 @@ module _ (start : Start) (given : List ApiReply) (w : Whole) (right : IsRight st
             comes = subst (λ b. comes_rightly b start at.to log at.signal) (sym fact.plain)
                 (subst (λ n. has_cut start at.to log n ≡ false) (sym sender_is) (on_open kept).takes);
             starts = starts_unasked start log (host_step (left_of w t) arrived step) at.to fact.plain;
-            all_there = right.there;
+            all_there = still_there start given w right arrived (host_step (left_of w t) arrived step);
             local = right.local;
             next = right.next;
-            stamps = right.stamps;
+            stamps = λ h low other. right.stamps h low;
+            stamped = own_stamped start given w right at.to at.to_low at.signal.stamp;
+            skips = own_skips start given w right at.to at.to_low next refl (asks_start at.signal.body);
             labels = right.labels;
             stopped = right.stopped;
             bodies = λ h low other. right.bodies h low;
+            views = λ h low other. right.views h low;
+            cuts = λ h low other. right.cuts h low;
             counts = λ i j i_low low.
                 counts_kept (hosts start) w.links t.left at.from at.to taking_shortens i j i_low low
                 ∙ right.counts i j i_low low;

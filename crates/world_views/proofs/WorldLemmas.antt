@@ -1,6 +1,8 @@
 -- What the calls of a world come to.
+use Rattle.world_views.specs.Begun.{AreThere}
+use Rattle.world_core.specs.More.{more}
 use Rattle.std.proofs.Common.{◌≡◌, inl, inr, ℕ, ◌<◌, List, ◌++◌, Bool, true, false, refl, ap, sym, ◌∙◌, subst}
-use Rattle.std.proofs.Common.{append_assoc, arith}
+use Rattle.std.proofs.Common.{append_assoc, arith, length}
 use Rattle.std.specs.Prelude.{None, Some, not, OnErr, OnOk, Result, Ok, Err, slice_index_or}
 use Rattle.std.proofs.lemmas.Bool.{true≢false}
 use Rattle.run_theory.proofs.Pasts.{past_trans}
@@ -17,7 +19,7 @@ use Rattle.world_core.specs.Right.{arriving}
 use Rattle.world_core.specs.Start.{NobodyStarts, Start}
 use Rattle.world_core.specs.Steps.{Addressed, HostStep}
 use Rattle.world_core.specs.World.{logs_at, next_stamp}
-use Rattle.world_views.specs.Driven.{HasAsked, HaveGrown, IsDriven, IsSound, IsStepped, IsWorld}
+use Rattle.world_views.specs.Driven.{HasAsked, HasBegun, HaveGrown, IsAsked, IsDriven, IsSound, IsStepped, IsWorld, asked_by}
 use Rattle.world_views.specs.Links.{Arrival, take_first}
 use Rattle.world_views.specs.Machine.{has_stopped, own_signal, own_stop, request_body}
 use Rattle.world_views.specs.Right.{IsRight}
@@ -45,6 +47,11 @@ there_in n w h sizes low =
 -- the first host is there
 pub first_there : (w : Whole) → IsWorld w → IsThere w 0
 first_there w is = there_in (hosts is.start) w 0 is.sound.right.sizes (omega arith)
+
+-- so is each
+pub all_there : (w : Whole) → IsWorld w → AreThere w
+all_there w is h low =
+    there_in (hosts is.start) w h is.sound.right.sizes (omega (arith, low, ap length is.sound.right.made))
 
 -- so is the one that a link's signal is for
 pub there_for : (w : Whole) (t : Arrival) (start : Start) → IsSound start w → IsTakenFrom (hosts start) w.links t
@@ -104,10 +111,11 @@ has_asked start w t request none runs sound same =
 pub asked_ok : (result : Result (Unit {0}) NoMemory) (w t : Whole) (x : Addressed) (request : ApiReq)
     → is_start request ≡ false → has_stopped_in w 0 ≡ false → x ≡ asking w 0 (request_body request)
     → OnOk result (HasHandled w x t)
-    → (start : Start) → IsSound start w → OnOk result (HasAsked start request w t)
+    → (start : Start) → IsSound start w → OnOk result (IsAsked start request w t)
 asked_ok (Ok done) w t x request none runs is handled start sound =
-    has_asked start w t request none runs sound
-    (shell_handles w t x (ap (λ (y : Addressed). y.to) is) handled ∙ ap (moved w 0) is)
+    subst (λ b. asked_by b start request w t) (sym none)
+    (has_asked start w t request none runs sound
+    (shell_handles w t x (ap (λ (y : Addressed). y.to) is) handled ∙ ap (moved w 0) is))
 asked_ok (Err fault) w t x request none runs is handled start sound = tt
 
 pub has_stepped : (w u : Whole) (t : Arrival) → take_first w.links ≡ Some t → HasTaken (left_of w t) t.taken u
@@ -224,11 +232,30 @@ pub asked_sound : (start : Start) (request : ApiReq) (w t : Whole) → HasAsked 
     → IsSound start t
 asked_sound start request w t asked sound = record { given = sound.given; right = asked.right sound.given sound.right }
 
-pub asked_world : (request : ApiReq) (w t : Whole) → ((start : Start) → IsSound start w → HasAsked start request w t)
+-- where no start was asked for, it was asked in the same life
+pub asked_plain : (start : Start) (request : ApiReq) (w t : Whole) → is_start request ≡ false
+    → IsAsked start request w t → HasAsked start request w t
+asked_plain start request w t none asked = subst (λ b. asked_by b start request w t) none asked
+
+begun_sound : (start : Start) (request : ApiReq) (w t : Whole) (begun : HasBegun start request w t)
+    → IsSound start w → IsSound (more start begun.late) t
+begun_sound start request w t begun sound =
+    record { given = sound.given; right = begun.right sound.given sound.right }
+
+-- whatever was asked for, and whoever begins by it, the world is one
+pub asked_world : (request : ApiReq) (w t : Whole) → ((start : Start) → IsSound start w → IsAsked start request w t)
     → IsWorld w
     → IsWorld t
-asked_world request w t asked is =
-    record { start = is.start; sound = asked_sound is.start request w t (asked is.start is.sound) is.sound }
+asked_world request w t asked is = by (is_start request) (asked is.start is.sound)
+  where
+    same : HasAsked is.start request w t → IsWorld t
+    same one = record { start = is.start; sound = asked_sound is.start request w t one is.sound }
+
+    by : (b : Bool) → asked_by b is.start request w t → IsWorld t
+    by false one = same one
+    by true (inl one) = same one
+    by true (inr begun) =
+        record { start = more is.start begun.late; sound = begun_sound is.start request w t begun is.sound }
 
 -- one that was driven
 pub driven_world : (w t : Whole) → ((start : Start) → IsSound start w → IsDriven start w t) → IsWorld w → IsWorld t
@@ -244,7 +271,7 @@ told_right start given w t reply same right =
     record {
       shape = was.shape;
       made = was.made;
-      nobody = was.nobody;
+      since = was.since;
       sizes = record {
         bodies = was.sizes.bodies;
         stopped = was.sizes.stopped;
@@ -259,6 +286,8 @@ told_right start given w t reply same right =
       labels = was.labels;
       stopped = was.stopped;
       bodies = was.bodies;
+      views = was.views;
+      cuts = was.cuts;
       counts = was.counts;
       linked = was.linked;
       no_others = was.no_others;

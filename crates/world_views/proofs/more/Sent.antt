@@ -31,19 +31,19 @@ AreEarly late log = Each (λ (e : HostStep). e.step.stamp ≤ late.stamp) log
 
 module _ (start : Start) (late : Late) (i : ℕ) (low : i < hosts start) where
   module _ (log : List HostStep) (e : HostStep) (early : e.step.stamp ≤ late.stamp) where
-    abbrev before_it : List Member
+    abbrev pub before_it : List Member
     before_it = made_before start e.step.stamp
 
-    abbrev standing : Standing
+    abbrev pub standing : Standing
     standing = (after start i (e ∷ log)).standing
 
-    abbrev sends : List Outgoing
+    abbrev pub sends : List Outgoing
     sends = (step_after start i log e).effects.sends
 
-    abbrev by : Sender
+    abbrev pub by : Sender
     by = sender (made start) i e.step.stamp standing.view
 
-    routed_more : routed_after (more start late) i log e ≡ routed_all (before_it ++ nobody ∷ []) i standing sends
+    pub routed_more : routed_after (more start late) i log e ≡ routed_all (before_it ++ nobody ∷ []) i standing sends
     routed_more =
         ap (λ (ms : List Member).
         routed_all ms i (after (more start late) i (e ∷ log)).standing
@@ -69,7 +69,7 @@ module _ (start : Start) (late : Late) (i : ℕ) (low : i < hosts start) where
         by_more
         ∙ ap (all_addressed by (sent_count (more start late) i log)) routed_more
 
-    same_length : length (made_before start e.step.stamp) * 3 + 1 ≡ hosts start
+    pub same_length : length (made_before start e.step.stamp) * 3 + 1 ≡ hosts start
     same_length = ap (λ n. n * 3 + 1) (before_length start late e.step.stamp)
 
   -- how many signals they sent each other

@@ -4,5 +4,5 @@ use Rattle.life_trials.proofs.cluster.ask.Goals as goal
 
 pub returns : goal.returns
 returns c =
-    asked_stays c.ask.result c.args.request (whole_of c.args.cluster.now.world) (whole_of c.ask.new.self.world) c.requires.world
+    asked_stays c.ask.result c.args.request (whole_of c.args.cluster.now.world) (whole_of c.ask.new.self.world) c.requires
     c.ask.ensures.ok

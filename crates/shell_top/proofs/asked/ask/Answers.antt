@@ -1,4 +1,5 @@
 use Rattle.std.proofs.Common.{[], ◌∷◌, ◌∙◌, map}
+use Rattle.world_views.proofs.WorldLemmas.{asked_plain}
 use Rattle.world_views.specs.WorldOf.{whole_of}
 use Rattle.shell_top.proofs.ServedLemmas.{asked_ok, asked_err, asked_world, left_unasked, on_err}
 use Rattle.shell_top.proofs.OnDisksLemmas.{asked_lives}
@@ -35,23 +36,27 @@ returns-clause-grown g c =
 pub returns-clause-lived : goal.returns-clause-lived
 returns-clause-lived g c =
     asked_lives g.start g.D.Disk.told c.lives_go_on.ensures c.args.request c.requires.1.1.1.0 c.drive.result
-    c.args.world.now c.ask.new.self c.drive.new.self (c.in_ok-ask.ensures.ok g.start c.requires.1.1.0) c.ask.ensures.disks c.drive.ensures.way
+    c.args.world.now c.ask.new.self c.drive.new.self (asked_plain g.start c.args.request (whole_of c.args.world.now.world) (whole_of c.ask.new.self.world)
+    c.requires.1.1.1.1 (c.in_ok-ask.ensures.ok g.start c.requires.1.1.0)) c.ask.ensures.disks c.drive.ensures.way
 
 pub drive-requires : goal.drive-requires
 drive-requires g c =
     asked_world g.start c.args.request (whole_of c.args.world.now.world) (whole_of c.ask.new.self.world)
-    c.requires.1.1.0 (c.in_ok-ask.ensures.ok g.start c.requires.1.1.0)
+    c.requires.1.1.0 (asked_plain g.start c.args.request (whole_of c.args.world.now.world) (whole_of c.ask.new.self.world)
+    c.requires.1.1.1.1 (c.in_ok-ask.ensures.ok g.start c.requires.1.1.0))
 
 pub returns-clause-ok : goal.returns-clause-ok
 returns-clause-ok g c =
     asked_ok g.start c.args.request c.drive.result (whole_of c.args.world.now.world) (whole_of c.ask.new.self.world)
     (whole_of c.drive.new.self.world) c.requires.1.1.0
-    (c.in_ok-ask.ensures.ok g.start c.requires.1.1.0) (c.drive.ensures.driven g.start) c.drive.ensures.quiet
+    (asked_plain g.start c.args.request (whole_of c.args.world.now.world) (whole_of c.ask.new.self.world)
+    c.requires.1.1.1.1 (c.in_ok-ask.ensures.ok g.start c.requires.1.1.0)) (c.drive.ensures.driven g.start) c.drive.ensures.quiet
     (c.drive.ensures.unscheduled g.start)
 
 pub returns-clause-err : goal.returns-clause-err
 returns-clause-err g c =
     asked_err g.start c.args.request c.drive.result (whole_of c.args.world.now.world) (whole_of c.ask.new.self.world)
     c.drive.new.self.world.logs c.requires.1.1.0
-    (c.in_ok-ask.ensures.ok g.start c.requires.1.1.0) (c.drive.ensures.err g.start) (c.drive.ensures.labels g.start)
+    (asked_plain g.start c.args.request (whole_of c.args.world.now.world) (whole_of c.ask.new.self.world)
+    c.requires.1.1.1.1 (c.in_ok-ask.ensures.ok g.start c.requires.1.1.0)) (c.drive.ensures.err g.start) (c.drive.ensures.labels g.start)
     (c.drive.ensures.unscheduled g.start)
