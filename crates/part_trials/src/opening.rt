@@ -147,8 +147,10 @@ fn lay_slots(disk: &mut MemDisk, ckpt_size: u64, redo_end: u64) -> Result<(), Fa
     done(write_slot(disk, SYSTEM_FILE, 0, &system_bytes(&system)))
 }
 
-// How many bytes of redo and transactions a disk then has.
+// How many bytes of redo and transactions a disk then has. The file of the next checkpoint has an older one, as a node's
+// has: so what the disk in memory takes to grow isn't counted as opening.
 fn lay_all(alloc: Global, disk: &mut MemDisk, size: Size) -> Result<(u64, u64), Fail> {
+    let _older = lay_rows(alloc, disk, NEXT, size.rows)?;
     let ckpt_size = lay_rows(alloc, disk, CHECKPOINT, size.rows)?;
     let (redo, changes) = lay_changes(alloc, disk, size)?;
     lay_slots(disk, ckpt_size, redo)?;
