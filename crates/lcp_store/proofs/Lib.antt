@@ -1,3 +1,4 @@
+mod EndLemmas
 mod FieldLemmas
 mod FrontLemmas
 mod ReadingLaws

@@ -1,3 +1,4 @@
 pub mod Laws
 pub mod Lent
+pub mod Next
 pub mod Reading

@@ -3,6 +3,7 @@ ghost use Rattle.std.specs.Prelude.{◌≡◌, ◌+◌, ◌≤◌, ◌<◌, ℕ,
 ghost use Rattle.sig_core.specs.Word.{is_unprintable};
 ghost use Rattle.sig_core.specs.declared.key.TheConstants.{KEY_BYTES};
 ghost use Rattle.sig_core.specs.declared.value.TheConstants.{VALUE_BYTES};
+ghost use Rattle.lcp_store.specs.Lent.{EndsIn};
 ghost use Rattle.lcp_store.specs.Reading.{epoch_in, len_unless_spoilt, word_in, word_len};
 
 use crate::row::Version;
@@ -38,6 +39,7 @@ pub fn value_in(bytes: &[u8]) -> Result<(&[u8], usize), usize>
     ensures told { MatchResult result (λ found. word_in 0 VALUE_BYTES bytes.now ≡ Ok (found.0.now, found.1)) (λ left. word_in 0 VALUE_BYTES bytes.now ≡ Err left) }
     ensures value { IfOk result (λ found. length found.0.now ≤ VALUE_BYTES) }
     ensures printable { IfOk result (λ found. position is_unprintable found.0.now ≡ None) }
+    ensures last { IfOk result (λ found. EndsIn bytes.now found.0.now found.1) }
     ensures most { IfOk result (λ found. found.1 ≤ VALUE_BYTES + 1) }
     ensures within { MatchResult result (λ found. (1 ≤ found.1) × (found.1 ≤ length bytes.now)) (λ left. left ≤ length bytes.now) }
 {

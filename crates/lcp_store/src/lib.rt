@@ -9,5 +9,5 @@ mod write;
 
 pub use laws::{checkpoints_are_read, no_row_begins_another, rows_are_read};
 pub use row::{LentRow, ROW_BYTES, Version, lent_row_in, row_in};
-pub use rows::rows_in;
+pub use rows::{rows_in, rows_of};
 pub use write::{put_head, put_row, put_row2};

@@ -2,7 +2,7 @@
 ghost use Rattle.std.specs.Prelude.{◌≡◌, ◌≤◌, Err, None, Ok, length, position, IfOk, MatchResult};
 ghost use Rattle.sig_core.specs.Word.{is_unprintable};
 ghost use Rattle.sig_core.specs.declared.value.TheConstants.{VALUE_BYTES};
-ghost use Rattle.lcp_store.specs.Lent.{stored_of};
+ghost use Rattle.lcp_store.specs.Lent.{EndsIn, stored_of};
 ghost use Rattle.lcp_store.specs.Reading.{row_in};
 ghost use Rattle.lcp_store.specs.declared.row.TheConstants.{ROW_BYTES};
 
@@ -70,7 +70,7 @@ fn to_stored(row: &LentRow<'_>) -> StoredRow
 /// How many of the bytes are left from the first on that fits no row: 0 where a row is cut short.
 /// Of a row epoch above the latest one the first byte is meant.
 #[inline(always)]
-#[tactic(auto, unfolding(crate::specs::Reading::row_in))]
+#[tactic(auto, using(crate::proofs::EndLemmas::endings), unfolding(crate::specs::Reading::row_in))]
 pub fn lent_row_in(
     version: Version,
     latest: u64,
@@ -79,6 +79,7 @@ pub fn lent_row_in(
     ensures told { MatchResult result (λ found. row_in version latest bytes.now ≡ Ok (stored_of found.0, found.1)) (λ left. row_in version latest bytes.now ≡ Err left) }
     ensures value { IfOk result (λ found. length found.0.value.now ≤ VALUE_BYTES) }
     ensures printable { IfOk result (λ found. position is_unprintable found.0.value.now ≡ None) }
+    ensures last { IfOk result (λ found. EndsIn bytes.now found.0.value.now found.1) }
     ensures most { IfOk result (λ found. found.1 ≤ ROW_BYTES) }
     ensures within { MatchResult result (λ found. (1 ≤ found.1) × (found.1 ≤ length bytes.now)) (λ left. left ≤ length bytes.now) }
 {

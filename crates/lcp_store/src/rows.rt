@@ -1,10 +1,13 @@
 //! The rows of a checkpoint.
-ghost use Rattle.std.specs.Prelude.{◌≡◌, ◌≤◌, ◌<◌, length, IfSome, MatchResult};
-ghost use Rattle.lcp_store.specs.Reading.{Reads, damage, version_in};
+ghost use Rattle.std.specs.Prelude.{◌≡◌, ◌≤◌, ◌<◌, ◌+◌, ◌-◌, Err, IfOk, IfSome, MatchResult, None, Ok, drop, length, position};
+ghost use Rattle.sig_core.specs.Word.{is_unprintable};
+ghost use Rattle.sig_core.specs.declared.value.TheConstants.{VALUE_BYTES};
+ghost use Rattle.lcp_store.specs.Next.{row_at};
+ghost use Rattle.lcp_store.specs.Reading.{Reads, damage, row_in, version_in};
 
 use crate::row::{Version, lent_row_in};
-use row_map::RowMap;
-use sig_core::{KEY_BYTES, ReadFault, VALUE_BYTES};
+use row_map::{RowMap, RowsInPlace};
+use sig_core::{KEY_BYTES, Key, ReadFault, VALUE_BYTES};
 use std::alloc::Global;
 
 /// The rows of a checkpoint of either version, which are all bytes of this file. Of the rows of one key
@@ -13,28 +16,72 @@ use std::alloc::Global;
 /// # Errors
 /// `Damaged` exactly where the bytes are no checkpoint, or have a row epoch above the latest one. Where
 /// they end within a row or within the head, the place is behind them. `NoMemory`.
-#[tactic(auto, using(crate::proofs::RowsLemmas::reading))]
 pub fn rows_in(alloc: Global, file: u8, latest: u64, bytes: &[u8]) -> Result<RowMap, ReadFault>
     ensures { Reads file latest bytes.now result }
 {
-    let (version, head) = match version_in(bytes) {
+    match bytes.to_vec(alloc) {
+        Ok(bytes) => rows_of(alloc, file, latest, bytes),
+        Err(_) => Err(ReadFault::NoMemory),
+    }
+}
+
+/// The same of bytes that are given away: the values stay where they are among these.
+///
+/// # Errors
+/// As of `rows_in`.
+#[tactic(auto, using(crate::proofs::RowsLemmas::reading))]
+pub fn rows_of(alloc: Global, file: u8, latest: u64, bytes: Vec<u8>) -> Result<RowMap, ReadFault>
+    ensures { Reads file latest bytes.items result }
+{
+    let (version, head) = match version_in(&bytes) {
         Ok(found) => found,
-        Err(left) => return Err(damage(file, bytes, left)),
+        Err(left) => return Err(damage(file, &bytes, left)),
     };
-    let mut rest = &bytes[head..];
-    let Ok(mut rows) = RowMap::with_room(alloc, count_rows(version, rest), rest.len()) else {
+    let count = count_rows(version, &bytes[head..]);
+    let Ok(mut rows) = RowsInPlace::over(alloc, bytes, count) else {
         return Err(ReadFault::NoMemory);
     };
-    'rows: while !rest.is_empty() {
-        match lent_row_in(version, latest, rest) {
-            Ok((row, taken)) => match rows.insert(row.key, row.value) {
-                Ok(()) => rest = &rest[taken..],
+    let mut at = head;
+    'rows: while at < rows.bytes().len() {
+        match next_row(version, latest, rows.bytes(), at) {
+            Ok(next) => match rows.insert(next.key, next.from, next.len) {
+                Ok(()) => at = next.from + next.len,
                 Err(_) => return Err(ReadFault::NoMemory),
             },
-            Err(left) => return Err(damage(file, bytes, left)),
+            Err(left) => return Err(damage(file, rows.bytes(), left)),
         }
     }
-    Ok(rows)
+    Ok(rows.into_rows())
+}
+
+// A row, and where among the bytes its value stands, which it ends with.
+#[derive(Clone, Copy)]
+struct Next {
+    key: Key,
+    epoch: Option<u64>,
+    from: usize,
+    len: usize,
+}
+
+// The row that begins at a place, or how many bytes are left from the first on that doesn't fit.
+#[inline(always)]
+#[tactic(auto, using(crate::proofs::EndLemmas::standings))]
+fn next_row(version: Version, latest: u64, bytes: &[u8], at: usize) -> Result<Next, usize>
+    requires { at ≤ length bytes.now }
+    ensures told { MatchResult result (λ next. row_in version latest (drop at bytes.now) ≡ Ok (row_at bytes.now next, next.from + next.len - at)) (λ left. row_in version latest (drop at bytes.now) ≡ Err left) }
+    ensures value { IfOk result (λ next. next.len ≤ VALUE_BYTES) }
+    ensures printable { IfOk result (λ next. position is_unprintable (row_at bytes.now next).value ≡ None) }
+    ensures within { MatchResult result (λ next. (at ≤ next.from) × (at + 1 ≤ next.from + next.len) × (next.from + next.len ≤ length bytes.now)) (λ left. left ≤ length bytes.now) }
+{
+    match lent_row_in(version, latest, &bytes[at..]) {
+        Ok((row, taken)) => Ok(Next {
+            key: row.key,
+            epoch: row.epoch,
+            from: at + (taken - row.value.len()),
+            len: row.value.len(),
+        }),
+        Err(left) => Err(left),
+    }
 }
 
 // How many rows stand in front of bytes, as their lengths tell: there is room for them before they are read.

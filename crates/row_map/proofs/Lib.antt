@@ -1,4 +1,5 @@
 pub mod HashedLemmas
+pub mod InPlaceLemmas
 pub mod ListingLemmas
 pub mod SortedLemmas
 pub mod StoredLemmas

@@ -29,9 +29,9 @@ pub struct RowMap {
 
 /// The place of a value among the bytes of all, and how many it has.
 #[derive(Clone, Copy)]
-struct Stored {
-    at: usize,
-    len: u8,
+pub(crate) struct Stored {
+    pub(crate) at: usize,
+    pub(crate) len: u8,
 }
 
 impl Model for RowMap {
@@ -174,6 +174,14 @@ impl RowMap {
         }
         Ok(rows)
     }
+}
+
+/// The rows whose values stand at these places.
+pub(crate) fn rows_of_parts(places: IndexMap<Key, Stored>, bytes: Vec<u8>) -> RowMap
+    requires { AreStored bytes.items places.entries }
+    ensures { result ≡ map.from_entries (rows_at bytes.items places.entries) }
+{
+    RowMap { places, bytes }
 }
 
 // The bytes that stand at a place.

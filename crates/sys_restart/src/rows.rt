@@ -6,7 +6,7 @@ ghost use Rattle.sys_restart.specs.Answers.{HasCause, Reads};
 ghost use Rattle.sys_restart.specs.Checkpoint.{rows_in_size, rows_of_file};
 
 use host_io::{Disk, Failed};
-use lcp_store::rows_in;
+use lcp_store::rows_of;
 use row_map::RowMap;
 use sig_core::{NoMemory, ReadFault};
 use std::alloc::Global;
@@ -30,7 +30,7 @@ pub fn read_rows<D: Disk>(
     ensures steady { D.faults disk.old ≤ D.faults disk.new }
 {
     match read_file(alloc, disk, file, size) {
-        Ok(bytes) => rows_in_size(alloc, file, size, latest, &bytes),
+        Ok(bytes) => rows_in_size(alloc, file, size, latest, bytes),
         Err(fault) => Err(fault),
     }
 }
@@ -41,13 +41,13 @@ fn rows_in_size(
     file: u8,
     size: u64,
     latest: u64,
-    bytes: &[u8],
+    bytes: Vec<u8>,
 ) -> Result<RowMap, ReadFault>
-    ensures read { Reads (rows_in_size file size latest bytes.now) result }
+    ensures read { Reads (rows_in_size file size latest bytes.items) result }
     ensures cause { (before now : ℕ) → HasCause before now result }
 {
     let there = bytes.len() as u64;
-    match rows_in(alloc, file, latest, bytes) {
+    match rows_of(alloc, file, latest, bytes) {
         Ok(_) if there < size => Err(ReadFault::Damaged {
             file,
             at: there,
