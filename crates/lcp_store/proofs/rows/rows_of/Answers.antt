@@ -1,10 +1,10 @@
-use Rattle.std.proofs.Common.{rules, ◌≡◌, ◌≤◌, ◌+◌, ◌-◌, ◌∙◌, ap, sym, subst, refl, drop, length, arith}
+use Rattle.std.proofs.Common.{rules, ◌≡◌, ◌≤◌, ◌<◌, ◌+◌, ◌-◌, ◌∙◌, ℕ, ap, sym, refl, drop, length, arith}
 use Rattle.std.proofs.lemmas.List.{drop-drop, length-drop}
 use Rattle.std.specs.Prelude.{Ok}
 use Rattle.std.specs.FinMap as map
 use Rattle.lcp_store.specs.Next.{row_at}
 use Rattle.lcp_store.specs.Reading.{version_in}
-use Rattle.lcp_store.proofs.RowsLemmas.{IsOnTheWay, begins, goes_on, stops}
+use Rattle.lcp_store.proofs.RowsLemmas.{begins, ends, goes_on, stops}
 use Rattle.lcp_store.proofs.rows.rows_of.Goals as goal
 
 -- behind the head all rows are left
@@ -29,10 +29,13 @@ rows-preserved c =
     let next = c.in-Ok-next_row.next in
     let rest = drop at bytes in
     let size : length rest ≡ length bytes - at = length-drop at bytes in
-    let some : 1 ≤ length rest = omega (arith, size, c.rows.invariant.within, search rules) in
+    let before : at < length bytes = search rules in
+    let some : 1 ≤ length rest = omega (arith, size, before) in
     let few : length rest ≤ length bytes = omega (arith, size) in
     let one : 1 ≤ next.from + next.len - at = search rules in
-    let left : drop (next.from + next.len) bytes ≡ drop (next.from + next.len - at) rest = search rules in
+    let behind : at ≤ next.from + next.len = search rules in
+    let left : drop (next.from + next.len) bytes ≡ drop (next.from + next.len - at) rest =
+    sym (drop-drop (next.from + next.len - at) at bytes ∙ ap (λ (k : ℕ). drop k bytes) (omega (arith, behind))) in
     let way = goes_on c.args.file c.args.latest bytes c.in-Ok.found.0 c.rows.rows.rows rest (row_at bytes next)
     (next.from + next.len - at) _ (drop (next.from + next.len) bytes) (few, c.rows.invariant.leads) some one
     (search rules) (search rules) left in
@@ -49,7 +52,20 @@ returns-in-Err-next_row c =
     let bytes = c.args.bytes.items in
     let rest = drop c.rows.at bytes in
     let size : length rest ≡ length bytes - c.rows.at = length-drop c.rows.at bytes in
-    let some : 1 ≤ length rest = search rules in
+    let before : c.rows.at < length bytes = search rules in
+    let some : 1 ≤ length rest = omega (arith, size, before) in
     let few : length rest ≤ length bytes = omega (arith, size) in
     stops c.args.file c.args.latest bytes c.in-Ok.found.0 c.rows.rows.rows rest c.in-Err-next_row.left _
     (few, c.rows.invariant.leads) some (search rules) (search rules)
+
+-- no row is left
+pub returns : goal.returns
+returns c =
+    let bytes = c.args.bytes.items in
+    let rest = drop c.rows.at bytes in
+    let size : length rest ≡ length bytes - c.rows.at = length-drop c.rows.at bytes in
+    let all : length bytes ≤ c.rows.at = search rules in
+    let few : length rest ≤ length bytes = omega (arith, size) in
+    let none : length rest ≤ 0 = omega (arith, size, all) in
+    let read = ends c.args.file c.args.latest bytes c.in-Ok.found.0 c.rows.rows.rows rest (few, c.rows.invariant.leads) none in
+    search (read, rules)
