@@ -1,7 +1,7 @@
 -- What was written is read.
 use Rattle.std.proofs.Common.{◌≡◌, ◌≤◌, ◌<◌, ◌^◌, ℕ, suc, zero, ◌+◌, List, [], ◌∷◌, ◌++◌, length, take, drop, ap, sym}
-use Rattle.std.proofs.Common.{◌∙◌, refl, arith, Bool, true, false, nat_lt}
-use Rattle.std.specs.Prelude.{◌==◌, if◌then◌else◌, Result, Ok, Err, Option, None, Some, position}
+use Rattle.std.proofs.Common.{◌∙◌, refl, arith, Bool, false, nat_lt}
+use Rattle.std.specs.Prelude.{◌==◌, if◌then◌else◌, Result, Ok, Err, Option, None, Some}
 use Rattle.std.specs.Int.{w64, to_be_bytes, from_be_bytes}
 use Rattle.std.specs.List.{flat_map}
 use Rattle.std.specs.FinMap as map
@@ -9,14 +9,13 @@ use Rattle.std.proofs.lemmas.Bool.Decides.{nat_tests}
 use Rattle.std.proofs.lemmas.List.{take_at, drop_at, length-append, append_assoc, append-nil, nil_from_length}
 use Rattle.std.proofs.lemmas.Nat.{from_be_bytes-to_be_bytes_8}
 use Rattle.sig_core.specs.Table.{Rows}
-use Rattle.sig_core.specs.Word.{is_unprintable}
 use Rattle.sig_core.specs.declared.stored_row.StoredRow.{StoredRow}
 use Rattle.lcp_store.specs.declared.row.Version.{Version}
 use Rattle.lcp_store.specs.declared.row.Version.TheVariants.{First, Second}
 use Rattle.sig_core.specs.Checkpoint.{epoch_bytes, head_bytes, row_bytes, word_bytes}
 use Rattle.lcp_store.specs.Reading.{epoch_in, or_damage, put_in, read_on, row_in, rows_behind, rows_from, rows_in}
 use Rattle.lcp_store.specs.Reading.{version_in, with_epoch, with_key, with_value, word_in, word_len, word_of_len}
-use Rattle.lcp_store.specs.Laws.{AreRowsOf, CheckpointsAreRead, IsEpochOf, IsRowOf, IsWordOf, NoneBeginsAnother}
+use Rattle.lcp_store.specs.Laws.{AreRowsOf, CheckpointsAreRead, IsEpochOf, IsWordOf, NoneBeginsAnother}
 use Rattle.lcp_store.specs.Laws.{RowsAreRead, all_in}
 
 len_read : (least most : ℕ) (word rest : List ℕ) → IsWordOf least most word

@@ -1,4 +1,4 @@
-use Rattle.std.proofs.Common.{◌≡◌, ◌++◌, ap, ◌∙◌}
+use Rattle.std.proofs.Common.{◌++◌, ap, ◌∙◌}
 use Rattle.std.proofs.lemmas.List.{append_assoc}
 use Rattle.sig_core.specs.Checkpoint.{epoch_bytes, word_bytes}
 use Rattle.lcp_store.proofs.FrontLemmas.{kept}
