@@ -2,7 +2,7 @@
 -- list that goes out, so what it ensures has no case for want of memory (`IfOk result (λ sends. row old ≡ sending_all
 -- new sends)`), and `Qmgr::settle` takes both over. Where two paths join before a further call the fact of each is
 -- lost, so each has a method of its own (`allow`, `refuse`). Loops go by what is done and what is left: of sets
--- (`SetLemmas.antt`), of starts that are noted and members that are suspected (`FoldLemmas.antt`), of orders
+-- (`ListLemmas` in `frag_map`), of starts that are noted and members that are suspected (`FoldLemmas.antt`), of orders
 -- (`PortionLemmas` in `sig_core`). The laws go by one relation, `Kept` (`KeptLemmas.antt`), that each row keeps
 -- (`RowLemmas.antt`, a lemma for each and then one for the table) and that goes on along any list of events
 -- (`LawLemmas.antt`). That proposals are new is a second walk over the rows, of what each sends (`NewLemmas.antt`),
@@ -16,10 +16,9 @@
 mod FoldLemmas
 mod KeptLemmas
 mod LawLemmas
-mod NewLemmas
+pub mod NewLemmas
 pub mod Outcomes
 mod RowLemmas
 mod SendLemmas
-mod SetLemmas
 pub mod Settles
 pub mod Walk

@@ -92,7 +92,7 @@ proposed_if_new : (before k : Known) (view : View) (joining : Option Member) (ma
 proposed_if_new before k view joining true above higher = proposed_new before k view joining above higher
 proposed_if_new before k view joining false above higher = tt
 
-greatest_if : (a b : ℕ) (less : Bool) → nat_lt a b ≡ less
+pub greatest_if : (a b : ℕ) (less : Bool) → nat_lt a b ≡ less
     → (a ≤ (if less then b else a)) × (b ≤ (if less then b else a))
 greatest_if a b true e =
     let lower : a < b = ltb-true a b e in

@@ -22,7 +22,7 @@ pub fn is_among(members: &[Member], member: &Member) -> bool
 }
 
 /// Those of the members that aren't among the others.
-#[tactic(auto, unfolding(crate::specs::Sets::without), using(crate::proofs::SetLemmas::filters))]
+#[tactic(auto, unfolding(crate::specs::Sets::without), using(crate::proofs::SendLemmas::lists))]
 pub fn without(members: &Members, others: &[Member]) -> Members
     ensures { result ≡ without members.now others.now }
 {
@@ -36,7 +36,7 @@ pub fn without(members: &Members, others: &[Member]) -> Members
 }
 
 /// Those of the members that are among the others.
-#[tactic(auto, unfolding(crate::specs::Sets::within), using(crate::proofs::SetLemmas::filters))]
+#[tactic(auto, unfolding(crate::specs::Sets::within), using(crate::proofs::SendLemmas::lists))]
 pub fn within(members: &Members, others: &[Member]) -> Members
     ensures { result ≡ within members.now others.now }
 {
@@ -50,7 +50,7 @@ pub fn within(members: &Members, others: &[Member]) -> Members
 }
 
 /// Adds a member behind the others, where there is room.
-#[tactic(auto, using(crate::proofs::SetLemmas::fronts))]
+#[tactic(auto, using(frag_map::proofs::ListLemmas::lists))]
 pub fn add(members: &mut Members, member: Member)
     ensures { members.new ≡ with_member members.old member }
 {
@@ -60,7 +60,7 @@ pub fn add(members: &mut Members, member: Member)
 }
 
 /// All members of a view, the full ones first, at most eight.
-#[tactic(auto, unfolding(crate::specs::Sets::members_of), using(crate::proofs::SetLemmas::fronts))]
+#[tactic(auto, unfolding(crate::specs::Sets::members_of), using(frag_map::proofs::ListLemmas::lists))]
 pub fn members_of(view: &View) -> Members
     ensures { result ≡ members_of view.now }
 {
@@ -71,7 +71,7 @@ pub fn members_of(view: &View) -> Members
 }
 
 // Adds members behind the others, as long as there is room.
-#[tactic(auto, using(crate::proofs::SetLemmas::fronts))]
+#[tactic(auto, using(frag_map::proofs::ListLemmas::lists))]
 fn add_all(members: &mut Members, others: &Members)
     requires { length members.old ≤ 8 }
     ensures value { members.new ≡ take 8 (members.old ++ others.now) }

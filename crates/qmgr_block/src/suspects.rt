@@ -13,7 +13,7 @@ use sig_core::{Body, Member, Members, MembershipSignal, NoMemory, Outgoing, memb
 use std::alloc::Global;
 
 // Those of the members that have closed, as far as is known.
-#[tactic(auto, unfolding(crate::specs::Suspects::closed_of), using(crate::proofs::SetLemmas::filters))]
+#[tactic(auto, unfolding(crate::specs::Suspects::closed_of), using(crate::proofs::SendLemmas::lists))]
 fn closed_of(closed: &Starts, members: &Members) -> Members
     ensures { result ≡ closed_of closed.now members.now }
 {

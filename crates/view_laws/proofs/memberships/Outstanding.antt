@@ -40,9 +40,10 @@ use Rattle.qmgr_block.specs.Propose.{proposed_by}
 use Rattle.qmgr_block.specs.Qmgr.{qmgr_row}
 use Rattle.qmgr_block.specs.State.{beside, proposing}
 use Rattle.qmgr_block.proofs.Outcomes.{ToldForms, qmgr_outcomes}
+use Rattle.qmgr_block.proofs.NewLemmas.{greatest_if}
 use Rattle.view_laws.specs.Votes.{is_vote}
 use Rattle.view_laws.proofs.memberships.RowsAlike.{absent_like, closing_like, missed_like, promised_like, unlike_like}
-use Rattle.view_laws.proofs.memberships.RowChanges.{Like, greatest_if, like_self, suspects_like}
+use Rattle.view_laws.proofs.memberships.RowChanges.{Like, like_self, suspects_like}
 
 -- the mark of a view that is settled on, or of a decision, which no membership makes
 abbrev pub is_settling : Mark → Bool

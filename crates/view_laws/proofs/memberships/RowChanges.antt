@@ -2,7 +2,6 @@
 -- change by which it proposes.
 use Rattle.std.proofs.Common.{◌≡◌, ◌≤◌, ◌<◌, ◌⊎◌, ℕ, Bool, true, false, nat_lt, List, [], ◌∷◌, refl, ap, sym, subst}
 use Rattle.std.proofs.Common.{◌∙◌, arith, inl, inr}
-use Rattle.std.proofs.lemmas.Bool.{ltb-true, ltb-false}
 use Rattle.std.specs.Prelude.{if◌then◌else◌, Option, None, Some, position}
 use Rattle.frag_map.specs.Groups.{lost_group}
 use Rattle.frag_map.specs.Layout.{Layout}
@@ -19,6 +18,7 @@ use Rattle.qmgr_block.specs.Sets.{is_among, members_of, with_member, without}
 use Rattle.qmgr_block.specs.State.{sent_before}
 use Rattle.qmgr_block.specs.Suspects.{is_new, is_trusted, member_at, president, presides, presides_by, told, told_by}
 use Rattle.qmgr_block.specs.Suspects.{told_if, with_closed, with_suspect, with_suspects}
+use Rattle.qmgr_block.proofs.NewLemmas.{greatest_if}
 use Rattle.view_laws.specs.Members.{confirmed_by}
 
 -- all that matters is as before, but for the last promise, which is this one
@@ -80,14 +80,6 @@ IsNotAbove number (Some p) = p.view.number ≤ number
 pub record Keeps (k l : Known) : Type 0 where
   pub proposed : l.proposed ≡ k.proposed
   pub low : (number : ℕ) → IsNotAbove number k.outstanding → IsNotAbove number l.outstanding
-
--- the greater one of two numbers isn't below either
-pub greatest_if : (a b : ℕ) (less : Bool) → nat_lt a b ≡ less
-    → (a ≤ (if less then b else a)) × (b ≤ (if less then b else a))
-greatest_if a b true e =
-    let lower : a < b = ltb-true a b e in
-    (omega arith, omega arith)
-greatest_if a b false e = (omega arith, ltb-false a b e)
 
 -- where A says what is so of the signal
 module _ (A : Type 0) where

@@ -1,5 +1,5 @@
 use Rattle.std.proofs.Common.{arith, ◌≤◌, [], ◌∷◌, length, sym}
-use Rattle.qmgr_block.proofs.SetLemmas.{take_full}
+use Rattle.frag_map.proofs.ListLemmas.{take_full}
 use Rattle.qmgr_block.proofs.sets.add.Goals as goal
 
 -- nothing is added where there is no room

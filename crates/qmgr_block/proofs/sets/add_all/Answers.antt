@@ -1,7 +1,7 @@
 use Rattle.std.proofs.Common.{◌∙◌, ◌+◌, ◌++◌, ap, drop, get_or, sym, take}
 use Rattle.std.proofs.lemmas.List.{append-nil, drop_all, drop_more, take_all}
 use Rattle.sig_core.specs.Members.{nobody}
-use Rattle.qmgr_block.proofs.SetLemmas.{take_add, take_few}
+use Rattle.frag_map.proofs.ListLemmas.{take-add, take-few}
 use Rattle.qmgr_block.proofs.sets.add_all.Goals as goal
 
 -- one more moves from those that are left to those so far
@@ -10,13 +10,13 @@ loop-member-preserved c =
     let items = c.as_slice-member-items.result.now in
     let now = c.loop-member.members in
     let at = c.loop-member.member-index in
-    let more = take_add 8 now (get_or items at nobody) (drop (at + 1) items) in
+    let more = take-add 8 now (get_or items at nobody) (drop (at + 1) items) in
     record {
       left =
           ap (λ members. take 8 (members ++ drop (at + 1) items)) c.add.ensures ∙ more
           ∙ ap (λ left. take 8 (now ++ left)) (sym (drop_more items at nobody c.loop-member-test.true))
           ∙ c.loop-member.invariant.left;
-      few = rw c.add.ensures (take_few 8 _);
+      few = rw c.add.ensures (take-few 8 _);
     }
 
 -- none is left
