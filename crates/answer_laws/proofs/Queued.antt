@@ -37,7 +37,7 @@ use Rattle.host_laws.proofs.coordinator.HostTurns.{rows_turn}
 use Rattle.host_laws.proofs.hosts.LinkCounts.{sent_signals, signals, taken_signals, to_host}
 use Rattle.answer_laws.proofs.Lone.{IsLone, first_lone, lone_step, one_waits}
 use Rattle.host_laws.proofs.rows.Leaves.{lqh_waits}
-use Rattle.host_laws.proofs.rows.Node.{lqh_node}
+use Rattle.lqh_block.proofs.Seats.{lqh_node}
 use Rattle.host_laws.proofs.rows.Operations.{is_lqh, left_of, right_of, true_and}
 use Rattle.host_laws.proofs.rows.Waits.{goes_on, granted_is, is_more, is_more_body, queued, waiting}
 use Rattle.answer_laws.proofs.Ops.{operations_wait}

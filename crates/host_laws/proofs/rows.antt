@@ -1,7 +1,6 @@
 -- What the rows of a node do to one key of one transaction, and how many requests wait there.
 pub mod Leaves
 pub mod Marks
-pub mod Node
 pub mod Operations
 pub mod Other
 pub mod QueueWaits

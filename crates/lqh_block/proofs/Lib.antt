@@ -17,3 +17,4 @@ pub mod EachLqh
 pub mod EachWaiting
 pub mod EffectLemmas
 pub mod LqhForms
+pub mod Seats

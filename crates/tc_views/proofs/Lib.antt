@@ -5,4 +5,5 @@
 pub mod CalmLemmas
 pub mod DoomLemmas
 pub mod LeftLemmas
+pub mod Seats
 pub mod Walk

@@ -39,7 +39,8 @@ use Rattle.request_laws.proofs.phases.HostSteps.{IsEntered}
 use Rattle.request_laws.proofs.phases.Moves.{like}
 use Rattle.request_laws.proofs.phases.Moves as moves
 use Rattle.request_laws.proofs.phases.Steps.{Walks, begins, coordinator_walks, left_of, passes, resumes, stays, turns}
-use Rattle.request_laws.proofs.routes.Layouts.{coordinator_laid, coordinator_layout}
+use Rattle.request_laws.proofs.routes.Layouts.{coordinator_laid}
+use Rattle.tc_views.proofs.Seats.{coordinator_layout}
 use Rattle.request_laws.proofs.routes.PartSteps.{TcStep, coordinator_is, own_tc}
 use Rattle.request_laws.proofs.tokens.CoordinatorEvents.{IsHandled}
 use Rattle.commit_laws.proofs.parts.Turns.{PartMove, resume_moves, turn_moves}

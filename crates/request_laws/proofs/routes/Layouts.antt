@@ -1,5 +1,5 @@
 -- A coordinator, a takeover and rows have the layout of the view in which their host stands.
-use Rattle.std.proofs.Common.{◌≡◌, ◌==◌, ℕ, Bool, true, false, List, [], ◌∷◌, refl, sym, ap, ◌∙◌, subst}
+use Rattle.std.proofs.Common.{◌≡◌, ◌==◌, Bool, true, false, List, [], ◌∷◌, refl, sym, ap, ◌∙◌, subst}
 use Rattle.std.specs.Prelude.{Option, None, Some, slice_get, remove}
 use Rattle.run_theory.specs.Lists.{IsIn}
 use Rattle.sig_core.specs.declared.member.Member.{Member}
@@ -16,10 +16,8 @@ use Rattle.sig_core.specs.declared.signal.membership.MembershipSignal.TheVariant
 use Rattle.sig_core.specs.declared.signal.takeover.TakeoverSignal.TheVariants.{LqhTransReq}
 use Rattle.sig_core.specs.declared.view.View.{View}
 use Rattle.frag_map.specs.Layout.{Layout, first_layout, in_view}
-use Rattle.tc_block.specs.Live.{turned_if}
-use Rattle.tc_block.specs.Turn.{Turn}
-use Rattle.tc_views.proofs.Walk.{coordinator_outcomes}
-use Rattle.tc_views.specs.Coordinator.{coordinator_row, fresh_coordinator}
+use Rattle.tc_views.proofs.Seats.{coordinator_layout}
+use Rattle.tc_views.specs.Coordinator.{fresh_coordinator}
 use Rattle.tc_views.specs.State.{CoordinatorState}
 use Rattle.tc_views.specs.Views.{install_row}
 use Rattle.takeover_block.specs.declared.gathered.Gathered.{Gathered}
@@ -27,9 +25,8 @@ use Rattle.takeover_block.specs.Rule.{finishing, ruling, ruling_by, entering}
 use Rattle.takeover_block.specs.State.{TakeoverState, resting, with_gathered}
 use Rattle.takeover_block.specs.Takeover.{takeover_row}
 use Rattle.takeover_block.proofs.EachTakeover.{takeover_each}
-use Rattle.lqh_block.specs.Lqh.{lqh_table}
 use Rattle.lqh_block.specs.State.{LqhState}
-use Rattle.lqh_block.proofs.LqhForms.{lqh_forms}
+use Rattle.lqh_block.proofs.Seats.{lqh_layout}
 use Rattle.lqh_views.specs.Replica.{is_stale, replica_by, replica_row, serve_if}
 use Rattle.lqh_views.specs.State.{ReplicaState}
 use Rattle.lqh_saver.specs.State.{saving}
@@ -54,46 +51,7 @@ use Rattle.request_laws.specs.Blocks.{takeover_after, takeover_in}
 use Rattle.request_laws.specs.Routed.{layout_in}
 use Rattle.request_laws.proofs.replicas.KeyEvents.{epoch_same, go_on_same, reporting_same}
 
--- no step of a coordinator changes its layout
-pub coordinator_layout : (s : CoordinatorState) (x : Signal) → (coordinator_row s x).state.tc.layout ≡ s.tc.layout
-coordinator_layout s x =
-    coordinator_outcomes (λ tx t turn. Unit {0}) (λ step. step.state.layout ≡ s.tc.layout) s x (record {
-      calm = record {
-        turns = λ tx t at split. record {
-          goes_on = λ at is. tt;
-          operates = λ op is. tt;
-          decides = λ is. tt;
-          rolls_back = λ is. tt;
-          waits = λ is. tt;
-          answers = λ key answer is. tt;
-          refuses = λ key why is. tt;
-          committed = λ key is. tt;
-          completed = λ key is. tt;
-          aborted = λ key is. tt;
-          commits = λ epoch is. tt;
-        };
-        turned = λ tx t at split turn goes. by at turn turn.over;
-        stays = refl;
-        full = λ name. refl;
-        begins = λ name. refl;
-        passes = λ tx ahead. refl;
-      };
-      resumes = λ tx t at split. record {
-        stays = tt;
-        fails = λ number undecided. record { enters = λ some. tt; ends = λ none. tt };
-        anew = λ why verifying awaited at b. tt;
-        recommits = λ epoch awaited at. tt;
-        recompletes = λ epoch awaited at. tt;
-      };
-      promises = refl;
-      goes_on = λ step node b so_far. so_far;
-    })
-  where
-    by : (at : ℕ) (turn : Turn) (b : Bool) → (turned_if s.tc at turn b).state.layout ≡ s.tc.layout
-    by at turn true = refl
-    by at turn false = refl
-
--- nor one of a takeover
+-- no step of a takeover changes its layout
 rules_in : (s : TakeoverState) → (ruling s).state.layout ≡ s.layout
 unfolding ruling entering
 rules_in s = by (slice_get s.gathered 0)
@@ -129,29 +87,6 @@ takeover_layout s x =
     })
 
 -- nor one of rows
-lqh_layout : (s : LqhState) (body : Body) → (lqh_table s body).state.layout ≡ s.layout
-lqh_layout s =
-    lqh_forms (λ body step. step.state.layout ≡ s.layout) s (record {
-      asks = λ r. record { granted = λ is. refl; queued = λ ahead is. refl };
-      grants = λ at. record { none = λ is. refl; some = λ place r is here. refl };
-      commits = λ tx key epoch chain at. record {
-        last = λ had st markers applies first. refl;
-        passes = λ had st markers applies first. refl;
-      };
-      completes = λ tx key chain at. record { last = λ first. refl; passes = λ first. refl };
-      aborts = λ tx key. record { none = λ had st gives none. refl; some = λ had st gives at r there here. refl };
-      acknowledges = λ tx markers. refl;
-      waits = λ tx key. record { none = λ is. refl; some = λ ahead is. refl };
-      dumps = λ at rows next. refl;
-      ages = record { rests = λ is. refl; none = λ tx key is none. refl; some = λ tx key is at r there here. refl };
-      expires = λ at. record {
-        rests = λ is. refl;
-        none = λ tx key is none. refl;
-        some = λ tx key is place r there here. refl;
-      };
-      rests = λ body is. refl;
-    })
-
 pub rows_layout : (s : ReplicaState) (x : Signal) → (replica_row s x).state.lqh.layout ≡ s.lqh.layout
 rows_layout s x = by x.body
   where

@@ -46,7 +46,7 @@ use Rattle.lqh_views.specs.Replica.{installed, is_stale, passed, replica_by, rep
 use Rattle.lqh_views.specs.Report.{go_on_by, is_orphaned_marker, is_orphaned_record, last_before, marker_by, record_by}
 use Rattle.lqh_views.specs.Report.{reporting, told_record_if}
 use Rattle.lqh_views.specs.State.{ReplicaState}
-use Rattle.host_laws.proofs.rows.Node.{lqh_node}
+use Rattle.lqh_block.proofs.Seats.{lqh_node}
 use Rattle.run_laws.proofs.tokens.Waiting.{WaitersAsk}
 use Rattle.request_laws.specs.Routes.{IsCommitRouted, IsCompletionRouted, IsRequestRouted, IsRouted, IsSentRouted}
 use Rattle.request_laws.specs.Routes.{WaitsRouted, owner_if}

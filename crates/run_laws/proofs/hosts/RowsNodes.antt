@@ -10,7 +10,7 @@ use Rattle.world_core.specs.Machine.{after}
 use Rattle.world_core.specs.Start.{Start}
 use Rattle.world_core.specs.Steps.{HostStep}
 use Rattle.host_laws.proofs.hosts.BlocksAlong.{rows_along}
-use Rattle.host_laws.proofs.rows.Node.{lqh_node}
+use Rattle.lqh_block.proofs.Seats.{lqh_node}
 use Rattle.run_laws.specs.Transit.{Comes, host_after, logs_of}
 use Rattle.run_laws.proofs.routes.Addressed.{comes_addressed, comes_below, for_rows}
 

@@ -27,7 +27,7 @@ use Rattle.world_core.specs.Steps.{Addressed, HostStep}
 use Rattle.host_laws.proofs.api.Moves.{is_api_kind}
 use Rattle.host_laws.proofs.hosts.DihSends.{dih_kinds}
 use Rattle.host_laws.proofs.hosts.BlocksAlong.{first_live, first_waiting, tc_layout}
-use Rattle.host_laws.proofs.rows.Node.{lqh_node}
+use Rattle.lqh_block.proofs.Seats.{lqh_node}
 use Rattle.host_laws.proofs.hosts.SendKinds.{each_of, is_dih_kind}
 use Rattle.run_laws.specs.Routes.{IsForBlock, IsHostRouted, IsOnWay, IsRequestRouted, IsRouted, IsTransactionRouted}
 use Rattle.run_laws.specs.Routes.{SignalsAreForBlocks, SignalsAreRouted, replicas}

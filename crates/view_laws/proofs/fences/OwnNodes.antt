@@ -1,19 +1,12 @@
 -- The blocks of a host that runs no membership know its member's node, and stay of it.
-use Rattle.std.proofs.Common.{◌≡◌, ◌%◌, ℕ, zero, suc, Bool, true, false, List, [], ◌∷◌, refl, ap, ◌∙◌}
+use Rattle.std.proofs.Common.{◌≡◌, ◌%◌, ℕ, zero, suc, Bool, false, List, [], ◌∷◌, refl, ap, ◌∙◌}
 use Rattle.sig_core.specs.declared.member.Member.{Member}
 use Rattle.sig_core.specs.declared.place.BlockId.{BlockId}
 use Rattle.sig_core.specs.declared.place.BlockId.TheVariants as block
 use Rattle.sig_core.specs.declared.reply.ApiReply.{ApiReply}
-use Rattle.sig_core.specs.declared.signal.Body.{Body}
 use Rattle.sig_core.specs.declared.signal.Signal.{Signal}
 use Rattle.sig_core.specs.declared.view.View.{View}
-use Rattle.tc_block.specs.declared.transaction.Transaction.{Transaction}
-use Rattle.tc_block.specs.Live.{turned_if}
-use Rattle.tc_block.specs.State.{TcState}
-use Rattle.tc_block.specs.Turn.{Turn}
-use Rattle.lqh_block.proofs.LqhForms.{lqh_forms}
-use Rattle.lqh_block.specs.Lqh.{lqh_table}
-use Rattle.lqh_block.specs.State.{LqhState}
+use Rattle.lqh_block.proofs.Seats.{lqh_node}
 use Rattle.lqh_saver.specs.State.{saving}
 use Rattle.lqh_saver.proofs.StepLemmas.{saver_rows}
 use Rattle.lqh_views.specs.Replica.{replica_row}
@@ -28,16 +21,13 @@ use Rattle.node_views.specs.Parts.{ldm_row, tc_row}
 use Rattle.node_views.specs.Replies.{giving}
 use Rattle.node_views.specs.Row.{entered}
 use Rattle.qmgr_block.specs.Laws.{Event}
-use Rattle.tc_views.specs.Coordinator.{coordinator_row}
-use Rattle.tc_views.specs.State.{CoordinatorState}
 use Rattle.world_core.specs.Hosts.{member_at, part_by}
 use Rattle.world_core.specs.Start.{NobodyStarts, Start, made}
 use Rattle.world_core.specs.Steps.{HostStep}
 use Rattle.world_views.specs.Hosts.{part_started, started}
 use Rattle.world_views.specs.Machine.{after}
-use Rattle.sig_core.specs.declared.member.TxId.{TxId}
 use Rattle.lqh_views.proofs.Walk.{replica_outcomes}
-use Rattle.tc_views.proofs.Walk.{coordinator_outcomes}
+use Rattle.tc_views.proofs.Seats.{coordinator_node}
 use Rattle.view_laws.specs.HostEvents.{events_of}
 use Rattle.view_laws.proofs.fences.Rows.{dih_node}
 use Rattle.world_views.proofs.AllBegin.{started_behind}
@@ -45,85 +35,11 @@ use Rattle.view_laws.proofs.follow.Walk.{IsSeen, along, log_goes}
 use Rattle.view_laws.proofs.votes.Others.{still_node}
 use Rattle.view_laws.proofs.votes.Parts.{own_node}
 
--- a coordinator's
-turned_node : (s : TcState) (at : ℕ) (turn : Turn) (b : Bool) → (turned_if s at turn b).state.node ≡ s.node
-turned_node s at turn true = refl
-turned_node s at turn false = refl
-
--- whatever turn is taken
-abbrev AnyTurn : TxId → Transaction → Turn → Type 0
-AnyTurn tx t turn = Unit {0}
-
-coordinator_node : (s : CoordinatorState) (x : Signal) → (coordinator_row s x).state.tc.node ≡ s.tc.node
-coordinator_node s x =
-    coordinator_outcomes AnyTurn (λ step. step.state.node ≡ s.tc.node) s x (record {
-      calm = record {
-        turns = λ tx t at split. record {
-          goes_on = λ at is. tt;
-          operates = λ op is. tt;
-          decides = λ is. tt;
-          rolls_back = λ is. tt;
-          waits = λ is. tt;
-          answers = λ key answer is. tt;
-          refuses = λ key why is. tt;
-          committed = λ key is. tt;
-          completed = λ key is. tt;
-          aborted = λ key is. tt;
-          commits = λ epoch is. tt;
-        };
-        turned = λ tx t at split turn own. turned_node s.tc at turn turn.over;
-        stays = refl;
-        full = λ name. refl;
-        begins = λ name. refl;
-        passes = λ tx ahead. refl;
-      };
-      resumes = λ tx t at split. record {
-        stays = tt;
-        fails = λ number is. record { enters = λ some. tt; ends = λ none. tt };
-        anew = λ why verifying awaited at b. tt;
-        recommits = λ epoch awaited at. tt;
-        recompletes = λ epoch awaited at. tt;
-      };
-      promises = refl;
-      goes_on = λ step node b same. same;
-    })
-
--- that of the rows
-rows_node : (s : LqhState) (body : Body) → (lqh_table s body).state.node ≡ s.node
-rows_node s body =
-    lqh_forms (λ body step. step.state.node ≡ s.node) s (record {
-      asks = λ r. record { granted = λ is. refl; queued = λ ahead is. refl };
-      grants = λ at. record { none = λ is. refl; some = λ place r is here. refl };
-      commits = λ tx key epoch chain at. record {
-        last = λ had st markers applies first. refl;
-        passes = λ had st markers applies first. refl;
-      };
-      completes = λ tx key chain at. record { last = λ first. refl; passes = λ first. refl };
-      aborts = λ tx key. record {
-        none = λ had st gives none. refl;
-        some = λ had st gives at r there here. refl;
-      };
-      acknowledges = λ tx markers. refl;
-      waits = λ tx key. record { none = λ is. refl; some = λ ahead is. refl };
-      dumps = λ at rows next. refl;
-      ages = record {
-        rests = λ is. refl;
-        none = λ tx key is none. refl;
-        some = λ tx key is at r there here. refl;
-      };
-      expires = λ at. record {
-        rests = λ is. refl;
-        none = λ tx key is none. refl;
-        some = λ tx key is place r there here. refl;
-      };
-      rests = λ body is. refl;
-    }) body
-
 -- rows stay of their node
 pub replica_node : (s : ReplicaState) (x : Signal) → (replica_row s x).state.lqh.node ≡ s.lqh.node
 replica_node s x =
     replica_outcomes s x (λ step. step.state.lqh.node ≡ s.lqh.node) (record {
-      passes = λ of_rows. rows_node s.lqh x.body;
+      passes = λ of_rows. lqh_node s.lqh x.body;
       stales = λ of_waits stale. refl;
       unasked = λ at is none. refl;
       ignores = λ signal is. refl;
