@@ -14,14 +14,14 @@ use Rattle.sig_core.specs.Rows.{RowsState, abort_record, commit_record, complete
 use Rattle.sig_core.specs.Same.{same_key, same_tx}
 use Rattle.sig_core.specs.Table.{Rows}
 use Rattle.redo_log.specs.Replaying.{replayed}
-use Rattle.sig_core.proofs.Keys.{same_key-swap, same_tx-self}
-use Rattle.sig_core.proofs.TxLemmas.{same_tx-swap}
+use Rattle.sig_core.proofs.Keys.{same_key-swap}
 use Rattle.local_ckpt.specs.Events.{Abort, Commit, Complete, Event, Moment, Prepare, Step, after, changed, log_if}
 use Rattle.local_ckpt.specs.Events.{logged, next}
-use Rattle.local_ckpt.specs.Locking.{AreKept, IsAlone, KeepLocks, KeepsLock, WalksMayBegin}
-use Rattle.local_ckpt.specs.Laws.{IsImage, last_image}
-use Rattle.local_ckpt.specs.Orderly.{IsOrderly, image_in, prepared_in}
+use Rattle.local_ckpt.specs.Locking.{AreKept, KeepLocks, KeepsLock, WalksMayBegin}
+use Rattle.local_ckpt.specs.Laws.{last_image}
+use Rattle.local_ckpt.specs.Orderly.{image_in, prepared_in}
 use Rattle.local_ckpt.proofs.CoverLemmas.{Fits, over_fits}
+use Rattle.local_ckpt.proofs.KeptLemmas.{kept_more}
 use Rattle.local_ckpt.proofs.EventLemmas.{LeavesRows, Prepared, Rewrites, aborts, commits, commits_row, completes}
 use Rattle.local_ckpt.proofs.EventLemmas.{stores, stores_rows}
 use Rattle.row_records.proofs.KeyLemmas.{same}
@@ -41,8 +41,11 @@ record IsSince (noted : ℕ) (s : RowsState) (log : List Redo) : Type 0 where
       → (epoch : ℕ) → noted ≤ epoch → redone epoch log key ≡ None
 
 module _ (noted : ℕ) (s : RowsState) (log : List Redo) (is : IsSince noted s log) where
+  kept_now : (event : Event) → KeepsLock noted s event → AreKept noted (changed event s)
+  kept_now event keeps = kept_more noted s is.kept event keeps
+
   -- what is prepared is no more than before, and the rows are as they were
-  fewer : (after : RowsState) (further : List Redo) → IsOrderly after → LeavesRows s after
+  fewer : (after : RowsState) (further : List Redo) → AreKept noted after → LeavesRows s after
       → ((tx : TxId) (key : List ℕ) (image : Option (List ℕ)) → image_in after tx key ≡ Some image
       → image_in s tx key ≡ Some image)
       → ((tx : TxId) (key : List ℕ) (image : Option (List ℕ)) → last_image further tx key ≡ Some image
@@ -51,14 +54,8 @@ module _ (noted : ℕ) (s : RowsState) (log : List Redo) (is : IsSince noted s l
       → last_image further tx key ≡ None
       → last_image log tx key ≡ None)
       → ((epoch : ℕ) (q : List ℕ) → redone epoch further q ≡ redone epoch log q) → IsSince noted after further
-  fewer after further orderly leaves was known gone same_redo = record {
-    kept = record {
-      orderly = orderly;
-      locked = λ tx key image here other another there.
-          is.kept.locked tx key image (was tx key image here) other another (was other key another there);
-      readable = leaves.readable noted is.kept.readable;
-      images = λ tx key image here. is.kept.images tx key image (was tx key image here);
-    };
+  fewer after further kept leaves was known gone same_redo = record {
+    kept = kept;
     known = known;
     fits = λ epoch few q.
         subst (λ row. Fits (redone epoch further q) row) (sym (leaves.rows_are 0 q))
@@ -104,10 +101,10 @@ module _ (noted : ℕ) (s : RowsState) (log : List Redo) (is : IsSince noted s l
             absurd (let both : true ≡ false = (λ i. sym one i && sym e i) ∙ off in cc)
 
   -- what is given up, and logged so
-  given_up : (after : RowsState) (tx : TxId) (key : List ℕ) → Prepared s after tx key None → LeavesRows s after
-      → IsSince noted after (redo.Abort tx key ∷ log)
-  given_up after tx key ended leaves =
-      fewer after (redo.Abort tx key ∷ log) ended.orderly leaves
+  given_up : (after : RowsState) (tx : TxId) (key : List ℕ) → AreKept noted after → Prepared s after tx key None
+      → LeavesRows s after → IsSince noted after (redo.Abort tx key ∷ log)
+  given_up after tx key kept ended leaves =
+      fewer after (redo.Abort tx key ∷ log) kept leaves
       (λ other key2 image here. (was_prepared after tx key ended other key2 image here).1)
       (λ other key2 image here. let parts = log_kept (is_same tx key other key2)
       (last_image log other key2) image here in
@@ -118,10 +115,10 @@ module _ (noted : ℕ) (s : RowsState) (log : List Redo) (is : IsSince noted s l
       (λ epoch q. refl)
 
   -- nothing was prepared
-  nothing_up : (after : RowsState) (tx : TxId) (key : List ℕ) → image_in s tx key ≡ None → Prepared s after tx key None
-      → LeavesRows s after → IsSince noted after log
-  nothing_up after tx key none ended leaves =
-      fewer after log ended.orderly leaves
+  nothing_up : (after : RowsState) (tx : TxId) (key : List ℕ) → image_in s tx key ≡ None → AreKept noted after
+      → Prepared s after tx key None → LeavesRows s after → IsSince noted after log
+  nothing_up after tx key none kept ended leaves =
+      fewer after log kept leaves
       (λ other key2 image here. (was_prepared after tx key ended other key2 image here).1)
       (λ other key2 image here. still other key2 image (is.known other key2 image here))
       (λ other key2 image here gone. gone) (λ epoch q. refl)
@@ -135,16 +132,11 @@ module _ (noted : ℕ) (s : RowsState) (log : List Redo) (is : IsSince noted s l
           (λ e. absurd (let both : None ≡ Some image = sym none ∙ e in cc)) (λ off e. e) here
 
   -- a prepare under the lock
-  prepare : (tx : TxId) (fragment : ℕ) (key : List ℕ) (image : Option (List ℕ)) → IsAlone s tx key
-      → IsImage key image → IsSince noted (storing s tx key image) (redo.Prepare tx fragment key image ∷ log)
-  prepare tx fragment key image alone good = record {
-    kept = record {
-      orderly = stored.orderly;
-      locked = λ one key2 found here other another there.
-          held one key2 found other another (now one key2 found here) (now other key2 another there);
-      readable = leaves.readable noted is.kept.readable;
-      images = λ other key2 found here. read other key2 found (now other key2 found here);
-    };
+  prepare : (tx : TxId) (fragment : ℕ) (key : List ℕ) (image : Option (List ℕ))
+      → AreKept noted (storing s tx key image)
+      → IsSince noted (storing s tx key image) (redo.Prepare tx fragment key image ∷ log)
+  prepare tx fragment key image kept = record {
+    kept = kept;
     known =
         λ other key2 found here. stored.images other key2
         ∙ log_had (is_same tx key other key2) other key2 found here (is.known other key2 found);
@@ -157,13 +149,6 @@ module _ (noted : ℕ) (s : RowsState) (log : List Redo) (is : IsSince noted s l
     where
       stored : Prepared s (storing s tx key image) tx key (Some image)
       stored = stores s tx key image is.kept.orderly
-
-      read : (other : TxId) (key2 : List ℕ) (found : Option (List ℕ))
-          → (if is_same tx key other key2 then Some image else image_in s other key2) ≡ Some found → IsImage key2 found
-      read other key2 found =
-          by_record tx other key key2
-          (λ t k b. (if b then Some image else image_in s t k) ≡ Some found → IsImage k found)
-          (λ e. let one : image ≡ found = cc in subst (IsImage key) one good) (λ off. is.kept.images other key2 found)
 
       leaves : LeavesRows s (storing s tx key image)
       leaves = stores_rows s tx key image is.kept.orderly
@@ -187,104 +172,82 @@ module _ (noted : ℕ) (s : RowsState) (log : List Redo) (is : IsSince noted s l
       log_lacks true other key2 found here none more = absurd cc
       log_lacks false other key2 found here none more = more here none
 
-      held : (one : TxId) (key2 : List ℕ) (found : Option (List ℕ)) (other : TxId) (another : Option (List ℕ))
-          → (if is_same tx key one key2 then Some image else image_in s one key2) ≡ Some found
-          → (if is_same tx key other key2 then Some image else image_in s other key2) ≡ Some another
-          → same_tx one other ≡ true
-      held one key2 found other another =
-          by_record tx one key key2 (λ t k b. (if b then Some image else image_in s t k) ≡ Some found
-          → (if is_same tx key other k then Some image else image_in s other k) ≡ Some another → same_tx t other ≡ true)
-          (λ e. by_record tx other key key
-          (λ t k b. (if b then Some image else image_in s t key) ≡ Some another → same_tx tx t ≡ true)
-          (λ f. same_tx-self tx) (λ off f. alone other another f))
-          (λ off e. by_record tx other key key2
-          (λ t k b. image_in s one k ≡ Some found → (if b then Some image else image_in s t k) ≡ Some another
-          → same_tx one t ≡ true)
-          (λ f g. same_tx-swap one tx ∙ alone one found f)
-          (λ off2 f g. is.kept.locked one key2 found f other another g) e)
-
   -- a commit of what was prepared
   module _ (tx : TxId) (key : List ℕ) (at : ℕ) (early : at ≤ noted) (r : PendingRecord)
-      (found : first (is_of tx key) s.pending ≡ Some r) (begun : r.committed ≡ false) where
-    abbrev now_committed : RowsState
-    now_committed = commit_record s tx key at
+      (found : first (is_of tx key) s.pending ≡ Some r) (begun : r.committed ≡ false)
+      (kept : AreKept noted (commit_record s tx key at))
+    where
+      abbrev now_committed : RowsState
+      now_committed = commit_record s tx key at
 
-    image_is : image_in s tx key ≡ Some r.image
-    image_is = ap prepared_in found ∙ ap (λ b. if b then None else Some r.image) begun
+      image_is : image_in s tx key ≡ Some r.image
+      image_is = ap prepared_in found ∙ ap (λ b. if b then None else Some r.image) begun
 
-    ended : Prepared s now_committed tx key None
-    ended = commits s tx key at is.kept.orderly r found begun
+      ended : Prepared s now_committed tx key None
+      ended = commits s tx key at is.kept.orderly r found begun
 
-    rewritten : Rewrites s now_committed key r.image at
-    rewritten = commits_row s tx key at is.kept.orderly r found begun
+      rewritten : Rewrites s now_committed key r.image at
+      rewritten = commits_row s tx key at is.kept.orderly r found begun
 
-    own_row : (q : List ℕ) → same_key key q ≡ true → row_at now_committed.places q ≡ r.image
-    own_row q e = ap (row_at now_committed.places) (sym (same key q e)) ∙ rewritten.own
+      own_row : (q : List ℕ) → same_key key q ≡ true → row_at now_committed.places q ≡ r.image
+      own_row q e = ap (row_at now_committed.places) (sym (same key q e)) ∙ rewritten.own
 
-    -- the log makes it the row where it has the prepare, and else nothing more than before
-    has_prepare : (image : Option (List ℕ)) → last_image log tx key ≡ Some image → (epoch : ℕ) → noted ≤ epoch →
-        (q : List ℕ) (b : Bool)
-        → same_key key q ≡ b
-        → redone epoch (redo.Commit tx at key ∷ log) q ≡ (if b then Some image else redone epoch log q)
-    has_prepare image has epoch few q b e =
-        let now : nat_le at epoch ≡ true = grind (arith, nat_tests, few, early) in
-        ap (λ o. redoing epoch (redo.Commit tx at key) o q (redone epoch log q)) has
-        ∙ ap (λ c. if c then (if same_key q key then Some image else redone epoch log q) else redone epoch log q) now
-        ∙ ap (λ c. if c then Some image else redone epoch log q) (same_key-swap q key ∙ e)
+      -- the log makes it the row where it has the prepare, and else nothing more than before
+      has_prepare : (image : Option (List ℕ)) → last_image log tx key ≡ Some image → (epoch : ℕ) → noted ≤ epoch →
+          (q : List ℕ) (b : Bool)
+          → same_key key q ≡ b
+          → redone epoch (redo.Commit tx at key ∷ log) q ≡ (if b then Some image else redone epoch log q)
+      has_prepare image has epoch few q b e =
+          let now : nat_le at epoch ≡ true = grind (arith, nat_tests, few, early) in
+          ap (λ o. redoing epoch (redo.Commit tx at key) o q (redone epoch log q)) has
+          ∙ ap (λ c. if c then (if same_key q key then Some image else redone epoch log q) else redone epoch log q) now
+          ∙ ap (λ c. if c then Some image else redone epoch log q) (same_key-swap q key ∙ e)
 
-    has_none : last_image log tx key ≡ None → (epoch : ℕ) (q : List ℕ) → redone epoch
-        (redo.Commit tx at key ∷ log) q ≡ redone epoch log q
-    has_none none epoch q = ap (λ o. redoing epoch (redo.Commit tx at key) o q (redone epoch log q)) none
+      has_none : last_image log tx key ≡ None → (epoch : ℕ) (q : List ℕ) → redone epoch
+          (redo.Commit tx at key ∷ log) q ≡ redone epoch log q
+      has_none none epoch q = ap (λ o. redoing epoch (redo.Commit tx at key) o q (redone epoch log q)) none
 
-    fits_own : (o : Option (Option (List ℕ))) → last_image log tx key ≡ o → (epoch : ℕ) → noted ≤ epoch → (q : List ℕ)
-        → same_key key q ≡ true → Fits (redone epoch (redo.Commit tx at key ∷ log) q) (row_at now_committed.places q)
-    fits_own (Some image) has epoch few q e =
-        let one : Some image ≡ Some r.image = sym (is.known tx key image has) ∙ image_is in
-        let same_image : image ≡ r.image = cc in
-        subst (λ w. Fits w (row_at now_committed.places q)) (sym (has_prepare image has epoch few q true e))
-        (same_image ∙ sym (own_row q e))
-    fits_own None none epoch few q e =
-        let nothing : redone epoch log q ≡ None =
-        ap (redone epoch log) (sym (same key q e)) ∙ is.older tx key r.image image_is none epoch few in
-        subst (λ w. Fits w (row_at now_committed.places q)) (sym (has_none none epoch q ∙ nothing)) tt
+      fits_own : (o : Option (Option (List ℕ))) → last_image log tx key ≡ o → (epoch : ℕ) → noted ≤ epoch → (q : List ℕ)
+          → same_key key q ≡ true → Fits (redone epoch (redo.Commit tx at key ∷ log) q) (row_at now_committed.places q)
+      fits_own (Some image) has epoch few q e =
+          let one : Some image ≡ Some r.image = sym (is.known tx key image has) ∙ image_is in
+          let same_image : image ≡ r.image = cc in
+          subst (λ w. Fits w (row_at now_committed.places q)) (sym (has_prepare image has epoch few q true e))
+          (same_image ∙ sym (own_row q e))
+      fits_own None none epoch few q e =
+          let nothing : redone epoch log q ≡ None =
+          ap (redone epoch log) (sym (same key q e)) ∙ is.older tx key r.image image_is none epoch few in
+          subst (λ w. Fits w (row_at now_committed.places q)) (sym (has_none none epoch q ∙ nothing)) tt
 
-    stays_other : (o : Option (Option (List ℕ))) → last_image log tx key ≡ o → (epoch : ℕ) → noted ≤ epoch →
-        (q : List ℕ)
-        → same_key key q ≡ false → redone epoch (redo.Commit tx at key ∷ log) q ≡ redone epoch log q
-    stays_other (Some image) has epoch few q e = has_prepare image has epoch few q false e
-    stays_other None none epoch few q e = has_none none epoch q
+      stays_other : (o : Option (Option (List ℕ))) → last_image log tx key ≡ o → (epoch : ℕ) → noted ≤ epoch →
+          (q : List ℕ)
+          → same_key key q ≡ false → redone epoch (redo.Commit tx at key ∷ log) q ≡ redone epoch log q
+      stays_other (Some image) has epoch few q e = has_prepare image has epoch few q false e
+      stays_other None none epoch few q e = has_none none epoch q
 
-    fits_now : (epoch : ℕ) → noted ≤ epoch → (q : List ℕ) (b : Bool) → same_key key q ≡ b
-        → Fits (redone epoch (redo.Commit tx at key ∷ log) q) (row_at now_committed.places q)
-    fits_now epoch few q true e = fits_own (last_image log tx key) refl epoch few q e
-    fits_now epoch few q false e =
-        subst (λ w. Fits w (row_at now_committed.places q))
-        (sym (stays_other (last_image log tx key) refl epoch few q e))
-        (subst (Fits (redone epoch log q)) (sym (rewritten.other 0 q e)) (is.fits epoch few q))
+      fits_now : (epoch : ℕ) → noted ≤ epoch → (q : List ℕ) (b : Bool) → same_key key q ≡ b
+          → Fits (redone epoch (redo.Commit tx at key ∷ log) q) (row_at now_committed.places q)
+      fits_now epoch few q true e = fits_own (last_image log tx key) refl epoch few q e
+      fits_now epoch few q false e =
+          subst (λ w. Fits w (row_at now_committed.places q))
+          (sym (stays_other (last_image log tx key) refl epoch few q e))
+          (subst (Fits (redone epoch log q)) (sym (rewritten.other 0 q e)) (is.fits epoch few q))
 
-    commit_since : IsSince noted now_committed (redo.Commit tx at key ∷ log)
-    commit_since = record {
-      kept = record {
-        orderly = ended.orderly;
-        locked = λ one key2 image here other another there.
-            is.kept.locked one key2 image (was_prepared now_committed tx key ended one key2 image here).1 other another
-            (was_prepared now_committed tx key ended other key2 another there).1;
-        readable = rewritten.readable noted early (is.kept.images tx key r.image image_is) is.kept.readable;
-        images = λ other key2 image here.
-            is.kept.images other key2 image (was_prepared now_committed tx key ended other key2 image here).1;
-      };
-      known = λ other key2 image here.
-          let parts = log_kept (is_same tx key other key2) (last_image log other key2) image here in
-          still_prepared now_committed tx key ended other key2 image parts.0 (is.known other key2 image parts.1);
-      fits = λ epoch few q. fits_now epoch few q (same_key key q) refl;
-      older = λ other key2 image here none epoch few.
-          let was = was_prepared now_committed tx key ended other key2 image here in
-          let gone : last_image log other key2 ≡ None =
-          sym (ap (λ b. cond b None (last_image log other key2)) was.0) ∙ none in
-          stays_other (last_image log tx key) refl epoch few key2
-          (other_key now_committed tx key ended r.image image image_is other key2 was.1 was.0)
-          ∙ is.older other key2 image was.1 gone epoch few;
-    }
+      commit_since : IsSince noted now_committed (redo.Commit tx at key ∷ log)
+      commit_since = record {
+        kept = kept;
+        known = λ other key2 image here.
+            let parts = log_kept (is_same tx key other key2) (last_image log other key2) image here in
+            still_prepared now_committed tx key ended other key2 image parts.0 (is.known other key2 image parts.1);
+        fits = λ epoch few q. fits_now epoch few q (same_key key q) refl;
+        older = λ other key2 image here none epoch few.
+            let was = was_prepared now_committed tx key ended other key2 image here in
+            let gone : last_image log other key2 ≡ None =
+            sym (ap (λ b. cond b None (last_image log other key2)) was.0) ∙ none in
+            stays_other (last_image log tx key) refl epoch few key2
+            (other_key now_committed tx key ended r.image image image_is other key2 was.1 was.0)
+            ∙ is.older other key2 image was.1 gone epoch few;
+      }
 
   commit : (tx : TxId) (key : List ℕ) (at : ℕ) → at ≤ noted → (o : Option (Option (List ℕ))) → image_in s tx key ≡ o
       → IsSince noted (commit_record s tx key at) (log_if (redo.Commit tx at key) o log)
@@ -299,26 +262,29 @@ module _ (noted : ℕ) (s : RowsState) (log : List Redo) (is : IsSince noted s l
           if_done : (b : Bool) → r.committed ≡ b → (if b then None else Some r.image) ≡ Some image
               → IsSince noted (commit_record s tx key at) (redo.Commit tx at key ∷ log)
           if_done true g is_image = absurd cc
-          if_done false g is_image = commit_since tx key at early r f g
+          if_done false g is_image = commit_since tx key at early r f g (kept_now (Commit tx key at) early)
 
   abort : (tx : TxId) (key : List ℕ) (o : Option (Option (List ℕ))) → image_in s tx key ≡ o
       → IsSince noted (abort_record s tx key) (log_if (redo.Abort tx key) o log)
   abort tx key None e =
       let gone =
-      aborts s tx key is.kept.orderly in nothing_up (abort_record s tx key) tx key e gone.prepared gone.leaves
+      aborts s tx key is.kept.orderly in
+      nothing_up (abort_record s tx key) tx key e (kept_now (Abort tx key) tt) gone.prepared gone.leaves
   abort tx key (Some image) e =
-      let gone = aborts s tx key is.kept.orderly in given_up (abort_record s tx key) tx key gone.prepared gone.leaves
+      let gone = aborts s tx key is.kept.orderly in
+      given_up (abort_record s tx key) tx key (kept_now (Abort tx key) tt) gone.prepared gone.leaves
 
   complete : (tx : TxId) (key : List ℕ) → IsSince noted (complete_record s tx key) log
   complete tx key =
       let done = completes s tx key is.kept.orderly in
-      fewer (complete_record s tx key) log done.orderly done.leaves
+      fewer (complete_record s tx key) log (kept_now (Complete tx key) tt) done.leaves
       (λ other key2 image here. sym (done.images other key2) ∙ here)
       (λ other key2 image here. done.images other key2 ∙ is.known other key2 image here)
       (λ other key2 image here none. none) (λ epoch q. refl)
 
   one_since : (event : Event) → KeepsLock noted s event → IsSince noted (changed event s) (logged event s log)
-  one_since (Prepare tx fragment key image) keeps = prepare tx fragment key image keeps.0 keeps.1
+  one_since (Prepare tx fragment key image) keeps =
+      prepare tx fragment key image (kept_now (Prepare tx fragment key image) keeps)
   one_since (Commit tx key at) keeps = commit tx key at keeps (image_in s tx key) refl
   one_since (Abort tx key) keeps = abort tx key (image_in s tx key) refl
   one_since (Complete tx key) keeps = complete tx key
