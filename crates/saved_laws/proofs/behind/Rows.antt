@@ -21,7 +21,8 @@ use Rattle.sig_core.specs.declared.signal.Signal.{Signal}
 use Rattle.sig_core.specs.declared.signal.epoch.EpochSignal.{EpochSignal}
 use Rattle.sig_core.specs.declared.signal.epoch.EpochSignal.TheVariants.{GcpSaveReq}
 use Rattle.sig_core.specs.declared.view.View.{View}
-use Rattle.lqh_views.specs.Replica.{passed}
+use Rattle.lqh_views.proofs.Walk.{replica_outcomes}
+use Rattle.lqh_views.specs.Replica.{passed, replica_row}
 use Rattle.lqh_views.specs.State.{ReplicaState}
 use Rattle.lqh_saver.proofs.StepLemmas.{saver_rows}
 use Rattle.lqh_saver.specs.State.{saving}
@@ -46,12 +47,30 @@ use Rattle.moment_laws.specs.Moments.{IsMoment, logs_of}
 use Rattle.moment_laws.specs.PartSteps.{LdmDoes, PartEnters, PartTakes, handles, ignores, installs, ldm_kind, remains}
 use Rattle.moment_laws.specs.Parts.{IsPassed}
 use Rattle.moment_laws.specs.Places.{ldm_of}
+use Rattle.epoch_laws.proofs.MasterKnows.{greater_is}
 use Rattle.epoch_laws.proofs.StandKinds.{RunsRows, runs_rows}
 use Rattle.request_laws.specs.Blocks.{no_replica, rows_after, rows_in}
 use Rattle.commit_laws.specs.Traces.{rows_at}
 use Rattle.saved_laws.proofs.behind.RowSteps.{AreUpTo, host_rises}
-use Rattle.saved_laws.proofs.masters.Closed.{rows_keep}
 use Rattle.saved_laws.specs.Copied.{TellsSaved, WasTold, TellsUpTo}
+
+-- what is so of what rows have noted as saved, and of what they are ordered to save, is so whatever they take
+rows_keep : (P : ℕ → Type 0) (s : ReplicaState) (x : Signal) → P s.saved
+    → ((epoch : ℕ) → x.body ≡ Epoch (GcpSaveReq epoch) → P epoch) → P (replica_row s x).state.saved
+rows_keep P s x was ordered =
+    replica_outcomes s x (λ step. P step.state.saved) (record {
+      passes = λ own. was;
+      stales = λ waits stale. was;
+      unasked = λ at is none. was;
+      ignores = λ signal is. was;
+      promises = λ proposal is. was;
+      closes = λ epoch is. was;
+      saves = λ epoch is. greater_is P s.saved epoch was (ordered epoch is);
+      states = λ is. was;
+      tells_record = λ r under_way at one last there. was;
+      tells_marker = λ r under_way at m none last there. was;
+      ends = λ r under_way none no_more. was;
+    })
 
 unfaulty : (one other : Bool) → (one || not other) ≡ false → other ≡ true
 unfaulty false true is = refl
