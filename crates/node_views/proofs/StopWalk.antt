@@ -111,15 +111,3 @@ pub parts_stop : (parts : Parts) (x : Signal)
 parts_stop parts x =
     stops_by_cause (parts_row parts x).effects.marks
     ∙ ap (λ (o : Option StopCause). is_some o) (parts_tell parts x)
-
-pub blocks_stop : (s : hosts.HostBody) (x : Signal)
-    → list_any is_stop (blocks_row s x).effects.marks ≡ is_some (stop_at s.parts x)
-blocks_stop s x =
-    stops_by_cause (blocks_row s x).effects.marks
-    ∙ ap (λ (o : Option StopCause). is_some o) (blocks_tell x s)
-
-pub row_stops : (s : hosts.HostBody) (x : Signal)
-    → list_any is_stop (host_row s x).effects.marks ≡ is_some (host_stop s x)
-row_stops s x =
-    stops_by_cause (host_row s x).effects.marks
-    ∙ ap (λ (o : Option StopCause). is_some o) (marks_tell_of_stops s x)

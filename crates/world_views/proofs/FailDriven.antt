@@ -1,10 +1,11 @@
 -- A host that stops by itself drives its world, also with a signal in its hand: that is lost with the host.
-use Rattle.std.proofs.Common.{◌≡◌, ◌≢◌, ◌⊎◌, inl, inr, ℕ, zero, suc, ◌-◌, ◌+◌, ◌*◌, ◌<◌, ◌≤◌, List, [], ◌∷◌, length}
-use Rattle.std.proofs.Common.{take, Bool, true, false, refl, ap, sym, ◌∙◌, subst, arith}
+use Rattle.std.proofs.Common.{◌≡◌, ◌≢◌, ◌⊎◌, inl, inr, ℕ, ◌-◌, ◌+◌, ◌*◌, ◌<◌, ◌≤◌, List, ◌∷◌, length}
+use Rattle.std.proofs.Common.{Bool, true, false, refl, ap, sym, ◌∙◌, subst, arith}
 use Rattle.std.specs.Prelude.{if◌then◌else◌, slice_set}
 use Rattle.std.proofs.lemmas.Bool.{eqb-true, eq-eqb, true≢false, cases_eq, or_left}
 use Rattle.std.proofs.lemmas.List.{get_or-set_same, get_or-set_other, length-set}
 use Rattle.run_theory.specs.Lists.{Each}
+use Rattle.run_theory.proofs.EachSent.{each_take}
 use Rattle.sig_core.specs.declared.outcome.StopCause.{StopCause}
 use Rattle.sig_core.specs.declared.reply.ApiReply.{ApiReply}
 use Rattle.sig_core.specs.declared.signal.Body.TheVariants as body
@@ -29,12 +30,6 @@ use Rattle.world_views.proofs.MoveRight.{logs_are}
 use Rattle.world_views.proofs.OwnReady.{halt_ready}
 use Rattle.world_views.proofs.Ready.{IsReady, host_step}
 use Rattle.world_views.proofs.StepDriven.{IsNoWish, entered_driven}
-
--- what holds of each, holds of each that is taken
-each_take : {A : Type 0} (P : A → Type 0) (n : ℕ) (xs : List A) → Each P xs → Each P (take n xs)
-each_take P zero xs all = tt
-each_take P (suc n) [] all = tt
-each_take P (suc n) (x ∷ xs) all = (all.0, each_take P n xs all.1)
 
 -- Closing the links of a host, with nothing lost.
 module _ (n m : ℕ) (h : ℕ) (stays : ℕ → Bool) (closing : ℕ → Signal) (there : h < n) (all : m ≡ n) where
