@@ -34,7 +34,13 @@ impl Model for Api {
 
     ghost Value = { ApiState };
 
-    ghost view = { λ a. record { view = a.view; opened = a.opened.items; own = a.own; dump = a.dump; replies = a.replies.items } };
+    ghost view = { λ a. record {
+      view = a.view;
+      opened = a.opened.items;
+      own = a.own;
+      dump = a.dump;
+      replies = a.replies.items;
+    } };
 }
 
 impl Api {

@@ -107,7 +107,8 @@ impl Api {
     ) -> Result<(), NoMemory>
         requires place { at < length self.old.opened }
         requires room { HasRoom out.old }
-        ensures ok { OnOk result (IsTaken (commit_by self.old name at t.now t.now.doing t.now.tx) self.new out.old out.new) }
+        ensures ok { OnOk result (IsTaken (commit_by self.old name at t.now t.now.doing t.now.tx) self.new out.old
+            out.new) }
         ensures err { OnErr result (IsUntouched self.old self.new out.old out.new) }
     {
         match (&t.doing, t.tx) {

@@ -69,7 +69,8 @@ impl Api {
         out: &mut Outs,
     ) -> Result<(), NoMemory>
         requires { HasRoom out.old }
-        ensures ok { OnOk result (IsTaken (dumped_by self.old rows.now (Some at) self.old.dump) self.new out.old out.new) }
+        ensures ok { OnOk result (IsTaken (dumped_by self.old rows.now (Some at) self.old.dump) self.new out.old
+            out.new) }
         ensures err { OnErr result (IsUntouched self.old self.new out.old out.new) }
     {
         let Some(mut dump) = self.dump.take() else {

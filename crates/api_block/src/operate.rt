@@ -64,7 +64,8 @@ impl Api {
     ) -> Result<(), NoMemory>
         requires place { at < length self.old.opened }
         requires room { HasRoom out.old }
-        ensures ok { OnOk result (IsTaken (operate_by self.old name op.now at t.now t.now.doing t.now.tx) self.new out.old out.new) }
+        ensures ok { OnOk result (IsTaken (operate_by self.old name op.now at t.now t.now.doing t.now.tx) self.new
+            out.old out.new) }
         ensures err { OnErr result (IsUntouched self.old self.new out.old out.new) }
     {
         match (&t.doing, t.tx) {
@@ -115,7 +116,8 @@ impl Api {
     ) -> Result<(), NoMemory>
         requires place { at < length self.old.opened }
         requires room { HasRoom out.old }
-        ensures ok { OnOk result (IsTaken (begun_by self.old tx at t.now t.now.name t.now.doing) self.new out.old out.new) }
+        ensures ok { OnOk result (IsTaken (begun_by self.old tx at t.now t.now.name t.now.doing) self.new out.old
+            out.new) }
         ensures err { OnErr result (IsUntouched self.old self.new out.old out.new) }
     {
         match (t.name, &t.doing) {
@@ -173,7 +175,8 @@ impl Api {
     ) -> Result<(), NoMemory>
         requires place { at < length self.old.opened }
         requires room { HasRoom out.old }
-        ensures ok { OnOk result (IsTaken (answer_by self.old tx answer.now at t.now t.now.doing t.now.name) self.new out.old out.new) }
+        ensures ok { OnOk result (IsTaken (answer_by self.old tx answer.now at t.now t.now.doing t.now.name) self.new
+            out.old out.new) }
         ensures err { OnErr result (IsUntouched self.old self.new out.old out.new) }
     {
         let (name, answer) = (t.name, answer.get());

@@ -110,7 +110,8 @@ impl Api {
     ) -> Result<(), NoMemory>
         requires place { at < length self.old.opened }
         requires room { HasRoom out.old }
-        ensures ok { OnOk result (IsTaken (ending self.old tx (Committed epoch) (acknowledging self.old tx) at name) self.new out.old out.new) }
+        ensures ok { OnOk result (IsTaken (ending self.old tx (Committed epoch) (acknowledging self.old tx) at name)
+            self.new out.old out.new) }
         ensures err { OnErr result (IsUntouched self.old self.new out.old out.new) }
     {
         self.report(tx, Outcome::Committed(epoch), at, name, out)?;

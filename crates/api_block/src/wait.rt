@@ -74,7 +74,8 @@ impl Api {
     // Replies for whom a transaction waits.
     fn tell_wait_of(&mut self, t: &OpenTransaction, out: &mut Outs) -> Result<(), NoMemory>
         requires { HasRoom out.old }
-        ensures ok { OnOk result (IsTaken (pending_if self.old t.now (is_unanswered t.now.doing) t.now.ahead) self.new out.old out.new) }
+        ensures ok { OnOk result (IsTaken (pending_if self.old t.now (is_unanswered t.now.doing) t.now.ahead) self.new
+            out.old out.new) }
         ensures err { OnErr result (IsUntouched self.old self.new out.old out.new) }
     {
         match (is_unanswered(&t.doing), t.ahead) {

@@ -46,7 +46,15 @@ impl Model for Client {
 
     ghost Value = { ClientState };
 
-    ghost view = { λ c. record { api = c.api; nodes = c.nodes; stops = c.stops.items; cuts = c.cuts.items; taken_over = c.taken_over; closing = c.closing; own = c.own } };
+    ghost view = { λ c. record {
+      api = c.api;
+      nodes = c.nodes;
+      stops = c.stops.items;
+      cuts = c.cuts.items;
+      taken_over = c.taken_over;
+      closing = c.closing;
+      own = c.own;
+    } };
 }
 
 impl Client {

@@ -33,7 +33,15 @@ impl Model for CopyBlock {
 
     ghost Value = { CopyState };
 
-    ghost view = { λ c. record { node = c.node; layout = c.layout; stage = c.stage; left = c.left; feed = c.feed; queue = c.queue.items } };
+    ghost view = { λ c. record {
+      node = c.node;
+      layout = c.layout;
+      stage = c.stage;
+      left = c.left;
+      feed = c.feed;
+      queue
+          = c.queue.items;
+    } };
 }
 
 impl CopyBlock {

@@ -61,7 +61,8 @@ impl CopyBlock {
         out: &mut Outs,
     ) -> Result<(), NoMemory>
         requires { HasRoom out.old }
-        ensures ok { OnOk result (IsTaken (hands_if self.old task row.now epoch next (has_own task.joiner.own epoch)) self.new out.old out.new) }
+        ensures ok { OnOk result (IsTaken (hands_if self.old task row.now epoch next (has_own task.joiner.own epoch))
+            self.new out.old out.new) }
         ensures err { OnErr result (IsUntouched self.old self.new out.old out.new) }
     {
         let row = row.share()?;

@@ -148,7 +148,8 @@ pub fn send_requests(node: u8, layout: &Layout, joiner: &Joiner, at: u64, out: &
 #[tactic(auto, unfolding(crate::specs::Sends::request_sends), using(crate::proofs::SendLemmas::walks))]
 fn offer_requests(layout: &Layout, joiner: &Joiner, portion: &mut Portion, out: &mut Outs)
     requires { length out.old.sends + portion.old.room ≤ 15 }
-    ensures offered { so_far portion.new out.new ≡ all_offered (so_far portion.old out.old) (request_sends layout.now joiner.now) }
+    ensures offered { so_far portion.new out.new
+        ≡ all_offered (so_far portion.old out.old) (request_sends layout.now joiner.now) }
     ensures fits { length out.new.sends + portion.new.room ≤ 15 }
 {
     for fragment in 0..layout.shape().fragments {
@@ -166,7 +167,8 @@ fn offer_request(
 )
     requires fragment { fragment < layout.now.shape.fragments }
     requires room { length out.old.sends + portion.old.room ≤ 15 }
-    ensures offered { so_far portion.new out.new ≡ all_offered (so_far portion.old out.old) (request_of layout.now joiner.now fragment) }
+    ensures offered { so_far portion.new out.new
+        ≡ all_offered (so_far portion.old out.old) (request_of layout.now joiner.now fragment) }
     ensures fits { length out.new.sends + portion.new.room ≤ 15 }
 {
     let chain = replicas_of(layout.view(), fragment, &layout.shape());
@@ -182,7 +184,8 @@ fn offer_along(
     out: &mut Outs,
 )
     requires { length out.old.sends + portion.old.room ≤ 15 }
-    ensures offered { so_far portion.new out.new ≡ all_offered (so_far portion.old out.old) (request_along joiner.now fragment chain.now) }
+    ensures offered { so_far portion.new out.new
+        ≡ all_offered (so_far portion.old out.old) (request_along joiner.now fragment chain.now) }
     ensures fits { length out.new.sends + portion.new.room ≤ 15 }
 {
     if is_among(joiner.member, chain) {

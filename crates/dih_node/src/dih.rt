@@ -57,9 +57,22 @@ impl Model for Dih {
 
     ghost Value = { DihState };
 
-    ghost view = { λ d. record { node = d.node; number = d.number; fence = d.fence; current = d.current; prepared = d.prepared; next = d.next; closed = d.closed; durable = d.durable; counted = d.counted.items; held = d.held.items; order = d.order } };
+    ghost view = { λ d. record {
+      node = d.node;
+      number = d.number;
+      fence = d.fence;
+      current = d.current;
+      prepared = d.prepared;
+      next = d.next;
+      closed = d.closed;
+      durable = d.durable;
+      counted = d.counted.items;
+      held = d.held.items;
+      order = d.order;
+    } };
 
-    ghost invariant = { λ d. (TRANSACTIONS ≤ vec_capacity d.counted) × (TRANSACTIONS ≤ vec_capacity d.held) × (length d.counted.items + length d.held.items ≤ TRANSACTIONS) };
+    ghost invariant = { λ d. (TRANSACTIONS ≤ vec_capacity d.counted) × (TRANSACTIONS ≤ vec_capacity d.held)
+        × (length d.counted.items + length d.held.items ≤ TRANSACTIONS) };
 }
 
 impl Dih {

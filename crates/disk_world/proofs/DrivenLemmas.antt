@@ -10,7 +10,8 @@ use Rattle.world_views.specs.Driven.{HaveGrown, IsDriven, IsSound, IsStepped, Is
 use Rattle.world_views.specs.Unscheduled.{AreUnscheduled}
 use Rattle.world_views.specs.World.{Whole}
 use Rattle.world_views.proofs.StepDriven.{grown_itself}
-use Rattle.world_views.proofs.WorldLemmas.{IsUnderWay, driven_further, grown_further, sound_labels, stays_sound, under_way}
+use Rattle.world_views.proofs.WorldLemmas.{IsUnderWay, driven_further, grown_further, sound_labels, stays_sound}
+use Rattle.world_views.proofs.WorldLemmas.{under_way}
 
 -- the logs have grown from those of this world
 abbrev pub GrowsTo : Whole → List HostLog → Type 0

@@ -16,7 +16,8 @@ ghost use Rattle.world_views.specs.Driven.{HasAsked, HaveGrown, IsDriven, IsSoun
 ghost use Rattle.world_views.specs.Unscheduled.{AreUnscheduled};
 ghost use Rattle.world_views.specs.World.{IsIdle, has_stopped_in, is_down, is_left_open, new_world};
 ghost use Rattle.world_views.specs.WorldOf.{whole_of};
-ghost use Rattle.disk_world.specs.Disks.{HasDisk, HasFailed, HasGoneOn, HasKept, HasKeptStep, IsNotKept, KeepsStep, WayOn, disks_with, kept_in, node_of};
+ghost use Rattle.disk_world.specs.Disks.{HasDisk, HasFailed, HasGoneOn, HasKept, HasKeptStep, IsNotKept, KeepsStep};
+ghost use Rattle.disk_world.specs.Disks.{WayOn, disks_with, kept_in, node_of};
 ghost use Rattle.life_start.specs.Records.{AllTellMore, HaveMore};
 ghost use Rattle.life_start.specs.Refusals.{IsRefusedFor};
 ghost use Rattle.life_start.specs.Shapes.{HaveShape};
@@ -60,18 +61,29 @@ impl<D: Disk> DiskWorld<D> {
         requires nodes { length disks.items ≡ shape.nodes }
         ensures world { IfOk result (λ w. whole_of w.world ≡ new_world (start_from shape w.start w.rows.items)) }
         ensures is { IfOk result (λ w. IsWorld (whole_of w.world)) }
-        ensures begun { (records : List (List Call)) → map D.told disks.items ≡ map Some records → IfOk result (λ w. HasBegun shape (disks_of records) w.generation w.start w.rows.items) }
-        ensures ready { (records : List (List Call)) (restored : Restored) → map D.told disks.items ≡ map Some records → AreToPrepare shape restored records → IfOk result (λ w. AreReady shape restored (map D.told w.disks.items)) }
-        ensures shapes { (records : List (List Call)) (restored : Restored) → map D.told disks.items ≡ map Some records → AreToPrepare shape restored records → IfOk result (λ w. HaveShape shape (map D.told w.disks.items)) }
-        ensures slots { (records : List (List Call)) → IfOk result (λ w. map D.told w.disks.items ≡ map Some records → AreSlotsOf w.generation (disks_of records) w.slots.items) }
+        ensures begun { (records : List (List Call)) → map D.told disks.items ≡ map Some records
+            → IfOk result (λ w. HasBegun shape (disks_of records) w.generation w.start w.rows.items) }
+        ensures ready { (records : List (List Call)) (restored : Restored) → map D.told disks.items ≡ map Some records
+            → AreToPrepare shape restored records
+            → IfOk result (λ w. AreReady shape restored (map D.told w.disks.items)) }
+        ensures shapes { (records : List (List Call)) (restored : Restored) → map D.told disks.items ≡ map Some records
+            → AreToPrepare shape restored records → IfOk result (λ w. HaveShape shape (map D.told w.disks.items)) }
+        ensures slots { (records : List (List Call))
+            → IfOk result (λ w. map D.told w.disks.items ≡ map Some records → AreSlotsOf w.generation (disks_of records)
+            w.slots.items) }
         ensures count { IfOk result (λ w. (length w.disks.items ≡ shape.nodes) × (length w.slots.items ≡ shape.nodes)) }
         // Why none begins, and that no disk is lost then.
-        ensures refused { (records : List (List Call)) → map D.told disks.items ≡ map Some records → IfErr result (λ u. is_outside u.fault ≡ false → IsRefusedFor shape (disks_of records) (map D.told u.disks.items) u.fault) }
-        ensures cause { IfErr result (λ u. IsCauseAmong (map D.faults disks.items) (map D.faults u.disks.items) u.fault) }
+        ensures refused { (records : List (List Call)) → map D.told disks.items ≡ map Some records
+            → IfErr result (λ u. is_outside u.fault ≡ false → IsRefusedFor shape (disks_of records)
+            (map D.told u.disks.items) u.fault) }
+        ensures cause { IfErr result (λ u. IsCauseAmong (map D.faults disks.items) (map D.faults u.disks.items)
+            u.fault) }
         ensures all { IfErr result (λ u. length u.disks.items ≡ shape.nodes) }
         // The records of the disks have only grown, either way.
-        ensures recorded { MatchResult result (λ w. AllTellMore (map D.told disks.items) (map D.told w.disks.items)) (λ u. AllTellMore (map D.told disks.items) (map D.told u.disks.items)) }
-        ensures steady { MatchResult result (λ w. AreSteady (map D.faults disks.items) (map D.faults w.disks.items)) (λ u. AreSteady (map D.faults disks.items) (map D.faults u.disks.items)) }
+        ensures recorded { MatchResult result (λ w. AllTellMore (map D.told disks.items) (map D.told w.disks.items))
+            (λ u. AllTellMore (map D.told disks.items) (map D.told u.disks.items)) }
+        ensures steady { MatchResult result (λ w. AreSteady (map D.faults disks.items) (map D.faults w.disks.items))
+            (λ u. AreSteady (map D.faults disks.items) (map D.faults u.disks.items)) }
     {
         let mut disks = disks;
         match begin_life(alloc, disks.as_mut_slice(), shape) {
@@ -154,10 +166,12 @@ impl<D: Disk> DiskWorld<D> {
     /// As of `World::ask`.
     pub fn ask(&mut self, alloc: Global, request: ApiReq) -> Result<(), NoMemory>
         requires { IsWorld (whole_of self.old.world) }
-        ensures ok { (start : Start) → IsSound start (whole_of self.old.world) → OnOk result (HasAsked start request (whole_of self.old.world) (whole_of self.new.world)) }
+        ensures ok { (start : Start) → IsSound start (whole_of self.old.world)
+            → OnOk result (HasAsked start request (whole_of self.old.world) (whole_of self.new.world)) }
         ensures err { OnErr result ((whole_of self.new.world).logs ≡ (whole_of self.old.world).logs) }
         ensures disks { (self.new.disks ≡ self.old.disks) × (self.new.slots ≡ self.old.slots) }
-        ensures life { (self.new.generation ≡ self.old.generation) × (self.new.start ≡ self.old.start) × (self.new.rows ≡ self.old.rows) }
+        ensures life { (self.new.generation ≡ self.old.generation) × (self.new.start ≡ self.old.start)
+            × (self.new.rows ≡ self.old.rows) }
     {
         self.world.ask(alloc, request)
     }
@@ -168,16 +182,25 @@ impl<D: Disk> DiskWorld<D> {
     /// `NoMemory`, and then the world is of use for its logs and its disks alone.
     pub fn drive<W: Wait>(&mut self, rt: &W, alloc: Global) -> Result<(), NoMemory>
         requires { IsWorld (whole_of self.old.world) }
-        ensures driven { (start : Start) → IsSound start (whole_of self.old.world) → OnOk result (IsDriven start (whole_of self.old.world) (whole_of self.new.world)) }
+        ensures driven { (start : Start) → IsSound start (whole_of self.old.world)
+            → OnOk result (IsDriven start (whole_of self.old.world) (whole_of self.new.world)) }
         ensures quiet { OnOk result (IsIdle (whole_of self.new.world)) }
         // Step by step, each with what a disk keeps of it.
-        ensures way { OnOk result (WayOn (whole_of self.old.world) (disks_with (map D.told self.old.disks.items) self.old.slots.items) (whole_of self.new.world) (disks_with (map D.told self.new.disks.items) self.new.slots.items)) }
-        ensures err { (start : Start) → IsSound start (whole_of self.old.world) → OnErr result (HaveGrown start (logs_at (whole_of self.old.world).logs) (logs_at (whole_of self.new.world).logs)) }
-        ensures labels { (start : Start) → IsSound start (whole_of self.old.world) → OnErr result (AreLabelled start (whole_of self.new.world).logs) }
-        ensures unscheduled { (start : Start) → IsSound start (whole_of self.old.world) → AreUnscheduled true start (logs_at (whole_of self.old.world).logs) → AreUnscheduled true start (logs_at (whole_of self.new.world).logs) }
+        ensures way { OnOk result (WayOn (whole_of self.old.world)
+            (disks_with (map D.told self.old.disks.items) self.old.slots.items) (whole_of self.new.world)
+            (disks_with (map D.told self.new.disks.items) self.new.slots.items)) }
+        ensures err { (start : Start) → IsSound start (whole_of self.old.world)
+            → OnErr result (HaveGrown start (logs_at (whole_of self.old.world).logs)
+            (logs_at (whole_of self.new.world).logs)) }
+        ensures labels { (start : Start) → IsSound start (whole_of self.old.world)
+            → OnErr result (AreLabelled start (whole_of self.new.world).logs) }
+        ensures unscheduled { (start : Start) → IsSound start (whole_of self.old.world)
+            → AreUnscheduled true start (logs_at (whole_of self.old.world).logs)
+            → AreUnscheduled true start (logs_at (whole_of self.new.world).logs) }
         ensures more { HaveMore (map D.told self.old.disks.items) (map D.told self.new.disks.items) }
         ensures steady { AreSteady (map D.faults self.old.disks.items) (map D.faults self.new.disks.items) }
-        ensures life { (self.new.generation ≡ self.old.generation) × (self.new.start ≡ self.old.start) × (self.new.rows ≡ self.old.rows) }
+        ensures life { (self.new.generation ≡ self.old.generation) × (self.new.start ≡ self.old.start)
+            × (self.new.rows ≡ self.old.rows) }
     {
         for _ in rt.forever() {
             if !self.step(alloc)? {
@@ -194,16 +217,27 @@ impl<D: Disk> DiskWorld<D> {
     /// As of `drive`.
     pub fn step(&mut self, alloc: Global) -> Result<bool, NoMemory>
         requires { IsWorld (whole_of self.old.world) }
-        ensures ok { (start : Start) → IsSound start (whole_of self.old.world) → IfOk result (λ went. IsStepped start (whole_of self.old.world) (whole_of self.new.world) went) }
-        ensures err { (start : Start) → IsSound start (whole_of self.old.world) → OnErr result (HaveGrown start (logs_at (whole_of self.old.world).logs) (logs_at (whole_of self.new.world).logs)) }
-        ensures labels { (start : Start) → IsSound start (whole_of self.old.world) → OnErr result (AreLabelled start (whole_of self.new.world).logs) }
-        ensures unscheduled { (start : Start) → IsSound start (whole_of self.old.world) → AreUnscheduled true start (logs_at (whole_of self.old.world).logs) → AreUnscheduled true start (logs_at (whole_of self.new.world).logs) }
+        ensures ok { (start : Start) → IsSound start (whole_of self.old.world)
+            → IfOk result (λ went. IsStepped start (whole_of self.old.world) (whole_of self.new.world) went) }
+        ensures err { (start : Start) → IsSound start (whole_of self.old.world)
+            → OnErr result (HaveGrown start (logs_at (whole_of self.old.world).logs)
+            (logs_at (whole_of self.new.world).logs)) }
+        ensures labels { (start : Start) → IsSound start (whole_of self.old.world)
+            → OnErr result (AreLabelled start (whole_of self.new.world).logs) }
+        ensures unscheduled { (start : Start) → IsSound start (whole_of self.old.world)
+            → AreUnscheduled true start (logs_at (whole_of self.old.world).logs)
+            → AreUnscheduled true start (logs_at (whole_of self.new.world).logs) }
         // A disk keeps what it is to keep of it.
-        ensures kept { IfOk result (λ went. went ≡ true → HasGoneOn (whole_of self.old.world) (disks_with (map D.told self.old.disks.items) self.old.slots.items) (disks_with (map D.told self.new.disks.items) self.new.slots.items) (map D.faults self.new.disks.items) (whole_of self.new.world)) }
-        ensures nothing { IfOk result (λ went. went ≡ false → disks_with (map D.told self.new.disks.items) self.new.slots.items ≡ disks_with (map D.told self.old.disks.items) self.old.slots.items) }
+        ensures kept { IfOk result (λ went. went ≡ true → HasGoneOn (whole_of self.old.world)
+            (disks_with (map D.told self.old.disks.items) self.old.slots.items)
+            (disks_with (map D.told self.new.disks.items) self.new.slots.items) (map D.faults self.new.disks.items)
+            (whole_of self.new.world)) }
+        ensures nothing { IfOk result (λ went. went ≡ false → disks_with (map D.told self.new.disks.items)
+            self.new.slots.items ≡ disks_with (map D.told self.old.disks.items) self.old.slots.items) }
         ensures more { HaveMore (map D.told self.old.disks.items) (map D.told self.new.disks.items) }
         ensures steady { AreSteady (map D.faults self.old.disks.items) (map D.faults self.new.disks.items) }
-        ensures life { (self.new.generation ≡ self.old.generation) × (self.new.start ≡ self.old.start) × (self.new.rows ≡ self.old.rows) }
+        ensures life { (self.new.generation ≡ self.old.generation) × (self.new.start ≡ self.old.start)
+            × (self.new.rows ≡ self.old.rows) }
     {
         match self.world.step(alloc) {
             Ok(Some(taken)) => match self.keep(alloc, taken.host, taken.handled) {
@@ -220,15 +254,30 @@ impl<D: Disk> DiskWorld<D> {
     // which was kept.
     fn keep(&mut self, alloc: Global, host: HostId, handled: bool) -> Result<(), NoMemory>
         requires { IsWorld (whole_of self.old.world) }
-        ensures ok { (start : Start) → IsSound start (whole_of self.old.world) → OnOk result (IsDriven start (whole_of self.old.world) (whole_of self.new.world)) }
-        ensures err { (start : Start) → IsSound start (whole_of self.old.world) → OnErr result (HaveGrown start (logs_at (whole_of self.old.world).logs) (logs_at (whole_of self.new.world).logs)) }
+        ensures ok { (start : Start) → IsSound start (whole_of self.old.world)
+            → OnOk result (IsDriven start (whole_of self.old.world) (whole_of self.new.world)) }
+        ensures err { (start : Start) → IsSound start (whole_of self.old.world)
+            → OnErr result (HaveGrown start (logs_at (whole_of self.old.world).logs)
+            (logs_at (whole_of self.new.world).logs)) }
         ensures same { OnErr result ((whole_of self.new.world).logs ≡ (whole_of self.old.world).logs) }
-        ensures unscheduled { (start : Start) → IsSound start (whole_of self.old.world) → AreUnscheduled true start (logs_at (whole_of self.old.world).logs) → AreUnscheduled true start (logs_at (whole_of self.new.world).logs) }
-        ensures nothing { IsNotKept handled (whole_of self.old.world) host.0 → OnOk result ((whole_of self.new.world ≡ whole_of self.old.world) × (disks_with (map D.told self.new.disks.items) self.new.slots.items ≡ disks_with (map D.told self.old.disks.items) self.old.slots.items)) }
-        ensures kept { handled ≡ true → KeepsStep (whole_of self.old.world) host.0 (disks_with (map D.told self.old.disks.items) self.old.slots.items) → OnOk result (HasKeptStep (whole_of self.old.world) host.0 (disks_with (map D.told self.old.disks.items) self.old.slots.items) (disks_with (map D.told self.new.disks.items) self.new.slots.items) (map D.faults self.new.disks.items) (whole_of self.new.world)) }
+        ensures unscheduled { (start : Start) → IsSound start (whole_of self.old.world)
+            → AreUnscheduled true start (logs_at (whole_of self.old.world).logs)
+            → AreUnscheduled true start (logs_at (whole_of self.new.world).logs) }
+        ensures nothing { IsNotKept handled (whole_of self.old.world) host.0
+            → OnOk result ((whole_of self.new.world ≡ whole_of self.old.world)
+            × (disks_with (map D.told self.new.disks.items) self.new.slots.items
+            ≡ disks_with (map D.told self.old.disks.items) self.old.slots.items)) }
+        ensures kept { handled ≡ true
+            → KeepsStep (whole_of self.old.world) host.0
+            (disks_with (map D.told self.old.disks.items) self.old.slots.items)
+            → OnOk result (HasKeptStep (whole_of self.old.world) host.0
+            (disks_with (map D.told self.old.disks.items) self.old.slots.items)
+            (disks_with (map D.told self.new.disks.items) self.new.slots.items) (map D.faults self.new.disks.items)
+            (whole_of self.new.world)) }
         ensures more { HaveMore (map D.told self.old.disks.items) (map D.told self.new.disks.items) }
         ensures steady { AreSteady (map D.faults self.old.disks.items) (map D.faults self.new.disks.items) }
-        ensures life { (self.new.generation ≡ self.old.generation) × (self.new.start ≡ self.old.start) × (self.new.rows ≡ self.old.rows) }
+        ensures life { (self.new.generation ≡ self.old.generation) × (self.new.start ≡ self.old.start)
+            × (self.new.rows ≡ self.old.rows) }
     {
         if host.0 == 0 || !handled || !self.world.runs(host) {
             return Ok(());
@@ -248,11 +297,17 @@ impl<D: Disk> DiskWorld<D> {
         requires world { IsWorld (whole_of self.old.world) }
         requires runs { has_stopped_in (whole_of self.old.world) host.0 ≡ false }
         ensures same { self.new.world ≡ self.old.world }
-        ensures kept { HasDisk (node_of (whole_of self.old.world) host.0) (length self.old.disks.items) (length self.old.slots.items) → HasKept (kept_in (whole_of self.old.world) host.0) (node_of (whole_of self.old.world) host.0 - 1) (disks_with (map D.told self.old.disks.items) self.old.slots.items) (disks_with (map D.told self.new.disks.items) self.new.slots.items) (is_ok result) }
-        ensures failed { IfErr result (λ count. HasFailed (node_of (whole_of self.old.world) host.0 - 1) (map D.faults self.old.disks.items) (map D.faults self.new.disks.items) count) }
+        ensures kept { HasDisk (node_of (whole_of self.old.world) host.0) (length self.old.disks.items)
+            (length self.old.slots.items)
+            → HasKept (kept_in (whole_of self.old.world) host.0) (node_of (whole_of self.old.world) host.0 - 1)
+            (disks_with (map D.told self.old.disks.items) self.old.slots.items)
+            (disks_with (map D.told self.new.disks.items) self.new.slots.items) (is_ok result) }
+        ensures failed { IfErr result (λ count. HasFailed (node_of (whole_of self.old.world) host.0 - 1)
+            (map D.faults self.old.disks.items) (map D.faults self.new.disks.items) count) }
         ensures more { HaveMore (map D.told self.old.disks.items) (map D.told self.new.disks.items) }
         ensures steady { AreSteady (map D.faults self.old.disks.items) (map D.faults self.new.disks.items) }
-        ensures life { (self.new.generation ≡ self.old.generation) × (self.new.start ≡ self.old.start) × (self.new.rows ≡ self.old.rows) }
+        ensures life { (self.new.generation ≡ self.old.generation) × (self.new.start ≡ self.old.start)
+            × (self.new.rows ≡ self.old.rows) }
     {
         let body = self.world.body(host);
         let node = body.standing.member.node as usize;
@@ -273,7 +328,8 @@ impl<D: Disk> DiskWorld<D> {
         ensures is { LeavesWorld (whole_of self.new.world) result }
         ensures more { HaveMore (map D.told self.old.disks.items) (map D.told self.new.disks.items) }
         ensures steady { AreSteady (map D.faults self.old.disks.items) (map D.faults self.new.disks.items) }
-        ensures life { (self.new.generation ≡ self.old.generation) × (self.new.start ≡ self.old.start) × (self.new.rows ≡ self.old.rows) }
+        ensures life { (self.new.generation ≡ self.old.generation) × (self.new.start ≡ self.old.start)
+            × (self.new.rows ≡ self.old.rows) }
     {
         let steps = self.steps_before(&pick);
         match self.world.schedule(alloc, &[pick]) {
@@ -298,7 +354,8 @@ impl<D: Disk> DiskWorld<D> {
         ensures is { LeavesWorld (whole_of self.new.world) result }
         ensures more { HaveMore (map D.told self.old.disks.items) (map D.told self.new.disks.items) }
         ensures steady { AreSteady (map D.faults self.old.disks.items) (map D.faults self.new.disks.items) }
-        ensures life { (self.new.generation ≡ self.old.generation) × (self.new.start ≡ self.old.start) × (self.new.rows ≡ self.old.rows) }
+        ensures life { (self.new.generation ≡ self.old.generation) × (self.new.start ≡ self.old.start)
+            × (self.new.rows ≡ self.old.rows) }
     {
         match pick {
             Pick::Take { host, from: _ } => {
@@ -314,10 +371,13 @@ impl<D: Disk> DiskWorld<D> {
 
     /// The next reply for the shell, in order, each once.
     pub fn next_reply(&mut self) -> Option<ApiReply>
-        ensures some { whole_of self.old.world ≡ record (whole_of self.new.world) { replies = option_to_list result ++ (whole_of self.new.world).replies } }
+        ensures some { whole_of self.old.world
+            ≡ record (whole_of self.new.world)
+            { replies = option_to_list result ++ (whole_of self.new.world).replies } }
         ensures none { result ≡ None → (whole_of self.old.world).replies ≡ [] }
         ensures disks { (self.new.disks ≡ self.old.disks) × (self.new.slots ≡ self.old.slots) }
-        ensures life { (self.new.generation ≡ self.old.generation) × (self.new.start ≡ self.old.start) × (self.new.rows ≡ self.old.rows) }
+        ensures life { (self.new.generation ≡ self.old.generation) × (self.new.start ≡ self.old.start)
+            × (self.new.rows ≡ self.old.rows) }
     {
         self.world.next_reply()
     }

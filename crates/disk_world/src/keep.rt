@@ -38,8 +38,10 @@ pub(crate) fn keep_at<D: Disk>(
     requires disk { at < length disks.old.items }
     requires slots_of { at < length slots.old.items }
     requires taken { MatchOption taken (last ≡ None) (λ x. last ≡ Some x.now) }
-    ensures kept { HasKept (kept_of body.now last) at (disks_with (map D.told disks.old.items) slots.old.items) (disks_with (map D.told disks.new.items) slots.new.items) (is_ok result) }
-    ensures failed { IfErr result (λ count. HasFailed at (map D.faults disks.old.items) (map D.faults disks.new.items) count) }
+    ensures kept { HasKept (kept_of body.now last) at (disks_with (map D.told disks.old.items) slots.old.items)
+        (disks_with (map D.told disks.new.items) slots.new.items) (is_ok result) }
+    ensures failed { IfErr result (λ count. HasFailed at (map D.faults disks.old.items) (map D.faults disks.new.items)
+        count) }
     ensures more { HaveMore (map D.told disks.old.items) (map D.told disks.new.items) }
     ensures steady { AreSteady (map D.faults disks.old.items) (map D.faults disks.new.items) }
 {
@@ -64,7 +66,8 @@ fn keep<D: Disk>(
 ) -> Result<(), Failed>
     ghost last: { Option SignalState }
     requires { MatchOption taken (last ≡ None) (λ x. last ≡ Some x.now) }
-    ensures runs { (calls : List Call) → D.told disk.old ≡ Some calls → Runs (calls_of (files_of calls) slots.old (kept_of body.now last)) calls (D.told disk.new) (is_ok result) }
+    ensures runs { (calls : List Call) → D.told disk.old ≡ Some calls
+        → Runs (calls_of (files_of calls) slots.old (kept_of body.now last)) calls (D.told disk.new) (is_ok result) }
     ensures kept { OnOk result (slots.new ≡ slots_after slots.old (kept_of body.now last)) }
     ensures same { OnErr result (slots.new ≡ slots.old) }
     ensures cause { OnErr result (Rose (D.faults disk.old) (D.faults disk.new)) }
@@ -90,7 +93,8 @@ fn keep_rows<D: Disk>(
     ghost last: { Option SignalState }
     requires taken { MatchOption taken (last ≡ None) (λ x. last ≡ Some x.now) }
     requires redo { outlet_of body.now.parts ≡ Some (outlet_in redo.now.log) }
-    ensures runs { (calls : List Call) → D.told disk.old ≡ Some calls → Runs (calls_of (files_of calls) slots.old (kept_of body.now last)) calls (D.told disk.new) (is_ok result) }
+    ensures runs { (calls : List Call) → D.told disk.old ≡ Some calls
+        → Runs (calls_of (files_of calls) slots.old (kept_of body.now last)) calls (D.told disk.new) (is_ok result) }
     ensures kept { OnOk result (slots.new ≡ slots_after slots.old (kept_of body.now last)) }
     ensures same { OnErr result (slots.new ≡ slots.old) }
     ensures cause { OnErr result (Rose (D.faults disk.old) (D.faults disk.new)) }
@@ -118,7 +122,8 @@ fn todo_in<'a>(body: &'a HostBody, taken: Option<&Signal>) -> Option<&'a Todo>
 
 // Whether the saver of rows may have something to be done of the signal.
 fn is_savers(signal: &Signal) -> bool
-    ensures { (it : TodoState) → todo_to signal.now.to.block signal.now.body it ≡ (if result then it else todo.Nothing) }
+    ensures { (it : TodoState)
+        → todo_to signal.now.to.block signal.now.body it ≡ (if result then it else todo.Nothing) }
 {
     match (signal.to.block, &signal.body) {
         (BlockId::Lqh, Body::Checkpoint(CheckpointSignal::LcpSwitch)) => true,
@@ -144,7 +149,9 @@ fn keep_epoch<D: Disk>(
     body: &HostBody,
     signal: &Signal,
 ) -> Result<(), Failed>
-    ensures runs { (calls : List Call) → D.told disk.old ≡ Some calls → Runs (calls_of (files_of calls) slots.old (durable_in body.now (Some signal.now))) calls (D.told disk.new) (is_ok result) }
+    ensures runs { (calls : List Call) → D.told disk.old ≡ Some calls
+        → Runs (calls_of (files_of calls) slots.old (durable_in body.now (Some signal.now))) calls (D.told disk.new)
+        (is_ok result) }
     ensures kept { OnOk result (slots.new ≡ slots_after slots.old (durable_in body.now (Some signal.now))) }
     ensures same { OnErr result (slots.new ≡ slots.old) }
     ensures cause { OnErr result (Rose (D.faults disk.old) (D.faults disk.new)) }

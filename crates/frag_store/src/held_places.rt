@@ -54,7 +54,8 @@ impl HeldPlaces {
 
     /// What is at a place, which is that of its key: none where it is free.
     pub fn get(&self, at: u64) -> Option<&Slot>
-        ensures slot { MatchOption result (slice_index_or self.now.places.slots at None ≡ None) (λ slot. slice_index_or self.now.places.slots at None ≡ Some slot.now) }
+        ensures slot { MatchOption result (slice_index_or self.now.places.slots at None ≡ None)
+            (λ slot. slice_index_or self.now.places.slots at None ≡ Some slot.now) }
         ensures own { IfSome result (λ slot. place_of self.now.places.slots slot.now.key ≡ Some at) }
     {
         self.places.get(at)
@@ -133,7 +134,9 @@ impl HeldPlaces {
     /// Counts one record less on the key, and frees its place where that has no row and was the last.
     pub fn let_go(&mut self, key: &Key)
         requires { 0 < records_on self.old key.now }
-        ensures slots { self.new.places.slots ≡ freed_by self.old.places.slots (nat_eq (records_on self.new key.now) 0) (place_of self.old.places.slots key.now) }
+        ensures slots { self.new.places.slots
+            ≡ freed_by self.old.places.slots (nat_eq (records_on self.new key.now) 0)
+            (place_of self.old.places.slots key.now) }
         ensures records { (q : List ℕ) → records_on self.new q + cond (same_key key.now q) 1 0 ≡ records_on self.old q }
     {
         let Some(at) = self.places.place_of(key) else {
@@ -163,7 +166,8 @@ impl HeldPlaces {
     fn free_idle(&mut self, key: &Key, at: u64)
         requires place { place_of self.old.places.slots key.now ≡ Some at }
         requires idle { records_on self.old key.now ≡ 0 }
-        ensures slots { self.new.places.slots ≡ freed_by self.old.places.slots true (place_of self.old.places.slots key.now) }
+        ensures slots { self.new.places.slots
+            ≡ freed_by self.old.places.slots true (place_of self.old.places.slots key.now) }
         ensures records { (q : List ℕ) → records_on self.new q ≡ records_on self.old q }
     {
         self.places.free_idle(key, at);

@@ -31,7 +31,8 @@ impl Leads {
     /// What is remembered of the key.
     pub fn find(&self, key: &Key) -> Option<&Lead>
         ensures key { IfSome result (λ lead. lead.now.key.key ≡ key.now) }
-        ensures place { (index : PlaceMap) → AreLed index self.now → IfSome result (λ lead. map.get index key.now ≡ lead.now.at) }
+        ensures place { (index : PlaceMap) → AreLed index self.now
+            → IfSome result (λ lead. map.get index key.now ≡ lead.now.at) }
     {
         match &self.last {
             Some(lead) if lead.key.key == *key => return Some(lead),
@@ -50,7 +51,8 @@ impl Leads {
     /// Remembers where a key is led that was asked for, now that no other key is led elsewhere. Another one
     /// is forgotten only where there are three.
     pub fn push(&mut self, lead: Lead)
-        ensures { (before after : PlaceMap) → AreLed before self.old → IsElsewhereAs lead.key.key before after → map.get after lead.key.key ≡ lead.at → AreLed after self.new }
+        ensures { (before after : PlaceMap) → AreLed before self.old → IsElsewhereAs lead.key.key before after
+            → map.get after lead.key.key ≡ lead.at → AreLed after self.new }
     {
         self.forget(&lead.key);
         self.shift();
@@ -71,7 +73,8 @@ impl Leads {
 
     /// Forgets the key, now that no other one is led elsewhere.
     pub fn forget(&mut self, key: &HashedKey)
-        ensures { (before after : PlaceMap) → AreLed before self.old → IsElsewhereAs key.now.key before after → AreLed after self.new }
+        ensures { (before after : PlaceMap) → AreLed before self.old → IsElsewhereAs key.now.key before after
+            → AreLed after self.new }
     {
         forget(key.hash, &mut self.last);
         forget(key.hash, &mut self.second);

@@ -66,7 +66,8 @@ impl Places {
     /// What is at a place, which is that of its key: none where it is free.
     #[tactic(auto, using(crate::proofs::PlaceLemmas::own_place))]
     pub fn get(&self, at: u64) -> Option<&Slot>
-        ensures slot { MatchOption result (slice_index_or self.now.slots at None ≡ None) (λ slot. slice_index_or self.now.slots at None ≡ Some slot.now) }
+        ensures slot { MatchOption result (slice_index_or self.now.slots at None ≡ None)
+            (λ slot. slice_index_or self.now.slots at None ≡ Some slot.now) }
         ensures own { IfSome result (λ slot. place_of self.now.slots slot.now.key ≡ Some at) }
     {
         self.pages.get(at)
@@ -139,7 +140,8 @@ impl Places {
 
     // Whether the key is at this place, or would be there.
     fn is_right(&self, key: &Key, at: u64) -> bool
-        ensures { result ≡ (is_at key.now (slice_index_or self.now.slots at None) || nat_eq at (first_free self.now.slots)) }
+        ensures { result ≡ (is_at key.now (slice_index_or self.now.slots at None) || nat_eq at
+            (first_free self.now.slots)) }
     {
         self.is_at(key, at) || at == self.pages.next()
     }
@@ -219,7 +221,8 @@ impl Places {
     pub fn free_idle(&mut self, key: &Key, at: u64)
         requires { place_of self.old.slots key.now ≡ Some at }
         ensures slots { self.new.slots ≡ freed_by self.old.slots true (place_of self.old.slots key.now) }
-        ensures gone { has_row (slice_index_or self.old.slots at None) ≡ false → place_of self.new.slots key.now ≡ None }
+        ensures gone { has_row (slice_index_or self.old.slots at None) ≡ false
+            → place_of self.new.slots key.now ≡ None }
     {
         if !self.has_row(at) {
             self.vacate(key, at);

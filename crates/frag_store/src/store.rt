@@ -52,7 +52,8 @@ impl Store {
     // What the transaction makes of the row of the key, if it has a record on it.
     #[tactic(auto, unfolding(sig_core::specs::Rows::record_of))]
     fn version(&self, tx: TxId, key: &Key) -> Option<&Version>
-        ensures { MatchOption result (record_of self.now.rows tx key.now ≡ None) (λ version. record_of self.now.rows tx key.now ≡ Some (record_by tx key.now version.now)) }
+        ensures { MatchOption result (record_of self.now.rows tx key.now ≡ None)
+            (λ version. record_of self.now.rows tx key.now ≡ Some (record_by tx key.now version.now)) }
     {
         let (_, version) = self.records.find(tx, key)?;
         Some(version)
@@ -60,7 +61,8 @@ impl Store {
 
     // Drops the transaction's record on the key, if it is committed or not as is asked.
     fn drop_record(&mut self, tx: TxId, key: &Key, committed: bool)
-        ensures { self.new.rows ≡ drop_by self.old.rows committed (record_at self.old.rows.pending tx key.now) (record_of self.old.rows tx key.now) }
+        ensures { self.new.rows ≡ drop_by self.old.rows committed (record_at self.old.rows.pending tx key.now)
+            (record_of self.old.rows tx key.now) }
     {
         let Some((at, version)) = self.records.find(tx, key) else {
             return;
@@ -250,7 +252,8 @@ fn hold_image(
     requires room { records.old.roomy ≡ true }
     requires counted { IsCounted places.old records.old }
     ensures slots { places.new.places.slots ≡ with_place places.old.places.slots key.now }
-    ensures pending { records.new.pending ≡ recorded_by records.old.pending (prepared tx key.now image.now) (record_at records.old.pending tx key.now) }
+    ensures pending { records.new.pending
+        ≡ recorded_by records.old.pending (prepared tx key.now image.now) (record_at records.old.pending tx key.now) }
     ensures counted { IsCounted places.new records.new }
 {
     if records.put(tx, key, image) {

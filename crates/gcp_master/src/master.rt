@@ -42,7 +42,16 @@ impl Model for GcpMaster {
 
     ghost Value = { MasterState };
 
-    ghost view = { λ m. record { member = m.member; view = m.view; phase = m.phase; front = m.front; asked = m.asked; owed = m.owed; voices = m.voices; local = m.local } };
+    ghost view = { λ m. record {
+      member = m.member;
+      view = m.view;
+      phase = m.phase;
+      front = m.front;
+      asked = m.asked;
+      owed = m.owed;
+      voices = m.voices;
+      local = m.local;
+    } };
 }
 
 /// Whether the member is the oldest full one of the view.

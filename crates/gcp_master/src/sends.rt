@@ -78,7 +78,8 @@ impl GcpMaster {
     #[tactic(auto, using(sig_core::proofs::PortionLemmas::portions), unfolding(crate::specs::Sends::master_sends))]
     fn offer_list(&self, portion: &mut Portion, out: &mut Outs)
         requires { length out.old.sends + portion.old.room ≤ 15 }
-        ensures offered { so_far portion.new out.new ≡ all_offered (so_far portion.old out.old) (master_sends self.now) }
+        ensures offered { so_far portion.new out.new
+            ≡ all_offered (so_far portion.old out.old) (master_sends self.now) }
         ensures fits { length out.new.sends + portion.new.room ≤ 15 }
     {
         offer_front(self.member.node, &self.view, self.front, portion, out);
@@ -90,7 +91,8 @@ impl GcpMaster {
 #[tactic(auto, using(sig_core::proofs::PortionLemmas::portions), unfolding(crate::specs::Sends::front_sends))]
 fn offer_front(node: u8, view: &View, front: Option<Ended>, portion: &mut Portion, out: &mut Outs)
     requires { length out.old.sends + portion.old.room ≤ 15 }
-    ensures offered { so_far portion.new out.new ≡ all_offered (so_far portion.old out.old) (front_sends node view.now front) }
+    ensures offered { so_far portion.new out.new
+        ≡ all_offered (so_far portion.old out.old) (front_sends node view.now front) }
     ensures fits { length out.new.sends + portion.new.room ≤ 15 }
 {
     match front {
@@ -110,7 +112,8 @@ fn offer_front(node: u8, view: &View, front: Option<Ended>, portion: &mut Portio
 // The copying of the node is told, where it asked.
 fn offer_copying(node: u8, epoch: u64, copy: bool, portion: &mut Portion, out: &mut Outs)
     requires { length out.old.sends + portion.old.room ≤ 15 }
-    ensures offered { so_far portion.new out.new ≡ all_offered (so_far portion.old out.old) (to_copying node epoch copy) }
+    ensures offered { so_far portion.new out.new
+        ≡ all_offered (so_far portion.old out.old) (to_copying node epoch copy) }
     ensures fits { length out.new.sends + portion.new.room ≤ 15 }
 {
     if copy {
@@ -143,7 +146,8 @@ fn offer_switches(view: &View, local: bool, portion: &mut Portion, out: &mut Out
 #[tactic(auto, unfolding(crate::specs::Sends::phase_sends))]
 fn offer_phase(view: &View, phase: Phase, portion: &mut Portion, out: &mut Outs)
     requires { length out.old.sends + portion.old.room ≤ 15 }
-    ensures offered { so_far portion.new out.new ≡ all_offered (so_far portion.old out.old) (phase_sends view.now phase) }
+    ensures offered { so_far portion.new out.new
+        ≡ all_offered (so_far portion.old out.old) (phase_sends view.now phase) }
     ensures fits { length out.new.sends + portion.new.room ≤ 15 }
 {
     match phase {
@@ -196,7 +200,8 @@ fn offer_both(order: Order, view: &View, portion: &mut Portion, out: &mut Outs)
 #[tactic(auto, using(sig_core::proofs::PortionLemmas::portions), unfolding(crate::specs::Sends::to_each))]
 fn offer_each(block: BlockId, order: Order, view: &View, portion: &mut Portion, out: &mut Outs)
     requires { length out.old.sends + portion.old.room ≤ 15 }
-    ensures offered { so_far portion.new out.new ≡ all_offered (so_far portion.old out.old) (to_each block order view.now) }
+    ensures offered { so_far portion.new out.new
+        ≡ all_offered (so_far portion.old out.old) (to_each block order view.now) }
     ensures fits { length out.new.sends + portion.new.room ≤ 15 }
 {
     offer_orders(block, order, view.full.as_slice(), portion, out);
@@ -213,7 +218,8 @@ fn offer_orders(
     out: &mut Outs,
 )
     requires { length out.old.sends + portion.old.room ≤ 15 }
-    ensures offered { so_far portion.new out.new ≡ all_offered (so_far portion.old out.old) (orders_at block order members.now) }
+    ensures offered { so_far portion.new out.new
+        ≡ all_offered (so_far portion.old out.old) (orders_at block order members.now) }
     ensures fits { length out.new.sends + portion.new.room ≤ 15 }
 {
     for member in members {

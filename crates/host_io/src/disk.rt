@@ -27,7 +27,8 @@ pub trait Disk: Drop {
     fn read(&mut self, file: u8, at: u64, buf: &mut [u8]) -> Result<usize, Failed>
         ensures within { IfOk result (λ n. n ≤ length buf.old) }
         ensures place { OnOk result (IsPlace file at) }
-        ensures bytes { (calls : List Call) → told self.old ≡ Some calls → IfOk result (λ n. IsRead (state_of calls file).bytes at buf.old buf.new n) }
+        ensures bytes { (calls : List Call) → told self.old ≡ Some calls
+            → IfOk result (λ n. IsRead (state_of calls file).bytes at buf.old buf.new n) }
         ensures unrecorded { told self.new ≡ told self.old }
         ensures cause { OnErr result (Rose (faults self.old) (faults self.new)) }
         ensures steady { faults self.old ≤ faults self.new };
@@ -39,7 +40,8 @@ pub trait Disk: Drop {
     /// the count of faults has risen, and nothing was done or some piece was laid down.
     fn write(&mut self, file: u8, at: u64, bytes: &[u8]) -> Result<(), Failed>
         ensures place { OnOk result (IsPlace file (at + length bytes.now)) }
-        ensures written { (calls : List Call) → told self.old ≡ Some calls → IsWritten calls (told self.new) file at bytes.now (is_ok result) }
+        ensures written { (calls : List Call) → told self.old ≡ Some calls
+            → IsWritten calls (told self.new) file at bytes.now (is_ok result) }
         ensures cause { OnErr result (Rose (faults self.old) (faults self.new)) }
         ensures steady { faults self.old ≤ faults self.new };
 
@@ -50,7 +52,8 @@ pub trait Disk: Drop {
     /// nothing was done.
     fn sync(&mut self, file: u8) -> Result<(), Failed>
         ensures place { OnOk result (IsPlace file 0) }
-        ensures synced { (calls : List Call) → told self.old ≡ Some calls → IsSynced calls (told self.new) file (is_ok result) }
+        ensures synced { (calls : List Call) → told self.old ≡ Some calls
+            → IsSynced calls (told self.new) file (is_ok result) }
         ensures cause { OnErr result (Rose (faults self.old) (faults self.new)) }
         ensures steady { faults self.old ≤ faults self.new };
 
@@ -60,7 +63,8 @@ pub trait Disk: Drop {
     /// `Failed`, among others where there is no such file. Then the count of faults has risen.
     fn size(&mut self, file: u8) -> Result<u64, Failed>
         ensures place { OnOk result (IsPlace file 0) }
-        ensures bytes { (calls : List Call) → told self.old ≡ Some calls → IfOk result (λ n. n ≡ length (state_of calls file).bytes) }
+        ensures bytes { (calls : List Call) → told self.old ≡ Some calls
+            → IfOk result (λ n. n ≡ length (state_of calls file).bytes) }
         ensures unrecorded { told self.new ≡ told self.old }
         ensures cause { OnErr result (Rose (faults self.old) (faults self.new)) }
         ensures steady { faults self.old ≤ faults self.new };

@@ -50,9 +50,14 @@ impl Model for Journal {
 
     ghost Value = { JournalState };
 
-    ghost view = { λ j. record { told = told_behind j.picks.items [] j.entries.items; picks = drop j.used j.picks.items; spare = vec_capacity j.entries - length j.entries.items } };
+    ghost view = { λ j. record {
+      told = told_behind j.picks.items [] j.entries.items;
+      picks = drop j.used j.picks.items;
+      spare = vec_capacity j.entries - length j.entries.items;
+    } };
 
-    ghost invariant = { λ j. (j.used ≤ length j.picks.items) × (j.cut ≡ ends_cut (told_behind j.picks.items [] j.entries.items)) };
+    ghost invariant = { λ j. (j.used ≤ length j.picks.items)
+        × (j.cut ≡ ends_cut (told_behind j.picks.items [] j.entries.items)) };
 }
 
 impl Journal {

@@ -38,7 +38,14 @@ impl Model for MemDisk {
 
     ghost Value = { Memory };
 
-    ghost view = { λ d. record { told = d.journal.told; picks = d.journal.picks; fails = d.fails.items; fuse = d.fuse; calls = d.calls; faults = d.faults } };
+    ghost view = { λ d. record {
+      told = d.journal.told;
+      picks = d.journal.picks;
+      fails = d.fails.items;
+      fuse = d.fuse;
+      calls = d.calls;
+      faults = d.faults;
+    } };
 
     ghost invariant = { λ d. AreTold d.files.items d.journal.told d.journal.spare };
 }
@@ -50,7 +57,15 @@ impl MemDisk {
     /// # Errors
     /// Want of memory.
     pub fn new(alloc: Global, fails: Vec<u64>, picks: Vec<u8>) -> Result<MemDisk, AllocError>
-        ensures { IfOk result (λ d. d ≡ record { told = []; picks = picks.items; fails = fails.items; fuse = None; calls = 0; faults = 0 }) }
+        ensures { IfOk result (λ d. d ≡ record {
+          told = [];
+          picks = picks.items;
+          fails = fails.items;
+          fuse = None;
+          calls
+              = 0;
+          faults = 0;
+        }) }
     {
         MemDisk::with_fuse(alloc, fails, None, picks)
     }
@@ -61,7 +76,14 @@ impl MemDisk {
     /// # Errors
     /// Want of memory.
     pub fn fused(alloc: Global, pass: u64, picks: Vec<u8>) -> Result<MemDisk, AllocError>
-        ensures { IfOk result (λ d. d ≡ record { told = []; picks = picks.items; fails = []; fuse = Some pass; calls = 0; faults = 0 }) }
+        ensures { IfOk result (λ d. d ≡ record {
+          told = [];
+          picks = picks.items;
+          fails = [];
+          fuse = Some pass;
+          calls = 0;
+          faults = 0;
+        }) }
     {
         MemDisk::with_fuse(alloc, Vec::new(alloc), Some(pass), picks)
     }
@@ -79,7 +101,15 @@ impl MemDisk {
         fuse: Option<u64>,
         picks: Vec<u8>,
     ) -> Result<MemDisk, AllocError>
-        ensures { IfOk result (λ d. d ≡ record { told = []; picks = picks.items; fails = fails.items; fuse = fuse; calls = 0; faults = 0 }) }
+        ensures { IfOk result (λ d. d ≡ record {
+          told = [];
+          picks = picks.items;
+          fails = fails.items;
+          fuse = fuse;
+          calls
+              = 0;
+          faults = 0;
+        }) }
     {
         let files = fresh_files(alloc)?;
         let journal = Journal::new(alloc, picks)?;
@@ -184,7 +214,8 @@ impl MemDisk {
         ensures planned { OnOk result (planned ≡ false) }
         ensures written { IsWritten self.old.told (Some self.new.told) file at bytes.now (is_ok result) }
         ensures ok { OnOk result (self.new ≡ recorded self.old (Wrote file at bytes.now)) }
-        ensures err { OnErr result ((self.new ≡ faulted self.old) ⊎ (self.new ≡ faulted (torn self.old file at bytes.now))) }
+        ensures err { OnErr result ((self.new ≡ faulted self.old)
+            ⊎ (self.new ≡ faulted (torn self.old file at bytes.now))) }
         ensures untorn { OnErr result (planned ≡ false → self.new ≡ faulted self.old) }
         ensures steady { self.old.faults ≤ self.new.faults }
     {
@@ -229,7 +260,8 @@ impl Disk for MemDisk {
     fn read(&mut self, file: u8, at: u64, buf: &mut [u8]) -> Result<usize, Failed>
         ensures within { IfOk result (λ n. n ≤ length buf.old) }
         ensures place { OnOk result (IsPlace file at) }
-        ensures bytes { (calls : List Call) → Some self.old.told ≡ Some calls → IfOk result (λ n. IsRead (state_of calls file).bytes at buf.old buf.new n) }
+        ensures bytes { (calls : List Call) → Some self.old.told ≡ Some calls
+            → IfOk result (λ n. IsRead (state_of calls file).bytes at buf.old buf.new n) }
         ensures unrecorded { Some self.new.told ≡ Some self.old.told }
         ensures cause { OnErr result (Rose self.old.faults self.new.faults) }
         ensures steady { self.old.faults ≤ self.new.faults }
@@ -246,13 +278,16 @@ impl Disk for MemDisk {
 
     fn write(&mut self, file: u8, at: u64, bytes: &[u8]) -> Result<(), Failed>
         ensures place { OnOk result (IsPlace file (at + length bytes.now)) }
-        ensures written { (calls : List Call) → Some self.old.told ≡ Some calls → IsWritten calls (Some self.new.told) file at bytes.now (is_ok result) }
+        ensures written { (calls : List Call) → Some self.old.told ≡ Some calls
+            → IsWritten calls (Some self.new.told) file at bytes.now (is_ok result) }
         ensures cause { OnErr result (Rose self.old.faults self.new.faults) }
         ensures steady { self.old.faults ≤ self.new.faults }
         ensures planned { OnOk result (is_planned self.old ≡ false) }
         ensures ok { OnOk result (self.new ≡ recorded (called self.old) (Wrote file at bytes.now)) }
-        ensures err { OnErr result ((self.new ≡ failed self.old) ⊎ (self.new ≡ torn (failed self.old) file at bytes.now)) }
-        ensures untorn { OnErr result ((is_planned self.old && has_place file (at + length bytes.now)) ≡ false → self.new ≡ failed self.old) }
+        ensures err { OnErr result ((self.new ≡ failed self.old)
+            ⊎ (self.new ≡ torn (failed self.old) file at bytes.now)) }
+        ensures untorn { OnErr result ((is_planned self.old && has_place file (at + length bytes.now)) ≡ false
+            → self.new ≡ failed self.old) }
     {
         let planned = self.begin();
         if !has_place(file, at.saturating_add(bytes.len() as u64)) {
@@ -263,7 +298,8 @@ impl Disk for MemDisk {
 
     fn sync(&mut self, file: u8) -> Result<(), Failed>
         ensures place { OnOk result (IsPlace file 0) }
-        ensures synced { (calls : List Call) → Some self.old.told ≡ Some calls → IsSynced calls (Some self.new.told) file (is_ok result) }
+        ensures synced { (calls : List Call) → Some self.old.told ≡ Some calls
+            → IsSynced calls (Some self.new.told) file (is_ok result) }
         ensures cause { OnErr result (Rose self.old.faults self.new.faults) }
         ensures steady { self.old.faults ≤ self.new.faults }
         ensures planned { OnOk result (is_planned self.old ≡ false) }
@@ -282,7 +318,8 @@ impl Disk for MemDisk {
 
     fn size(&mut self, file: u8) -> Result<u64, Failed>
         ensures place { OnOk result (IsPlace file 0) }
-        ensures bytes { (calls : List Call) → Some self.old.told ≡ Some calls → IfOk result (λ n. n ≡ length (state_of calls file).bytes) }
+        ensures bytes { (calls : List Call) → Some self.old.told ≡ Some calls
+            → IfOk result (λ n. n ≡ length (state_of calls file).bytes) }
         ensures unrecorded { Some self.new.told ≡ Some self.old.told }
         ensures cause { OnErr result (Rose self.old.faults self.new.faults) }
         ensures steady { self.old.faults ≤ self.new.faults }
@@ -304,7 +341,8 @@ impl Disk for MemDisk {
     /// Leaves what the picks say, and takes no memory. Right after another cut it leaves all as it
     /// is.
     fn cut_power(&mut self)
-        ensures cut { (calls : List Call) → Some self.old.told ≡ Some calls → IsCut calls (Some self.new.told) (ends_cut calls) }
+        ensures cut { (calls : List Call) → Some self.old.told ≡ Some calls
+            → IsCut calls (Some self.new.told) (ends_cut calls) }
         ensures steady { self.old.faults ≤ self.new.faults }
         ensures exactly { self.new ≡ cut self.old }
     {

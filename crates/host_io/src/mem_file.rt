@@ -27,7 +27,8 @@ impl Model for MemFile {
 
     ghost view = { λ f. record { bytes = f.bytes.items; synced = f.synced; dirty = f.dirty.items } };
 
-    ghost invariant = { λ f. (length f.bytes.items ≤ FILE_SIZE) × (f.synced ≤ length f.bytes.items) × (All (λ range. LiesWithin (length f.bytes.items) range) f.dirty.items) };
+    ghost invariant = { λ f. (length f.bytes.items ≤ FILE_SIZE) × (f.synced ≤ length f.bytes.items)
+        × (All (λ range. LiesWithin (length f.bytes.items) range) f.dirty.items) };
 }
 
 impl MemFile {

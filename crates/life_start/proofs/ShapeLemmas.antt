@@ -1,5 +1,6 @@
 -- The system slots of disks on which a life is named are of the cluster's shape.
-use Rattle.std.proofs.Common.{◌≡◌, ◌∙◌, ℕ, ◌+◌, ◌≤◌, max, Bool, true, false, List, [], ◌++◌, length, drop, refl, ap, sym, subst}
+use Rattle.std.proofs.Common.{◌≡◌, ◌∙◌, ℕ, ◌+◌, ◌≤◌, max, Bool, true, false, List, [], ◌++◌, length, drop, refl, ap}
+use Rattle.std.proofs.Common.{sym, subst}
 use Rattle.std.proofs.Common.{arith, inl, inr, if◌then◌else◌}
 use Rattle.std.specs.Prelude.{IfSome, Option, None, Some, Ok, Err}
 use Rattle.std.proofs.lemmas.Bool.{ne_eqb}

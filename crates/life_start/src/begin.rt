@@ -37,19 +37,27 @@ pub fn begin_life<D: Disk>(
     requires shape { IsShape shape }
     requires nodes { length disks.old ≡ shape.nodes }
     // It begins with what was restored.
-    ensures begun { (records : List (List Call)) → map D.told disks.old ≡ map Some records → IfOk result (λ b. HasBegun shape (disks_of records) b.generation b.epoch b.rows.items) }
+    ensures begun { (records : List (List Call)) → map D.told disks.old ≡ map Some records
+        → IfOk result (λ b. HasBegun shape (disks_of records) b.generation b.epoch b.rows.items) }
     // The disks are ready for it, and have these slots in use.
-    ensures ready { (records : List (List Call)) (restored : Restored) → map D.told disks.old ≡ map Some records → AreToPrepare shape restored records → OnOk result (AreReady shape restored (map D.told disks.new)) }
-    ensures slots { (records : List (List Call)) → map D.told disks.new ≡ map Some records → IfOk result (λ b. AreSlotsOf b.generation (disks_of records) b.slots.items) }
+    ensures ready { (records : List (List Call)) (restored : Restored) → map D.told disks.old ≡ map Some records
+        → AreToPrepare shape restored records → OnOk result (AreReady shape restored (map D.told disks.new)) }
+    ensures slots { (records : List (List Call)) → map D.told disks.new ≡ map Some records
+        → IfOk result (λ b. AreSlotsOf b.generation (disks_of records) b.slots.items) }
     ensures count { IfOk result (λ b. length b.slots.items ≡ shape.nodes) }
     ensures more { IfOk result (λ b. b.epoch < end_of_epochs) }
     // Their records have only grown, also where it doesn't begin, and then this is why.
     ensures recorded { AllTellMore (map D.told disks.old) (map D.told disks.new) }
-    ensures refused { (records : List (List Call)) → map D.told disks.old ≡ map Some records → IfErr result (λ fault. is_outside fault ≡ false → IsRefusedFor shape (disks_of records) (map D.told disks.new) fault) }
+    ensures refused { (records : List (List Call)) → map D.told disks.old ≡ map Some records
+        → IfErr result (λ fault. is_outside fault ≡ false → IsRefusedFor shape (disks_of records) (map D.told disks.new)
+        fault) }
     // Their system slots are all of this shape then.
-    ensures shapes { (records : List (List Call)) (restored : Restored) → map D.told disks.old ≡ map Some records → AreToPrepare shape restored records → OnOk result (HaveShape shape (map D.told disks.new)) }
+    ensures shapes { (records : List (List Call)) (restored : Restored) → map D.told disks.old ≡ map Some records
+        → AreToPrepare shape restored records → OnOk result (HaveShape shape (map D.told disks.new)) }
     // Where they may be prepared for it, only numbers that are used up refuse it.
-    ensures unless { (records : List (List Call)) (restored : Restored) → map D.told disks.old ≡ map Some records → AreToPrepare shape restored records → IfErr result (λ fault. is_outside fault ≡ false → IsUsedUpBy restored fault) }
+    ensures unless { (records : List (List Call)) (restored : Restored) → map D.told disks.old ≡ map Some records
+        → AreToPrepare shape restored records
+        → IfErr result (λ fault. is_outside fault ≡ false → IsUsedUpBy restored fault) }
     ensures cause { HasCauseAmong (map D.faults disks.old) (map D.faults disks.new) result }
     ensures steady { AreSteady (map D.faults disks.old) (map D.faults disks.new) }
 {
@@ -67,15 +75,23 @@ fn begin_settled<D: Disk>(
 ) -> Result<Begun, RestartFault>
     requires shape { IsShape shape }
     requires nodes { length disks.old ≡ shape.nodes }
-    ensures begun { (records : List (List Call)) → map D.told disks.old ≡ map Some records → IfOk result (λ b. HasBegun shape (disks_of records) b.generation b.epoch b.rows.items) }
-    ensures ready { (records : List (List Call)) (restored : Restored) → map D.told disks.old ≡ map Some records → AreToPrepare shape restored records → OnOk result (AreReady shape restored (map D.told disks.new)) }
-    ensures slots { (records : List (List Call)) → map D.told disks.new ≡ map Some records → IfOk result (λ b. AreSlotsOf b.generation (disks_of records) b.slots.items) }
+    ensures begun { (records : List (List Call)) → map D.told disks.old ≡ map Some records
+        → IfOk result (λ b. HasBegun shape (disks_of records) b.generation b.epoch b.rows.items) }
+    ensures ready { (records : List (List Call)) (restored : Restored) → map D.told disks.old ≡ map Some records
+        → AreToPrepare shape restored records → OnOk result (AreReady shape restored (map D.told disks.new)) }
+    ensures slots { (records : List (List Call)) → map D.told disks.new ≡ map Some records
+        → IfOk result (λ b. AreSlotsOf b.generation (disks_of records) b.slots.items) }
     ensures count { IfOk result (λ b. length b.slots.items ≡ shape.nodes) }
     ensures more { IfOk result (λ b. b.epoch < end_of_epochs) }
     ensures recorded { AllTellMore (map D.told disks.old) (map D.told disks.new) }
-    ensures refused { (records : List (List Call)) → map D.told disks.old ≡ map Some records → IfErr result (λ fault. is_outside fault ≡ false → IsRefusedFor shape (disks_of records) (map D.told disks.new) fault) }
-    ensures shapes { (records : List (List Call)) (restored : Restored) → map D.told disks.old ≡ map Some records → AreToPrepare shape restored records → OnOk result (HaveShape shape (map D.told disks.new)) }
-    ensures unless { (records : List (List Call)) (restored : Restored) → map D.told disks.old ≡ map Some records → AreToPrepare shape restored records → IfErr result (λ fault. is_outside fault ≡ false → IsUsedUpBy restored fault) }
+    ensures refused { (records : List (List Call)) → map D.told disks.old ≡ map Some records
+        → IfErr result (λ fault. is_outside fault ≡ false → IsRefusedFor shape (disks_of records) (map D.told disks.new)
+        fault) }
+    ensures shapes { (records : List (List Call)) (restored : Restored) → map D.told disks.old ≡ map Some records
+        → AreToPrepare shape restored records → OnOk result (HaveShape shape (map D.told disks.new)) }
+    ensures unless { (records : List (List Call)) (restored : Restored) → map D.told disks.old ≡ map Some records
+        → AreToPrepare shape restored records
+        → IfErr result (λ fault. is_outside fault ≡ false → IsUsedUpBy restored fault) }
     ensures cause { HasCauseAmong (map D.faults disks.old) (map D.faults disks.new) result }
     ensures steady { AreSteady (map D.faults disks.old) (map D.faults disks.new) }
 {
@@ -95,14 +111,21 @@ fn begin_from<D: Disk>(
     requires shape { IsShape shape }
     requires nodes { length disks.old ≡ shape.nodes }
     ensures begun { IfOk result (λ b. begins_from restored.now b.generation b.epoch b.rows.items) }
-    ensures ready { (records : List (List Call)) → map D.told disks.old ≡ map Some records → AreToPrepare shape restored.now records → OnOk result (AreReady shape restored.now (map D.told disks.new)) }
-    ensures slots { (records : List (List Call)) → map D.told disks.new ≡ map Some records → IfOk result (λ b. AreSlotsOf b.generation (disks_of records) b.slots.items) }
+    ensures ready { (records : List (List Call)) → map D.told disks.old ≡ map Some records
+        → AreToPrepare shape restored.now records → OnOk result (AreReady shape restored.now (map D.told disks.new)) }
+    ensures slots { (records : List (List Call)) → map D.told disks.new ≡ map Some records
+        → IfOk result (λ b. AreSlotsOf b.generation (disks_of records) b.slots.items) }
     ensures count { IfOk result (λ b. length b.slots.items ≡ shape.nodes) }
     ensures more { IfOk result (λ b. b.epoch < end_of_epochs) }
     ensures recorded { AllTellMore (map D.told disks.old) (map D.told disks.new) }
-    ensures none { (records : List (List Call)) → map D.told disks.old ≡ map Some records → IfErr result (λ fault. is_outside fault ≡ false → IsNoneBehind restored.now shape.nodes (map D.told disks.new) fault) }
-    ensures shapes { (records : List (List Call)) → map D.told disks.old ≡ map Some records → AreToPrepare shape restored.now records → OnOk result (HaveShape shape (map D.told disks.new)) }
-    ensures unless { (records : List (List Call)) → map D.told disks.old ≡ map Some records → AreToPrepare shape restored.now records → IfErr result (λ fault. is_outside fault ≡ false → IsUsedUpBy restored.now fault) }
+    ensures none { (records : List (List Call)) → map D.told disks.old ≡ map Some records
+        → IfErr result (λ fault. is_outside fault ≡ false → IsNoneBehind restored.now shape.nodes (map D.told disks.new)
+        fault) }
+    ensures shapes { (records : List (List Call)) → map D.told disks.old ≡ map Some records
+        → AreToPrepare shape restored.now records → OnOk result (HaveShape shape (map D.told disks.new)) }
+    ensures unless { (records : List (List Call)) → map D.told disks.old ≡ map Some records
+        → AreToPrepare shape restored.now records
+        → IfErr result (λ fault. is_outside fault ≡ false → IsUsedUpBy restored.now fault) }
     ensures cause { HasCauseAmong (map D.faults disks.old) (map D.faults disks.new) result }
     ensures steady { AreSteady (map D.faults disks.old) (map D.faults disks.new) }
 {
@@ -122,8 +145,10 @@ fn start_with<D: Disk>(
     requires unused { is_used_up restored.now ≡ false }
     ensures begun { IfOk result (λ b. begins_from restored.now b.generation b.epoch b.rows.items) }
     ensures unrecorded { map D.told disks.new ≡ map D.told disks.old }
-    ensures slots { (records : List (List Call)) → map D.told disks.old ≡ map Some records → IfOk result (λ b. AreSlotsOf b.generation (disks_of records) b.slots.items) }
-    ensures lacking { IfErr result (λ fault. is_outside fault ≡ false → Lacks (restored.now.generation + 1) (length disks.old) (map D.told disks.old) fault) }
+    ensures slots { (records : List (List Call)) → map D.told disks.old ≡ map Some records
+        → IfOk result (λ b. AreSlotsOf b.generation (disks_of records) b.slots.items) }
+    ensures lacking { IfErr result (λ fault. is_outside fault ≡ false → Lacks (restored.now.generation + 1)
+        (length disks.old) (map D.told disks.old) fault) }
     ensures count { IfOk result (λ b. length b.slots.items ≡ length disks.old) }
     ensures more { IfOk result (λ b. b.epoch < end_of_epochs) }
     ensures cause { HasCauseAmong (map D.faults disks.old) (map D.faults disks.new) result }

@@ -28,8 +28,10 @@ pub(crate) fn slots_of<D: Disk>(
     generation: u64,
 ) -> Result<Vec<NodeSlots>, RestartFault>
     requires few { length disks.old ≤ 8 }
-    ensures read { (records : List (List Call)) → map D.told disks.old ≡ map Some records → IfOk result (λ slots. AreSlotsOf generation (disks_of records) slots.items) }
-    ensures lacking { IfErr result (λ fault. is_outside fault ≡ false → Lacks generation (length disks.old) (map D.told disks.old) fault) }
+    ensures read { (records : List (List Call)) → map D.told disks.old ≡ map Some records
+        → IfOk result (λ slots. AreSlotsOf generation (disks_of records) slots.items) }
+    ensures lacking { IfErr result (λ fault. is_outside fault ≡ false → Lacks generation (length disks.old)
+        (map D.told disks.old) fault) }
     ensures count { IfOk result (λ slots. length slots.items ≡ length disks.old) }
     ensures unrecorded { map D.told disks.new ≡ map D.told disks.old }
     ensures cause { HasCauseAmong (map D.faults disks.old) (map D.faults disks.new) result }
@@ -50,8 +52,10 @@ pub(crate) fn slots_of<D: Disk>(
 
 // The slots in use of a node's disk, of this generation.
 fn slots_on<D: Disk>(disk: &mut D, node: u8, generation: u64) -> Result<NodeSlots, RestartFault>
-    ensures read { (calls : List Call) → D.told disk.old ≡ Some calls → IfOk result (IsSlotsOf generation (files_of calls)) }
-    ensures lacking { (calls : List Call) → D.told disk.old ≡ Some calls → IfErr result (λ fault. is_outside fault ≡ false → IsLack node (slots_in generation (files_of calls)) fault) }
+    ensures read { (calls : List Call) → D.told disk.old ≡ Some calls
+        → IfOk result (IsSlotsOf generation (files_of calls)) }
+    ensures lacking { (calls : List Call) → D.told disk.old ≡ Some calls
+        → IfErr result (λ fault. is_outside fault ≡ false → IsLack node (slots_in generation (files_of calls)) fault) }
     ensures unrecorded { D.told disk.new ≡ D.told disk.old }
     ensures cause { HasCauseOf node (D.faults disk.old) (D.faults disk.new) result }
     ensures steady { D.faults disk.old ≤ D.faults disk.new }

@@ -76,7 +76,10 @@ impl Buckets {
     #[tactic(auto, using(crate::proofs::SplitLemmas::steps))]
     pub fn add(&mut self, key: &HashedKey, at: u64) -> Result<(), NoMemory>
         requires { map.get self.old.at key.now.key ≡ None }
-        ensures ok { OnOk result (self.new ≡ record { at = map.insert self.old.at key.now.key at; buckets = self.old.buckets }) }
+        ensures ok { OnOk result (self.new ≡ record {
+          at = map.insert self.old.at key.now.key at;
+          buckets = self.old.buckets;
+        }) }
         ensures err { OnErr result (self.new ≡ self.old) }
     {
         let home = home(self.growth, key);
@@ -127,7 +130,8 @@ fn place_at(buckets: &[Bucket], bucket: usize, key: &HashedKey) -> Option<u64>
 // Puts an entry into this bucket.
 fn add_at(buckets: &mut [Bucket], bucket: usize, entry: Entry) -> Result<(), NoMemory>
     requires { bucket < length buckets.old }
-    ensures ok { OnOk result (buckets.new ≡ slice_set buckets.old bucket (slice_index_or buckets.old bucket [] ++ entry ∷ [])) }
+    ensures ok { OnOk result (buckets.new ≡ slice_set buckets.old bucket
+        (slice_index_or buckets.old bucket [] ++ entry ∷ [])) }
     ensures err { OnErr result (buckets.new ≡ buckets.old) }
 {
     buckets[bucket].add(entry)
@@ -160,7 +164,9 @@ fn split_at(
 ) -> Result<(), NoMemory>
     requires next { IsGrowth next }
     requires inside { bucket < length buckets.old.items }
-    ensures ok { OnOk result (buckets.new.items ≡ slice_set buckets.old.items bucket (part_of next bucket (slice_index_or buckets.old.items bucket [])) ++ part_of next (length buckets.old.items) (slice_index_or buckets.old.items bucket []) ∷ []) }
+    ensures ok { OnOk result (buckets.new.items ≡ slice_set buckets.old.items bucket
+        (part_of next bucket (slice_index_or buckets.old.items bucket []))
+        ++ part_of next (length buckets.old.items) (slice_index_or buckets.old.items bucket []) ∷ []) }
     ensures err { OnErr result (buckets.new.items ≡ buckets.old.items) }
 {
     let moves = buckets[bucket].part(alloc, next, buckets.len())?;

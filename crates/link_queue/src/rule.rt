@@ -13,7 +13,8 @@ use std::marker::{Brand, PhantomData};
 /// How many signals a link holds at most.
 pub const LINK_SIGNALS: usize = 128;
 
-/// What a pass may do and what it knows: of a sender the route and what was sent, of a taker the route and what was taken.
+/// What a pass may do and what it knows: of a sender the route and what was sent, of a taker the
+/// route and what was taken.
 /// No value of it is made.
 pub struct PassView {
     pub sends: bool,
@@ -121,7 +122,8 @@ impl Lesson<Boxed<Signal>, PassView> for Sends {
 pub struct Takes;
 
 impl Outcome<Boxed<Signal>, PassView> for Takes {
-    ghost then = { λ v x w. (w ≡ pass_view false true v.from v.to [] (v.taken ++ x ∷ [])) × (length w.taken < 2 ^ 64) × IsSentBy v.from x };
+    ghost then = { λ v x w. (w ≡ pass_view false true v.from v.to [] (v.taken ++ x ∷ [])) × (length w.taken < 2 ^ 64)
+        × IsSentBy v.from x };
 }
 
 impl Lesson<Boxed<Signal>, PassView> for Takes {

@@ -26,9 +26,16 @@ impl Model for LinkTx {
 
     ghost Value = { End };
 
-    ghost view = { λ t. record { link = t.pass.table_id; from = (known t.pass).from; to = (known t.pass).to; signals = (known t.pass).sent } };
+    ghost view = { λ t. record {
+      link = t.pass.table_id;
+      from = (known t.pass).from;
+      to = (known t.pass).to;
+      signals = (known t.pass).sent;
+    } };
 
-    ghost invariant = { λ t. IsPassOf (arc_value t.line) t.pass × (known t.pass ≡ pass_view true false (known t.pass).from (known t.pass).to (known t.pass).sent []) × (t.count ≡ length (known t.pass).sent) × (ruled_capacity (arc_value t.line) ≡ LINK_SIGNALS) };
+    ghost invariant = { λ t. IsPassOf (arc_value t.line) t.pass
+        × (known t.pass ≡ pass_view true false (known t.pass).from (known t.pass).to (known t.pass).sent [])
+        × (t.count ≡ length (known t.pass).sent) × (ruled_capacity (arc_value t.line) ≡ LINK_SIGNALS) };
 }
 
 impl LinkTx {
@@ -40,7 +47,8 @@ impl LinkTx {
         requires room { length self.old.signals < 2 ^ 64 - 1 }
         requires route { IsSentBy self.old.from signal }
         ensures same { (self.new.link ≡ self.old.link) × (self.new.from ≡ self.old.from) × (self.new.to ≡ self.old.to) }
-        ensures sent { MatchResult result (λ _. self.new.signals ≡ self.old.signals ++ signal ∷ []) (λ back. (back ≡ signal) × (self.new.signals ≡ self.old.signals)) }
+        ensures sent { MatchResult result (λ _. self.new.signals ≡ self.old.signals ++ signal ∷ [])
+            (λ back. (back ≡ signal) × (self.new.signals ≡ self.old.signals)) }
         ensures full { IfErr result (λ _. WasFull self.old.signals) }
     {
         match self.line.push_as::<Sends, W>(rt, &mut self.pass, signal) {

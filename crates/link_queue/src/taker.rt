@@ -25,16 +25,24 @@ impl Model for LinkRx {
 
     ghost Value = { End };
 
-    ghost view = { λ t. record { link = t.pass.table_id; from = (known t.pass).from; to = (known t.pass).to; signals = (known t.pass).taken } };
+    ghost view = { λ t. record {
+      link = t.pass.table_id;
+      from = (known t.pass).from;
+      to = (known t.pass).to;
+      signals = (known t.pass).taken;
+    } };
 
-    ghost invariant = { λ t. IsPassOf (arc_value t.line) t.pass × (known t.pass ≡ pass_view false true (known t.pass).from (known t.pass).to [] (known t.pass).taken) × (t.count ≡ length (known t.pass).taken) };
+    ghost invariant = { λ t. IsPassOf (arc_value t.line) t.pass
+        × (known t.pass ≡ pass_view false true (known t.pass).from (known t.pass).to [] (known t.pass).taken)
+        × (t.count ≡ length (known t.pass).taken) };
 }
 
 impl LinkRx {
     /// Takes the oldest signal of those in the link, or `None` where there was none at a moment of the call.
     pub fn take<W: Wait>(&mut self, rt: &W) -> Option<Boxed<Signal>>
         ensures same { (self.new.link ≡ self.old.link) × (self.new.from ≡ self.old.from) × (self.new.to ≡ self.old.to) }
-        ensures taken { MatchOption result (self.new.signals ≡ self.old.signals) (λ signal. self.new.signals ≡ self.old.signals ++ signal ∷ []) }
+        ensures taken { MatchOption result (self.new.signals ≡ self.old.signals)
+            (λ signal. self.new.signals ≡ self.old.signals ++ signal ∷ []) }
         ensures route { IfSome result (λ signal. IsSentBy self.old.from signal) }
         ensures empty { IfNone result WasEmpty }
     {

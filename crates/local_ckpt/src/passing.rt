@@ -20,7 +20,8 @@ const _: () = prove!(2 + PIECE_ROWS as usize * ROW_BYTES <= PIECE_BYTES);
 #[tactic(auto, using(crate::proofs::PassingLemmas::passes), unfolding(sig_core::specs::Passing::passed_from))]
 pub fn put_rows<R: Rows>(rows: &R, from: u64, out: &mut Vec<u8>) -> Result<u64, NoMemory>
     ensures place { IfOk result (λ place. place ≡ (passed_from (R.state_of rows.now) from).place) }
-    ensures rows { OnOk result (out.new.items ≡ out.old.items ++ flat_map row_bytes (passed_from (R.state_of rows.now) from).rows) }
+    ensures rows { OnOk result (out.new.items ≡ out.old.items ++ flat_map row_bytes
+        (passed_from (R.state_of rows.now) from).rows) }
 {
     let mut place = from;
     for _i in 0..PIECE_ROWS {
@@ -47,7 +48,8 @@ pub fn next_row<R: Rows>(rows: &R, from: u64) -> Option<u64>
 // Appends the row of a place that has one.
 fn put_row_at<R: Rows>(rows: &R, at: u64, out: &mut Vec<u8>) -> Result<(), NoMemory>
     requires { IsRowPlace (R.state_of rows.now) at }
-    ensures { OnOk result (out.new.items ≡ out.old.items ++ flat_map row_bytes (row_in (R.state_of rows.now) (slice_index_or (R.state_of rows.now).places at None))) }
+    ensures { OnOk result (out.new.items ≡ out.old.items ++ flat_map row_bytes
+        (row_in (R.state_of rows.now) (slice_index_or (R.state_of rows.now).places at None))) }
 {
     let (key, epoch, value) = rows.row_at(at);
     put_row2(out, key, epoch, value.bytes())

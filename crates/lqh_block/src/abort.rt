@@ -63,7 +63,8 @@ impl<R: Rows, J: Journal> Lqh<R, J> {
     fn give_up(&mut self, tx: TxId, key: &Key, out: &mut Outs)
         requires { length out.old.marks < 16 }
         ensures state { self.new ≡ given_up self.old tx key.now (record_state self.old.rows tx key.now) }
-        ensures effects { out.new ≡ joined out.old (record { sends = []; marks = given_up_marks tx key.now (record_state self.old.rows tx key.now) }) }
+        ensures effects { out.new ≡ joined out.old
+            (record { sends = []; marks = given_up_marks tx key.now (record_state self.old.rows tx key.now) }) }
     {
         match self.storage.rows.record_state(tx, key) {
             Some(false) => {

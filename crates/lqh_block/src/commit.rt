@@ -32,7 +32,8 @@ impl<R: Rows, J: Journal> Lqh<R, J> {
         out: &mut Outs,
     ) -> Result<(), NoMemory>
         requires { HasRoom out.old }
-        ensures ok { OnOk result (IsTaken (commit_row self.old tx key.now epoch chain.now at) self.new out.old out.new) }
+        ensures ok { OnOk result (IsTaken (commit_row self.old tx key.now epoch chain.now at) self.new out.old
+            out.new) }
         ensures err { OnErr result (IsUntouched self.old self.new out.old out.new) }
     {
         let had = self.apply(tx, key, epoch)?;
@@ -45,7 +46,8 @@ impl<R: Rows, J: Journal> Lqh<R, J> {
     #[tactic(auto, unfolding(crate::specs::Storage::committed_in))]
     fn apply(&mut self, tx: TxId, key: &Key, epoch: u64) -> Result<Option<bool>, NoMemory>
         ensures had { IfOk result (λ had. had ≡ record_state self.old.rows tx key.now) }
-        ensures ok { OnOk result (self.new ≡ applied self.old tx key.now epoch (record_state self.old.rows tx key.now)) }
+        ensures ok { OnOk result (self.new ≡ applied self.old tx key.now epoch
+            (record_state self.old.rows tx key.now)) }
         ensures err { OnErr result (self.new ≡ self.old) }
     {
         self.markers.reserve(1)?;
@@ -112,7 +114,8 @@ impl<R: Rows, J: Journal> Lqh<R, J> {
 // Tells the completion: at the primary to the coordinator, and else to the place in front.
 fn tell_completion(tx: TxId, key: &Key, chain: &Chain, at: u8, out: &mut Outs)
     requires { length out.old.sends < 16 }
-    ensures { out.new ≡ and_send out.old (completed_by tx key.now chain.now at (at == 0)).to (completed_by tx key.now chain.now at (at == 0)).body }
+    ensures { out.new ≡ and_send out.old (completed_by tx key.now chain.now at (at == 0)).to
+        (completed_by tx key.now chain.now at (at == 0)).body }
 {
     if at == 0 {
         let body = ChainSignal::Completed { tx, key: *key };

@@ -37,7 +37,8 @@ fn first_rows<R: Rows>(
     at: u64,
     list: &mut Seq<(Key, Value)>,
 ) -> Result<Option<u64>, NoMemory>
-    ensures { IfOk result (λ next. dumped list.new next ≡ more (R.state_of rows.now) DUMP_ROWS (dumped list.old (next_place (R.state_of rows.now) at))) }
+    ensures { IfOk result (λ next. dumped list.new next ≡ more (R.state_of rows.now) DUMP_ROWS
+        (dumped list.old (next_place (R.state_of rows.now) at))) }
 {
     let mut next = next_row(rows, at);
     for _i in 0..DUMP_ROWS {
@@ -53,7 +54,8 @@ fn add_row<R: Rows>(
     list: &mut Seq<(Key, Value)>,
 ) -> Result<Option<u64>, NoMemory>
     requires { IfSome next (IsRowPlace (R.state_of rows.now)) }
-    ensures rows { IfOk result (λ after. dumped list.new after ≡ one_more (R.state_of rows.now) (dumped list.old next)) }
+    ensures rows { IfOk result (λ after. dumped list.new after ≡ one_more (R.state_of rows.now)
+        (dumped list.old next)) }
     ensures place { IfOk result (λ after. IfSome after (IsRowPlace (R.state_of rows.now))) }
 {
     match next {

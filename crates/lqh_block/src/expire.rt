@@ -35,7 +35,8 @@ impl<R: Rows, J: Journal> Lqh<R, J> {
     #[tactic(auto, using(crate::proofs::EffectLemmas::effects))]
     fn end_wait(&mut self, tx: TxId, key: &Key, out: &mut Outs)
         requires { HasRoom out.old }
-        ensures { IsTaken (expiring self.old tx key.now (unwaited_at self.old.locks key.now tx)) self.new out.old out.new }
+        ensures { IsTaken (expiring self.old tx key.now (unwaited_at self.old.locks key.now tx)) self.new out.old
+            out.new }
     {
         let granted = self.locks.unwait(tx, key);
         self.unask(tx, key);

@@ -38,7 +38,16 @@ impl<R: Rows, J: Journal> Model for Lqh<R, J> {
 
     ghost coded = { Prim.hlevel (codes, locks_code) };
 
-    ghost view = { λ l. record { node = l.node; layout = l.layout; rows = R.state_of l.storage.rows; journal = J.used_of l.storage.journal; outlet = J.outlet_of l.storage.journal; locks = l.locks; waiting = l.waiting.items; markers = l.markers.items } };
+    ghost view = { λ l. record {
+      node = l.node;
+      layout = l.layout;
+      rows = R.state_of l.storage.rows;
+      journal = J.used_of l.storage.journal;
+      outlet = J.outlet_of l.storage.journal;
+      locks = l.locks;
+      waiting = l.waiting.items;
+      markers = l.markers.items;
+    } };
 }
 
 impl<R: Rows, J: Journal> Lqh<R, J> {
@@ -62,7 +71,8 @@ impl<R: Rows, J: Journal> Lqh<R, J> {
         R: Drop,
         J: Drop,
         requires { IsCovered (R.state_of rows) (J.used_of journal) }
-        ensures { IfOk result (λ lqh. lqh ≡ unasked_yet node layout (R.state_of rows) (J.used_of journal) (J.outlet_of journal)) }
+        ensures { IfOk result (λ lqh. lqh ≡ unasked_yet node layout (R.state_of rows) (J.used_of journal)
+            (J.outlet_of journal)) }
     {
         let locks = LockTable::new(alloc)?;
         Ok(Lqh {

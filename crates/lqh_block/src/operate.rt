@@ -84,7 +84,8 @@ impl<R: Rows, J: Journal> Lqh<R, J> {
     ) -> Result<(), NoMemory>
         requires room { HasRoom out.old }
         requires place { at < length self.old.waiting }
-        ensures ok { OnOk result (IsTaken (granted_on (with_waiting self.old (remove self.old.waiting at)) request.now) self.new out.old out.new) }
+        ensures ok { OnOk result (IsTaken (granted_on (with_waiting self.old (remove self.old.waiting at)) request.now)
+            self.new out.old out.new) }
         ensures err { OnErr result (IsUntouched self.old self.new out.old out.new) }
     {
         let ready = self.storage.get_ready(alloc, request)?;
@@ -118,8 +119,10 @@ impl<R: Rows, J: Journal> Lqh<R, J> {
 // Asks for the lock of a request's key.
 #[inline(always)]
 fn ask_lock(locks: &mut LockTable, request: &Request) -> Result<Lock, NoMemory>
-    ensures answer { IfOk result (λ answer. answer ≡ (asked_at locks.old (work_key request.now.work) request.now.tx (work_mode request.now.work)).answer) }
-    ensures ok { OnOk result (locks.new ≡ map.insert locks.old (work_key request.now.work) (asked_at locks.old (work_key request.now.work) request.now.tx (work_mode request.now.work)).lock) }
+    ensures answer { IfOk result (λ answer. answer ≡ (asked_at locks.old (work_key request.now.work) request.now.tx
+        (work_mode request.now.work)).answer) }
+    ensures ok { OnOk result (locks.new ≡ map.insert locks.old (work_key request.now.work)
+        (asked_at locks.old (work_key request.now.work) request.now.tx (work_mode request.now.work)).lock) }
     ensures err { OnErr result (locks.new ≡ locks.old) }
 {
     locks.request(request.tx, request.work.key(), work_mode(&request.work))

@@ -50,7 +50,8 @@ impl<R: Rows, J: Journal> Storage<R, J> {
     /// `NoMemory`.
     pub fn make_room(&mut self, request: &Request) -> Result<(), NoMemory>
         ensures rows { OnOk result (R.has_room self.new.rows (work_key request.now.work)) }
-        ensures journal { OnOk result (J.has_room self.new.journal (need_of request.now.tx (work_key request.now.work) (work_image request.now.work))) }
+        ensures journal { OnOk result (J.has_room self.new.journal
+            (need_of request.now.tx (work_key request.now.work) (work_image request.now.work))) }
         ensures same_rows { R.state_of self.new.rows ≡ R.state_of self.old.rows }
         ensures used { J.used_of self.new.journal ≡ J.used_of self.old.journal }
         ensures outlet { J.outlet_of self.new.journal ≡ J.outlet_of self.old.journal }
@@ -69,7 +70,8 @@ impl<R: Rows, J: Journal> Storage<R, J> {
     #[inline(always)]
     pub fn get_ready(&mut self, alloc: Global, request: &Request) -> Result<Ready, NoMemory>
         ensures rows { OnOk result (R.has_room self.new.rows (work_key request.now.work)) }
-        ensures journal { OnOk result (J.has_room self.new.journal (need_of request.now.tx (work_key request.now.work) (work_image request.now.work))) }
+        ensures journal { OnOk result (J.has_room self.new.journal
+            (need_of request.now.tx (work_key request.now.work) (work_image request.now.work))) }
         ensures ready { IfOk result (IsReady (R.state_of self.new.rows) request.now) }
         ensures same_rows { R.state_of self.new.rows ≡ R.state_of self.old.rows }
         ensures used { J.used_of self.new.journal ≡ J.used_of self.old.journal }
@@ -86,9 +88,13 @@ impl<R: Rows, J: Journal> Storage<R, J> {
         requires room { HasRoom out.old }
         requires ready { IsReady (R.state_of self.old.rows) request.now ready }
         requires rows { R.has_room self.old.rows (work_key request.now.work) }
-        requires journal { J.has_room self.old.journal (need_of request.now.tx (work_key request.now.work) (work_image request.now.work)) }
+        requires journal { J.has_room self.old.journal
+            (need_of request.now.tx (work_key request.now.work) (work_image request.now.work)) }
         ensures few { length out.new.sends ≤ length out.old.sends + 1 }
-        ensures taken { IsTaken (perform (storage (R.state_of self.old.rows) (J.used_of self.old.journal) (J.outlet_of self.old.journal) layout.now.shape) request.now) (storage (R.state_of self.new.rows) (J.used_of self.new.journal) (J.outlet_of self.new.journal) layout.now.shape) out.old out.new }
+        ensures taken { IsTaken (perform (storage (R.state_of self.old.rows) (J.used_of self.old.journal)
+            (J.outlet_of self.old.journal) layout.now.shape) request.now)
+            (storage (R.state_of self.new.rows) (J.used_of self.new.journal) (J.outlet_of self.new.journal)
+            layout.now.shape) out.old out.new }
     {
         let Ready { answer, onward } = ready;
         let key = request.work.key();
@@ -129,7 +135,10 @@ impl<R: Rows, J: Journal> Storage<R, J> {
         requires rows { R.has_room self.old.rows key.now }
         requires journal { J.has_room self.old.journal (need_of tx key.now image.now) }
         ensures few { length out.new.sends ≤ length out.old.sends + 1 }
-        ensures taken { IsTaken (store_row (storage (R.state_of self.old.rows) (J.used_of self.old.journal) (J.outlet_of self.old.journal) layout.now.shape) tx key.now image.now chain.now at) (storage (R.state_of self.new.rows) (J.used_of self.new.journal) (J.outlet_of self.new.journal) layout.now.shape) out.old out.new }
+        ensures taken { IsTaken (store_row (storage (R.state_of self.old.rows) (J.used_of self.old.journal)
+            (J.outlet_of self.old.journal) layout.now.shape) tx key.now image.now chain.now at)
+            (storage (R.state_of self.new.rows) (J.used_of self.new.journal) (J.outlet_of self.new.journal)
+            layout.now.shape) out.old out.new }
     {
         let had = self.rows.record_state(tx, key);
         let fragment = layout.frag_for(&onward);
@@ -172,8 +181,10 @@ impl<R: Rows, J: Journal> Storage<R, J> {
     pub fn commit(&mut self, tx: TxId, key: &Key, epoch: u64)
         requires { record_state (R.state_of self.old.rows) tx key.now ≡ Some false }
         ensures rows { R.state_of self.new.rows ≡ commit_record (R.state_of self.old.rows) tx key.now epoch }
-        ensures used { J.used_of self.new.journal ≡ appending (J.used_of self.old.journal) (size_of (redo.Commit tx epoch key.now)) }
-        ensures outlet { J.outlet_of self.new.journal ≡ behind (J.outlet_of self.old.journal) (redo.Commit tx epoch key.now) }
+        ensures used { J.used_of self.new.journal
+            ≡ appending (J.used_of self.old.journal) (size_of (redo.Commit tx epoch key.now)) }
+        ensures outlet { J.outlet_of self.new.journal
+            ≡ behind (J.outlet_of self.old.journal) (redo.Commit tx epoch key.now) }
     {
         self.rows.commit(tx, key, epoch);
         let redo = Redo::Commit {
@@ -189,7 +200,8 @@ impl<R: Rows, J: Journal> Storage<R, J> {
     pub fn abort(&mut self, tx: TxId, key: &Key)
         requires { record_state (R.state_of self.old.rows) tx key.now ≡ Some false }
         ensures rows { R.state_of self.new.rows ≡ abort_record (R.state_of self.old.rows) tx key.now }
-        ensures used { J.used_of self.new.journal ≡ unreserving (appending (J.used_of self.old.journal) (size_of (redo.Abort tx key.now))) 8 }
+        ensures used { J.used_of self.new.journal
+            ≡ unreserving (appending (J.used_of self.old.journal) (size_of (redo.Abort tx key.now))) 8 }
         ensures outlet { J.outlet_of self.new.journal ≡ behind (J.outlet_of self.old.journal) (redo.Abort tx key.now) }
     {
         self.rows.abort(tx, key);
@@ -223,8 +235,10 @@ fn journal_image<J: Journal>(
     had: Option<bool>,
 )
     requires { need_of tx key.now image.now ≤ (J.used_of journal.old).reserved }
-    ensures used { J.used_of journal.new ≡ kept_once (appending (J.used_of journal.old) (prepare_size tx key.now image.now)) (end_size tx key.now) had }
-    ensures outlet { J.outlet_of journal.new ≡ behind (J.outlet_of journal.old) (redo.Prepare tx fragment key.now image.now) }
+    ensures used { J.used_of journal.new ≡ kept_once
+        (appending (J.used_of journal.old) (prepare_size tx key.now image.now)) (end_size tx key.now) had }
+    ensures outlet { J.outlet_of journal.new
+        ≡ behind (J.outlet_of journal.old) (redo.Prepare tx fragment key.now image.now) }
 {
     let prepare = Redo::Prepare {
         tx,
@@ -286,7 +300,8 @@ fn confirm(tx: TxId, key: &Key, answer: HeldAnswer, out: &mut Outs)
 // Sends work on to the next place of its chain, or answers the write.
 fn pass_on(tx: TxId, key: &Key, onward: HeldWork, chain: &Chain, at: u8, out: &mut Outs)
     requires { length out.old.sends < 16 }
-    ensures { out.new ≡ and_send out.old (sent_on tx key.now onward chain.now at).to (sent_on tx key.now onward chain.now at).body }
+    ensures { out.new ≡ and_send out.old (sent_on tx key.now onward chain.now at).to
+        (sent_on tx key.now onward chain.now at).body }
 {
     match chain.nodes().get(at as usize + 1) {
         Some(next) => {

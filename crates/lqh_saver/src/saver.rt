@@ -36,7 +36,14 @@ impl Model for Saver {
 
     ghost Value = { SaverState };
 
-    ghost view = { λ s. record { durable = s.durable; floor = s.floor; saved_end = s.saved_end; named = s.named; stage = s.stage; todo = s.todo } };
+    ghost view = { λ s. record {
+      durable = s.durable;
+      floor = s.floor;
+      saved_end = s.saved_end;
+      named = s.named;
+      stage = s.stage;
+      todo = s.todo;
+    } };
 }
 
 impl Saver {
@@ -73,8 +80,10 @@ impl Saver {
         out: &mut Outs,
     ) -> Result<(), NoMemory>
         requires { HasRoom out.old }
-        ensures ok { OnOk result (IsTaken (saver_row (saving replica.old self.old) signal.now) (saving replica.new self.new) out.old out.new) }
-        ensures err { OnErr result (IsUntouched (saving replica.old self.old) (saving replica.new self.new) out.old out.new) }
+        ensures ok { OnOk result (IsTaken (saver_row (saving replica.old self.old) signal.now)
+            (saving replica.new self.new) out.old out.new) }
+        ensures err { OnErr result (IsUntouched (saving replica.old self.old) (saving replica.new self.new) out.old
+            out.new) }
     {
         match &signal.body {
             Body::Checkpoint(CheckpointSignal::LcpFragOrd) => {
@@ -109,8 +118,10 @@ impl Saver {
         out: &mut Outs,
     ) -> Result<(), NoMemory>
         requires { HasRoom out.old }
-        ensures ok { OnOk result (IsTaken (passed (idling (saving replica.old self.old)) signal.now) (saving replica.new self.new) out.old out.new) }
-        ensures err { OnErr result (IsUntouched (saving replica.old self.old) (saving replica.new self.new) out.old out.new) }
+        ensures ok { OnOk result (IsTaken (passed (idling (saving replica.old self.old)) signal.now)
+            (saving replica.new self.new) out.old out.new) }
+        ensures err { OnErr result (IsUntouched (saving replica.old self.old) (saving replica.new self.new) out.old
+            out.new) }
     {
         let saved = replica.saved();
         replica.handle(alloc, signal, out)?;
@@ -125,7 +136,8 @@ impl Saver {
     /// given up. Takes no memory.
     pub fn install<R: Rows>(&mut self, replica: &mut Replica<R, Log>, view: &View, out: &mut Outs)
         requires { length out.old.sends + 1 ≤ 16 }
-        ensures taken { IsTaken (stay (saver_installed (saving replica.old self.old) view.now)) (saving replica.new self.new) out.old out.new }
+        ensures taken { IsTaken (stay (saver_installed (saving replica.old self.old) view.now))
+            (saving replica.new self.new) out.old out.new }
         ensures few { length out.new.sends ≤ length out.old.sends + 1 }
         ensures unmarked { out.new.marks ≡ out.old.marks }
     {

@@ -32,8 +32,10 @@ impl Saver {
         out: &mut Outs,
     ) -> Result<(), NoMemory>
         requires { HasRoom out.old }
-        ensures ok { OnOk result (IsTaken (switch_row (idling (saving replica.old self.old)) to) (saving replica.new self.new) out.old out.new) }
-        ensures err { OnErr result (IsUntouched (saving replica.old self.old) (saving replica.new self.new) out.old out.new) }
+        ensures ok { OnOk result (IsTaken (switch_row (idling (saving replica.old self.old)) to)
+            (saving replica.new self.new) out.old out.new) }
+        ensures err { OnErr result (IsUntouched (saving replica.old self.old) (saving replica.new self.new) out.old
+            out.new) }
     {
         match &self.stage {
             Stage::Walked { finished, end } => {
@@ -61,8 +63,10 @@ impl Saver {
         requires room { HasRoom out.old }
         requires position { usable ≡ true → has_position replica.old.lqh.outlet finished.from ≡ true }
         requires few { usable ≡ true → self.old.named < CHECKPOINTS }
-        ensures ok { OnOk result (IsTaken (switch_if (idling (saving replica.old self.old)) to finished usable) (saving replica.new self.new) out.old out.new) }
-        ensures err { OnErr result (IsUntouched (saving replica.old self.old) (saving replica.new self.new) out.old out.new) }
+        ensures ok { OnOk result (IsTaken (switch_if (idling (saving replica.old self.old)) to finished usable)
+            (saving replica.new self.new) out.old out.new) }
+        ensures err { OnErr result (IsUntouched (saving replica.old self.old) (saving replica.new self.new) out.old
+            out.new) }
     {
         if !usable {
             self.todo = Todo::Nothing;

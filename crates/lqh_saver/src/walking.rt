@@ -39,8 +39,10 @@ impl Saver {
         out: &mut Outs,
     ) -> Result<(), NoMemory>
         requires { HasRoom out.old }
-        ensures ok { OnOk result (IsTaken (order_row (idling (saving replica.old self.old)) to) (saving replica.new self.new) out.old out.new) }
-        ensures err { OnErr result (IsUntouched (saving replica.old self.old) (saving replica.new self.new) out.old out.new) }
+        ensures ok { OnOk result (IsTaken (order_row (idling (saving replica.old self.old)) to)
+            (saving replica.new self.new) out.old out.new) }
+        ensures err { OnErr result (IsUntouched (saving replica.old self.old) (saving replica.new self.new) out.old
+            out.new) }
     {
         let from = oldest(replica.rows(), replica.journal());
         let walk = Ckpt::start(alloc, 0, from, self.floor)?;
@@ -64,8 +66,10 @@ impl Saver {
         out: &mut Outs,
     ) -> Result<(), NoMemory>
         requires { HasRoom out.old }
-        ensures ok { OnOk result (IsTaken (walk_if (idling (saving replica.old self.old)) (number == replica.old.lqh.layout.view.number)) (saving replica.new self.new) out.old out.new) }
-        ensures err { OnErr result (IsUntouched (saving replica.old self.old) (saving replica.new self.new) out.old out.new) }
+        ensures ok { OnOk result (IsTaken (walk_if (idling (saving replica.old self.old))
+            (number == replica.old.lqh.layout.view.number)) (saving replica.new self.new) out.old out.new) }
+        ensures err { OnErr result (IsUntouched (saving replica.old self.old) (saving replica.new self.new) out.old
+            out.new) }
     {
         if number != replica.view().number {
             self.todo = Todo::Nothing;
@@ -81,8 +85,10 @@ impl Saver {
         out: &mut Outs,
     ) -> Result<(), NoMemory>
         requires { HasRoom out.old }
-        ensures ok { OnOk result (IsTaken (walk_by (idling (saving replica.old self.old)) self.old.stage) (saving replica.new self.new) out.old out.new) }
-        ensures err { OnErr result (IsUntouched (saving replica.old self.old) (saving replica.new self.new) out.old out.new) }
+        ensures ok { OnOk result (IsTaken (walk_by (idling (saving replica.old self.old)) self.old.stage)
+            (saving replica.new self.new) out.old out.new) }
+        ensures err { OnErr result (IsUntouched (saving replica.old self.old) (saving replica.new self.new) out.old
+            out.new) }
     {
         match mem::replace(&mut self.stage, Stage::Resting) {
             Stage::Walking { walk, to } => self.pass_rows(walk, to, replica, out),
@@ -103,8 +109,10 @@ impl Saver {
         out: &mut Outs,
     ) -> Result<(), NoMemory>
         requires { HasRoom out.old }
-        ensures ok { OnOk result (IsTaken (passes (saving replica.old self.old) walk to (next_place replica.old.lqh.rows walk.place)) (saving replica.new self.new) out.old out.new) }
-        ensures err { OnErr result (IsUntouched (saving replica.old (with_stage self.old (Walking walk to) self.old.todo)) (saving replica.new self.new) out.old out.new) }
+        ensures ok { OnOk result (IsTaken (passes (saving replica.old self.old) walk to
+            (next_place replica.old.lqh.rows walk.place)) (saving replica.new self.new) out.old out.new) }
+        ensures err { OnErr result (IsUntouched (saving replica.old
+            (with_stage self.old (Walking walk to) self.old.todo)) (saving replica.new self.new) out.old out.new) }
     {
         let mut walk = walk;
         match walk.step(replica.rows()) {

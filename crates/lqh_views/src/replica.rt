@@ -69,7 +69,8 @@ impl<R: Rows, J: Journal> Replica<R, J> {
         R: Drop,
         J: Drop,
         requires { IsCovered (R.state_of rows) (J.used_of journal) }
-        ensures { IfOk result (λ replica. replica ≡ fresh_replica node layout (R.state_of rows) (J.used_of journal) (J.outlet_of journal) start) }
+        ensures { IfOk result (λ replica. replica ≡ fresh_replica node layout (R.state_of rows) (J.used_of journal)
+            (J.outlet_of journal) start) }
     {
         let lqh = Lqh::new(alloc, node, layout, rows, journal)?;
         let aside = Outs::new(alloc)?;
@@ -151,7 +152,8 @@ impl<R: Rows, J: Journal> Replica<R, J> {
     // A signal about waits goes on to the rows, unless another view was installed since.
     fn serve(&mut self, alloc: Global, signal: &Signal, out: &mut Outs) -> Result<(), NoMemory>
         requires { HasRoom out.old }
-        ensures ok { OnOk result (IsTaken (serve_if self.old signal.now (is_stale self.old signal.now)) self.new out.old out.new) }
+        ensures ok { OnOk result (IsTaken (serve_if self.old signal.now (is_stale self.old signal.now)) self.new out.old
+            out.new) }
         ensures err { OnErr result (IsUntouched self.old self.new out.old out.new) }
     {
         if signal.view.get().number < self.lqh.view().number {

@@ -20,7 +20,8 @@ impl NodeSlots {
     /// `Failed`: the call of the disk failed.
     #[tactic(auto, using(crate::proofs::CallLemmas::write_runs))]
     pub fn write_piece<D: Disk>(&self, disk: &mut D, piece: &Piece) -> Result<(), Failed>
-        ensures runs { (calls : List Call) → D.told disk.old ≡ Some calls → Runs (walk_calls self.now piece.now) calls (D.told disk.new) (is_ok result) }
+        ensures runs { (calls : List Call) → D.told disk.old ≡ Some calls
+            → Runs (walk_calls self.now piece.now) calls (D.told disk.new) (is_ok result) }
         ensures cause { OnErr result (Rose (D.faults disk.old) (D.faults disk.new)) }
         ensures steady { D.faults disk.old ≤ D.faults disk.new }
     {
@@ -33,7 +34,8 @@ impl NodeSlots {
     /// `Failed`: the call of the disk failed.
     #[tactic(auto, using(sys_restart::proofs::PieceLemmas::sync_runs))]
     pub fn sync_pieces<D: Disk>(&self, disk: &mut D) -> Result<(), Failed>
-        ensures runs { (calls : List Call) → D.told disk.old ≡ Some calls → Runs (settle_calls self.now) calls (D.told disk.new) (is_ok result) }
+        ensures runs { (calls : List Call) → D.told disk.old ≡ Some calls
+            → Runs (settle_calls self.now) calls (D.told disk.new) (is_ok result) }
         ensures cause { OnErr result (Rose (D.faults disk.old) (D.faults disk.new)) }
         ensures steady { D.faults disk.old ≤ D.faults disk.new }
     {
@@ -47,7 +49,9 @@ impl NodeSlots {
     /// # Errors
     /// `Failed`: a call of the disk failed, and none was made behind it. The slots in use stay.
     pub fn name_ckpt<D: Disk>(&mut self, disk: &mut D, finished: &Finished) -> Result<(), Failed>
-        ensures runs { (calls : List Call) → D.told disk.old ≡ Some calls → Runs (name_calls (files_of calls CONTROL_FILE) self.old finished.now) calls (D.told disk.new) (is_ok result) }
+        ensures runs { (calls : List Call) → D.told disk.old ≡ Some calls
+            → Runs (name_calls (files_of calls CONTROL_FILE) self.old finished.now) calls (D.told disk.new)
+            (is_ok result) }
         ensures named { OnOk result (self.new ≡ walk_named self.old finished.now) }
         ensures same { OnErr result (self.new ≡ self.old) }
         ensures cause { OnErr result (Rose (D.faults disk.old) (D.faults disk.new)) }

@@ -19,7 +19,8 @@ use sysfile_core::{control_at, later_system, of_generation, system_at};
 /// `Damaged` exactly where an open slot doesn't fit, at its first byte that doesn't; `DiskFault` only
 /// where the disk's count rose.
 pub fn read_slots<D: Disk>(disk: &mut D, generation: u64) -> Result<Option<NodeSlots>, ReadFault>
-    ensures read { (calls : List Call) → D.told disk.old ≡ Some calls → Reads (slots_in generation (files_of calls)) result }
+    ensures read { (calls : List Call) → D.told disk.old ≡ Some calls
+        → Reads (slots_in generation (files_of calls)) result }
     ensures unrecorded { D.told disk.new ≡ D.told disk.old }
     ensures cause { HasCause (D.faults disk.old) (D.faults disk.new) result }
     ensures steady { D.faults disk.old ≤ D.faults disk.new }

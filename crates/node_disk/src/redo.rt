@@ -30,7 +30,9 @@ pub(crate) fn write_rows<D: Disk>(
     requires which { which ≤ 1 }
     requires parity { slot.now.parity ≤ 1 }
     requires fits { from + length bytes.now < 2 ^ 64 }
-    ensures runs { (calls : List Call) → D.told disk.old ≡ Some calls → Runs (slot_behind (files_of calls CONTROL_FILE) from bytes.now which slot.now) calls (D.told disk.new) (is_ok result) }
+    ensures runs { (calls : List Call) → D.told disk.old ≡ Some calls
+        → Runs (slot_behind (files_of calls CONTROL_FILE) from bytes.now which slot.now) calls (D.told disk.new)
+        (is_ok result) }
     ensures cause { OnErr result (Rose (D.faults disk.old) (D.faults disk.new)) }
     ensures steady { D.faults disk.old ≤ D.faults disk.new }
 {
@@ -44,7 +46,8 @@ pub(crate) fn write_rows<D: Disk>(
 fn write_redo<D: Disk>(disk: &mut D, parity: u8, from: u64, bytes: &[u8]) -> Result<(), Failed>
     requires parity { parity ≤ 1 }
     requires fits { from + length bytes.now < 2 ^ 64 }
-    ensures runs { (calls : List Call) → D.told disk.old ≡ Some calls → Runs (redo_calls parity from bytes.now) calls (D.told disk.new) (is_ok result) }
+    ensures runs { (calls : List Call) → D.told disk.old ≡ Some calls
+        → Runs (redo_calls parity from bytes.now) calls (D.told disk.new) (is_ok result) }
     ensures cause { OnErr result (Rose (D.faults disk.old) (D.faults disk.new)) }
     ensures steady { D.faults disk.old ≤ D.faults disk.new }
 {
@@ -58,7 +61,8 @@ fn write_redo<D: Disk>(disk: &mut D, parity: u8, from: u64, bytes: &[u8]) -> Res
 fn write_pieces<D: Disk>(disk: &mut D, parity: u8, from: u64, bytes: &[u8]) -> Result<(), Failed>
     requires parity { parity ≤ 1 }
     requires fits { from + length bytes.now < 2 ^ 64 }
-    ensures runs { (calls : List Call) → D.told disk.old ≡ Some calls → Runs (piece_calls (length bytes.now) parity from bytes.now) calls (D.told disk.new) (is_ok result) }
+    ensures runs { (calls : List Call) → D.told disk.old ≡ Some calls
+        → Runs (piece_calls (length bytes.now) parity from bytes.now) calls (D.told disk.new) (is_ok result) }
     ensures cause { OnErr result (Rose (D.faults disk.old) (D.faults disk.new)) }
     ensures steady { D.faults disk.old ≤ D.faults disk.new }
 {
@@ -89,7 +93,8 @@ fn piece_len(at: u64, left: usize) -> usize
 // Writes a piece at the place of a position.
 fn write_piece<D: Disk>(disk: &mut D, parity: u8, at: u64, piece: &[u8]) -> Result<(), Failed>
     requires { parity ≤ 1 }
-    ensures written { (calls : List Call) → D.told disk.old ≡ Some calls → IsWritten calls (D.told disk.new) (file_of parity at) (place_of at) piece.now (is_ok result) }
+    ensures written { (calls : List Call) → D.told disk.old ≡ Some calls
+        → IsWritten calls (D.told disk.new) (file_of parity at) (place_of at) piece.now (is_ok result) }
     ensures cause { OnErr result (Rose (D.faults disk.old) (D.faults disk.new)) }
     ensures steady { D.faults disk.old ≤ D.faults disk.new }
 {
@@ -100,7 +105,8 @@ fn write_piece<D: Disk>(disk: &mut D, parity: u8, at: u64, piece: &[u8]) -> Resu
 fn sync_files<D: Disk>(disk: &mut D, parity: u8, from: u64, end: u64) -> Result<(), Failed>
     requires parity { parity ≤ 1 }
     requires order { from ≤ end }
-    ensures runs { (calls : List Call) → D.told disk.old ≡ Some calls → Runs (sync_calls (end - from) parity from end) calls (D.told disk.new) (is_ok result) }
+    ensures runs { (calls : List Call) → D.told disk.old ≡ Some calls
+        → Runs (sync_calls (end - from) parity from end) calls (D.told disk.new) (is_ok result) }
     ensures cause { OnErr result (Rose (D.faults disk.old) (D.faults disk.new)) }
     ensures steady { D.faults disk.old ≤ D.faults disk.new }
 {
@@ -117,7 +123,8 @@ fn sync_files<D: Disk>(disk: &mut D, parity: u8, from: u64, end: u64) -> Result<
 // Syncs the file that holds a position.
 fn sync_file<D: Disk>(disk: &mut D, parity: u8, at: u64) -> Result<(), Failed>
     requires { parity ≤ 1 }
-    ensures synced { (calls : List Call) → D.told disk.old ≡ Some calls → IsSynced calls (D.told disk.new) (file_of parity at) (is_ok result) }
+    ensures synced { (calls : List Call) → D.told disk.old ≡ Some calls
+        → IsSynced calls (D.told disk.new) (file_of parity at) (is_ok result) }
     ensures cause { OnErr result (Rose (D.faults disk.old) (D.faults disk.new)) }
     ensures steady { D.faults disk.old ≤ D.faults disk.new }
 {

@@ -6,7 +6,8 @@ ghost use Rattle.redo_log.specs.LogState.{bytes_from};
 ghost use Rattle.redo_log.specs.Stored.{files_of};
 ghost use Rattle.sysfile_core.specs.declared.place.TheConstants.{CONTROL_FILE, SYSTEM_FILE};
 ghost use Rattle.sysfile_core.specs.Runs.{Runs};
-ghost use Rattle.node_disk.specs.Saving.{later_saved, next_control, noted_system, rows_calls, rows_saved, saved_control, slot_behind, system_calls, system_saved};
+ghost use Rattle.node_disk.specs.Saving.{later_saved, next_control, noted_system, rows_calls, rows_saved};
+ghost use Rattle.node_disk.specs.Saving.{saved_control, slot_behind, system_calls, system_saved};
 ghost use Rattle.node_disk.specs.Slots.{AreSlots};
 
 use crate::redo::write_rows;
@@ -30,7 +31,12 @@ impl Model for NodeSlots {
 
     ghost Value = { SlotsInUse };
 
-    ghost view = { λ s. record { system = s.system; system_at = s.system_at; control = s.control; control_at = s.control_at } };
+    ghost view = { λ s. record {
+      system = s.system;
+      system_at = s.system_at;
+      control = s.control;
+      control_at = s.control_at;
+    } };
 
     ghost invariant = { λ s. AreSlots s.system_at s.control_at s.control.parity };
 }
@@ -97,8 +103,11 @@ impl NodeSlots {
     /// `Failed`: a call of the disk failed, and none was made behind it. The slots in use stay.
     #[inline(always)]
     pub fn save_rows<D: Disk>(&mut self, disk: &mut D, epoch: u64, redo: &Log) -> Result<(), Failed>
-        ensures runs { (calls : List Call) → D.told disk.old ≡ Some calls → Runs (rows_calls (files_of calls CONTROL_FILE) self.old epoch (bytes_from redo.now.log self.old.control.redo_end)) calls (D.told disk.new) (is_ok result) }
-        ensures saved { OnOk result (self.new ≡ rows_saved self.old epoch (bytes_from redo.now.log self.old.control.redo_end)) }
+        ensures runs { (calls : List Call) → D.told disk.old ≡ Some calls
+            → Runs (rows_calls (files_of calls CONTROL_FILE) self.old epoch
+            (bytes_from redo.now.log self.old.control.redo_end)) calls (D.told disk.new) (is_ok result) }
+        ensures saved { OnOk result (self.new ≡ rows_saved self.old epoch
+            (bytes_from redo.now.log self.old.control.redo_end)) }
         ensures same { OnErr result (self.new ≡ self.old) }
         ensures cause { OnErr result (Rose (D.faults disk.old) (D.faults disk.new)) }
         ensures steady { D.faults disk.old ≤ D.faults disk.new }
@@ -113,8 +122,13 @@ impl NodeSlots {
     // The same of an epoch that isn't saved.
     #[inline(never)]
     fn save_later<D: Disk>(&mut self, disk: &mut D, epoch: u64, redo: &Log) -> Result<(), Failed>
-        ensures runs { (calls : List Call) → D.told disk.old ≡ Some calls → Runs (slot_behind (files_of calls CONTROL_FILE) self.old.control.redo_end (bytes_from redo.now.log self.old.control.redo_end) (1 - self.old.control_at) (next_control self.old epoch (bytes_from redo.now.log self.old.control.redo_end))) calls (D.told disk.new) (is_ok result) }
-        ensures saved { OnOk result (self.new ≡ later_saved self.old epoch (bytes_from redo.now.log self.old.control.redo_end)) }
+        ensures runs { (calls : List Call) → D.told disk.old ≡ Some calls
+            → Runs (slot_behind (files_of calls CONTROL_FILE) self.old.control.redo_end
+            (bytes_from redo.now.log self.old.control.redo_end) (1 - self.old.control_at)
+            (next_control self.old epoch (bytes_from redo.now.log self.old.control.redo_end))) calls (D.told disk.new)
+            (is_ok result) }
+        ensures saved { OnOk result (self.new ≡ later_saved self.old epoch
+            (bytes_from redo.now.log self.old.control.redo_end)) }
         ensures same { OnErr result (self.new ≡ self.old) }
         ensures cause { OnErr result (Rose (D.faults disk.old) (D.faults disk.new)) }
         ensures steady { D.faults disk.old ≤ D.faults disk.new }
@@ -141,7 +155,9 @@ impl NodeSlots {
     /// # Errors
     /// As of `save_rows`.
     pub fn save_system<D: Disk>(&mut self, disk: &mut D, epoch: u64, mask: u8) -> Result<(), Failed>
-        ensures runs { (calls : List Call) → D.told disk.old ≡ Some calls → Runs (system_calls (files_of calls SYSTEM_FILE) self.old epoch mask) calls (D.told disk.new) (is_ok result) }
+        ensures runs { (calls : List Call) → D.told disk.old ≡ Some calls
+            → Runs (system_calls (files_of calls SYSTEM_FILE) self.old epoch mask) calls (D.told disk.new)
+            (is_ok result) }
         ensures saved { OnOk result (self.new ≡ system_saved self.old epoch mask) }
         ensures same { OnErr result (self.new ≡ self.old) }
         ensures cause { OnErr result (Rose (D.faults disk.old) (D.faults disk.new)) }

@@ -1,11 +1,14 @@
 -- The rows of a checkpoint are read only where their keys and values are words.
-use Rattle.std.proofs.Common.{◌≡◌, ℕ, zero, suc, ◌+◌, ◌≤◌, Bool, true, false, nat_lt, List, [], ◌∷◌, length, take, drop, refl, subst, arith}
+use Rattle.std.proofs.Common.{◌≡◌, ℕ, zero, suc, ◌+◌, ◌≤◌, Bool, true, false, nat_lt, List, [], ◌∷◌, length, take}
+use Rattle.std.proofs.Common.{drop, refl, subst, arith}
 use Rattle.std.specs.Prelude.{◌||◌, if◌then◌else◌, Option, None, Some, Result, Ok, Err, position}
 use Rattle.std.specs.FinMap as finmap
 use Rattle.std.proofs.lemmas.Bool.Decides.{nat_tests}
 use Rattle.std.proofs.lemmas.List.{length-take-le}
 use Rattle.lcp_store.specs.Laws.{IsWordOf}
-use Rattle.lcp_store.specs.Reading.{epoch_in, len_unless_spoilt, or_damage, put_in, read_on, row_in, rows_behind, rows_from, rows_in, version_in, with_epoch, with_key, with_value, word_in, word_len, word_of_len}
+use Rattle.lcp_store.specs.Reading.{epoch_in, len_unless_spoilt, or_damage, put_in, read_on, row_in, rows_behind}
+use Rattle.lcp_store.specs.Reading.{rows_from, rows_in, version_in, with_epoch, with_key, with_value, word_in}
+use Rattle.lcp_store.specs.Reading.{word_len, word_of_len}
 use Rattle.lcp_store.specs.declared.row.Version.{Version}
 use Rattle.sig_core.specs.Table.{Rows}
 use Rattle.sig_core.specs.Word.{is_unprintable}

@@ -1,5 +1,6 @@
 -- Records that are read of bytes have words, and so have the rows that they are replayed onto.
-use Rattle.std.proofs.Common.{◌≡◌, ℕ, zero, suc, ◌+◌, ◌-◌, ◌<◌, Bool, true, false, nat_le, nat_lt, List, [], ◌∷◌, length, drop, refl, subst, arith, inl, inr}
+use Rattle.std.proofs.Common.{◌≡◌, ℕ, zero, suc, ◌+◌, ◌-◌, ◌<◌, Bool, true, false, nat_le, nat_lt, List, [], ◌∷◌}
+use Rattle.std.proofs.Common.{length, drop, refl, subst, arith, inl, inr}
 use Rattle.std.specs.Prelude.{cond, if◌then◌else◌, Option, None, Some, IfSome, Result, Ok, Err, slice_index}
 use Rattle.std.specs.List.{AllByRecursion}
 use Rattle.std.proofs.lemmas.Bool.{cases_lt, ltb-true}

@@ -10,7 +10,8 @@ ghost use Rattle.node_views.specs.Fresh.{fresh_ldm, fresh_main, fresh_shell, fre
 ghost use Rattle.node_views.specs.Replies.{is_down, is_left_open, replies_of, with_replies};
 ghost use Rattle.node_views.specs.Row.{behind, blocks_row, closed_if, closed_stop, counted_row, counted_stop, cut_row};
 ghost use Rattle.node_views.specs.Row.{headed_row, headed_stop, host_row, host_stop, host_table, is_barred, is_cut};
-ghost use Rattle.node_views.specs.Row.{is_excluded, is_one_of, kill_row, kill_stop, passed_row, passed_stop, table_stop};
+ghost use Rattle.node_views.specs.Row.{is_excluded, is_one_of, kill_row, kill_stop, passed_row, passed_stop};
+ghost use Rattle.node_views.specs.Row.{table_stop};
 ghost use Rattle.node_views.specs.Row.{entered, marks_only, stopping, unless_stopped};
 
 use crate::fence::is_fenced;
@@ -135,7 +136,8 @@ impl HostBody {
         ensures taken { OnOk result (IsTaken (host_row self.old signal.now) self.new nothing out.new) }
         ensures stops { OnOk result (stops.new ≡ host_stop self.old signal.now) }
         ensures kept { OnErr result (self.new.standing.cut ≡ self.old.standing.cut) }
-        ensures seen { OnErr result (signal.now.view.number ≤ self.old.standing.view.number → self.new.standing.view ≡ self.old.standing.view) }
+        ensures seen { OnErr result (signal.now.view.number ≤ self.old.standing.view.number → self.new.standing.view
+            ≡ self.old.standing.view) }
     {
         if !is_well_formed(&self.standing.shape, signal) {
             return Ok(());
@@ -155,10 +157,12 @@ impl HostBody {
     ) -> Result<(), NoMemory>
         requires fresh { out.old ≡ nothing }
         requires told { stops.old ≡ None }
-        ensures taken { OnOk result (IsTaken (counted_row self.old signal.now self.old.standing.left) self.new nothing out.new) }
+        ensures taken { OnOk result (IsTaken (counted_row self.old signal.now self.old.standing.left) self.new nothing
+            out.new) }
         ensures stops { OnOk result (stops.new ≡ counted_stop self.old signal.now self.old.standing.left) }
         ensures kept { OnErr result (self.new.standing.cut ≡ self.old.standing.cut) }
-        ensures seen { OnErr result (signal.now.view.number ≤ self.old.standing.view.number → self.new.standing.view ≡ self.old.standing.view) }
+        ensures seen { OnErr result (signal.now.view.number ≤ self.old.standing.view.number → self.new.standing.view
+            ≡ self.old.standing.view) }
     {
         match self.standing.left {
             None => self.head(alloc, signal, out, stops),
@@ -188,7 +192,8 @@ impl HostBody {
         ensures taken { OnOk result (IsTaken (headed_row self.old signal.now) self.new nothing out.new) }
         ensures stops { OnOk result (stops.new ≡ headed_stop self.old signal.now) }
         ensures kept { OnErr result (self.new.standing.cut ≡ self.old.standing.cut) }
-        ensures seen { OnErr result (signal.now.view.number ≤ self.old.standing.view.number → self.new.standing.view ≡ self.old.standing.view) }
+        ensures seen { OnErr result (signal.now.view.number ≤ self.old.standing.view.number → self.new.standing.view
+            ≡ self.old.standing.view) }
     {
         if self.standing.view.get().number < signal.view.get().number
             && !self.enter_first(signal, out, stops)?
@@ -211,9 +216,12 @@ impl HostBody {
         requires fresh { out.old ≡ nothing }
         requires told { stops.old ≡ None }
         ensures goes { IfOk result (λ goes. goes ≡ not (is_excluded self.old.standing signal.now.view)) }
-        ensures excluded { IfOk result (λ goes. goes ≡ false → IsTaken (stopping self.old (Excluded signal.now.view.number)) self.new nothing out.new) }
+        ensures excluded { IfOk result (λ goes. goes ≡ false → IsTaken
+            (stopping self.old (Excluded signal.now.view.number)) self.new nothing out.new) }
         ensures cause { IfOk result (λ goes. goes ≡ false → stops.new ≡ Some (Excluded signal.now.view.number)) }
-        ensures installed { IfOk result (λ goes. goes ≡ true → IsTaken (behind (marks_only (Installed signal.now.view ∷ [])) (entered self.old signal.now.view)) self.new nothing out.new) }
+        ensures installed { IfOk result (λ goes. goes ≡ true → IsTaken
+            (behind (marks_only (Installed signal.now.view ∷ [])) (entered self.old signal.now.view)) self.new nothing
+            out.new) }
         ensures stays { IfOk result (λ goes. goes ≡ true → stops.new ≡ None) }
         ensures room { IfOk result (λ goes. goes ≡ true → HasRoomFor self.new.parts out.new) }
         ensures kept { self.new.standing.cut ≡ self.old.standing.cut }
@@ -331,7 +339,8 @@ impl HostBody {
     ) -> Result<(), NoMemory>
         requires room { HasRoomFor self.old.parts out.old }
         requires told { stops.old ≡ None }
-        ensures taken { OnOk result (IsTaken (host_table self.old signal.now signal.now.body) self.new out.old out.new) }
+        ensures taken { OnOk result (IsTaken (host_table self.old signal.now signal.now.body) self.new out.old
+            out.new) }
         ensures stops { OnOk result (stops.new ≡ table_stop self.old signal.now signal.now.body) }
         ensures kept { OnErr result (self.new.standing.cut ≡ self.old.standing.cut) }
         ensures seen { OnErr result (self.new.standing.view ≡ self.old.standing.view) }
@@ -359,8 +368,10 @@ impl HostBody {
     ) -> Result<(), NoMemory>
         requires room { HasRoomFor self.old.parts out.old }
         requires told { stops.old ≡ None }
-        ensures taken { OnOk result (IsTaken (closed_if self.old signal.now (same_member self.old.standing.member signal.now.member)) self.new out.old out.new) }
-        ensures stops { OnOk result (stops.new ≡ closed_stop self.old signal.now (same_member self.old.standing.member signal.now.member)) }
+        ensures taken { OnOk result (IsTaken (closed_if self.old signal.now
+            (same_member self.old.standing.member signal.now.member)) self.new out.old out.new) }
+        ensures stops { OnOk result (stops.new ≡ closed_stop self.old signal.now
+            (same_member self.old.standing.member signal.now.member)) }
         ensures kept { OnErr result (self.new.standing.cut ≡ self.old.standing.cut) }
         ensures seen { OnErr result (self.new.standing.view ≡ self.old.standing.view) }
     {

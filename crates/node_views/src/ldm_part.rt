@@ -36,7 +36,8 @@ impl LdmPart {
         start: u64,
     ) -> Result<LdmPart, NoMemory>
         requires { rows.rows.pending ≡ [] }
-        ensures replica { IfOk result (λ p. p.replica ≡ fresh_replica member.node layout.now rows.rows unused no_outlet start) }
+        ensures replica { IfOk result (λ p. p.replica ≡ fresh_replica member.node layout.now rows.rows unused no_outlet
+            start) }
         ensures saver { IfOk result (λ p. p.saver ≡ fresh_saver start 0) }
         ensures fence { IfOk result (λ p. p.fence ≡ layout.now.view.number) }
     {
@@ -72,7 +73,12 @@ impl LdmPart {
 
     // A view is promised: the fence is its number, if that is greater.
     fn raise(&mut self, body: &Body)
-        ensures { self.new ≡ record { replica = self.old.replica; saver = self.old.saver; fence = raised self.old.fence body.now } }
+        ensures { self.new ≡ record {
+          replica = self.old.replica;
+          saver = self.old.saver;
+          fence = raised self.old.fence
+              body.now;
+        } }
     {
         if let Body::Membership(MembershipSignal::FenceReq { proposal }) = body {
             self.fence = greater(self.fence, proposal.get().number);

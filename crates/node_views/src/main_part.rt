@@ -55,7 +55,8 @@ impl MainPart {
     ) -> Result<Option<Held<View>>, NoMemory>
         requires room { HasRoom out.old }
         requires told { stops.old ≡ None }
-        ensures taken { OnOk result (IsTaken (main_row self.old signal.now.to.block signal.now) self.new out.old out.new) }
+        ensures taken { OnOk result (IsTaken (main_row self.old signal.now.to.block signal.now) self.new out.old
+            out.new) }
         ensures settled { IfOk result (λ settled. settled ≡ main_settled self.old signal.now.to.block signal.now) }
         ensures stops { OnOk result (stops.new ≡ main_stops self.old signal.now.to.block signal.now) }
         ensures few { IfOk result (λ settled. IfSome settled (λ v. length out.new.sends ≤ length out.old.sends + 1)) }
@@ -81,7 +82,8 @@ impl MainPart {
     ) -> Result<Option<Held<View>>, NoMemory>
         requires room { HasRoom out.old }
         requires told { stops.old ≡ None }
-        ensures taken { OnOk result (IsTaken (in_qmgr self.old (qmgr_row self.old.qmgr signal.now)) self.new out.old out.new) }
+        ensures taken { OnOk result (IsTaken (in_qmgr self.old (qmgr_row self.old.qmgr signal.now)) self.new out.old
+            out.new) }
         ensures settled { IfOk result (λ settled. settled ≡ qmgr_settles self.old.qmgr signal.now) }
         ensures stops { OnOk result (stops.new ≡ qmgr_stops signal.now) }
         ensures few { IfOk result (λ settled. IfSome settled (λ v. length out.new.sends ≤ length out.old.sends + 1)) }

@@ -37,7 +37,8 @@ impl HostBody {
 
     /// What a disk is to do of the last step of the rows' saver, where the host has rows.
     pub fn todo(&self) -> Option<&Todo>
-        ensures { MatchOption result (todo_of self.now.parts ≡ todo.Nothing) (λ todo. todo_of self.now.parts ≡ todo.now) }
+        ensures { MatchOption result (todo_of self.now.parts ≡ todo.Nothing)
+            (λ todo. todo_of self.now.parts ≡ todo.now) }
     {
         match &self.parts {
             Parts::Ldm(part) => Some(part.saver.todo()),

@@ -60,7 +60,8 @@ impl Backlog {
 
     /// Takes the signal that has waited for longest.
     pub fn take(&mut self) -> Option<Boxed<Signal>>
-        ensures signals { MatchOption result ((self.old.signals ≡ []) × (self.new.signals ≡ [])) (λ signal. self.old.signals ≡ signal ∷ self.new.signals) }
+        ensures signals { MatchOption result ((self.old.signals ≡ []) × (self.new.signals ≡ []))
+            (λ signal. self.old.signals ≡ signal ∷ self.new.signals) }
         ensures numbered { self.new.numbered ≡ self.old.numbered }
     {
         self.signals.pop_front()

@@ -144,7 +144,8 @@ impl Known {
 #[tactic(auto, using(sig_core::proofs::PortionLemmas::portions))]
 fn offer_commits(members: &Members, portion: &mut Portion, out: &mut Outs)
     requires { length out.old.sends + portion.old.room ≤ 15 }
-    ensures offered { so_far portion.new out.new ≡ all_offered (so_far portion.old out.old) (map commit_of members.now) }
+    ensures offered { so_far portion.new out.new
+        ≡ all_offered (so_far portion.old out.old) (map commit_of members.now) }
     ensures fits { length out.new.sends + portion.new.room ≤ 15 }
 {
     for member in members.as_slice() {
@@ -170,7 +171,8 @@ fn offer_own(node: u8, portion: &mut Portion, out: &mut Outs)
 #[tactic(auto, using(sig_core::proofs::PortionLemmas::portions))]
 fn offer_copies(node: u8, starting: &Members, portion: &mut Portion, out: &mut Outs)
     requires { length out.old.sends + portion.old.room ≤ 15 }
-    ensures offered { so_far portion.new out.new ≡ all_offered (so_far portion.old out.old) (map (copy_of node) starting.now) }
+    ensures offered { so_far portion.new out.new
+        ≡ all_offered (so_far portion.old out.old) (map (copy_of node) starting.now) }
     ensures fits { length out.new.sends + portion.new.room ≤ 15 }
 {
     for member in starting.as_slice() {

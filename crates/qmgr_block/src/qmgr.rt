@@ -181,7 +181,8 @@ impl Qmgr {
     #[tactic(auto, unfolding(crate::specs::Decide::unpromised_row))]
     fn unpromised(&mut self, alloc: Global, promised: &View, out: &mut Outs) -> Result<(), NoMemory>
         requires { HasRoom out.old }
-        ensures ok { OnOk result (IsTaken (beside self.old.promises (unpromised_row self.old.known promised.now)) self.new out.old out.new) }
+        ensures ok { OnOk result (IsTaken (beside self.old.promises (unpromised_row self.old.known promised.now))
+            self.new out.old out.new) }
         ensures err { OnErr result (IsUntouched self.old self.new out.old out.new) }
     {
         let known = &self.known;
@@ -206,7 +207,8 @@ impl Qmgr {
     #[tactic(auto, unfolding(crate::specs::Install::work_row))]
     fn work(&mut self, alloc: Global, number: u64, out: &mut Outs) -> Result<(), NoMemory>
         requires { HasRoom out.old }
-        ensures ok { OnOk result (IsTaken (beside self.old.promises (work_row self.old.known number)) self.new out.old out.new) }
+        ensures ok { OnOk result (IsTaken (beside self.old.promises (work_row self.old.known number)) self.new out.old
+            out.new) }
         ensures err { OnErr result (IsUntouched self.old self.new out.old out.new) }
     {
         if self.known.is_of_view(number) && self.known.has_suspects() {
@@ -229,7 +231,8 @@ impl Qmgr {
         out: &mut Outs,
     ) -> Result<(), NoMemory>
         requires { HasRoom out.old }
-        ensures ok { OnOk result (IsTaken (beside self.old.promises (host_table self.old.known member.now number signal.now)) self.new out.old out.new) }
+        ensures ok { OnOk result (IsTaken (beside self.old.promises
+            (host_table self.old.known member.now number signal.now)) self.new out.old out.new) }
         ensures err { OnErr result (IsUntouched self.old self.new out.old out.new) }
     {
         match signal {
@@ -275,7 +278,8 @@ impl Qmgr {
         requires told { stops.old ≡ None }
         ensures settles { IfOk result (λ settled. settled ≡ membership_settles self.old.known member.now signal.now) }
         ensures stops { OnOk result (stops.new ≡ membership_stops signal.now) }
-        ensures ok { OnOk result (IsTaken (membership_table self.old host.0 member.now signal.now) self.new out.old out.new) }
+        ensures ok { OnOk result (IsTaken (membership_table self.old host.0 member.now signal.now) self.new out.old
+            out.new) }
         ensures err { OnErr result (IsUntouched self.old self.new out.old out.new) }
     {
         match signal {
@@ -318,7 +322,8 @@ impl Qmgr {
         out: &mut Outs,
     ) -> Result<(), NoMemory>
         requires { HasRoom out.old }
-        ensures ok { OnOk result (IsTaken (beside self.old.promises (joining_table self.old.known signal.now)) self.new out.old out.new) }
+        ensures ok { OnOk result (IsTaken (beside self.old.promises (joining_table self.old.known signal.now)) self.new
+            out.old out.new) }
         ensures err { OnErr result (IsUntouched self.old self.new out.old out.new) }
     {
         match signal {

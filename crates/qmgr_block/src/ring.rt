@@ -111,7 +111,8 @@ impl Known {
         next: &Member,
         before: &Member,
     ) -> Result<Vec<Outgoing>, NoMemory>
-        ensures value { IfOk result (λ sends. round_by self.old (Some next.now) (Some before.now) ≡ sending_all self.new sends.items) }
+        ensures value { IfOk result (λ sends. round_by self.old (Some next.now) (Some before.now) ≡ sending_all self.new
+            sends.items) }
         ensures few { IfOk result (λ sends. length sends.items ≤ 12) }
     {
         let heartbeat = Outgoing {

@@ -37,14 +37,16 @@ fn read(bytes: &[u8]) -> Result<(Redo, usize), FormatFault>
 #[inline(always)]
 pub fn decode_lent(bytes: &[u8]) -> Result<(LentRedo<'_>, usize), FormatFault>
     ensures found { IfOk result (λ found. IsDecoded bytes.now (redo_of found.0, found.1)) }
-    ensures exact { MatchResult result (λ found. decoded bytes.now ≡ Ok (redo_of found.0, found.1)) (λ fault. decoded bytes.now ≡ Err fault) }
+    ensures exact { MatchResult result (λ found. decoded bytes.now ≡ Ok (redo_of found.0, found.1))
+        (λ fault. decoded bytes.now ≡ Err fault) }
 {
     read_lent(bytes)
 }
 
 #[inline(always)]
 fn read_lent(bytes: &[u8]) -> Result<(LentRedo<'_>, usize), FormatFault>
-    ensures { MatchResult result (λ found. decoded bytes.now ≡ Ok (redo_of found.0, found.1)) (λ fault. decoded bytes.now ≡ Err fault) }
+    ensures { MatchResult result (λ found. decoded bytes.now ≡ Ok (redo_of found.0, found.1))
+        (λ fault. decoded bytes.now ≡ Err fault) }
 {
     match record_at(bytes) {
         Ok((redo, rest)) => Ok((redo, bytes.len().saturating_sub(rest.len()))),

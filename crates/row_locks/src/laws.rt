@@ -21,9 +21,12 @@ ghost use Rattle.row_locks.specs.Tables.{Locks, lock_at, ahead_at, asked_at, kep
 /// each in the clause of its name.
 pub fn locks_stay_orderly()
     ensures new { AreOrderly map.empty }
-    ensures request { (locks : Locks) (key : List ℕ) (tx : TxId) (mode : Mode) → AreOrderly locks → AreOrderly (map.insert locks key (asked_at locks key tx mode).lock) }
-    ensures release { (locks : Locks) (key : List ℕ) (tx : TxId) → AreOrderly locks → AreOrderly (kept locks key (released_at locks key tx).lock) }
-    ensures unwait { (locks : Locks) (key : List ℕ) (tx : TxId) → AreOrderly locks → AreOrderly (kept locks key (unwaited_at locks key tx).lock) }
+    ensures request { (locks : Locks) (key : List ℕ) (tx : TxId) (mode : Mode) → AreOrderly locks
+        → AreOrderly (map.insert locks key (asked_at locks key tx mode).lock) }
+    ensures release { (locks : Locks) (key : List ℕ) (tx : TxId) → AreOrderly locks
+        → AreOrderly (kept locks key (released_at locks key tx).lock) }
+    ensures unwait { (locks : Locks) (key : List ℕ) (tx : TxId) → AreOrderly locks
+        → AreOrderly (kept locks key (unwaited_at locks key tx).lock) }
     ensures unwait_all { (locks : Locks) → AreOrderly locks → AreOrderly (all_unqueued locks) }
     ensures age_round { (locks : Locks) → AreOrderly locks → AreOrderly (round_later locks) }
 {}
@@ -32,13 +35,19 @@ pub fn locks_stay_orderly()
 /// the holder that `ahead` gives, and the one that an answer `Queued` names, is never the transaction
 /// itself.
 pub fn waits_are_for_others()
-    ensures ahead { (locks : Locks) (key : List ℕ) (tx : TxId) → AreOrderly locks → is_first_open (lock_at locks key).queue ≡ true → IfSome (ahead_at locks key tx) (λ ahead. same_tx ahead tx ≡ false) }
-    ensures queued { (locks : Locks) (key : List ℕ) (tx : TxId) (mode : Mode) (ahead : TxId) → AreOrderly locks → is_first_open (lock_at locks key).queue ≡ true → (asked_at locks key tx mode).answer ≡ Queued ahead → same_tx ahead tx ≡ false }
+    ensures ahead { (locks : Locks) (key : List ℕ) (tx : TxId) → AreOrderly locks
+        → is_first_open (lock_at locks key).queue ≡ true
+        → IfSome (ahead_at locks key tx) (λ ahead. same_tx ahead tx ≡ false) }
+    ensures queued { (locks : Locks) (key : List ℕ) (tx : TxId) (mode : Mode) (ahead : TxId) → AreOrderly locks
+        → is_first_open (lock_at locks key).queue ≡ true → (asked_at locks key tx mode).answer ≡ Queued ahead
+        → same_tx ahead tx ≡ false }
 {}
 
 /// In orderly locks the requests that a call grants are those that stand first in the queue without
 /// the transaction, and they become the last holders, in the same order.
 pub fn granted_are_last_holders()
-    ensures release { (locks : Locks) (key : List ℕ) (tx : TxId) → AreOrderly locks → GrantsFirst (without tx (lock_at locks key).queue) (released_at locks key tx) }
-    ensures unwait { (locks : Locks) (key : List ℕ) (tx : TxId) → AreOrderly locks → GrantsFirst (without tx (lock_at locks key).queue) (unwaited_at locks key tx) }
+    ensures release { (locks : Locks) (key : List ℕ) (tx : TxId) → AreOrderly locks
+        → GrantsFirst (without tx (lock_at locks key).queue) (released_at locks key tx) }
+    ensures unwait { (locks : Locks) (key : List ℕ) (tx : TxId) → AreOrderly locks
+        → GrantsFirst (without tx (lock_at locks key).queue) (unwaited_at locks key tx) }
 {}

@@ -33,7 +33,8 @@ impl Model for Row {
 
     ghost view = { λ r. record { holders = r.holders.items; queue = r.queue.items } };
 
-    ghost invariant = { λ r. (length r.holders.items + length r.queue.items ≤ vec_capacity r.holders) × IsOrderly (row_lock r.holders.items r.queue.items) };
+    ghost invariant = { λ r. (length r.holders.items + length r.queue.items ≤ vec_capacity r.holders)
+        × IsOrderly (row_lock r.holders.items r.queue.items) };
 }
 
 impl Row {
@@ -146,9 +147,12 @@ fn request_anew(
     queue: &mut Vec<Wait>,
 ) -> Result<Lock, NoMemory>
     requires { length holders.old.items + length queue.old.items ≤ vec_capacity holders.old }
-    ensures answer { IfOk result (λ answer. answer ≡ (anew (row_lock holders.old.items queue.old.items) tx mode).answer) }
-    ensures ok { OnOk result (row_lock holders.new.items queue.new.items ≡ (anew (row_lock holders.old.items queue.old.items) tx mode).lock) }
-    ensures err { OnErr result (row_lock holders.new.items queue.new.items ≡ row_lock holders.old.items queue.old.items) }
+    ensures answer { IfOk result (λ answer. answer ≡ (anew (row_lock holders.old.items queue.old.items) tx
+        mode).answer) }
+    ensures ok { OnOk result (row_lock holders.new.items queue.new.items
+        ≡ (anew (row_lock holders.old.items queue.old.items) tx mode).lock) }
+    ensures err { OnErr result (row_lock holders.new.items queue.new.items ≡ row_lock holders.old.items
+        queue.old.items) }
     ensures room { length holders.new.items + length queue.new.items ≤ vec_capacity holders.new }
 {
     holders.reserve(queue.len() + 1)?;

@@ -178,7 +178,8 @@ fn age_rows(rows: &mut BTreeMap<Key, Row>)
 
 // The first wait that has stood at eight rounds, and the key that it waits for.
 fn expired_row(rows: &BTreeMap<Key, Row>) -> Option<(TxId, &Key)>
-    ensures found { MatchOption result (expired_in rows.now.entries ≡ None) (λ both. expired_in rows.now.entries ≡ Some (both.0, both.1.now)) }
+    ensures found { MatchOption result (expired_in rows.now.entries ≡ None)
+        (λ both. expired_in rows.now.entries ≡ Some (both.0, both.1.now)) }
     ensures ordered { tree.IsOrdered (slice_cmp nat_cmp) rows.now }
 {
     for (key, row) in rows {
@@ -208,7 +209,8 @@ fn request_first(
 ) -> Result<Lock, NoMemory>
     requires { IsNone (tree.get (slice_cmp nat_cmp) rows.old key.now) }
     ensures answer { IfOk result (λ answer. answer ≡ (asked unlocked tx mode).answer) }
-    ensures ok { OnOk result (locks_of rows.new ≡ map.insert (locks_of rows.old) key.now (asked unlocked tx mode).lock) }
+    ensures ok { OnOk result (locks_of rows.new ≡ map.insert (locks_of rows.old) key.now
+        (asked unlocked tx mode).lock) }
     ensures err { OnErr result (locks_of rows.new ≡ locks_of rows.old) }
 {
     let mut row = Row::new(alloc);

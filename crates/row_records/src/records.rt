@@ -92,7 +92,8 @@ impl Records {
     /// Answers whether there was none before. Takes no memory.
     pub fn put(&mut self, tx: TxId, key: &Key, image: &Option<Value>) -> bool
         requires { self.old.roomy ≡ true }
-        ensures record { self.new.pending ≡ recorded_by self.old.pending (prepared tx key.now image.now) (record_at self.old.pending tx key.now) }
+        ensures record { self.new.pending
+            ≡ recorded_by self.old.pending (prepared tx key.now image.now) (record_at self.old.pending tx key.now) }
         ensures made { result ≡ not (is_some (record_at self.old.pending tx key.now)) }
         ensures few { length self.old.pending < 2 ^ 63 }
     {

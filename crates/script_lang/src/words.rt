@@ -48,7 +48,8 @@ pub fn no_words(line: &[u8]) -> bool
 
 /// The word of a line that has one.
 pub fn one_word(line: &[u8]) -> Option<&[u8]>
-    ensures { MatchOption result (one_word (words line.now) ≡ None) (λ word. one_word (words line.now) ≡ Some word.now) }
+    ensures { MatchOption result (one_word (words line.now) ≡ None)
+        (λ word. one_word (words line.now) ≡ Some word.now) }
 {
     let (first, rest) = next_word(line)?;
     match next_word(rest) {

@@ -1,7 +1,8 @@
 -- The first item of a list that passes a test: looked up, replaced and taken out by its place, and by going through the
 -- list.
 use Prim.Native.Nat.compare
-use Rattle.std.proofs.Common.{◌≡◌, ℕ, suc, ◌+◌, Bool, true, false, true≢false, cond, not, ◌&&◌, nat_lt, List, [], ◌∷◌, filter}
+use Rattle.std.proofs.Common.{◌≡◌, ℕ, suc, ◌+◌, Bool, true, false, true≢false, cond, not, ◌&&◌, nat_lt, List, [], ◌∷◌}
+use Rattle.std.proofs.Common.{filter}
 use Rattle.std.proofs.Common.{length, arith, refl, sym, ap, ◌∙◌}
 use Rattle.std.specs.List.{list_all, position_or_len}
 use Rattle.std.specs.Prelude.{if◌then◌else◌, Option, None, Some, position, remove, slice_get, slice_set}

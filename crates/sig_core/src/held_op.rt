@@ -37,7 +37,8 @@ impl Model for HeldOp {
 
     ghost view = { λ h. h.held.op };
 
-    ghost invariant = { λ h. (h.held.word ≡ digest_word (key_of h.held.op)) × (h.held.hash ≡ hash_of (key_of h.held.op)) };
+    ghost invariant = { λ h. (h.held.word ≡ digest_word (key_of h.held.op))
+        × (h.held.hash ≡ hash_of (key_of h.held.op)) };
 }
 
 impl HeldOp {

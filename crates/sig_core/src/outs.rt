@@ -42,7 +42,8 @@ impl Model for Outs {
 
     ghost view = { λ o. record { sends = o.sends.items; marks = o.marks.items } };
 
-    ghost invariant = { λ o. IsRoomFor (length o.sends.items) (deque_capacity o.sends) (length o.marks.items) (vec_capacity o.marks) };
+    ghost invariant = { λ o. IsRoomFor (length o.sends.items) (deque_capacity o.sends) (length o.marks.items)
+        (vec_capacity o.marks) };
 }
 
 impl Outs {

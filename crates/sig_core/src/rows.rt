@@ -120,7 +120,8 @@ pub trait Rows {
 
     /// The committed row of the key.
     fn row(&self, key: &Key) -> Option<&Value>
-        ensures { MatchOption result (row_of (state_of self.now) key.now ≡ None) (λ row. row_of (state_of self.now) key.now ≡ Some row.now) };
+        ensures { MatchOption result (row_of (state_of self.now) key.now ≡ None)
+            (λ row. row_of (state_of self.now) key.now ≡ Some row.now) };
 
     /// The epoch of the committed row of the key. None where there is no row. Takes no memory.
     fn row_epoch(&self, key: &Key) -> Option<u64>

@@ -11,7 +11,8 @@ use Rattle.host_io.proofs.FileLemmas.{laid_ends}
 use Rattle.host_io.proofs.LaidLemmas.{laid_elsewhere, laid_here, laid_reaches}
 use Rattle.host_io.proofs.StateLemmas.{laid_grows, reads_as_an_image, same_number, sound_of}
 use Rattle.sysfile_core.specs.declared.place.TheConstants.{CLOSED, OPEN}
-use Rattle.sysfile_core.specs.Laws.{AreApart, IsOldOrNew, IsWrite, MayBegin, OpenSlotIsWhole, OtherSlotIsKept, OtherSlotStays, WrittenSlotStays}
+use Rattle.sysfile_core.specs.Laws.{AreApart, IsOldOrNew, IsWrite, MayBegin, OpenSlotIsWhole, OtherSlotIsKept}
+use Rattle.sysfile_core.specs.Laws.{OtherSlotStays, WrittenSlotStays}
 use Rattle.sysfile_core.specs.Places.{IsKept, slot_at}
 use Rattle.sysfile_core.specs.Writing.{closing_by, opening, slot_calls, stands_closed}
 use Rattle.sysfile_core.proofs.FileLemmas.{Keeps, clean_written, keeps_image, keeps_settled, keeps_written}

@@ -22,7 +22,8 @@ pub const OWNER_BYTES: usize = 2;
 /// # Errors
 /// `Failed`: a call of the disk failed.
 pub fn read_owner<D: Disk>(disk: &mut D) -> Result<Option<u8>, Failed>
-    ensures read { (calls : List Call) → D.told disk.old ≡ Some calls → IfOk result (λ owner. owner ≡ owner_of (state_of calls CONTROL_FILE).bytes) }
+    ensures read { (calls : List Call) → D.told disk.old ≡ Some calls
+        → IfOk result (λ owner. owner ≡ owner_of (state_of calls CONTROL_FILE).bytes) }
     ensures unrecorded { D.told disk.new ≡ D.told disk.old }
     ensures cause { OnErr result (Rose (D.faults disk.old) (D.faults disk.new)) }
     ensures steady { D.faults disk.old ≤ D.faults disk.new }
@@ -40,7 +41,8 @@ pub fn read_owner<D: Disk>(disk: &mut D) -> Result<Option<u8>, Failed>
 /// # Errors
 /// `Failed`: a call of the disk failed, and none was made behind it.
 pub fn write_owner<D: Disk>(disk: &mut D, node: u8) -> Result<(), Failed>
-    ensures runs { (calls : List Call) → D.told disk.old ≡ Some calls → Runs (owner_calls node (state_of calls CONTROL_FILE).bytes) calls (D.told disk.new) (is_ok result) }
+    ensures runs { (calls : List Call) → D.told disk.old ≡ Some calls
+        → Runs (owner_calls node (state_of calls CONTROL_FILE).bytes) calls (D.told disk.new) (is_ok result) }
     ensures cause { OnErr result (Rose (D.faults disk.old) (D.faults disk.new)) }
     ensures steady { D.faults disk.old ≤ D.faults disk.new }
 {
@@ -53,7 +55,8 @@ pub fn write_owner<D: Disk>(disk: &mut D, node: u8) -> Result<(), Failed>
 
 // Whether the control file is a node's own.
 fn is_owner<D: Disk>(disk: &mut D, node: u8) -> Result<bool, Failed>
-    ensures read { (calls : List Call) → D.told disk.old ≡ Some calls → IfOk result (λ own. own ≡ is_of node (owner_of (state_of calls CONTROL_FILE).bytes)) }
+    ensures read { (calls : List Call) → D.told disk.old ≡ Some calls
+        → IfOk result (λ own. own ≡ is_of node (owner_of (state_of calls CONTROL_FILE).bytes)) }
     ensures unrecorded { D.told disk.new ≡ D.told disk.old }
     ensures cause { OnErr result (Rose (D.faults disk.old) (D.faults disk.new)) }
     ensures steady { D.faults disk.old ≤ D.faults disk.new }

@@ -1,5 +1,6 @@
 //! Reading the slots in use.
-ghost use Rattle.std.specs.Prelude.{◌≡◌, ◌≤◌, ◌*◌, ℕ, List, Option, None, Some, IfOk, IfSome, OnErr, length, if◌then◌else◌};
+ghost use Rattle.std.specs.Prelude.{◌≡◌, ◌≤◌, ◌*◌, ℕ, List, Option, None, Some, IfOk, IfSome, OnErr, length};
+ghost use Rattle.std.specs.Prelude.{if◌then◌else◌};
 ghost use Rattle.host_io.specs.Call.{Call};
 ghost use Rattle.host_io.specs.DiskState.{state_of};
 ghost use Rattle.host_io.specs.Fault.{Rose};
@@ -21,7 +22,8 @@ use sig_core::{ControlSlot, ReadFault, SystemSlot};
 /// # Errors
 /// `Damaged` exactly where an open slot doesn't fit, at its first byte that doesn't; `DiskFault`.
 pub fn read_system<D: Disk>(disk: &mut D) -> Result<Option<SystemSlot>, ReadFault>
-    ensures read { (calls : List Call) → D.told disk.old ≡ Some calls → Reads (system_of_file (state_of calls SYSTEM_FILE).bytes) result }
+    ensures read { (calls : List Call) → D.told disk.old ≡ Some calls
+        → Reads (system_of_file (state_of calls SYSTEM_FILE).bytes) result }
     ensures unrecorded { D.told disk.new ≡ D.told disk.old }
     ensures cause { HasCause (D.faults disk.old) (D.faults disk.new) result }
     ensures steady { D.faults disk.old ≤ D.faults disk.new }
@@ -39,7 +41,8 @@ pub fn read_control<D: Disk>(
     disk: &mut D,
     generation: u64,
 ) -> Result<Option<ControlSlot>, ReadFault>
-    ensures read { (calls : List Call) → D.told disk.old ≡ Some calls → Reads (control_of_file generation (state_of calls CONTROL_FILE).bytes) result }
+    ensures read { (calls : List Call) → D.told disk.old ≡ Some calls
+        → Reads (control_of_file generation (state_of calls CONTROL_FILE).bytes) result }
     ensures redo { IfOk result (λ slot. IfSome slot HasRedo) }
     ensures unrecorded { D.told disk.new ≡ D.told disk.old }
     ensures cause { HasCause (D.faults disk.old) (D.faults disk.new) result }
@@ -58,7 +61,8 @@ pub fn read_control<D: Disk>(
 /// As of `read_system`.
 pub fn system_at<D: Disk>(disk: &mut D, which: u8) -> Result<Option<SystemSlot>, ReadFault>
     requires { which ≤ 1 }
-    ensures read { (calls : List Call) → D.told disk.old ≡ Some calls → Reads (system_at which (state_of calls SYSTEM_FILE).bytes) result }
+    ensures read { (calls : List Call) → D.told disk.old ≡ Some calls
+        → Reads (system_at which (state_of calls SYSTEM_FILE).bytes) result }
     ensures unrecorded { D.told disk.new ≡ D.told disk.old }
     ensures cause { HasCause (D.faults disk.old) (D.faults disk.new) result }
     ensures steady { D.faults disk.old ≤ D.faults disk.new }
@@ -80,7 +84,8 @@ pub fn system_at<D: Disk>(disk: &mut D, which: u8) -> Result<Option<SystemSlot>,
 /// As of `read_system`.
 pub fn control_at<D: Disk>(disk: &mut D, which: u8) -> Result<Option<ControlSlot>, ReadFault>
     requires { which ≤ 1 }
-    ensures read { (calls : List Call) → D.told disk.old ≡ Some calls → Reads (control_at which (state_of calls CONTROL_FILE).bytes) result }
+    ensures read { (calls : List Call) → D.told disk.old ≡ Some calls
+        → Reads (control_at which (state_of calls CONTROL_FILE).bytes) result }
     ensures redo { IfOk result (λ slot. IfSome slot HasRedo) }
     ensures unrecorded { D.told disk.new ≡ D.told disk.old }
     ensures cause { HasCause (D.faults disk.old) (D.faults disk.new) result }
@@ -107,7 +112,9 @@ pub(crate) fn read_slot<D: Disk>(
     bytes: &mut [u8],
 ) -> Result<bool, Failed>
     requires { 1 ≤ length bytes.old }
-    ensures slot { (calls : List Call) → D.told disk.old ≡ Some calls → IfOk result (λ opened. slot_at at (length bytes.old) (state_of calls file).bytes ≡ (if opened then Some bytes.new else None)) }
+    ensures slot { (calls : List Call) → D.told disk.old ≡ Some calls
+        → IfOk result (λ opened. slot_at at (length bytes.old) (state_of calls file).bytes
+        ≡ (if opened then Some bytes.new else None)) }
     ensures unrecorded { D.told disk.new ≡ D.told disk.old }
     ensures cause { OnErr result (Rose (D.faults disk.old) (D.faults disk.new)) }
     ensures steady { D.faults disk.old ≤ D.faults disk.new }

@@ -49,7 +49,9 @@ pub fn write_step(slot: &[u8], which: u8, k: u8) -> SlotStep
 pub fn write_slot<D: Disk>(disk: &mut D, file: u8, which: u8, slot: &[u8]) -> Result<(), Failed>
     requires which { which ≤ 2 }
     requires some { 1 ≤ length slot.now }
-    ensures runs { (calls : List Call) → D.told disk.old ≡ Some calls → Runs (slot_calls (state_of calls file).bytes file (place_of which) (drop 1 slot.now)) calls (D.told disk.new) (is_ok result) }
+    ensures runs { (calls : List Call) → D.told disk.old ≡ Some calls
+        → Runs (slot_calls (state_of calls file).bytes file (place_of which) (drop 1 slot.now)) calls (D.told disk.new)
+        (is_ok result) }
     ensures cause { OnErr result (Rose (D.faults disk.old) (D.faults disk.new)) }
     ensures steady { D.faults disk.old ≤ D.faults disk.new }
 {
@@ -62,7 +64,9 @@ pub fn write_slot<D: Disk>(disk: &mut D, file: u8, which: u8, slot: &[u8]) -> Re
 
 // Closes a gate, and syncs.
 fn close_gate<D: Disk>(disk: &mut D, file: u8, at: u64) -> Result<(), Failed>
-    ensures runs { (calls : List Call) → D.told disk.old ≡ Some calls → Runs (closing_by (stands_closed at (state_of calls file).bytes) file at ∷ Synced file ∷ []) calls (D.told disk.new) (is_ok result) }
+    ensures runs { (calls : List Call) → D.told disk.old ≡ Some calls
+        → Runs (closing_by (stands_closed at (state_of calls file).bytes) file at ∷ Synced file ∷ []) calls
+        (D.told disk.new) (is_ok result) }
     ensures cause { OnErr result (Rose (D.faults disk.old) (D.faults disk.new)) }
     ensures steady { D.faults disk.old ≤ D.faults disk.new }
 {
@@ -78,7 +82,8 @@ fn close_gate<D: Disk>(disk: &mut D, file: u8, at: u64) -> Result<(), Failed>
 
 // Writes, and syncs.
 fn write_through<D: Disk>(disk: &mut D, file: u8, at: u64, bytes: &[u8]) -> Result<(), Failed>
-    ensures runs { (calls : List Call) → D.told disk.old ≡ Some calls → Runs (Wrote file at bytes.now ∷ Synced file ∷ []) calls (D.told disk.new) (is_ok result) }
+    ensures runs { (calls : List Call) → D.told disk.old ≡ Some calls
+        → Runs (Wrote file at bytes.now ∷ Synced file ∷ []) calls (D.told disk.new) (is_ok result) }
     ensures cause { OnErr result (Rose (D.faults disk.old) (D.faults disk.new)) }
     ensures steady { D.faults disk.old ≤ D.faults disk.new }
 {

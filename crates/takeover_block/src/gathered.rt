@@ -104,7 +104,8 @@ fn note_at(
     epoch: Option<u64>,
 ) -> Result<(), NoMemory>
     requires { at < length gathered.old.items }
-    ensures ok { OnOk result (gathered.new.items ≡ noted_at gathered.old.items key.now epoch at (slice_get gathered.old.items at)) }
+    ensures ok { OnOk result (gathered.new.items ≡ noted_at gathered.old.items key.now epoch at
+        (slice_get gathered.old.items at)) }
     ensures err { OnErr result (gathered.new.items ≡ gathered.old.items) }
 {
     let g = &mut gathered[at];

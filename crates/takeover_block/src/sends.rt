@@ -54,7 +54,8 @@ pub fn send_stage(
 #[tactic(auto, using(sig_core::proofs::PortionLemmas::portions), unfolding(crate::specs::Sends::stage_sends))]
 fn offer_stage(layout: &Layout, stage: Stage, g: &Gathered, portion: &mut Portion, out: &mut Outs)
     requires { length out.old.sends + portion.old.room ≤ 15 }
-    ensures offered { so_far portion.new out.new ≡ all_offered (so_far portion.old out.old) (stage_sends layout.now stage g.now) }
+    ensures offered { so_far portion.new out.new
+        ≡ all_offered (so_far portion.old out.old) (stage_sends layout.now stage g.now) }
     ensures fits { length out.new.sends + portion.new.room ≤ 15 }
 {
     offer_front(g.tx, stage, portion, out);
@@ -85,7 +86,8 @@ fn offer_keys(
     out: &mut Outs,
 )
     requires { length out.old.sends + portion.old.room ≤ 15 }
-    ensures offered { so_far portion.new out.new ≡ all_offered (so_far portion.old out.old) (flat_map (key_sends layout.now tx stage) keys.now) }
+    ensures offered { so_far portion.new out.new
+        ≡ all_offered (so_far portion.old out.old) (flat_map (key_sends layout.now tx stage) keys.now) }
     ensures fits { length out.new.sends + portion.new.room ≤ 15 }
 {
     for key in keys {
@@ -104,7 +106,8 @@ fn offer_key(
     out: &mut Outs,
 )
     requires { length out.old.sends + portion.old.room ≤ 15 }
-    ensures offered { so_far portion.new out.new ≡ all_offered (so_far portion.old out.old) (key_sends layout.now tx stage key.now) }
+    ensures offered { so_far portion.new out.new
+        ≡ all_offered (so_far portion.old out.old) (key_sends layout.now tx stage key.now) }
     ensures fits { length out.new.sends + portion.new.room ≤ 15 }
 {
     let chain = layout.chain_of(key);
@@ -131,7 +134,8 @@ fn offer_commit(
     out: &mut Outs,
 )
     requires { length out.old.sends + portion.old.room ≤ 15 }
-    ensures offered { so_far portion.new out.new ≡ all_offered (so_far portion.old out.old) (commit_along tx epoch key.now chain.now ∷ []) }
+    ensures offered { so_far portion.new out.new
+        ≡ all_offered (so_far portion.old out.old) (commit_along tx epoch key.now chain.now ∷ []) }
     ensures fits { length out.new.sends + portion.new.room ≤ 15 }
 {
     let at = last_place(chain);
@@ -148,7 +152,8 @@ fn offer_commit(
 // Completes a key, from the last place of its chain on.
 fn offer_complete(tx: TxId, key: &Key, chain: &Members, portion: &mut Portion, out: &mut Outs)
     requires { length out.old.sends + portion.old.room ≤ 15 }
-    ensures offered { so_far portion.new out.new ≡ all_offered (so_far portion.old out.old) (complete_along tx key.now chain.now ∷ []) }
+    ensures offered { so_far portion.new out.new
+        ≡ all_offered (so_far portion.old out.old) (complete_along tx key.now chain.now ∷ []) }
     ensures fits { length out.new.sends + portion.new.room ≤ 15 }
 {
     let at = last_place(chain);
@@ -165,7 +170,8 @@ fn offer_complete(tx: TxId, key: &Key, chain: &Members, portion: &mut Portion, o
 #[tactic(auto, using(sig_core::proofs::PortionLemmas::portions))]
 fn offer_aborts(tx: TxId, key: &Key, chain: &Members, portion: &mut Portion, out: &mut Outs)
     requires { length out.old.sends + portion.old.room ≤ 15 }
-    ensures offered { so_far portion.new out.new ≡ all_offered (so_far portion.old out.old) (map (abort_at tx key.now) chain.now) }
+    ensures offered { so_far portion.new out.new
+        ≡ all_offered (so_far portion.old out.old) (map (abort_at tx key.now) chain.now) }
     ensures fits { length out.new.sends + portion.new.room ≤ 15 }
 {
     for replica in chain.as_slice() {

@@ -33,7 +33,13 @@ impl Model for Takeover {
 
     ghost Value = { TakeoverState };
 
-    ghost view = { λ t. record { node = t.node; layout = t.layout; stage = t.stage; left = t.left; gathered = t.gathered.items } };
+    ghost view = { λ t. record {
+      node = t.node;
+      layout = t.layout;
+      stage = t.stage;
+      left = t.left;
+      gathered = t.gathered.items;
+    } };
 }
 
 impl Takeover {

@@ -70,7 +70,8 @@ impl Transaction {
         out: &mut Outs,
     ) -> bool
         requires { HasRoom out.old }
-        ensures taken { IsTaken (commit_if node layout.now tx self.old epoch (length self.old.touched == 0)).step self.new out.old out.new }
+        ensures taken { IsTaken (commit_if node layout.now tx self.old epoch (length self.old.touched == 0)).step
+            self.new out.old out.new }
         ensures over { result ≡ (commit_if node layout.now tx self.old epoch (length self.old.touched == 0)).over }
     {
         let awaited = self.touched.as_slice().len();

@@ -70,7 +70,9 @@ impl Transaction {
     #[inline(always)]
     fn take_on(&mut self, op: HeldOp, chain: &Members) -> Result<(), NoMemory>
         requires { IsTrue (fits self.old.touched (key_of op)) }
-        ensures ok { OnOk result (self.new ≡ asking (record self.old { touched = touch self.old.touched (key_of op) chain.now }) (Some (record { op = op; chain = chain.now }))) }
+        ensures ok { OnOk result (self.new ≡ asking (record self.old
+            { touched = touch self.old.touched (key_of op) chain.now })
+            (Some (record { op = op; chain = chain.now }))) }
         ensures err { OnErr result (self.new ≡ self.old) }
     {
         self.touched.touch(op.get().key(), chain)?;
@@ -80,7 +82,8 @@ impl Transaction {
 
     /// The unanswered operation, if it is on this key.
     pub fn asked_on(&self, key: &Key) -> Option<&Asked>
-        ensures { MatchOption result (asked_on self.now.asked key.now ≡ None) (λ asked. asked_on self.now.asked key.now ≡ Some asked.now) }
+        ensures { MatchOption result (asked_on self.now.asked key.now ≡ None)
+            (λ asked. asked_on self.now.asked key.now ≡ Some asked.now) }
     {
         match &self.asked {
             Some(asked) if same_key(asked.op.get().key(), key) => Some(asked),
@@ -104,7 +107,8 @@ impl Transaction {
         out: &mut Outs,
     ) -> Result<(), NoMemory>
         requires { HasRoom out.old }
-        ensures ok { OnOk result (IsTaken (answer_row layout.now tx self.old key.now answer.now) self.new out.old out.new) }
+        ensures ok { OnOk result (IsTaken (answer_row layout.now tx self.old key.now answer.now) self.new out.old
+            out.new) }
         ensures err { OnErr result (IsUntouched self.old self.new out.old out.new) }
     {
         if self.asked_on(key).is_none() {
@@ -132,7 +136,8 @@ impl Transaction {
 
     // Notes an answer to the unanswered operation. Only `Done` is of a write that took effect.
     fn note(&mut self, answer: &HeldAnswer) -> Result<(), NoMemory>
-        ensures ok { (asked : Asked) → self.old.asked ≡ Some asked → OnOk result (self.new ≡ answered self.old asked answer.now) }
+        ensures ok { (asked : Asked) → self.old.asked ≡ Some asked
+            → OnOk result (self.new ≡ answered self.old asked answer.now) }
         ensures err { OnErr result (self.new ≡ self.old) }
     {
         let Some(asked) = &self.asked else {
@@ -171,7 +176,8 @@ impl Transaction {
 #[inline(always)]
 fn send_request(tx: TxId, work: HeldWork, chain: &Members, out: &mut Outs)
     requires { length out.old.sends < 16 }
-    ensures { out.new ≡ and_send out.old (rows_of (node_at chain.now 0)) (bodies.Chain (LqhKeyReq tx work chain.now 0)) }
+    ensures { out.new ≡ and_send out.old (rows_of (node_at chain.now 0))
+        (bodies.Chain (LqhKeyReq tx work chain.now 0)) }
 {
     let body = ChainSignal::LqhKeyReq {
         tx,

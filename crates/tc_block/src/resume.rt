@@ -89,7 +89,8 @@ impl Transaction {
         out: &mut Outs,
     ) -> bool
         requires { HasRoom out.old }
-        ensures taken { IsTaken (aborted_anew node layout.now tx self.old cause verifying).step self.new out.old out.new }
+        ensures taken { IsTaken (aborted_anew node layout.now tx self.old cause verifying).step self.new out.old
+            out.new }
         ensures over { result ≡ (aborted_anew node layout.now tx self.old cause verifying).over }
     {
         let awaited = replica_count(layout, self.touched.as_slice());

@@ -56,7 +56,8 @@ fn offer_all(
     out: &mut Outs,
 )
     requires { length out.old.sends + portion.old.room ≤ 15 }
-    ensures offered { so_far portion.new out.new ≡ all_offered (so_far portion.old out.old) (phase_sends layout.now tx phase touched.now) }
+    ensures offered { so_far portion.new out.new
+        ≡ all_offered (so_far portion.old out.old) (phase_sends layout.now tx phase touched.now) }
     ensures fits { length out.new.sends + portion.new.room ≤ 15 }
 {
     offer_front(tx, phase, portion, out);
@@ -87,7 +88,8 @@ fn offer_keys(
     out: &mut Outs,
 )
     requires { length out.old.sends + portion.old.room ≤ 15 }
-    ensures offered { so_far portion.new out.new ≡ all_offered (so_far portion.old out.old) (flat_map (key_sends layout.now tx phase) touched.now) }
+    ensures offered { so_far portion.new out.new
+        ≡ all_offered (so_far portion.old out.old) (flat_map (key_sends layout.now tx phase) touched.now) }
     ensures fits { length out.new.sends + portion.new.room ≤ 15 }
 {
     for t in touched {
@@ -106,7 +108,8 @@ fn offer_key(
     out: &mut Outs,
 )
     requires { length out.old.sends + portion.old.room ≤ 15 }
-    ensures offered { so_far portion.new out.new ≡ all_offered (so_far portion.old out.old) (key_sends layout.now tx phase t.now) }
+    ensures offered { so_far portion.new out.new
+        ≡ all_offered (so_far portion.old out.old) (key_sends layout.now tx phase t.now) }
     ensures fits { length out.new.sends + portion.new.room ≤ 15 }
 {
     match phase {
@@ -126,7 +129,8 @@ fn offer_key(
 
 fn offer_commit(tx: TxId, epoch: u64, t: &Touched, portion: &mut Portion, out: &mut Outs)
     requires { length out.old.sends + portion.old.room ≤ 15 }
-    ensures offered { so_far portion.new out.new ≡ all_offered (so_far portion.old out.old) (commit_of tx epoch t.now ∷ []) }
+    ensures offered { so_far portion.new out.new
+        ≡ all_offered (so_far portion.old out.old) (commit_of tx epoch t.now ∷ []) }
     ensures fits { length out.new.sends + portion.new.room ≤ 15 }
 {
     let last = last_place(&t.chain);
@@ -146,7 +150,8 @@ fn offer_commit(tx: TxId, epoch: u64, t: &Touched, portion: &mut Portion, out: &
 
 fn offer_complete(tx: TxId, t: &Touched, portion: &mut Portion, out: &mut Outs)
     requires { length out.old.sends + portion.old.room ≤ 15 }
-    ensures offered { so_far portion.new out.new ≡ all_offered (so_far portion.old out.old) (complete_if tx t.now t.now.written) }
+    ensures offered { so_far portion.new out.new
+        ≡ all_offered (so_far portion.old out.old) (complete_if tx t.now t.now.written) }
     ensures fits { length out.new.sends + portion.new.room ≤ 15 }
 {
     if t.written {
@@ -168,7 +173,8 @@ fn offer_complete(tx: TxId, t: &Touched, portion: &mut Portion, out: &mut Outs)
 #[tactic(auto, using(sig_core::proofs::PortionLemmas::portions))]
 fn offer_aborts(tx: TxId, key: &Key, chain: &Members, portion: &mut Portion, out: &mut Outs)
     requires { length out.old.sends + portion.old.room ≤ 15 }
-    ensures offered { so_far portion.new out.new ≡ all_offered (so_far portion.old out.old) (aborts_of tx key.now chain.now) }
+    ensures offered { so_far portion.new out.new
+        ≡ all_offered (so_far portion.old out.old) (aborts_of tx key.now chain.now) }
     ensures fits { length out.new.sends + portion.new.room ≤ 15 }
 {
     for replica in chain.as_slice() {

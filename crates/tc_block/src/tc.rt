@@ -42,7 +42,13 @@ impl Model for Tc {
 
     ghost Value = { TcState };
 
-    ghost view = { λ t. record { node = t.node; start = t.start; next_seq = t.next_seq; layout = t.layout; live = t.live.entries } };
+    ghost view = { λ t. record {
+      node = t.node;
+      start = t.start;
+      next_seq = t.next_seq;
+      layout = t.layout;
+      live = t.live.entries;
+    } };
 }
 
 impl Tc {
@@ -118,7 +124,8 @@ impl Tc {
     #[tactic(auto, using(crate::proofs::LiveLemmas::live))]
     fn operate(&mut self, tx: TxId, op: &HeldOp, out: &mut Outs) -> Result<(), NoMemory>
         requires { HasRoom out.old }
-        ensures ok { OnOk result (IsTaken (step_of self.old tx (λ t. operate_row self.old.layout tx t op.now)) self.new out.old out.new) }
+        ensures ok { OnOk result (IsTaken (step_of self.old tx (λ t. operate_row self.old.layout tx t op.now)) self.new
+            out.old out.new) }
         ensures err { OnErr result (IsUntouched self.old self.new out.old out.new) }
     {
         let Some(at) = self.place_of(tx) else {
@@ -137,7 +144,8 @@ impl Tc {
         out: &mut Outs,
     ) -> Result<(), NoMemory>
         requires { HasRoom out.old }
-        ensures ok { OnOk result (IsTaken (step_of self.old tx (λ t. answer_row self.old.layout tx t key.now answer.now)) self.new out.old out.new) }
+        ensures ok { OnOk result (IsTaken (step_of self.old tx
+            (λ t. answer_row self.old.layout tx t key.now answer.now)) self.new out.old out.new) }
         ensures err { OnErr result (IsUntouched self.old self.new out.old out.new) }
     {
         let Some(at) = self.place_of(tx) else {
@@ -150,7 +158,8 @@ impl Tc {
     #[tactic(auto, using(crate::proofs::LiveLemmas::live))]
     fn refuse(&mut self, tx: TxId, key: &Key, cause: AbortCause, out: &mut Outs)
         requires { HasRoom out.old }
-        ensures { IsTaken (turn_of self.old tx (λ t. refuse_row self.old.node self.old.layout tx t key.now cause)) self.new out.old out.new }
+        ensures { IsTaken (turn_of self.old tx (λ t. refuse_row self.old.node self.old.layout tx t key.now cause))
+            self.new out.old out.new }
     {
         let Some(at) = self.place_of(tx) else {
             return;
@@ -165,7 +174,8 @@ impl Tc {
     #[tactic(auto, using(crate::proofs::LiveLemmas::live))]
     fn verify(&mut self, alloc: Global, tx: TxId, out: &mut Outs) -> Result<(), NoMemory>
         requires { HasRoom out.old }
-        ensures ok { OnOk result (IsTaken (step_of self.old tx (λ t. verify_row self.old.node tx t)) self.new out.old out.new) }
+        ensures ok { OnOk result (IsTaken (step_of self.old tx (λ t. verify_row self.old.node tx t)) self.new out.old
+            out.new) }
         ensures err { OnErr result (IsUntouched self.old self.new out.old out.new) }
     {
         let Some(at) = self.place_of(tx) else {
@@ -178,7 +188,8 @@ impl Tc {
     #[tactic(auto, using(crate::proofs::LiveLemmas::live))]
     fn commit(&mut self, tx: TxId, epoch: u64, out: &mut Outs)
         requires { HasRoom out.old }
-        ensures { IsTaken (turn_of self.old tx (λ t. commit_row self.old.node self.old.layout tx t epoch)) self.new out.old out.new }
+        ensures { IsTaken (turn_of self.old tx (λ t. commit_row self.old.node self.old.layout tx t epoch)) self.new
+            out.old out.new }
     {
         let Some(at) = self.place_of(tx) else {
             return;
@@ -193,7 +204,8 @@ impl Tc {
     #[tactic(auto, using(crate::proofs::LiveLemmas::live))]
     fn committed(&mut self, tx: TxId, out: &mut Outs)
         requires { HasRoom out.old }
-        ensures { IsTaken (turn_of self.old tx (λ t. committed_row self.old.node self.old.layout tx t)) self.new out.old out.new }
+        ensures { IsTaken (turn_of self.old tx (λ t. committed_row self.old.node self.old.layout tx t)) self.new out.old
+            out.new }
     {
         let Some(at) = self.place_of(tx) else {
             return;
@@ -223,7 +235,8 @@ impl Tc {
     #[tactic(auto, using(crate::proofs::LiveLemmas::live))]
     fn rollback(&mut self, tx: TxId, out: &mut Outs)
         requires { HasRoom out.old }
-        ensures { IsTaken (turn_of self.old tx (λ t. rollback_row self.old.node self.old.layout tx t)) self.new out.old out.new }
+        ensures { IsTaken (turn_of self.old tx (λ t. rollback_row self.old.node self.old.layout tx t)) self.new out.old
+            out.new }
     {
         let Some(at) = self.place_of(tx) else {
             return;
@@ -265,7 +278,8 @@ impl Tc {
     #[tactic(auto, using(crate::proofs::LiveLemmas::live))]
     fn go_on(&self, tx: TxId, at: u64, out: &mut Outs)
         requires { HasRoom out.old }
-        ensures { IsTaken (step_of self.now tx (λ t. go_on_row self.now.node self.now.layout tx t at)) self.now out.old out.new }
+        ensures { IsTaken (step_of self.now tx (λ t. go_on_row self.now.node self.now.layout tx t at)) self.now out.old
+            out.new }
     {
         let Some(place) = self.place_of(tx) else {
             return;

@@ -42,9 +42,16 @@ impl Model for Coordinator {
 
     ghost Value = { CoordinatorState };
 
-    ghost view = { λ c. record { tc = c.tc; number = c.number; fence = c.fence; doomed = c.doomed.items; left = c.left.items } };
+    ghost view = { λ c. record {
+      tc = c.tc;
+      number = c.number;
+      fence = c.fence;
+      doomed = c.doomed.items;
+      left = c.left.items;
+    } };
 
-    ghost invariant = { λ c. (length c.tc.live ≤ TRANSACTIONS) × (TRANSACTIONS ≤ vec_capacity c.doomed) × (TRANSACTIONS ≤ vec_capacity c.spare) × (TRANSACTIONS ≤ vec_capacity c.left) };
+    ghost invariant = { λ c. (length c.tc.live ≤ TRANSACTIONS) × (TRANSACTIONS ≤ vec_capacity c.doomed)
+        × (TRANSACTIONS ≤ vec_capacity c.spare) × (TRANSACTIONS ≤ vec_capacity c.left) };
 }
 
 impl Coordinator {

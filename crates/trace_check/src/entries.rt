@@ -47,7 +47,9 @@ fn add_at(
     requires inside { at < length steps.now }
     requires view { before ≡ view_at (first_of host steps.now at) }
     ensures view { IfOk result (λ view. view ≡ view_at (first_of host steps.now (at + 1))) }
-    ensures found { OnOk result ((into : List Entry) → found.old.items ≡ insert_all (entries_of host (first_of host steps.now at)) into → found.new.items ≡ insert_all (entries_of host (first_of host steps.now (at + 1))) into) }
+    ensures found { OnOk result ((into : List Entry) → found.old.items ≡ insert_all
+        (entries_of host (first_of host steps.now at)) into
+        → found.new.items ≡ insert_all (entries_of host (first_of host steps.now (at + 1))) into) }
 {
     let step = &steps[at];
     let view = installed_by(step.marks.as_slice(), before);
@@ -79,7 +81,8 @@ fn add_step(
     past: &[LogStep],
 ) -> Result<(), NoMemory>
     requires { view ≡ view_at (log_of host past.now) }
-    ensures { OnOk result (found.new.items ≡ entered host step.now.stamp (log_of host past.now) step.now.marks found.old.items) }
+    ensures { OnOk result (found.new.items ≡ entered host step.now.stamp (log_of host past.now) step.now.marks
+        found.old.items) }
 {
     let marks = step.marks.as_slice();
     for mark in marks {

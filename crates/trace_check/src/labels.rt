@@ -12,7 +12,8 @@ use world_views::PARTS;
 /// there from the start.
 #[tactic(auto, using(crate::proofs::LabelLemmas::other_label))]
 pub fn are_labelled(shape: &Shape, logs: &[HostLog]) -> bool
-    ensures { (start : Start) → start.shape ≡ shape.now → NobodyStarts start → result ≡ false → AreLabelled start logs.now → ⊥ }
+    ensures { (start : Start) → start.shape ≡ shape.now → NobodyStarts start → result ≡ false
+        → AreLabelled start logs.now → ⊥ }
 {
     if logs.len() != usize::from(shape.nodes) * PARTS as usize + 1 {
         return false;

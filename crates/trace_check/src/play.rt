@@ -31,7 +31,9 @@ pub fn play_all(
     run: &[RunStep],
 ) -> Result<Option<StepFault>, NoMemory>
     requires { IsWorld (whole_of world.old) }
-    ensures { (start : Start) → IsSound start (whole_of world.old) → IfOk result (λ why. IsSound start (whole_of world.new) × DidAll start logs.now run.now (whole_of world.old) (whole_of world.new) why) }
+    ensures { (start : Start) → IsSound start (whole_of world.old)
+        → IfOk result (λ why. IsSound start (whole_of world.new) × DidAll start logs.now run.now (whole_of world.old)
+        (whole_of world.new) why) }
 {
     for place in run {
         match play_at(alloc, world, logs, place)? {
@@ -51,7 +53,8 @@ fn play_at(
     place: &RunStep,
 ) -> Result<Option<StepFault>, NoMemory>
     requires { IsWorld (whole_of world.old) }
-    ensures { (start : Start) → IsSound start (whole_of world.old) → IfOk result (λ why. DidAt start logs.now place.now (whole_of world.old) (whole_of world.new) why) }
+    ensures { (start : Start) → IsSound start (whole_of world.old)
+        → IfOk result (λ why. DidAt start logs.now place.now (whole_of world.old) (whole_of world.new) why) }
 {
     match step_at(logs, place) {
         Some(step) => play(alloc, world, place.host, step),
@@ -77,7 +80,8 @@ fn play(
     step: &LogStep,
 ) -> Result<Option<StepFault>, NoMemory>
     requires { IsWorld (whole_of world.old) }
-    ensures { (start : Start) → IsSound start (whole_of world.old) → IfOk result (λ why. Did start (whole_of world.old) host.0 step.now.taken (whole_of world.new) why) }
+    ensures { (start : Start) → IsSound start (whole_of world.old)
+        → IfOk result (λ why. Did start (whole_of world.old) host.0 step.now.taken (whole_of world.new) why) }
 {
     if !world.runs(host) {
         return Ok(Some(StepFault::Gone));
@@ -99,7 +103,8 @@ fn play_own(
 ) -> Result<Option<StepFault>, NoMemory>
     requires world { IsWorld (whole_of world.old) }
     requires runs { has_stopped_in (whole_of world.old) host.0 ≡ false }
-    ensures { (start : Start) → IsSound start (whole_of world.old) → IfOk result (λ why. DidOwn start (whole_of world.old) host.0 body.now (whole_of world.new) why) }
+    ensures { (start : Start) → IsSound start (whole_of world.old)
+        → IfOk result (λ why. DidOwn start (whole_of world.old) host.0 body.now (whole_of world.new) why) }
 {
     if !is_own_work(body) {
         return take(alloc, world, host, host);
@@ -119,7 +124,8 @@ fn play_asked(
 ) -> Result<Option<StepFault>, NoMemory>
     requires world { IsWorld (whole_of world.old) }
     requires runs { has_stopped_in (whole_of world.old) host.0 ≡ false }
-    ensures { (start : Start) → IsSound start (whole_of world.old) → IfOk result (λ why. DidOwn start (whole_of world.old) host.0 (bodies.Host own.now) (whole_of world.new) why) }
+    ensures { (start : Start) → IsSound start (whole_of world.old)
+        → IfOk result (λ why. DidOwn start (whole_of world.old) host.0 (bodies.Host own.now) (whole_of world.new) why) }
 {
     match own {
         HostSignal::Continue { work, at: _ } => play_work(alloc, world, host, work),
@@ -137,7 +143,9 @@ fn play_work(
     work: &Work,
 ) -> Result<Option<StepFault>, NoMemory>
     requires { IsWorld (whole_of world.old) }
-    ensures { (at : ℕ) (start : Start) → IsSound start (whole_of world.old) → IfOk result (λ why. DidOwn start (whole_of world.old) host.0 (bodies.Host (Continue work.now at)) (whole_of world.new) why) }
+    ensures { (at : ℕ) (start : Start) → IsSound start (whole_of world.old)
+        → IfOk result (λ why. DidOwn start (whole_of world.old) host.0 (bodies.Host (Continue work.now at))
+        (whole_of world.new) why) }
 {
     match work {
         Work::Request(request) => ask(alloc, world, host, request),
@@ -170,7 +178,9 @@ fn ask(
     request: &ApiReq,
 ) -> Result<Option<StepFault>, NoMemory>
     requires { IsWorld (whole_of world.old) }
-    ensures { (at : ℕ) (start : Start) → IsSound start (whole_of world.old) → IfOk result (λ why. DidOwn start (whole_of world.old) host.0 (bodies.Host (Continue (Request request.now) at)) (whole_of world.new) why) }
+    ensures { (at : ℕ) (start : Start) → IsSound start (whole_of world.old)
+        → IfOk result (λ why. DidOwn start (whole_of world.old) host.0 (bodies.Host (Continue (Request request.now) at))
+        (whole_of world.new) why) }
 {
     if host.0 != 0 {
         return Ok(Some(StepFault::Wrong));
@@ -189,7 +199,9 @@ fn stop(
 ) -> Result<Option<StepFault>, NoMemory>
     requires world { IsWorld (whole_of world.old) }
     requires runs { has_stopped_in (whole_of world.old) host.0 ≡ false }
-    ensures { (start : Start) → IsSound start (whole_of world.old) → IfOk result (λ why. DidOwn start (whole_of world.old) host.0 (bodies.Host (Closed cause)) (whole_of world.new) why) }
+    ensures { (start : Start) → IsSound start (whole_of world.old)
+        → IfOk result (λ why. DidOwn start (whole_of world.old) host.0 (bodies.Host (Closed cause)) (whole_of world.new)
+        why) }
 {
     if host.0 == 0 {
         return Ok(Some(StepFault::Wrong));
@@ -212,7 +224,9 @@ fn fail_disk(
     requires world { IsWorld (whole_of world.old) }
     requires part { 1 ≤ host.0 }
     requires runs { has_stopped_in (whole_of world.old) host.0 ≡ false }
-    ensures { (start : Start) → IsSound start (whole_of world.old) → IfOk result (λ why. DidOwn start (whole_of world.old) host.0 (bodies.Host (Closed (Disk count))) (whole_of world.new) why) }
+    ensures { (start : Start) → IsSound start (whole_of world.old)
+        → IfOk result (λ why. DidOwn start (whole_of world.old) host.0 (bodies.Host (Closed (Disk count)))
+        (whole_of world.new) why) }
 {
     world.fail_disk(alloc, host, count)?;
     Ok(None)
@@ -227,7 +241,9 @@ fn cut(
 ) -> Result<Option<StepFault>, NoMemory>
     requires world { IsWorld (whole_of world.old) }
     requires runs { has_stopped_in (whole_of world.old) host.0 ≡ false }
-    ensures { (first : HostId) (start : Start) → IsSound start (whole_of world.old) → IfOk result (λ why. DidOwn start (whole_of world.old) host.0 (bodies.Host (Cut node first)) (whole_of world.new) why) }
+    ensures { (first : HostId) (start : Start) → IsSound start (whole_of world.old)
+        → IfOk result (λ why. DidOwn start (whole_of world.old) host.0 (bodies.Host (Cut node first))
+        (whole_of world.new) why) }
 {
     match pick(alloc, world, Pick::Cut { host, node })? {
         Some(_) => Ok(Some(StepFault::Wrong)),
@@ -244,7 +260,8 @@ fn take(
 ) -> Result<Option<StepFault>, NoMemory>
     requires world { IsWorld (whole_of world.old) }
     requires runs { has_stopped_in (whole_of world.old) host.0 ≡ false }
-    ensures { (start : Start) → IsSound start (whole_of world.old) → IfOk result (λ why. Took start (whole_of world.old) host.0 from (whole_of world.new) why) }
+    ensures { (start : Start) → IsSound start (whole_of world.old)
+        → IfOk result (λ why. Took start (whole_of world.old) host.0 from (whole_of world.new) why) }
 {
     if world.body(host).is_cut(from) {
         return Ok(Some(StepFault::CutOff));
@@ -255,7 +272,8 @@ fn take(
 // Does what a pick says, or says why it can't be done.
 fn pick(alloc: Global, world: &mut World, pick: Pick) -> Result<Option<StepFault>, NoMemory>
     requires { IsWorld (whole_of world.old) }
-    ensures { (start : Start) → IsSound start (whole_of world.old) → IfOk result (λ why. DidPick start (whole_of world.old) pick (whole_of world.new) why) }
+    ensures { (start : Start) → IsSound start (whole_of world.old)
+        → IfOk result (λ why. DidPick start (whole_of world.old) pick (whole_of world.new) why) }
 {
     told(world.schedule(alloc, &[pick]))
 }

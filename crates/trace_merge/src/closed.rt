@@ -29,7 +29,8 @@ pub struct CutFault {
 /// `CutFault` at the first step that stands against it.
 pub fn is_closed(logs: &[HostLog], cut: &[usize]) -> Result<(), CutFault>
     ensures first { result ≡ cut_answer (first_fault logs.now cut.now logs.now 0) }
-    ensures closed { (start : Start) (made : ℕ → ℕ) → ((h : ℕ) → made h ≡ made_at logs.now h) → IsOk result ↔ IsClosed (record (machine start) { made = made }) (parts_at logs.now cut.now) }
+    ensures closed { (start : Start) (made : ℕ → ℕ) → ((h : ℕ) → made h ≡ made_at logs.now h)
+        → IsOk result ↔ IsClosed (record (machine start) { made = made }) (parts_at logs.now cut.now) }
 {
     match first_fault(logs, cut) {
         None => Ok(()),

@@ -29,7 +29,8 @@ struct Stamped {
 #[tactic(auto, using(crate::proofs::MergeLemmas::merge_runs))]
 pub fn merge(alloc: Global, logs: &[HostLog]) -> Result<Run, NoMemory>
     ensures sorted { IfOk result (λ run. IsMerge logs.now run) }
-    ensures run { IfOk result (λ run. (start : Start) (none : LogStep) → AreNumbered logs.now → AreLogs (machine start) (logs_at logs.now) → IsRunOf start logs.now (events_of logs.now none run)) }
+    ensures run { IfOk result (λ run. (start : Start) (none : LogStep) → AreNumbered logs.now → AreLogs (machine start)
+        (logs_at logs.now) → IsRunOf start logs.now (events_of logs.now none run)) }
 {
     Ok(Run::of(merged(alloc, logs)?))
 }

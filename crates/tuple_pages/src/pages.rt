@@ -73,7 +73,8 @@ impl Pages {
     /// What is at a place: none where it is free.
     #[tactic(auto, using(crate::proofs::PageLemmas::reads))]
     pub fn get(&self, at: u64) -> Option<&Slot>
-        ensures { MatchOption result (slice_index_or self.now.slots at None ≡ None) (λ slot. slice_index_or self.now.slots at None ≡ Some slot.now) }
+        ensures { MatchOption result (slice_index_or self.now.slots at None ≡ None)
+            (λ slot. slice_index_or self.now.slots at None ≡ Some slot.now) }
     {
         let at = at as usize;
         if at >= self.len {
@@ -120,7 +121,8 @@ impl Pages {
     /// Makes this the row of a place that is taken, of this epoch, or none. Takes no memory.
     pub fn set(&mut self, at: u64, row: &Option<Value>, epoch: u64)
         requires { is_some (slice_index_or self.old.slots at None) ≡ true }
-        ensures slots { self.new.slots ≡ slice_set self.old.slots at (rewritten (slice_index_or self.old.slots at None) row.now epoch) }
+        ensures slots { self.new.slots ≡ slice_set self.old.slots at
+            (rewritten (slice_index_or self.old.slots at None) row.now epoch) }
         ensures room { self.new.roomy ≡ self.old.roomy }
     {
         rewrite(&mut self.pages, at as usize, row, epoch);

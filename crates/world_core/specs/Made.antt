@@ -1,5 +1,6 @@
 -- Since when hosts are there: from the beginning, or from the step of the shell's host that makes them.
-use Rattle.std.specs.Prelude.{ℕ, zero, suc, ◌-◌, ◌/◌, nat_lt, not, if◌then◌else◌, Bool, List, [], ◌∷◌, Option, None, Some, slice_get}
+use Rattle.std.specs.Prelude.{ℕ, zero, suc, ◌-◌, ◌/◌, nat_lt, not, if◌then◌else◌, Bool, List, [], ◌∷◌, Option, None}
+use Rattle.std.specs.Prelude.{Some, slice_get}
 use Rattle.world_core.specs.Late.{Late}
 use Rattle.world_core.specs.Start.{Start}
 use Rattle.world_core.specs.Steps.{HostStep}

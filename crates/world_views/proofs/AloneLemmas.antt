@@ -1,5 +1,6 @@
 -- A signal that is taken moves no other host than its own.
-use Rattle.std.proofs.Common.{◌≡◌, ◌≢◌, inl, inr, ℕ, ◌<◌, ◌&&◌, List, [], ◌∷◌, length, Bool, true, false, refl, sym, ap, subst}
+use Rattle.std.proofs.Common.{◌≡◌, ◌≢◌, inl, inr, ℕ, ◌<◌, ◌&&◌, List, [], ◌∷◌, length, Bool, true, false, refl, sym}
+use Rattle.std.proofs.Common.{ap, subst}
 use Rattle.std.proofs.Common.{◌∙◌, arith, if◌then◌else◌}
 use Rattle.std.proofs.lemmas.Bool.{eq-eqb, true≢false}
 use Rattle.std.specs.Prelude.{None, Some, not}
@@ -76,7 +77,8 @@ module _ (start : Start) (w : Whole) (t : Arrival) (sound : IsSound start w)
         let a : Whole = with_body v x.to failed.left in
         let wish : Addressed = halting a x.to (body_at v.bodies x.to).standing.view cause in
         let by : Step HostBody = stopping (body_at a.bodies x.to) cause in
-        one_more w u x.to (step_made a wish by) there (ap (λ (b : Whole). b.logs) failed.is ∙ logs_of_entered a 0 wish by)
+        one_more w u x.to (step_made a wish by) there
+        (ap (λ (b : Whole). b.logs) failed.is ∙ logs_of_entered a 0 wish by)
         (links_behind 0 wish by a.bodies u failed.is)
         (λ unasked. absurd (true≢false (sym (ap (λ b. b && true) (eq-eqb x.to x.to refl)) ∙ unasked)))
         (λ count stops.

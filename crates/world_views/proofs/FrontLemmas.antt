@@ -1,5 +1,6 @@
 -- Fronts of lists in which nothing passes a test: who looks for the first that does may begin behind one.
-use Rattle.std.proofs.Common.{◌≡◌, ◌≤◌, ◌<◌, ℕ, zero, suc, ◌+◌, Bool, true, false, List, [], ◌∷◌, length, min, take, drop}
+use Rattle.std.proofs.Common.{◌≡◌, ◌≤◌, ◌<◌, ℕ, zero, suc, ◌+◌, Bool, true, false, List, [], ◌∷◌, length, min, take}
+use Rattle.std.proofs.Common.{drop}
 use Rattle.std.proofs.Common.{refl, sym, ap, subst, ◌∙◌, arith, zero-add}
 use Rattle.std.proofs.Math.Nat.{min-le_left, min-le_right}
 use Rattle.std.proofs.lemmas.Bool.{true≢false}
@@ -79,7 +80,8 @@ module _ {A : Type 0} (p : A → Bool) where
   is_first : (xs : List A) → IsFirst (position p xs) xs
   is_first [] = tt
   is_first (x ∷ xs) =
-      subst (λ at. IsFirst at (x ∷ xs)) (sym (position-cons p x xs)) (placed x xs (p x) refl (position p xs) (is_first xs))
+      subst (λ at. IsFirst at (x ∷ xs)) (sym (position-cons p x xs))
+      (placed x xs (p x) refl (position p xs) (is_first xs))
 
   -- nothing stands before the first that does
   pub before_first : (xs : List A) (at : ℕ) → position p xs ≡ Some at → list_any p (take at xs) ≡ false

@@ -43,5 +43,6 @@ pub none_goes : (links : Links) (by : Sender) (r : Routed) (there kept : Bool) �
 none_goes links by r there true is none = refl
 none_goes links by r true false is none = absurd (false≢true none)
 none_goes links by r false false is none =
-    sym (ap (λ b. with_inbox links r.to (if b then slice_set (inbox_of links r.to) by.host (behind by r (link links by.host r.to)) else inbox_of links r.to)) (sym is)
+    sym (ap (λ b. with_inbox links r.to (if b then slice_set (inbox_of links r.to) by.host
+    (behind by r (link links by.host r.to)) else inbox_of links r.to)) (sym is)
     ∙ set_same links r.to (nat_lt r.to (length links)))

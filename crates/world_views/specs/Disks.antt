@@ -31,9 +31,9 @@ abbrev pub HasMoreIf : Bool → List HostStep → List HostStep → Type 0
 HasMoreIf true old new = HasOneMore old new
 HasMoreIf false old new = new ≡ old
 
--- Of all hosts only this one went on, by one step, or its signal was discarded and it made none. Nothing came onto links
--- from hosts that made no step; what the host took, unless it asked itself for it, stood on its link; and it didn't stop
--- itself since its disk failed.
+-- Of all hosts only this one went on, by one step, or its signal was discarded and it made none. Nothing came onto
+-- links from hosts that made no step; what the host took, unless it asked itself for it, stood on its link; and it
+-- didn't stop itself since its disk failed.
 pub record GoesAlone (w : Whole) (h : ℕ) (t : Whole) : Type 0 where
   pub own : HasAtMostOneMore (logs_at w.logs h) (logs_at t.logs h)
   pub others : (other : ℕ) → (other ≡ h → ⊥) → logs_at t.logs other ≡ logs_at w.logs other

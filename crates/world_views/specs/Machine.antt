@@ -4,7 +4,8 @@
 -- and a cut, each of which a host asks of itself. A step that stops its host sends the closings of its links and
 -- nothing else, and none follows it. The replies that a step of the shell makes are told with it, so none stays in the
 -- host.
-use Rattle.std.specs.Prelude.{◌≡◌, ◌≤◌, ℕ, zero, suc, ◌/◌, ◌==◌, if◌then◌else◌, Bool, true, false, List, [], ◌∷◌, Option}
+use Rattle.std.specs.Prelude.{◌≡◌, ◌≤◌, ℕ, zero, suc, ◌/◌, ◌==◌, if◌then◌else◌, Bool, true, false, List, [], ◌∷◌}
+use Rattle.std.specs.Prelude.{Option}
 use Rattle.std.specs.Prelude.{None, Some}
 use Rattle.std.specs.List.{list_any}
 use Rattle.run_theory.specs.Machine.{Machine}
@@ -188,8 +189,8 @@ is_asked_in member body = false
 abbrev pub asks_for : Member → Outgoing → Bool
 asks_for member sent = is_asked_in member sent.body
 
--- The shell's step after its log makes host h, of a later start: it asks the others to take the member in, and before it
--- the shell stood in the view in which the host begins.
+-- The shell's step after its log makes host h, of a later start: it asks the others to take the member in, and before
+-- it the shell stood in the view in which the host begins.
 pub record MakesBy (start : Start) (log : List HostStep) (e : HostStep) (late : Late) : Type 0 where
   pub asks : list_any (asks_for late.member) (step_after start 0 log e).effects.sends ≡ true
   pub view : (after start 0 log).standing.view ≡ late.view

@@ -45,7 +45,9 @@ pub fn close_all(
     by: &Sender,
     cause: StopCause,
 ) -> Result<(), NoMemory>
-    ensures { OnOk result (network.new ≡ close_below (length made.now * 3 + 1) network.old by.now.host (is_unclosed by.now.host host.now.standing) (λ j. headed by.now 0 (record { to = front_of made.now j; body = bodies.Host (Closed cause) }))) }
+    ensures { OnOk result (network.new ≡ close_below (length made.now * 3 + 1) network.old by.now.host
+        (is_unclosed by.now.host host.now.standing)
+        (λ j. headed by.now 0 (record { to = front_of made.now j; body = bodies.Host (Closed cause) }))) }
 {
     for to in 0..made.hosts() {
         if to != by.host && !host.is_cut(HostId(to)) {

@@ -54,10 +54,14 @@ impl World {
         requires part { 1 ≤ host.0 }
         requires runs { has_stopped_in (whole_of self.old) host.0 ≡ false }
         ensures ok { OnOk result (whole_of self.new ≡ stopped (whole_of self.old) host.0 (Disk count) 1) }
-        ensures driven { (start : Start) → IsSound start (whole_of self.old) → OnOk result (IsDriven start (whole_of self.old) (whole_of self.new)) }
-        ensures unscheduled { (start : Start) → IsSound start (whole_of self.old) → AreUnscheduled true start (logs_at self.old.logs) → OnOk result (AreUnscheduled true start (logs_at self.new.logs)) }
+        ensures driven { (start : Start) → IsSound start (whole_of self.old)
+            → OnOk result (IsDriven start (whole_of self.old) (whole_of self.new)) }
+        ensures unscheduled { (start : Start) → IsSound start (whole_of self.old)
+            → AreUnscheduled true start (logs_at self.old.logs)
+            → OnOk result (AreUnscheduled true start (logs_at self.new.logs)) }
         ensures err { OnErr result (self.new.logs ≡ self.old.logs) }
-        ensures grown { (start : Start) → IsSound start (whole_of self.old) → OnErr result (HaveGrown start (logs_at self.old.logs) (logs_at self.new.logs)) }
+        ensures grown { (start : Start) → IsSound start (whole_of self.old)
+            → OnErr result (HaveGrown start (logs_at self.old.logs) (logs_at self.new.logs)) }
     {
         self.stop(alloc, host.0, StopCause::Disk { count }, 1)
     }

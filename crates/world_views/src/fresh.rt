@@ -31,7 +31,8 @@ pub fn fresh_bodies(
 ) -> Result<Vec<HostBody>, NoMemory>
     requires shape { IsShape shape }
     requires there { there.now ≡ members shape.nodes }
-    ensures { IfOk result (λ bodies. bodies.items ≡ for_each (shape.nodes * 3 + 1) (started (record { shape = shape; epoch = epoch; start_epoch = start; rows = rows.now; late = [] }))) }
+    ensures { IfOk result (λ bodies. bodies.items ≡ for_each (shape.nodes * 3 + 1)
+        (started (record { shape = shape; epoch = epoch; start_epoch = start; rows = rows.now; late = [] }))) }
 {
     let behind = u32::from(shape.nodes) * PARTS;
     let layout = Layout::first(shape);
@@ -57,7 +58,13 @@ fn part_started(
 ) -> Result<HostBody, NoMemory>
     requires shape { IsShape layout.now.shape }
     requires first { layout.now ≡ first_layout layout.now.shape }
-    ensures { IfOk result (λ host. host ≡ part_started (record { shape = layout.now.shape; epoch = epoch; start_epoch = start; rows = rows.now; late = [] }) part member) }
+    ensures { IfOk result (λ host. host ≡ part_started (record {
+      shape = layout.now.shape;
+      epoch = epoch;
+      start_epoch = start;
+      rows = rows.now;
+      late = [];
+    }) part member) }
 {
     match part {
         Part::Main => HostBody::main(alloc, member, layout, epoch),

@@ -81,7 +81,8 @@ impl Link {
     }
 
     fn take(&mut self) -> Option<Boxed<Signal>>
-        ensures { MatchOption result ((self.old.signals ≡ []) × (self.new ≡ self.old)) (λ signal. self.old ≡ rest_on (signal ∷ self.new.signals) self.new) }
+        ensures { MatchOption result ((self.old.signals ≡ []) × (self.new ≡ self.old))
+            (λ signal. self.old ≡ rest_on (signal ∷ self.new.signals) self.new) }
     {
         self.signals.pop_front()
     }
@@ -150,7 +151,8 @@ impl Inbox {
         sent: Outgoing,
     ) -> Result<(), NoMemory>
         requires { by.host < length self.old }
-        ensures { OnOk result (self.new ≡ with_link self.old by.host (behind by (routed to sent) (link_from self.old by.host))) }
+        ensures { OnOk result (self.new ≡ with_link self.old by.host
+            (behind by (routed to sent) (link_from self.old by.host))) }
     {
         let at = by.host as usize;
         let was_busy = self.links[at].is_busy();
@@ -207,8 +209,10 @@ impl Inbox {
         ensures none { IfNone result ((link_from self.old from).signals ≡ []) }
         ensures kept { IfNone result (self.new ≡ self.old) }
         ensures there { IfSome result (λ signal. from < length self.old) }
-        ensures first { IfSome result (λ signal. (link_from self.old from).signals ≡ signal ∷ (link_from self.new from).signals) }
-        ensures left { IfSome result (λ signal. self.new ≡ with_link self.old from (rest_on (link_from self.new from).signals (link_from self.old from))) }
+        ensures first { IfSome result (λ signal. (link_from self.old from).signals ≡ signal ∷
+            (link_from self.new from).signals) }
+        ensures left { IfSome result (λ signal. self.new ≡ with_link self.old from
+            (rest_on (link_from self.new from).signals (link_from self.old from))) }
     {
         let at = from as usize;
         if at >= self.links.len() {

@@ -33,7 +33,8 @@ impl Model for Network {
 
     ghost view = { λ n. n.inboxes.items };
 
-    ghost invariant = { λ n. (length n.inboxes.items < 2 ^ 32) × (n.idle ≤ length n.inboxes.items) × (list_any has_signal (take n.idle n.inboxes.items) ≡ false) };
+    ghost invariant = { λ n. (length n.inboxes.items < 2 ^ 32) × (n.idle ≤ length n.inboxes.items)
+        × (list_any has_signal (take n.idle n.inboxes.items) ≡ false) };
 }
 
 impl Network {

@@ -27,7 +27,8 @@ pub fn dispatch(
     stamp: u64,
     outs: &mut Outs,
 ) -> Result<(), NoMemory>
-    ensures { OnOk result (network.new ≡ put_all network.old (sender made.now from stamp host.now.standing.view) (routed_all made.now from host.now.standing outs.old.sends)) }
+    ensures { OnOk result (network.new ≡ put_all network.old (sender made.now from stamp host.now.standing.view)
+        (routed_all made.now from host.now.standing outs.old.sends)) }
 {
     // Most steps send nothing, or one signal.
     while outs.has_sends() {
@@ -48,7 +49,10 @@ fn pass_next(
     stamp: u64,
     outs: &mut Outs,
 ) -> Result<(), NoMemory>
-    ensures passed { OnOk result (put_all network.new (sender made.now from stamp host.now.standing.view) (routed_all made.now from host.now.standing outs.new.sends) ≡ put_all network.old (sender made.now from stamp host.now.standing.view) (routed_all made.now from host.now.standing outs.old.sends)) }
+    ensures passed { OnOk result (put_all network.new (sender made.now from stamp host.now.standing.view)
+        (routed_all made.now from host.now.standing outs.new.sends)
+        ≡ put_all network.old (sender made.now from stamp host.now.standing.view)
+        (routed_all made.now from host.now.standing outs.old.sends)) }
     ensures fewer { OnOk result (0 < length outs.old.sends → length outs.new.sends < length outs.old.sends) }
 {
     match outs.take_send() {
@@ -69,7 +73,8 @@ fn pass_on(
     stamp: u64,
     sent: Outgoing,
 ) -> Result<(), NoMemory>
-    ensures { OnOk result (network.new ≡ put_all network.old (sender made.now from stamp host.now.standing.view) (routed_all made.now from host.now.standing (sent ∷ []))) }
+    ensures { OnOk result (network.new ≡ put_all network.old (sender made.now from stamp host.now.standing.view)
+        (routed_all made.now from host.now.standing (sent ∷ []))) }
 {
     let view = &host.standing.view;
     let to = made.reached(from, view.get(), &sent.to);

@@ -49,7 +49,8 @@ impl World {
     pub fn schedule(&mut self, alloc: Global, picks: &[Pick]) -> Result<(), ScheduleFault>
         requires { IsWorld (whole_of self.old) }
         ensures picked { IsScheduled (whole_of self.old) picks.now (whole_of self.new) result }
-        ensures right { (start : Start) → IsSound start (whole_of self.old) → LeavesRight start (whole_of self.old) (whole_of self.new) result }
+        ensures right { (start : Start) → IsSound start (whole_of self.old)
+            → LeavesRight start (whole_of self.old) (whole_of self.new) result }
     {
         let mut at = 0;
         for pick in picks {

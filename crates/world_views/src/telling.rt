@@ -40,8 +40,10 @@ fn tell_all(client: &mut Client, replies: &mut VecDeque<ApiReply>) -> Result<(),
 
 // The next reply goes behind these. Says whether there was one.
 fn tell_next(client: &mut Client, replies: &mut VecDeque<ApiReply>) -> Result<bool, NoMemory>
-    ensures told { OnOk result (replies.new.items ++ client.new.api.replies ≡ replies.old.items ++ client.old.api.replies) }
-    ensures client { OnOk result (client.new ≡ with_api client.old (with_replies client.old.api client.new.api.replies)) }
+    ensures told { OnOk result (replies.new.items ++ client.new.api.replies ≡ replies.old.items ++
+        client.old.api.replies) }
+    ensures client { OnOk result (client.new ≡ with_api client.old
+        (with_replies client.old.api client.new.api.replies)) }
     ensures fewer { IfOk result (λ more. more ≡ true → length client.new.api.replies < length client.old.api.replies) }
     ensures none { IfOk result (λ more. more ≡ false → client.new.api.replies ≡ []) }
 {

@@ -83,7 +83,13 @@ impl World {
         rows: &[(Key, Value)],
     ) -> Result<World, NoMemory>
         requires { IsShape shape }
-        ensures { IfOk result (λ w. whole_of w ≡ new_world (record { shape = shape; epoch = epoch; start_epoch = start; rows = rows.now; late = [] })) }
+        ensures { IfOk result (λ w. whole_of w ≡ new_world (record {
+          shape = shape;
+          epoch = epoch;
+          start_epoch = start;
+          rows = rows.now;
+          late = [];
+        })) }
     {
         let made = Made::first(alloc, shape.nodes)?;
         let hosts = made.hosts();
@@ -114,7 +120,8 @@ impl World {
     /// use for its logs alone.
     pub fn ask(&mut self, alloc: Global, request: ApiReq) -> Result<(), NoMemory>
         requires { IsWorld (whole_of self.old) }
-        ensures ok { (start : Start) → IsSound start (whole_of self.old) → OnOk result (HasAsked start request (whole_of self.old) (whole_of self.new)) }
+        ensures ok { (start : Start) → IsSound start (whole_of self.old)
+            → OnOk result (HasAsked start request (whole_of self.old) (whole_of self.new)) }
         ensures err { OnErr result (self.new.logs ≡ self.old.logs) }
     {
         if !self.runs(HostId(0)) {
@@ -136,11 +143,15 @@ impl World {
     /// `NoMemory`, and then the world is of use for its logs alone.
     pub fn drive<W: Wait>(&mut self, rt: &W, alloc: Global) -> Result<(), NoMemory>
         requires { IsWorld (whole_of self.old) }
-        ensures driven { (start : Start) → IsSound start (whole_of self.old) → OnOk result (IsDriven start (whole_of self.old) (whole_of self.new)) }
+        ensures driven { (start : Start) → IsSound start (whole_of self.old)
+            → OnOk result (IsDriven start (whole_of self.old) (whole_of self.new)) }
         ensures quiet { OnOk result (IsIdle (whole_of self.new)) }
-        ensures err { (start : Start) → IsSound start (whole_of self.old) → OnErr result (HaveGrown start (logs_at self.old.logs) (logs_at self.new.logs)) }
-        ensures labels { (start : Start) → IsSound start (whole_of self.old) → OnErr result (AreLabelled start self.new.logs) }
-        ensures unscheduled { (disks : Bool) (start : Start) → IsSound start (whole_of self.old) → AreUnscheduled disks start (logs_at self.old.logs) → AreUnscheduled disks start (logs_at self.new.logs) }
+        ensures err { (start : Start) → IsSound start (whole_of self.old)
+            → OnErr result (HaveGrown start (logs_at self.old.logs) (logs_at self.new.logs)) }
+        ensures labels { (start : Start) → IsSound start (whole_of self.old)
+            → OnErr result (AreLabelled start self.new.logs) }
+        ensures unscheduled { (disks : Bool) (start : Start) → IsSound start (whole_of self.old)
+            → AreUnscheduled disks start (logs_at self.old.logs) → AreUnscheduled disks start (logs_at self.new.logs) }
     {
         for _ in rt.forever() {
             if self.step(alloc)?.is_none() {
@@ -157,11 +168,15 @@ impl World {
     /// `NoMemory`, and then the world is of use for its logs alone.
     pub fn step(&mut self, alloc: Global) -> Result<Option<Taken>, NoMemory>
         requires { IsWorld (whole_of self.old) }
-        ensures ok { (start : Start) → IsSound start (whole_of self.old) → IfOk result (λ at. IsStepped start (whole_of self.old) (whole_of self.new) (is_some at)) }
-        ensures alone { IfOk result (λ at. IfSome at (λ taken. GoesAlone (whole_of self.old) taken.host.0 (whole_of self.new))) }
-        ensures made { IfOk result (λ at. IfSome at (λ taken. HasMoreIf taken.handled (logs_at self.old.logs taken.host.0) (logs_at self.new.logs taken.host.0))) }
+        ensures ok { (start : Start) → IsSound start (whole_of self.old)
+            → IfOk result (λ at. IsStepped start (whole_of self.old) (whole_of self.new) (is_some at)) }
+        ensures alone { IfOk result (λ at. IfSome at (λ taken. GoesAlone (whole_of self.old) taken.host.0
+            (whole_of self.new))) }
+        ensures made { IfOk result (λ at. IfSome at (λ taken. HasMoreIf taken.handled
+            (logs_at self.old.logs taken.host.0) (logs_at self.new.logs taken.host.0))) }
         ensures err { OnErr result (self.new.logs ≡ self.old.logs) }
-        ensures unscheduled { (disks : Bool) (start : Start) → IsSound start (whole_of self.old) → AreUnscheduled disks start (logs_at self.old.logs) → AreUnscheduled disks start (logs_at self.new.logs) }
+        ensures unscheduled { (disks : Bool) (start : Start) → IsSound start (whole_of self.old)
+            → AreUnscheduled disks start (logs_at self.old.logs) → AreUnscheduled disks start (logs_at self.new.logs) }
     {
         let Some(arrived) = self.network.take() else {
             return Ok(None);
@@ -181,8 +196,10 @@ impl World {
         signal: Boxed<Signal>,
     ) -> Result<(), NoMemory>
         requires there { IsThere (whole_of self.old) host }
-        requires given { is_discarded (whole_of self.old) (record { to = host; signal = signal }) ≡ false → own_stop host signal ≡ None }
-        ensures ok { OnOk result (HasTaken (whole_of self.old) (record { to = host; signal = signal }) (whole_of self.new)) }
+        requires given { is_discarded (whole_of self.old) (record { to = host; signal = signal }) ≡ false
+            → own_stop host signal ≡ None }
+        ensures ok { OnOk result (HasTaken (whole_of self.old) (record { to = host; signal = signal })
+            (whole_of self.new)) }
         ensures err { OnErr result (self.new.logs ≡ self.old.logs) }
     {
         let handled = !self.is_discarded(host, signal.get().from);
@@ -200,8 +217,10 @@ impl World {
     ) -> Result<(), NoMemory>
         requires there { IsThere (whole_of self.old) host }
         requires known { handled ≡ not (is_discarded (whole_of self.old) (record { to = host; signal = signal })) }
-        requires given { is_discarded (whole_of self.old) (record { to = host; signal = signal }) ≡ false → own_stop host signal ≡ None }
-        ensures ok { OnOk result (HasTaken (whole_of self.old) (record { to = host; signal = signal }) (whole_of self.new)) }
+        requires given { is_discarded (whole_of self.old) (record { to = host; signal = signal }) ≡ false
+            → own_stop host signal ≡ None }
+        ensures ok { OnOk result (HasTaken (whole_of self.old) (record { to = host; signal = signal })
+            (whole_of self.new)) }
         ensures err { OnErr result (self.new.logs ≡ self.old.logs) }
     {
         if handled {
@@ -214,14 +233,16 @@ impl World {
     // Whether a host has stopped, or has cut off the sender of a signal.
     fn is_discarded(&self, host: u32, from: HostId) -> bool
         requires { IsThere (whole_of self.now) host }
-        ensures { result ≡ (has_stopped_in (whole_of self.now) host || is_cut (body_at self.now.bodies.items host).standing from) }
+        ensures { result ≡ (has_stopped_in (whole_of self.now) host || is_cut
+            (body_at self.now.bodies.items host).standing from) }
     {
         self.stopped[host as usize] || self.bodies[host as usize].is_cut(from)
     }
 
     /// The next reply for the shell, in order, each once.
     pub fn next_reply(&mut self) -> Option<ApiReply>
-        ensures some { whole_of self.old ≡ record (whole_of self.new) { replies = option_to_list result ++ self.new.replies.items } }
+        ensures some { whole_of self.old ≡ record (whole_of self.new)
+            { replies = option_to_list result ++ self.new.replies.items } }
         ensures none { result ≡ None → self.old.replies.items ≡ [] }
     {
         self.replies.pop_front()
@@ -261,7 +282,8 @@ impl World {
     fn handle(&mut self, alloc: Global, host: u32, signal: Boxed<Signal>) -> Result<(), NoMemory>
         requires there { IsThere (whole_of self.old) host }
         requires given { own_stop host signal ≡ None }
-        ensures ok { OnOk result (HasHandled (whole_of self.old) (record { to = host; signal = signal }) (whole_of self.new)) }
+        ensures ok { OnOk result (HasHandled (whole_of self.old) (record { to = host; signal = signal })
+            (whole_of self.new)) }
         ensures err { OnErr result (self.new.logs ≡ self.old.logs) }
     {
         // Seldom has a signal a later view, which the step may install.
@@ -292,7 +314,8 @@ impl World {
         requires there { IsThere (whole_of self.old) host }
         requires given { own_stop host signal ≡ None }
         requires view { view ≡ (body_at self.old.bodies.items host).standing.view }
-        ensures ok { OnOk result (HasHandled (whole_of self.old) (record { to = host; signal = signal }) (whole_of self.new)) }
+        ensures ok { OnOk result (HasHandled (whole_of self.old) (record { to = host; signal = signal })
+            (whole_of self.new)) }
         ensures err { OnErr result (self.new.logs ≡ self.old.logs) }
     {
         self.handle_in(alloc, host, signal, Some(view))
@@ -309,8 +332,11 @@ impl World {
     ) -> Result<(), NoMemory>
         requires there { IsThere (whole_of self.old) host }
         requires given { own_stop host signal ≡ None }
-        requires view { MatchOption view (signal.view.number ≤ (body_at self.old.bodies.items host).standing.view.number) (λ v. v ≡ (body_at self.old.bodies.items host).standing.view) }
-        ensures ok { OnOk result (HasHandled (whole_of self.old) (record { to = host; signal = signal }) (whole_of self.new)) }
+        requires view { MatchOption view (signal.view.number ≤
+            (body_at self.old.bodies.items host).standing.view.number)
+            (λ v. v ≡ (body_at self.old.bodies.items host).standing.view) }
+        ensures ok { OnOk result (HasHandled (whole_of self.old) (record { to = host; signal = signal })
+            (whole_of self.new)) }
         ensures err { OnErr result (self.new.logs ≡ self.old.logs) }
     {
         let at = host as usize;
@@ -375,7 +401,8 @@ impl World {
     /// `NoMemory`, and then the world is of use for its logs alone.
     pub(crate) fn cut(&mut self, alloc: Global, host: u32, node: u8) -> Result<(), NoMemory>
         requires { IsThere (whole_of self.old) host }
-        ensures ok { OnOk result (HasHandled (whole_of self.old) (cutting (whole_of self.old) host node) (whole_of self.new)) }
+        ensures ok { OnOk result (HasHandled (whole_of self.old) (cutting (whole_of self.old) host node)
+            (whole_of self.new)) }
         ensures err { OnErr result (self.new.logs ≡ self.old.logs) }
     {
         let first = HostId(self.made.first_of(node));
@@ -394,7 +421,8 @@ impl World {
         body: Body,
     ) -> Result<Boxed<Signal>, NoMemory>
         requires { IsThere (whole_of self.now) host }
-        ensures { IfOk result (λ signal. signal ≡ own_signal self.now.made host (slice_index_or self.now.stamps.items host 0) view body) }
+        ensures { IfOk result (λ signal. signal ≡ own_signal self.now.made host
+            (slice_index_or self.now.stamps.items host 0) view body) }
     {
         let by = Sender::of(&self.made, host, self.stamps[host as usize], view);
         first_signal(alloc, &self.made, &by, host, body)
@@ -413,7 +441,9 @@ impl World {
         requires there { IsThere (whole_of self.old) host }
         requires told { stop_in self.old.outs.marks ≡ stops }
         requires stamp { stamp ≡ next_stamp self.old.stamps.items host taken.stamp }
-        ensures ok { OnOk result (whole_of self.new ≡ entered (whole_of self.old) 0 (record { to = host; signal = taken }) (record { state = body_at self.old.bodies.items host; effects = self.old.outs })) }
+        ensures ok { OnOk result (whole_of self.new ≡ entered (whole_of self.old) 0
+            (record { to = host; signal = taken })
+            (record { state = body_at self.old.bodies.items host; effects = self.old.outs })) }
         ensures err { OnErr result (self.new.logs ≡ self.old.logs) }
     {
         match stops {
@@ -436,7 +466,9 @@ impl World {
         requires there { IsThere (whole_of self.old) host }
         requires told { stop_in self.old.outs.marks ≡ Some cause }
         requires stamp { stamp ≡ next_stamp self.old.stamps.items host taken.stamp }
-        ensures ok { OnOk result (whole_of self.new ≡ entered (whole_of self.old) lost (record { to = host; signal = taken }) (record { state = body_at self.old.bodies.items host; effects = self.old.outs })) }
+        ensures ok { OnOk result (whole_of self.new ≡ entered (whole_of self.old) lost
+            (record { to = host; signal = taken })
+            (record { state = body_at self.old.bodies.items host; effects = self.old.outs })) }
         ensures err { OnErr result (self.new.logs ≡ self.old.logs) }
     {
         self.enter(alloc, host, stamp, taken, Some(cause), lost)
@@ -458,7 +490,9 @@ impl World {
         requires there { IsThere (whole_of self.old) host }
         requires told { stop_in self.old.outs.marks ≡ cause }
         requires stamp { stamp ≡ next_stamp self.old.stamps.items host taken.stamp }
-        ensures ok { OnOk result (whole_of self.new ≡ entered (whole_of self.old) lost (record { to = host; signal = taken }) (record { state = body_at self.old.bodies.items host; effects = self.old.outs })) }
+        ensures ok { OnOk result (whole_of self.new ≡ entered (whole_of self.old) lost
+            (record { to = host; signal = taken })
+            (record { state = body_at self.old.bodies.items host; effects = self.old.outs })) }
         ensures err { OnErr result (self.new.logs ≡ self.old.logs) }
     {
         let at = host as usize;
@@ -508,7 +542,8 @@ impl World {
         lost: u32,
     ) -> Result<(), NoMemory>
         requires { IsThere (whole_of self.old) host }
-        ensures ok { OnOk result (MatchOption cause (whole_of self.new ≡ whole_of self.old) (λ cause. whole_of self.new ≡ closing (whole_of self.old) host stamp taken.now.view cause lost)) }
+        ensures ok { OnOk result (MatchOption cause (whole_of self.new ≡ whole_of self.old)
+            (λ cause. whole_of self.new ≡ closing (whole_of self.old) host stamp taken.now.view cause lost)) }
         ensures err { OnErr result (self.new.logs ≡ self.old.logs) }
     {
         match cause {
@@ -529,7 +564,8 @@ impl World {
         lost: u32,
     ) -> Result<(), NoMemory>
         requires { IsThere (whole_of self.old) host }
-        ensures ok { OnOk result (whole_of self.new ≡ closing (whole_of self.old) host stamp taken.now.view cause lost) }
+        ensures ok { OnOk result (whole_of self.new ≡ closing (whole_of self.old) host stamp taken.now.view cause
+            lost) }
         ensures err { OnErr result (self.new.logs ≡ self.old.logs) }
     {
         self.network.lose(host, lost);

@@ -61,7 +61,8 @@ module _ (start : Start) (nobody : NobodyStarts start) (h : ℕ) (standing : Sta
     all_routed i [] all = refl
     all_routed i (one ∷ more) all =
         ap (λ b.
-        routed_if b (routed (reached (made start) h standing.view one.to) one) (routed_all (made start) h standing more))
+        routed_if b (routed (reached (made start) h standing.view one.to) one)
+        (routed_all (made start) h standing more))
         (kept start h standing ease (reached (made start) h standing.view one.to) one all.0.work)
         ∙ ap₂ (λ to rs. routed to one ∷ rs) (here start h standing ease nobody one.to) (all_routed i more all.1)
 

@@ -93,7 +93,8 @@ module _ (start : Start) (logs : ℕ → List HostStep) where
           subst (λ (m : Member). HasAsked m set) own
           (subst (HasAsked of.member) same
           (subst (λ k. IsIn (record { set = fence.set; adopted = false })
-          (promises_of of.member (first_layout start.shape) (events_of is_membership start k (logs k)))) of.at promised))
+          (promises_of of.member (first_layout start.shape) (events_of is_membership start k (logs k)))) of.at
+          promised))
 
       off_promised : (y : Addressed) (sent : Outgoing) → y.signal.body ≡ sent.body → IsOff sent → IsPromisedAt y
       off_promised y sent body off me there at is set says =
@@ -107,7 +108,8 @@ module _ (start : Start) (logs : ℕ → List HostStep) where
       each_promised low =
           each_map _ _ (signals_of start k log e)
           (λ y one. by y one.sent one.body one.to
-          (each_in _ one.sent (step_after start k log e).effects.sends (host_fences start nobody k low log e) one.there))
+          (each_in _ one.sent (step_after start k log e).effects.sends (host_fences start nobody k low log e)
+          one.there))
           (each_sent start k log e)
         where
           by : (y : Addressed) (sent : Outgoing) → y.signal.body ≡ sent.body

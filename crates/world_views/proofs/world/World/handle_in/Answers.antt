@@ -35,7 +35,8 @@ returns-in-Ok-clause-ok c =
     (subst (λ (x : Signal). IsTaken (host_row c.index_mut.result.now x) c.step.new.self nothing c.step.new.out)
     c.get-2.ensures
     c.in-Ok.ensures.taken) in
-    has_moved c.enter_step.result w (whole_of c.enter_step.new.self) (arriving h c.args.signal) c.step.new.self c.step.new.out at
+    has_moved c.enter_step.result w (whole_of c.enter_step.new.self) (arriving h c.args.signal) c.step.new.self
+    c.step.new.out at
     c.requires.there.bodies taken c.requires.given c.enter_step.ensures.ok
 
 pub returns-in-Err-clause-ok : goal.returns-in-Err-clause-ok

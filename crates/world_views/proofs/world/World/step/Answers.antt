@@ -50,5 +50,6 @@ returns-clause-alone c =
 pub returns-clause-made : goal.returns-clause-made
 returns-clause-made c =
     step_more (whole_of c.args.self.now) (whole_of c.take_if.new.self)
-    (arrival c.in-Some.arrived.host c.in-Some.arrived.signal c.take.new.self) c.is_discarded-handled.result c.get.result.now
+    (arrival c.in-Some.arrived.host c.in-Some.arrived.signal c.take.new.self) c.is_discarded-handled.result
+    c.get.result.now
     c.requires c.in-Some.ensures.taken c.in_ok-take_if.ensures.ok c.get.ensures c.is_discarded-handled.ensures
