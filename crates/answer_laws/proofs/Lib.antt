@@ -1,3 +1,7 @@
+-- At quiet, in the plain machine, each command is answered (Answers). Of one transaction at a time: what the API has
+-- asked its coordinator has heard, or it is on its way (Asks, Heard, Wants, Heeded); what a coordinator waits for is on
+-- its way, or stands in the queue of a lock (Ops, Commits, Aborts, Queued); and whoever asks for an epoch is given one
+-- (EpochFlow, EpochGiven, Verified). Totals count the signals of a kind that all hosts have sent and taken.
 pub mod AbortCounts
 pub mod Aborts
 pub mod Answers

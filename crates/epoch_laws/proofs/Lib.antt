@@ -1,3 +1,7 @@
+-- Epochs never fall along the decisions in the order of views. At each moment the full members of the current view give
+-- one epoch, or each has prepared for the next or gone on to it, and the president's master knows that rightly; each
+-- order, confirmation and state that was sent is true (StandAll). Dih.. is what a member does, Master.. what a master
+-- does, Sent.. what no other block sends, Stand.. one more event.
 pub mod DihMoves
 pub mod DihRows
 pub mod DihSends

@@ -1,3 +1,6 @@
+-- Why a life begins or doesn't (BeginLemmas, RefusalLemmas, LackLemmas), what the system slots of its disks are
+-- (SlotsLemmas, SlotShape, ShapeLemmas), and that to make disks ready only adds to what they tell (RecordLemmas,
+-- ReadyRecords).
 pub mod RecordLemmas
 mod BeginLemmas
 mod LackLemmas

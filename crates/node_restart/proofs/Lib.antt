@@ -1,3 +1,6 @@
+-- What a save keeps of a disk a restart finds: whatever a crash leaves restores the rows that were saved (RestoredLaw,
+-- SaveLaw, SystemLaw), through each moment of a save (MomentLemmas, NamedLemmas, NamingLemmas). That what is found is
+-- storable stands in Storable...
 pub mod CheckpointLemmas
 pub mod MomentLemmas
 pub mod NamedLemmas

@@ -1,3 +1,7 @@
+-- The order of locks: whom one waits for behind the first place of a chain has let go in front (Lines, Behind, LetGo,
+-- Passed), so where nothing is under way who was carried out holds no lock, and who was given up and holds one waits
+-- for it. Inductions along runs (Aborting, Awaited, Completing, First, Unanswered) stand each on what a turn does
+-- (..Turns), and on who sends and takes (..Sends, ..Sources).
 pub mod Aborting
 pub mod AbortingSteps
 pub mod AbortingTurns

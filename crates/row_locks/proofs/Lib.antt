@@ -1,3 +1,6 @@
+-- The lock of a row is two lists, holders and a queue, and each call leaves it orderly (OrderlyLemmas, NeedLemmas), by
+-- induction over who is served (GrantedLemmas, ServingLemmas, AheadLemmas). The locks of all keys are a finite map
+-- (LocksLemmas, RoundLemmas).
 pub mod AheadLemmas
 pub mod GoneLemmas
 pub mod GrantedLemmas

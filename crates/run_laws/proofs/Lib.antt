@@ -1,3 +1,5 @@
+-- Runs of the plain machine, by induction with what is in transit (`transit`): a folder for each thing that is shown to
+-- travel along.
 pub mod carried
 pub mod causes
 pub mod circle

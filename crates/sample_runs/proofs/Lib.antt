@@ -1,3 +1,5 @@
+-- Two runs written out, step by step and host by host: a put through two replicas (Put..), and a wait that is granted
+-- (Wait..). SamplePut and SampleWait say what comes of them.
 pub mod Locking
 pub mod Outlets
 pub mod PutChain

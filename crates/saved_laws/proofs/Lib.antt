@@ -1,3 +1,6 @@
+-- What members have saved is the history: an epoch that they note was closed when they were full (`masters`,
+-- `settled`), and their rows up to it are those of the history, key by key (`rows`, `others`, `locking`). What was
+-- saved before a later save is durable (`behind`); a checkpoint whose walk is over can be named (`standing`).
 pub mod behind
 pub mod locking
 pub mod masters

@@ -1,3 +1,6 @@
+-- What contracts see of the words that all blocks share: keys and values (WordLemmas, KeyLemmas, Keys), chains,
+-- transactions, work, records, tables and redo. PortionLemmas has the one law of lists that are gone through eight
+-- signals at a time.
 pub mod ChainLemmas
 pub mod Firsts
 pub mod KeyLemmas

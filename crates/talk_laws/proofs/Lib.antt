@@ -1,3 +1,6 @@
+-- What the client asked, what the coordinator took, what it answered and what the client took are four lists, each
+-- among the one before (Among, Picks, Links). What the client's side does is in Client.. and Shell.., what a
+-- coordinator does in Tc..; Told, EntryLogs and Reports.. put them together.
 pub mod Among
 pub mod ClientLogs
 pub mod ClientTalks

@@ -1,3 +1,5 @@
+-- Lists and numbers that both machines have: hosts by number (HostNumbers, MemberLemmas, FreshWorld, MadeFirst), logs
+-- (LogIndex, Replies), and the headers of what is sent (SentFacts, Stamped).
 pub mod FreshWorld
 pub mod HostNumbers
 pub mod LogIndex

@@ -1,3 +1,7 @@
+-- One step does to hosts, links, stamps and logs what `entered` says (Entered), and a world stays right by it
+-- (MoveRight): taking (TakeRight), sending (PutRight), losing (DropRight) and closing (CloseRight), for links in
+-- LinkFacts and GivenFacts. What drives a world is in ..Driven; what is so of the blocks of a host, wherever they act,
+-- in StepWalk, StepEach, SentWalk and MarkWalk.
 pub mod AllBegin
 pub mod AloneLemmas
 pub mod AloneLinks
