@@ -175,79 +175,78 @@ module _ (noted : ℕ) (s : RowsState) (log : List Redo) (is : IsSince noted s l
   -- a commit of what was prepared
   module _ (tx : TxId) (key : List ℕ) (at : ℕ) (early : at ≤ noted) (r : PendingRecord)
       (found : first (is_of tx key) s.pending ≡ Some r) (begun : r.committed ≡ false)
-      (kept : AreKept noted (commit_record s tx key at))
-    where
-      abbrev now_committed : RowsState
-      now_committed = commit_record s tx key at
+      (kept : AreKept noted (commit_record s tx key at)) where
+    abbrev now_committed : RowsState
+    now_committed = commit_record s tx key at
 
-      image_is : image_in s tx key ≡ Some r.image
-      image_is = ap prepared_in found ∙ ap (λ b. if b then None else Some r.image) begun
+    image_is : image_in s tx key ≡ Some r.image
+    image_is = ap prepared_in found ∙ ap (λ b. if b then None else Some r.image) begun
 
-      ended : Prepared s now_committed tx key None
-      ended = commits s tx key at is.kept.orderly r found begun
+    ended : Prepared s now_committed tx key None
+    ended = commits s tx key at is.kept.orderly r found begun
 
-      rewritten : Rewrites s now_committed key r.image at
-      rewritten = commits_row s tx key at is.kept.orderly r found begun
+    rewritten : Rewrites s now_committed key r.image at
+    rewritten = commits_row s tx key at is.kept.orderly r found begun
 
-      own_row : (q : List ℕ) → same_key key q ≡ true → row_at now_committed.places q ≡ r.image
-      own_row q e = ap (row_at now_committed.places) (sym (same key q e)) ∙ rewritten.own
+    own_row : (q : List ℕ) → same_key key q ≡ true → row_at now_committed.places q ≡ r.image
+    own_row q e = ap (row_at now_committed.places) (sym (same key q e)) ∙ rewritten.own
 
-      -- the log makes it the row where it has the prepare, and else nothing more than before
-      has_prepare : (image : Option (List ℕ)) → last_image log tx key ≡ Some image → (epoch : ℕ) → noted ≤ epoch →
-          (q : List ℕ) (b : Bool)
-          → same_key key q ≡ b
-          → redone epoch (redo.Commit tx at key ∷ log) q ≡ (if b then Some image else redone epoch log q)
-      has_prepare image has epoch few q b e =
-          let now : nat_le at epoch ≡ true = grind (arith, nat_tests, few, early) in
-          ap (λ o. redoing epoch (redo.Commit tx at key) o q (redone epoch log q)) has
-          ∙ ap (λ c. if c then (if same_key q key then Some image else redone epoch log q) else redone epoch log q) now
-          ∙ ap (λ c. if c then Some image else redone epoch log q) (same_key-swap q key ∙ e)
+    -- the log makes it the row where it has the prepare, and else nothing more than before
+    has_prepare : (image : Option (List ℕ)) → last_image log tx key ≡ Some image → (epoch : ℕ) → noted ≤ epoch →
+        (q : List ℕ) (b : Bool)
+        → same_key key q ≡ b
+        → redone epoch (redo.Commit tx at key ∷ log) q ≡ (if b then Some image else redone epoch log q)
+    has_prepare image has epoch few q b e =
+        let now : nat_le at epoch ≡ true = grind (arith, nat_tests, few, early) in
+        ap (λ o. redoing epoch (redo.Commit tx at key) o q (redone epoch log q)) has
+        ∙ ap (λ c. if c then (if same_key q key then Some image else redone epoch log q) else redone epoch log q) now
+        ∙ ap (λ c. if c then Some image else redone epoch log q) (same_key-swap q key ∙ e)
 
-      has_none : last_image log tx key ≡ None → (epoch : ℕ) (q : List ℕ) → redone epoch
-          (redo.Commit tx at key ∷ log) q ≡ redone epoch log q
-      has_none none epoch q = ap (λ o. redoing epoch (redo.Commit tx at key) o q (redone epoch log q)) none
+    has_none : last_image log tx key ≡ None → (epoch : ℕ) (q : List ℕ) → redone epoch
+        (redo.Commit tx at key ∷ log) q ≡ redone epoch log q
+    has_none none epoch q = ap (λ o. redoing epoch (redo.Commit tx at key) o q (redone epoch log q)) none
 
-      fits_own : (o : Option (Option (List ℕ))) → last_image log tx key ≡ o → (epoch : ℕ) → noted ≤ epoch → (q : List ℕ)
-          → same_key key q ≡ true → Fits (redone epoch (redo.Commit tx at key ∷ log) q) (row_at now_committed.places q)
-      fits_own (Some image) has epoch few q e =
-          let one : Some image ≡ Some r.image = sym (is.known tx key image has) ∙ image_is in
-          let same_image : image ≡ r.image = cc in
-          subst (λ w. Fits w (row_at now_committed.places q)) (sym (has_prepare image has epoch few q true e))
-          (same_image ∙ sym (own_row q e))
-      fits_own None none epoch few q e =
-          let nothing : redone epoch log q ≡ None =
-          ap (redone epoch log) (sym (same key q e)) ∙ is.older tx key r.image image_is none epoch few in
-          subst (λ w. Fits w (row_at now_committed.places q)) (sym (has_none none epoch q ∙ nothing)) tt
+    fits_own : (o : Option (Option (List ℕ))) → last_image log tx key ≡ o → (epoch : ℕ) → noted ≤ epoch → (q : List ℕ)
+        → same_key key q ≡ true → Fits (redone epoch (redo.Commit tx at key ∷ log) q) (row_at now_committed.places q)
+    fits_own (Some image) has epoch few q e =
+        let one : Some image ≡ Some r.image = sym (is.known tx key image has) ∙ image_is in
+        let same_image : image ≡ r.image = cc in
+        subst (λ w. Fits w (row_at now_committed.places q)) (sym (has_prepare image has epoch few q true e))
+        (same_image ∙ sym (own_row q e))
+    fits_own None none epoch few q e =
+        let nothing : redone epoch log q ≡ None =
+        ap (redone epoch log) (sym (same key q e)) ∙ is.older tx key r.image image_is none epoch few in
+        subst (λ w. Fits w (row_at now_committed.places q)) (sym (has_none none epoch q ∙ nothing)) tt
 
-      stays_other : (o : Option (Option (List ℕ))) → last_image log tx key ≡ o → (epoch : ℕ) → noted ≤ epoch →
-          (q : List ℕ)
-          → same_key key q ≡ false → redone epoch (redo.Commit tx at key ∷ log) q ≡ redone epoch log q
-      stays_other (Some image) has epoch few q e = has_prepare image has epoch few q false e
-      stays_other None none epoch few q e = has_none none epoch q
+    stays_other : (o : Option (Option (List ℕ))) → last_image log tx key ≡ o → (epoch : ℕ) → noted ≤ epoch →
+        (q : List ℕ)
+        → same_key key q ≡ false → redone epoch (redo.Commit tx at key ∷ log) q ≡ redone epoch log q
+    stays_other (Some image) has epoch few q e = has_prepare image has epoch few q false e
+    stays_other None none epoch few q e = has_none none epoch q
 
-      fits_now : (epoch : ℕ) → noted ≤ epoch → (q : List ℕ) (b : Bool) → same_key key q ≡ b
-          → Fits (redone epoch (redo.Commit tx at key ∷ log) q) (row_at now_committed.places q)
-      fits_now epoch few q true e = fits_own (last_image log tx key) refl epoch few q e
-      fits_now epoch few q false e =
-          subst (λ w. Fits w (row_at now_committed.places q))
-          (sym (stays_other (last_image log tx key) refl epoch few q e))
-          (subst (Fits (redone epoch log q)) (sym (rewritten.other 0 q e)) (is.fits epoch few q))
+    fits_now : (epoch : ℕ) → noted ≤ epoch → (q : List ℕ) (b : Bool) → same_key key q ≡ b
+        → Fits (redone epoch (redo.Commit tx at key ∷ log) q) (row_at now_committed.places q)
+    fits_now epoch few q true e = fits_own (last_image log tx key) refl epoch few q e
+    fits_now epoch few q false e =
+        subst (λ w. Fits w (row_at now_committed.places q))
+        (sym (stays_other (last_image log tx key) refl epoch few q e))
+        (subst (Fits (redone epoch log q)) (sym (rewritten.other 0 q e)) (is.fits epoch few q))
 
-      commit_since : IsSince noted now_committed (redo.Commit tx at key ∷ log)
-      commit_since = record {
-        kept = kept;
-        known = λ other key2 image here.
-            let parts = log_kept (is_same tx key other key2) (last_image log other key2) image here in
-            still_prepared now_committed tx key ended other key2 image parts.0 (is.known other key2 image parts.1);
-        fits = λ epoch few q. fits_now epoch few q (same_key key q) refl;
-        older = λ other key2 image here none epoch few.
-            let was = was_prepared now_committed tx key ended other key2 image here in
-            let gone : last_image log other key2 ≡ None =
-            sym (ap (λ b. cond b None (last_image log other key2)) was.0) ∙ none in
-            stays_other (last_image log tx key) refl epoch few key2
-            (other_key now_committed tx key ended r.image image image_is other key2 was.1 was.0)
-            ∙ is.older other key2 image was.1 gone epoch few;
-      }
+    commit_since : IsSince noted now_committed (redo.Commit tx at key ∷ log)
+    commit_since = record {
+      kept = kept;
+      known = λ other key2 image here.
+          let parts = log_kept (is_same tx key other key2) (last_image log other key2) image here in
+          still_prepared now_committed tx key ended other key2 image parts.0 (is.known other key2 image parts.1);
+      fits = λ epoch few q. fits_now epoch few q (same_key key q) refl;
+      older = λ other key2 image here none epoch few.
+          let was = was_prepared now_committed tx key ended other key2 image here in
+          let gone : last_image log other key2 ≡ None =
+          sym (ap (λ b. cond b None (last_image log other key2)) was.0) ∙ none in
+          stays_other (last_image log tx key) refl epoch few key2
+          (other_key now_committed tx key ended r.image image image_is other key2 was.1 was.0)
+          ∙ is.older other key2 image was.1 gone epoch few;
+    }
 
   commit : (tx : TxId) (key : List ℕ) (at : ℕ) → at ≤ noted → (o : Option (Option (List ℕ))) → image_in s tx key ≡ o
       → IsSince noted (commit_record s tx key at) (log_if (redo.Commit tx at key) o log)
