@@ -6,3 +6,4 @@ pub mod Lists
 pub mod NeverDown
 pub mod NoMarks
 pub mod TellsTrue
+pub mod TurnSends

@@ -17,5 +17,4 @@ pub mod Steps
 pub mod TakeoverWords
 pub mod ToldByHosts
 pub mod TouchedKeys
-pub mod TurnSends
 pub mod Turns

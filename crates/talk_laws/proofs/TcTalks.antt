@@ -1,12 +1,9 @@
 -- What a turn of a coordinator's transaction has to do with its operations: one is asked for, one is answered, or all
 -- go with the request for an epoch.
-use Rattle.std.proofs.Common.{◌≡◌, ◌⊎◌, ◌+◌, ◌&&◌, ℕ, Bool, true, false, List, [], ◌∷◌, ◌++◌, take, drop, length}
-use Rattle.std.proofs.Common.{nat_lt, refl, ap, inl, inr}
+use Rattle.std.proofs.Common.{◌≡◌, ◌⊎◌, ◌+◌, ◌&&◌, ℕ, Bool, true, false, List, [], ◌∷◌, ◌++◌}
+use Rattle.std.proofs.Common.{refl, ap, inl, inr}
 use Rattle.std.specs.Prelude.{Option, None, Some}
-use Rattle.std.specs.List.{flat_map}
 use Rattle.run_theory.specs.Lists.{Each}
-use Rattle.run_theory.proofs.EachSent.{each_drop, each_flat, each_mapped, each_take}
-use Rattle.run_theory.proofs.Pasts.{each_append}
 use Rattle.sig_core.specs.declared.member.TxId.{TxId}
 use Rattle.sig_core.specs.declared.op.Answer.{Answer}
 use Rattle.sig_core.specs.declared.outcome.AbortCause.{AbortCause}
@@ -22,19 +19,18 @@ use Rattle.frag_map.specs.Layout.{Layout, chain_of}
 use Rattle.tc_block.proofs.EachResume.{ResumeForms}
 use Rattle.tc_block.specs.Abort.{abort_end, is_verifying}
 use Rattle.tc_block.specs.Operate.{is_ready}
-use Rattle.tc_block.specs.Part.{part_effects, rest_if}
 use Rattle.tc_block.specs.Phases.{is_open}
 use Rattle.tc_block.specs.Resume.{anew_if}
-use Rattle.tc_block.specs.Sends.{abort_of, complete_if, entering, front_sends, key_sends, phase_sends, wait_of}
+use Rattle.tc_block.specs.Sends.{entering}
 use Rattle.tc_block.specs.Touched.{fits}
 use Rattle.tc_block.specs.Turn.{Turn, asking, going}
 use Rattle.tc_block.specs.declared.phase.Asked.{Asked}
 use Rattle.tc_block.specs.declared.phase.Phase.{Phase}
-use Rattle.tc_block.specs.declared.phase.Phase.TheVariants.{Open, Verifying, Committing, Completing, Aborting}
-use Rattle.tc_block.specs.declared.touched.Touched.{Touched}
 use Rattle.tc_block.specs.declared.transaction.Transaction.{Transaction}
 use Rattle.tc_block.proofs.EachTurn.{AbortForms, CommittedForms, TurnForms, ready_is}
 use Rattle.tc_views.specs.State.{go_on_if}
+use Rattle.outcome_laws.proofs.coordinators.TurnSends.{Passes, Spares, SparesIn, end_spared, enters_spared, late_spared}
+use Rattle.outcome_laws.proofs.coordinators.TurnSends.{on_spared, told_in, waits_spared}
 use Rattle.host_laws.proofs.rows.Operations.{left_of}
 
 -- the signal asks for an operation or answers one, or asks for an epoch with them all
@@ -72,51 +68,27 @@ pub more_mute : (node : ℕ) (b : Bool) → AreMute (go_on_if node b)
 more_mute node true = (refl, tt)
 more_mute node false = tt
 
+-- what a transaction sends on its way has to do with none
+spares : (tx : TxId) → Spares (Passes is_talk) tx
+spares tx = record {
+  commits = λ key epoch chain at. refl;
+  completes = λ key chain at. refl;
+  aborts = λ key. refl;
+  ends = refl;
+  waits = λ key. refl;
+  goes_on = λ at. refl;
+}
+
+told : (tx : TxId) (phase : Phase) → SparesIn (Passes is_talk) tx phase
+told tx phase = told_in (Passes is_talk) tx (λ epoch. refl) phase
+
 module _ (node : ℕ) (layout : Layout) (tx : TxId) where
-  rest_mute : (at : ℕ) (b : Bool) → AreMute (rest_if node tx at b)
-  rest_mute at true = (refl, tt)
-  rest_mute at false = tt
-
-  part_mute : (sends : List Outgoing) (at : ℕ) → AreMute sends → AreMute (part_effects node tx sends at).sends
-  unfolding part_effects
-  part_mute sends at all =
-      each_append IsMute (take 8 (drop at sends)) (rest_if node tx at (nat_lt (at + 8) (length sends)))
-      (each_take IsMute 8 (drop at sends) (each_drop IsMute at sends all))
-      (rest_mute at (nat_lt (at + 8) (length sends)))
-
-  front_mute : (phase : Phase) → AreMute (front_sends tx phase)
-  unfolding front_sends
-  front_mute Open = tt
-  front_mute Verifying = tt
-  front_mute (Committing epoch awaited) = tt
-  front_mute (Completing epoch awaited) = (refl, tt)
-  front_mute (Aborting why verifying awaited) = tt
-
-  complete_mute : (t : Touched) (b : Bool) → AreMute (complete_if tx t b)
-  complete_mute t true = (refl, tt)
-  complete_mute t false = tt
-
-  key_mute : (phase : Phase) (t : Touched) → AreMute (key_sends layout tx phase t)
-  unfolding key_sends
-  key_mute Open t = tt
-  key_mute Verifying t = tt
-  key_mute (Committing epoch awaited) t = (refl, tt)
-  key_mute (Completing epoch awaited) t = complete_mute t t.written
-  key_mute (Aborting why verifying awaited) t =
-      each_mapped IsMute (abort_of tx t.key) (chain_of layout t.key) (λ r. refl)
-
-  phase_mute : (phase : Phase) (touched : List Touched) → AreMute (phase_sends layout tx phase touched)
-  unfolding phase_sends
-  phase_mute phase touched =
-      each_append IsMute (front_sends tx phase) (flat_map (key_sends layout tx phase) touched) (front_mute phase)
-      (each_flat IsMute (key_sends layout tx phase) touched (key_mute phase))
-
   -- a transaction comes to a phase in which it isn't open
   enters : (t u : Transaction) (body : Body) (phase : Phase) → is_open phase ≡ false → u.ops ≡ t.ops
       → (u.asked ≡ t.asked) ⊎ (u.asked ≡ None) → Talks node tx t body (going (entering node layout tx u phase))
   unfolding entering
   enters t u body phase shut ops asked =
-      rests (part_mute (phase_sends layout tx phase u.touched) 0 (phase_mute phase u.touched))
+      rests (enters_spared (Passes is_talk) node layout tx (spares tx) u phase (told tx phase))
       (record { open_is = λ is. absurd cc; ops_are = ops; asked_is = asked })
 
   same : (t : Transaction) → Rests t t
@@ -130,8 +102,7 @@ module _ (node : ℕ) (layout : Layout) (tx : TxId) where
   }
 
   end_mute : (why : AbortCause) (b : Bool) → AreMute (abort_end node tx why b)
-  end_mute why true = (refl, (refl, tt))
-  end_mute why false = (refl, tt)
+  end_mute why b = end_spared (Passes is_talk) node layout tx (spares tx) why refl b
 
   abort_talks : (t u : Transaction) (body : Body) (why : AbortCause) → Rests t u
       → AbortForms node layout tx u why (λ turn. Talks node tx t body turn)
@@ -155,16 +126,16 @@ module _ (node : ℕ) (layout : Layout) (tx : TxId) where
   turn_talks t body = record {
     stays = rests tt (same t);
     goes_on = λ at.
-        rests (part_mute (phase_sends layout tx t.phase t.touched) at (phase_mute t.phase t.touched)) (same t);
+        rests (on_spared (Passes is_talk) node layout tx (spares tx) t at (told tx t.phase)) (same t);
     operates = λ op is can.
         operates (record { op = op; chain = chain_of layout (key_of op) }) is (refl, tt)
         (opens t.phase t.asked (fits t.touched (key_of op)) can) refl
         refl;
     answers = λ key answer asked is on at. answers asked answer (ap is_open at) on refl refl refl;
     late = λ key asked why verifying awaited on at.
-        rests (each_mapped IsMute (abort_of tx key) (chain_of layout key) (λ r. refl)) (unasked t);
+        rests (late_spared (Passes is_talk) node layout tx (spares tx) key (chain_of layout key)) (unasked t);
     waits = λ asked on.
-        rests (each_mapped IsMute (wait_of tx (key_of asked.op)) asked.chain (λ r. refl)) (same t);
+        rests (waits_spared (Passes is_talk) node layout tx (spares tx) (key_of asked.op) asked.chain) (same t);
     decides = λ is ready. asks (ap is_open (ready_is t.phase t.asked ready).0) refl refl;
     commits = λ epoch is at some. enters t t body _ refl refl (inl refl);
     commits_none = λ epoch is at. committed_talks t body epoch;

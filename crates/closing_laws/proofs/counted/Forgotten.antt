@@ -41,7 +41,7 @@ use Rattle.request_laws.specs.Blocks.{coordinator_after}
 use Rattle.request_laws.specs.Ways.{entry_of}
 use Rattle.request_laws.proofs.phases.AlongLogs.{coordinator_comes}
 use Rattle.request_laws.proofs.phases.Moves.{Comes, begun, changed, same}
-use Rattle.request_laws.proofs.phases.TurnSends.{IsSpared}
+use Rattle.outcome_laws.proofs.coordinators.TurnSends.{IsSpared}
 use Rattle.request_laws.proofs.routes.Headers.{sent_so}
 use Rattle.request_laws.proofs.routes.PartSteps.{TcStep, coordinator_is}
 use Rattle.commit_laws.specs.Going.{own_coordinator, own_live}

@@ -57,7 +57,7 @@ use Rattle.request_laws.proofs.phases.AlongLogs.{coordinator_comes}
 use Rattle.request_laws.proofs.phases.GoneWays.{gone_nowhere, gone_same}
 use Rattle.request_laws.proofs.phases.HeardFromItself.{heard_at}
 use Rattle.request_laws.proofs.phases.Moves.{Comes, begun, changed, same}
-use Rattle.request_laws.proofs.phases.TurnSends.{AreSpared, IsSpared}
+use Rattle.outcome_laws.proofs.coordinators.TurnSends.{AreSpared, IsSpared}
 use Rattle.request_laws.proofs.phases.Stands.{coordinators_stand}
 use Rattle.request_laws.proofs.phases.ToldByHosts.{Heard}
 use Rattle.request_laws.proofs.phases.Turns.{Changes, is_commit_told}

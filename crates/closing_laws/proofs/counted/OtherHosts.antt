@@ -25,7 +25,7 @@ use Rattle.moment_laws.proofs.MomentHosts.{HasNoTc, never_tc}
 use Rattle.outcome_laws.proofs.once.Counted.{AreUncounted, IsUncounted, is_counted}
 use Rattle.outcome_laws.proofs.once.CoordinatorScale.{dih_installs_none, dih_none}
 use Rattle.outcome_laws.proofs.takeovers.SendUncounted.{takeover_none}
-use Rattle.request_laws.proofs.phases.TurnSends.{IsSpared}
+use Rattle.outcome_laws.proofs.coordinators.TurnSends.{IsSpared}
 use Rattle.closing_laws.proofs.counted.Turns.{AreCounting, is_uncounting}
 use Rattle.sig_core.specs.declared.mark.Mark.{Mark}
 use Rattle.node_views.specs.Words.{parts_words}

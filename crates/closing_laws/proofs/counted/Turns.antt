@@ -47,7 +47,7 @@ use Rattle.tc_views.specs.State as views
 use Rattle.outcome_laws.specs.Counts.{IsCoordinatorOf}
 use Rattle.tc_block.proofs.EachResume as walk
 use Rattle.request_laws.specs.Ways.{entry_of}
-use Rattle.request_laws.proofs.phases.TurnSends.{AreSpared, IsSpared}
+use Rattle.outcome_laws.proofs.coordinators.TurnSends.{AreSpared, IsSpared}
 use Rattle.request_laws.proofs.phases.Steps.{Walks, begins, coordinator_walks, is_about, left_of, passes, resumes}
 use Rattle.request_laws.proofs.phases.Steps.{stays, turns}
 use Rattle.request_laws.proofs.phases.Turns.{undecided_not}

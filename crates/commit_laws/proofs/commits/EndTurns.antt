@@ -48,7 +48,7 @@ use Rattle.view_laws.proofs.ballots.MadeSets.{in_either}
 use Rattle.outcome_laws.specs.Counts.{IsCoordinatorOf}
 use Rattle.tc_block.proofs.EachResume as walk
 use Rattle.request_laws.specs.Ways.{entry_of}
-use Rattle.request_laws.proofs.phases.TurnSends.{AreSpared, IsSpared}
+use Rattle.outcome_laws.proofs.coordinators.TurnSends.{AreSpared, IsSpared}
 use Rattle.request_laws.proofs.phases.Steps.{Walks, begins, coordinator_walks, is_about, is_held_back, left_of, passes}
 use Rattle.request_laws.proofs.phases.Steps.{resumes, stays, turns}
 

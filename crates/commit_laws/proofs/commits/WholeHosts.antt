@@ -38,7 +38,7 @@ use Rattle.request_laws.specs.Phases.{CoordinatorStands, SaysIn, SaysOf}
 use Rattle.request_laws.specs.Routed.{AllRouted, IsGivenUp, WasAskedIn, WasDrivenIn, layout_in, view_of_tc}
 use Rattle.request_laws.specs.Routes.{HasRoutesIn, IsTouchedRouted, touched_chain}
 use Rattle.request_laws.specs.Ways.{entry_of}
-use Rattle.request_laws.proofs.phases.TurnSends.{IsSpared}
+use Rattle.outcome_laws.proofs.coordinators.TurnSends.{IsSpared}
 use Rattle.request_laws.proofs.phases.Stands.{coordinators_stand}
 use Rattle.request_laws.proofs.phases.Steps.{is_about}
 use Rattle.request_laws.proofs.routes.All.{signals_are_routed}

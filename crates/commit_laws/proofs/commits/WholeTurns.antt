@@ -37,7 +37,7 @@ use Rattle.run_laws.proofs.routes.Sends.{each_flat_of}
 use Rattle.view_laws.proofs.ballots.MadeSets.{in_either}
 use Rattle.outcome_laws.specs.Counts.{IsCoordinatorOf}
 use Rattle.request_laws.specs.Ways.{entry_of}
-use Rattle.request_laws.proofs.phases.TurnSends.{IsSpared}
+use Rattle.outcome_laws.proofs.coordinators.TurnSends.{IsSpared}
 use Rattle.request_laws.proofs.phases.Steps.{Walks, begins, coordinator_walks, is_about, left_of, passes, resumes}
 use Rattle.request_laws.proofs.phases.Steps.{stays, turns}
 use Rattle.commit_laws.proofs.drive.Turns.{DriveTurn, Redrives, drives, drives_key, resumes_drive, turns_drive}

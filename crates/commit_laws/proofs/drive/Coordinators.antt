@@ -36,7 +36,7 @@ use Rattle.run_laws.specs.Keyed.{AreApart}
 use Rattle.outcome_laws.specs.Counts.{IsCoordinatorOf, coordinator_member, count_sent, is_unborn}
 use Rattle.outcome_laws.proofs.coordinators.Lists.{count_both, count_more, keys_once, none_counted}
 use Rattle.request_laws.specs.Ways.{entry_of}
-use Rattle.request_laws.proofs.phases.TurnSends.{IsSpared}
+use Rattle.outcome_laws.proofs.coordinators.TurnSends.{IsSpared}
 use Rattle.request_laws.proofs.phases.Steps.{AreAway, Walks, begins, coordinator_walks, is_about, is_held_back, left_of}
 use Rattle.request_laws.proofs.phases.Steps.{passes, resumes, stays, turns}
 use Rattle.commit_laws.proofs.drive.Kinds.{Drive, committing, completing, goes}

@@ -43,7 +43,7 @@ use Rattle.tc_block.specs.Sends.{abort_of, aborts_of, entering, go_on_if, key_se
 use Rattle.tc_block.specs.Sends.{waits_of}
 use Rattle.tc_block.specs.Turn.{Turn, asking, at_phase, ending, going}
 use Rattle.tc_block.proofs.EachTurn.{AbortForms, TurnFormsAt, ready_is}
-use Rattle.request_laws.proofs.phases.TurnSends.{AreSpared}
+use Rattle.outcome_laws.proofs.coordinators.TurnSends.{AreSpared}
 use Rattle.request_laws.proofs.phases.Turns.{is_commit_told}
 
 -- the signal commits or completes a key

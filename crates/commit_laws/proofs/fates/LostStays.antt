@@ -51,7 +51,7 @@ use Rattle.request_laws.proofs.phases.HostSteps as goes
 use Rattle.request_laws.proofs.phases.HostSteps.{Goes, IsEntered, tc_goes}
 use Rattle.request_laws.proofs.phases.Moves as moves
 use Rattle.request_laws.proofs.phases.Moves.{Comes}
-use Rattle.request_laws.proofs.phases.TurnSends.{AreSpared, IsSpared}
+use Rattle.outcome_laws.proofs.coordinators.TurnSends.{AreSpared, IsSpared}
 use Rattle.request_laws.proofs.phases.Turns as turns
 use Rattle.request_laws.proofs.phases.Turns.{Changes, IsStill}
 use Rattle.request_laws.proofs.phases.Steps.{left_of}

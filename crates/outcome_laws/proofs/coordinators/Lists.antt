@@ -1,21 +1,26 @@
 -- The list of a coordinator's transactions, where none stands twice and their numbers have been come to; and counts of
 -- entries and of signals.
-use Rattle.std.proofs.Common.{◌≡◌, ◌∙◌, ◌+◌, ◌≤◌, ◌<◌, ℕ, Bool, true, false, cond, List, [], ◌∷◌, ◌++◌, arith, refl, ap}
+use Rattle.std.proofs.Common.{◌≡◌, ◌∙◌, ◌+◌, ◌≤◌, ◌<◌, ℕ, Bool, true, false, cond, List, [], ◌∷◌, ◌++◌, arith, refl}
+use Rattle.std.proofs.Common.{ap, subst, sym}
 use Rattle.std.proofs.lemmas.Bool.{leb-false, leb-true}
 use Rattle.std.proofs.lemmas.List.Sums.{sum_by-append, sum_by-cons}
 use Rattle.std.specs.Prelude.{if◌then◌else◌, nat_le, ◌&&◌}
 use Rattle.std.specs.List.{count_by}
 use Rattle.indexmap.specs.IndexMap.{insert_entry}
 use Rattle.run_theory.specs.Lists.{Each}
-use Rattle.run_theory.proofs.Pasts.{each_map}
+use Rattle.run_theory.proofs.Pasts.{each_after, each_append, each_before, each_map}
 use Rattle.sig_core.specs.declared.member.TxId.{TxId}
 use Rattle.sig_core.specs.declared.outs.Outgoing.{Outgoing}
 use Rattle.sig_core.specs.declared.signal.Body.{Body}
 use Rattle.sig_core.specs.Same.{same_tx}
 use Rattle.sig_core.proofs.TxLemmas.{same_tx-is, same_tx-swap}
 use Rattle.tc_block.specs.declared.transaction.Transaction.{Transaction}
-use Rattle.tc_block.proofs.LiveSplit.{AreOthers, KeysOnce, Live}
+use Rattle.tc_block.proofs.LiveSplit.{AreOthers, KeysOnce, Live, Split}
 use Rattle.tc_block.specs.Complete.{one_if}
+use Rattle.tc_block.specs.Live.{turned, turned_if, without}
+use Rattle.tc_block.specs.Operate.{fresh}
+use Rattle.tc_block.specs.State.{TcState}
+use Rattle.tc_block.specs.Turn.{Turn}
 use Rattle.tc_views.specs.Laws.{AreOnce}
 use Rattle.outcome_laws.specs.Counts.{count_sent}
 
@@ -136,3 +141,49 @@ comes_to n = by (nat_le (n + 1) n) refl (nat_le n n) refl
     by true after c before = absurd (omega (arith, leb-true (n + 1) n after))
     by false after false before = absurd (omega (arith, leb-false n n before))
     by false after true before = omega arith
+
+-- what holds of each transaction holds of the one whose turn it is, and of all behind the turn
+module _ (P : TxId × Transaction → Type 0) where
+  pub own_of : (live : Live) (tx : TxId) (t : Transaction) (at : ℕ) → Split tx t live at → Each P live → P (tx, t)
+  own_of live tx t at split all =
+      (each_after P split.front ((tx, t) ∷ split.back) (subst (Each P) split.is all)).0
+
+  pub turned_each : (s : TcState) (tx : TxId) (t : Transaction) (at : ℕ) → Split tx t s.live at → Each P s.live
+      → (turn : Turn) → P (tx, turn.step.state) → Each P (turned s at turn).state.live
+  unfolding without
+  turned_each s tx t at split all turn now = by turn.over
+    where
+      whole : Each P (split.front ++ (tx, t) ∷ split.back)
+      whole = subst (Each P) split.is all
+
+      front : Each P split.front
+      front = each_before P split.front ((tx, t) ∷ split.back) whole
+
+      back : Each P split.back
+      back = (each_after P split.front ((tx, t) ∷ split.back) whole).1
+
+      by : (b : Bool) → Each P (turned_if s at turn b).state.live
+      by true = subst (Each P) (sym split.gone) (each_append P split.front split.back front back)
+      by false =
+          subst (Each P) (sym (split.set turn.step.state))
+          (each_append P split.front ((tx, turn.step.state) ∷ split.back) front (now, back))
+
+  -- and once one more has begun
+  pub begun_each : ((tx : TxId) → P (tx, fresh)) → (live : Live) (tx : TxId) → Each P live
+      → Each P (insert_entry same_tx live tx fresh)
+  begun_each new [] tx all = (new tx, tt)
+  begun_each new (e ∷ es) tx all = by (same_tx tx e.0) (begun_each new es tx all.1)
+    where
+      by : (b : Bool) → Each P (insert_entry same_tx es tx fresh)
+          → Each P (if b then (e.0, fresh) ∷ es else e ∷ insert_entry same_tx es tx fresh)
+      by true more = (new e.0, all.1)
+      by false more = (all.0, more)
+
+-- a turn sends the same whether it is the last one or not
+pub turned_sends : (Q : Outgoing → Type 0) (s : TcState) (at : ℕ) (turn : Turn) → Each Q turn.step.effects.sends
+    → Each Q (turned s at turn).effects.sends
+turned_sends Q s at turn all = by turn.over
+  where
+    by : (b : Bool) → Each Q (turned_if s at turn b).effects.sends
+    by true = all
+    by false = all

@@ -1,12 +1,11 @@
 -- A coordinator that knows the epochs of those that it commits, and is told true things, goes on to know and tells true
 -- things.
-use Rattle.std.proofs.Common.{◌+◌, ℕ, Bool, true, false, List, [], ◌∷◌, ◌++◌, take, drop, length, nat_lt, sym, subst}
-use Rattle.std.specs.Prelude.{if◌then◌else◌, None}
+use Rattle.std.proofs.Common.{◌+◌, ℕ, Bool, true, false, List, take, drop, length, nat_lt, subst}
+use Rattle.std.specs.Prelude.{None}
 use Rattle.std.specs.List.{flat_map}
-use Rattle.indexmap.specs.IndexMap.{insert_entry}
 use Rattle.run_theory.specs.Lists.{Each}
 use Rattle.run_theory.proofs.EachSent.{each_drop, each_flat, each_mapped, each_take}
-use Rattle.run_theory.proofs.Pasts.{each_after, each_append, each_before}
+use Rattle.run_theory.proofs.Pasts.{each_append}
 use Rattle.sig_core.specs.declared.member.TxId.{TxId}
 use Rattle.sig_core.specs.declared.outcome.AbortCause.{AbortCause}
 use Rattle.sig_core.specs.declared.outs.Outgoing.{Outgoing}
@@ -14,13 +13,11 @@ use Rattle.sig_core.specs.declared.signal.Body.{Body}
 use Rattle.sig_core.specs.declared.signal.Signal.{Signal}
 use Rattle.sig_core.specs.declared.view.View.{View}
 use Rattle.sig_core.specs.Op.{key_of}
-use Rattle.sig_core.specs.Same.{same_tx}
 use Rattle.sig_core.specs.Step.{Step}
 use Rattle.frag_map.specs.Layout.{Layout, chain_of}
 use Rattle.tc_block.proofs.EachResume.{ResumeForms}
 use Rattle.tc_block.specs.Abort.{abort_end, is_verifying}
-use Rattle.tc_block.specs.Live.{turned, turned_if, without}
-use Rattle.tc_block.specs.Operate.{fresh}
+use Rattle.tc_block.specs.Live.{turned}
 use Rattle.tc_block.specs.Part.{part_effects, rest_if}
 use Rattle.tc_block.specs.Resume.{anew_if}
 use Rattle.tc_block.specs.Sends.{abort_of, complete_if, entering, front_sends, key_sends, phase_sends, wait_of}
@@ -32,13 +29,14 @@ use Rattle.tc_block.specs.declared.phase.Phase.TheVariants.{Open, Verifying, Com
 use Rattle.tc_block.specs.declared.touched.Touched.{Touched}
 use Rattle.tc_block.specs.declared.transaction.Transaction.{Transaction}
 use Rattle.tc_block.proofs.EachTurn.{AbortForms, CommittedForms, TurnForms, rows_of}
-use Rattle.tc_block.proofs.LiveSplit.{Live, Split}
+use Rattle.tc_block.proofs.LiveSplit.{Split}
 use Rattle.tc_views.proofs.Walk.{coordinator_outcomes, inner}
 use Rattle.tc_views.specs.Coordinator.{coordinator_row}
 use Rattle.tc_views.specs.State.{CoordinatorState, go_on_if}
 use Rattle.tc_views.specs.Views.{install_row, tasks_at}
 use Rattle.outcome_laws.specs.Known.{CoordinatorKnows, IsDecidedIn}
 use Rattle.outcome_laws.specs.Tells.{Tells}
+use Rattle.outcome_laws.proofs.coordinators.Lists.{begun_each, own_of, turned_each, turned_sends}
 
 module _ (D : TxId → ℕ → Type 0) (B : TxId → Type 0) where
   -- what is sent tells true things
@@ -181,45 +179,12 @@ module _ (D : TxId → ℕ → Type 0) (B : TxId → Type 0) where
         anew t known why verifying true = record { knows = known; tells = end_told why verifying }
         anew t known why verifying false = enters (asking t None) _ tt
 
-  -- the entry of the transaction whose turn it is
-  own_known : (live : Live) (tx : TxId) (t : Transaction) (at : ℕ) → Split tx t live at → Each IsKnown live
-      → IsDecidedIn D B tx t.phase
-  own_known live tx t at split all =
-      (each_after IsKnown split.front ((tx, t) ∷ split.back) (subst (Each IsKnown) split.is all)).0
-
   turned_true : (s : TcState) (tx : TxId) (t : Transaction) (at : ℕ) → Split tx t s.live at → Each IsKnown s.live
       → (turn : Turn) → IsTrue tx turn → IsTrueStep (turned s at turn)
-  unfolding without
-  turned_true s tx t at split all turn true_turn = by turn.over
-    where
-      whole : Each IsKnown (split.front ++ (tx, t) ∷ split.back)
-      whole = subst (Each IsKnown) split.is all
-
-      front : Each IsKnown split.front
-      front = each_before IsKnown split.front ((tx, t) ∷ split.back) whole
-
-      back : Each IsKnown split.back
-      back = (each_after IsKnown split.front ((tx, t) ∷ split.back) whole).1
-
-      by : (b : Bool) → IsTrueStep (turned_if s at turn b)
-      by true = record {
-        knows = subst (Each IsKnown) (sym split.gone) (each_append IsKnown split.front split.back front back);
-        tells = true_turn.tells;
-      }
-      by false = record {
-        knows = subst (Each IsKnown) (sym (split.set turn.step.state))
-            (each_append IsKnown split.front ((tx, turn.step.state) ∷ split.back) front (true_turn.knows, back));
-        tells = true_turn.tells;
-      }
-
-  begun_known : (live : Live) (tx : TxId) → Each IsKnown live → Each IsKnown (insert_entry same_tx live tx fresh)
-  begun_known [] tx all = (tt, tt)
-  begun_known (e ∷ es) tx all = by (same_tx tx e.0) (begun_known es tx all.1)
-    where
-      by : (b : Bool) → Each IsKnown (insert_entry same_tx es tx fresh)
-          → Each IsKnown (if b then (e.0, fresh) ∷ es else e ∷ insert_entry same_tx es tx fresh)
-      by true more = (tt, all.1)
-      by false more = (all.0, more)
+  turned_true s tx t at split all turn true_turn = record {
+    knows = turned_each IsKnown s tx t at split all turn true_turn.knows;
+    tells = turned_sends IsTold s at turn true_turn.tells;
+  }
 
   coordinator_true : (s : CoordinatorState) (x : Signal) → CoordinatorKnows D B s → Tells D B x.body
       → IsTrueStep (inner (coordinator_row s x))
@@ -228,15 +193,18 @@ module _ (D : TxId → ℕ → Type 0) (B : TxId → Type 0) where
         calm = record {
           turns = λ tx t at split.
               rows_of s.tc.node s.tc.layout tx t x.body (λ turn. IsTrue tx turn)
-              (turn_true s.tc.node s.tc.layout tx t x.body (own_known s.tc.live tx t at split known) told);
+              (turn_true s.tc.node s.tc.layout tx t x.body (own_of IsKnown s.tc.live tx t at split known) told);
           turned = λ tx t at split turn true_turn. turned_true s.tc tx t at split known turn true_turn;
           stays = record { knows = known; tells = tt };
           full = λ name. record { knows = known; tells = (tt, tt) };
-          begins = λ name. record { knows = begun_known s.tc.live (next_tx s.tc) known; tells = (tt, tt) };
+          begins = λ name. record {
+            knows = begun_each IsKnown (λ tx. tt) s.tc.live (next_tx s.tc) known;
+            tells = (tt, tt);
+          };
           passes = λ tx ahead. record { knows = known; tells = (tt, tt) };
         };
         resumes = λ tx t at split.
-            resume_true s.tc.node s.tc.layout tx t (own_known s.tc.live tx t at split known);
+            resume_true s.tc.node s.tc.layout tx t (own_of IsKnown s.tc.live tx t at split known);
         promises = record { knows = known; tells = (tt, tt) };
         goes_on = λ step node b so_far. record {
           knows = so_far.knows;

@@ -34,7 +34,7 @@ use Rattle.request_laws.specs.Ways.{entry_of, has_gone_back, has_gone_forth, is_
 use Rattle.request_laws.proofs.phases.AlongLogs.{coordinator_comes}
 use Rattle.request_laws.proofs.phases.GoneWays.{gone_here, gone_stays, gone_told}
 use Rattle.request_laws.proofs.phases.Moves.{Comes, begun, changed, same}
-use Rattle.request_laws.proofs.phases.TurnSends.{AreSpared, IsSpared}
+use Rattle.outcome_laws.proofs.coordinators.TurnSends.{AreSpared, IsSpared}
 use Rattle.request_laws.proofs.phases.ToldByHosts.{HasTold, IsTold}
 use Rattle.request_laws.proofs.phases.Turns.{Changes, IsDecidedAs, IsStill, is_epoch_asked}
 use Rattle.request_laws.proofs.phases.Turns as turns

@@ -43,7 +43,8 @@ use Rattle.request_laws.proofs.phases.HeldByEpochs.{IsGiven, dih_holds}
 use Rattle.request_laws.proofs.phases.HostSteps.{AreNoDecisions, Goes, IsEntered, is_decided_mark, leaves, takes}
 use Rattle.request_laws.proofs.phases.TouchedKeys.{IsKeyed, coordinator_keyed, install_keyed}
 use Rattle.request_laws.proofs.phases.Moves.{Comes, like, same, still_untold, taken_comes, word_still}
-use Rattle.request_laws.proofs.phases.TurnSends.{AreSpared, IsSpared, Spares, resume_spared, turn_spared}
+use Rattle.outcome_laws.proofs.coordinators.TurnSends.{AreSpared, IsSpared, Passes, SparesAll, resume_spared}
+use Rattle.outcome_laws.proofs.coordinators.TurnSends.{turn_spared}
 use Rattle.request_laws.proofs.phases.TakeoverWords.{AreWordless, IsWordless, is_word, takeover_wordless}
 
 -- the signal gives an epoch
@@ -51,16 +52,21 @@ abbrev is_given : Body → Bool
 is_given (Epoch (DiVerifyConf tx epoch)) = true
 is_given body = false
 
-spares : (tx : TxId) → Spares is_given tx
+spares : (tx : TxId) → SparesAll (Passes is_given) tx
 spares tx = record {
+  on_way = record {
+    commits = λ key epoch chain at. refl;
+    completes = λ key chain at. refl;
+    aborts = λ key. refl;
+    ends = refl;
+    waits = λ key. refl;
+    goes_on = λ at. refl;
+  };
   answers = λ answer. refl;
   requests = λ work chain at. refl;
-  commits = λ key epoch chain at. refl;
-  completes = λ key chain at. refl;
-  aborts = λ key. refl;
-  ends = refl;
-  waits = λ key. refl;
-  goes_on = λ at. refl;
+  tells = λ epoch. refl;
+  gives_up = λ cause. refl;
+  asks = λ ops. refl;
 }
 
 go_on_spared : (node : ℕ) (b : Bool) → AreSpared is_given (coordinators.go_on_if node b)
@@ -75,16 +81,14 @@ coordinator_gives_none s x =
       calm = record {
         turns = λ tx t at split.
             rows_of s.tc.node s.tc.layout tx t x.body (λ turn. AreSpared is_given turn.step.effects.sends)
-            (turn_spared is_given s.tc.node s.tc.layout tx (spares tx) (λ epoch. refl) (λ cause. refl) (λ ops. refl) t
-            x.body);
+            (turn_spared (Passes is_given) s.tc.node s.tc.layout tx (spares tx) t x.body);
         turned = λ tx t at split turn none. turned_none s.tc at turn none turn.over;
         stays = tt;
         full = λ name. (refl, tt);
         begins = λ name. (refl, tt);
         passes = λ tx ahead. (refl, tt);
       };
-      resumes = λ tx t at split.
-          resume_spared is_given s.tc.node s.tc.layout tx (spares tx) (λ epoch. refl) (λ cause. refl) (λ ops. refl) t;
+      resumes = λ tx t at split. resume_spared (Passes is_given) s.tc.node s.tc.layout tx (spares tx) t;
       promises = (refl, tt);
       goes_on = λ step node b none.
           each_append (IsSpared is_given) step.effects.sends (coordinators.go_on_if node b) none (go_on_spared node b);

@@ -28,7 +28,7 @@ use Rattle.frag_map.specs.Layout.{Layout}
 use Rattle.outcome_laws.specs.Counts.{IsCoordinatorOf, is_asking}
 use Rattle.tc_block.proofs.EachResume as walk
 use Rattle.request_laws.specs.Ways.{entry_of, tells_abort, tells_commit}
-use Rattle.request_laws.proofs.phases.TurnSends.{AreSpared}
+use Rattle.outcome_laws.proofs.coordinators.TurnSends.{AreSpared}
 use Rattle.request_laws.proofs.phases.Turns.{Changes, IsStill, resume_changes, turn_changes}
 use Rattle.request_laws.proofs.phases.TakeoverWords.{is_word}
 use Rattle.request_laws.proofs.phases.Steps.{AreAway, StaysUnborn, Walks, begins, coordinator_walks, is_about, left_of}

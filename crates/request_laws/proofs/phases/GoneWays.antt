@@ -13,7 +13,7 @@ use Rattle.world_views.specs.Machine.{step_after}
 use Rattle.moment_laws.specs.Places.{tc_of}
 use Rattle.request_laws.specs.Blocks.{coordinator_after}
 use Rattle.request_laws.specs.Ways.{entry_of, has_gone, is_at, is_sent}
-use Rattle.request_laws.proofs.phases.TurnSends.{AreSpared}
+use Rattle.outcome_laws.proofs.coordinators.TurnSends.{AreSpared}
 
 -- what is spared isn't sent
 pub spared_unsent : (p : Body → Bool) (sends : List Outgoing) → AreSpared p sends → is_sent p sends ≡ false

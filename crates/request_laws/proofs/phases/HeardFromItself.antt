@@ -68,7 +68,7 @@ use Rattle.request_laws.proofs.phases.AlongLogs.{IsRun, runs_tc}
 use Rattle.request_laws.proofs.phases.AsksOnce.{request}
 use Rattle.request_laws.proofs.phases.HostSteps.{Goes, IsEntered, leaves, takes, tc_goes}
 use Rattle.request_laws.proofs.phases.Moves.{epochs_still, like, word_still}
-use Rattle.request_laws.proofs.phases.TurnSends.{AreSpared, IsSpared}
+use Rattle.outcome_laws.proofs.coordinators.TurnSends.{AreSpared, IsSpared}
 use Rattle.request_laws.proofs.phases.ToldByHosts.{HasTold, Heard, IsHeard}
 use Rattle.request_laws.proofs.phases.Turns.{is_epoch_asked}
 use Rattle.request_laws.proofs.phases.TakeoverWords.{takeover_wordless}

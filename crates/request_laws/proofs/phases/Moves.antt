@@ -35,7 +35,7 @@ use Rattle.outcome_laws.proofs.coordinators.BeginsAndAsks.{coordinator_of_instal
 use Rattle.request_laws.specs.Ways.{entry_of, tells_abort, tells_commit}
 use Rattle.request_laws.proofs.phases.Fates.{Fate, IsUntold, changes, coordinator_fates, keeps, starts}
 use Rattle.request_laws.proofs.phases.HostSteps.{IsEntered}
-use Rattle.request_laws.proofs.phases.TurnSends.{IsSpared}
+use Rattle.outcome_laws.proofs.coordinators.TurnSends.{IsSpared}
 use Rattle.request_laws.proofs.phases.Turns.{Changes, IsStill, is_abort_told, is_commit_told, is_epoch_asked}
 use Rattle.request_laws.proofs.phases.Steps.{StaysUnborn, left_of}
 use Rattle.request_laws.proofs.phases.TakeoverWords.{AreWordless, IsWordless, is_word, takeover_wordless}

@@ -36,7 +36,7 @@ use Rattle.request_laws.specs.Ways.{entry_of, has_gone_back, has_gone_forth, is_
 use Rattle.request_laws.proofs.phases.AlongLogs.{coordinator_comes, coordinator_first, coordinator_of}
 use Rattle.request_laws.proofs.phases.GoneWays.{gone_here, gone_nowhere, gone_same, gone_stays, gone_told}
 use Rattle.request_laws.proofs.phases.Moves.{Comes, begun, changed, same}
-use Rattle.request_laws.proofs.phases.TurnSends.{AreSpared, IsSpared}
+use Rattle.outcome_laws.proofs.coordinators.TurnSends.{AreSpared, IsSpared}
 use Rattle.request_laws.proofs.phases.Turns.{Changes, IsDecidedAs, IsStill}
 use Rattle.request_laws.proofs.phases.Turns as turns
 use Rattle.request_laws.proofs.phases.Steps.{left_of}

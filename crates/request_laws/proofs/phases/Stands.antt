@@ -46,7 +46,7 @@ use Rattle.request_laws.proofs.phases.GoneWays.{gone_nowhere, gone_stays, gone_t
 use Rattle.request_laws.proofs.phases.HeardFromItself.{heard_at}
 use Rattle.request_laws.proofs.phases.HeldAreAsked.{IsKept, is_kept, ops_stay}
 use Rattle.request_laws.proofs.phases.Moves.{Comes, begun, changed, same}
-use Rattle.request_laws.proofs.phases.TurnSends.{AreSpared}
+use Rattle.outcome_laws.proofs.coordinators.TurnSends.{AreSpared}
 use Rattle.request_laws.proofs.phases.ToldByHosts.{HasTold, Heard, IsHeard, sent_told}
 use Rattle.request_laws.proofs.phases.Turns.{Changes, IsDecidedAs}
 use Rattle.request_laws.proofs.phases.Turns as turns
@@ -173,7 +173,8 @@ module _ (start : Start) (nobody : NobodyStarts start) (member : Member) (there 
         with_more epoch ops with_it = record {
           marked = inr with_it.marked;
           ops_are =
-              ops_stay start member there nobody log e heard tx (kept.decided tx epoch with_it.marked) ∙ with_it.ops_are;
+              ops_stay start member there nobody log e heard tx (kept.decided tx epoch with_it.marked)
+              ∙ with_it.ops_are;
         }
 
         knows_more : (ops : List (Op × Answer)) (phase : Phase) → KnowsIn log ops phase → KnowsIn (e ∷ log) ops phase

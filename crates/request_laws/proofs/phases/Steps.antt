@@ -33,7 +33,6 @@ use Rattle.sig_core.proofs.TxLemmas.{same_tx-is}
 use Rattle.frag_map.specs.Layout.{Layout}
 use Rattle.host_laws.specs.Live.{of_live}
 use Rattle.host_laws.proofs.coordinator.OfLive.{of_between, of_other}
-use Rattle.tc_block.proofs.EachResume.{ResumeForms}
 use Rattle.tc_block.specs.declared.task.Task.{Task}
 use Rattle.tc_block.specs.declared.task.Verdict.{Verdict}
 use Rattle.tc_block.specs.declared.transaction.Transaction.{Transaction}
@@ -55,7 +54,8 @@ use Rattle.outcome_laws.specs.Counts.{IsCoordinatorOf, coordinator_member, is_un
 use Rattle.outcome_laws.proofs.coordinators.Lists.{keys_once, next_is_other, put_last}
 use Rattle.tc_block.proofs.EachResume as walk
 use Rattle.request_laws.specs.Ways.{entry_of}
-use Rattle.request_laws.proofs.phases.TurnSends.{AreSpared, IsSpared, Spares, resume_spared, turn_spared}
+use Rattle.outcome_laws.proofs.coordinators.TurnSends.{AreSpared, IsSpared, Passes, SparesAll, resume_spared}
+use Rattle.outcome_laws.proofs.coordinators.TurnSends.{turn_spared}
 
 -- the signal, which a coordinator sends, names the transaction
 abbrev pub is_about : TxId → Body → Bool
@@ -193,16 +193,21 @@ turned_is s one t at split once turn = by turn.over
 
 -- what a turn of another one sends isn't about the transaction
 module _ (one tx : TxId) (off : same_tx one tx ≡ false) where
-  spares : Spares (is_about tx) one
+  spares : SparesAll (Passes (is_about tx)) one
   spares = record {
+    on_way = record {
+      commits = λ key epoch chain at. off;
+      completes = λ key chain at. off;
+      aborts = λ key. off;
+      ends = off;
+      waits = λ key. off;
+      goes_on = λ at. off;
+    };
     answers = λ answer. off;
     requests = λ work chain at. off;
-    commits = λ key epoch chain at. off;
-    completes = λ key chain at. off;
-    aborts = λ key. off;
-    ends = off;
-    waits = λ key. off;
-    goes_on = λ at. off;
+    tells = λ epoch. off;
+    gives_up = λ cause. off;
+    asks = λ ops. off;
   }
 
   turn_away : (s : TcState) (body : Body) (t : Transaction) → tx_in body ≡ one → is_turn body ≡ true
@@ -210,7 +215,7 @@ module _ (one tx : TxId) (off : same_tx one tx ≡ false) where
   turn_away s body t same takes =
       turn_with s.node s.layout one body t (λ turn. AreAway tx turn.step.effects.sends)
       (rows_of s.node s.layout one t body (λ turn. AreAway tx turn.step.effects.sends)
-      (turn_spared (is_about tx) s.node s.layout one spares (λ epoch. off) (λ cause. off) (λ ops. off) t body))
+      (turn_spared (Passes (is_about tx)) s.node s.layout one spares t body))
       same (λ is. absurd (true≢false (sym takes ∙ is)))
 
   resume_away : (node : ℕ) (layout : Layout) (t : Transaction) (verdict : Verdict) (number : ℕ)
@@ -218,7 +223,7 @@ module _ (one tx : TxId) (off : same_tx one tx ≡ false) where
   unfolding resume_row
   resume_away node layout t verdict number =
       walk.resumes node layout one t (λ turn. AreAway tx turn.step.effects.sends)
-      (resume_spared (is_about tx) node layout one spares (λ epoch. off) (λ cause. off) (λ ops. off) t)
+      (resume_spared (Passes (is_about tx)) node layout one spares t)
       number verdict t.phase refl
 
 go_on_away : (tx : TxId) (node : ℕ) (b : Bool) → AreAway tx (go_on_if node b)

@@ -31,8 +31,8 @@ use Rattle.tc_block.specs.declared.phase.Phase.TheVariants.{Aborting, Committing
 use Rattle.tc_block.specs.declared.transaction.Transaction.{Transaction}
 use Rattle.tc_block.proofs.EachTurn.{AbortForms, CommittedForms, TurnFormsAt, ready_is}
 use Rattle.request_laws.specs.Ways.{is_sent, tells_abort, tells_commit}
-use Rattle.request_laws.proofs.phases.TurnSends.{AreSpared, Spares, SparesIn, enters_spared, late_spared, on_spared}
-use Rattle.request_laws.proofs.phases.TurnSends.{waits_spared}
+use Rattle.outcome_laws.proofs.coordinators.TurnSends.{AreSpared, Passes, Spares, SparesIn, enters_spared, late_spared}
+use Rattle.outcome_laws.proofs.coordinators.TurnSends.{on_spared, told_in, waits_spared}
 
 -- the signal tells a client that a transaction is committed, or aborted, or asks for its epoch
 abbrev pub is_commit_told : Body → Bool
@@ -99,10 +99,8 @@ pub data Changes (node : ℕ) (tx : TxId) (t : Transaction) (body : Body) (turn 
   back : is_decided t.phase ≡ false → Back tx t turn → Changes node tx t body turn
 
 -- what is sent, by whether it tells of an end, or asks
-spares_commits : (tx : TxId) → Spares is_commit_told tx
+spares_commits : (tx : TxId) → Spares (Passes is_commit_told) tx
 spares_commits tx = record {
-  answers = λ answer. refl;
-  requests = λ work chain at. refl;
   commits = λ key epoch chain at. refl;
   completes = λ key chain at. refl;
   aborts = λ key. refl;
@@ -111,10 +109,8 @@ spares_commits tx = record {
   goes_on = λ at. refl;
 }
 
-spares_aborts : (tx : TxId) → Spares is_abort_told tx
+spares_aborts : (tx : TxId) → Spares (Passes is_abort_told) tx
 spares_aborts tx = record {
-  answers = λ answer. refl;
-  requests = λ work chain at. refl;
   commits = λ key epoch chain at. refl;
   completes = λ key chain at. refl;
   aborts = λ key. refl;
@@ -123,10 +119,8 @@ spares_aborts tx = record {
   goes_on = λ at. refl;
 }
 
-spares_asks : (tx : TxId) → Spares is_epoch_asked tx
+spares_asks : (tx : TxId) → Spares (Passes is_epoch_asked) tx
 spares_asks tx = record {
-  answers = λ answer. refl;
-  requests = λ work chain at. refl;
   commits = λ key epoch chain at. refl;
   completes = λ key chain at. refl;
   aborts = λ key. refl;
@@ -135,19 +129,11 @@ spares_asks tx = record {
   goes_on = λ at. refl;
 }
 
-aborts_in : (tx : TxId) (phase : Phase) → SparesIn is_abort_told tx phase
-aborts_in tx Open = tt
-aborts_in tx Verifying = tt
-aborts_in tx (Committing epoch awaited) = tt
-aborts_in tx (Completing epoch awaited) = refl
-aborts_in tx (Aborting why verifying awaited) = tt
+aborts_in : (tx : TxId) (phase : Phase) → SparesIn (Passes is_abort_told) tx phase
+aborts_in tx phase = told_in (Passes is_abort_told) tx (λ epoch. refl) phase
 
-asks_in : (tx : TxId) (phase : Phase) → SparesIn is_epoch_asked tx phase
-asks_in tx Open = tt
-asks_in tx Verifying = tt
-asks_in tx (Committing epoch awaited) = tt
-asks_in tx (Completing epoch awaited) = refl
-asks_in tx (Aborting why verifying awaited) = tt
+asks_in : (tx : TxId) (phase : Phase) → SparesIn (Passes is_epoch_asked) tx phase
+asks_in tx phase = told_in (Passes is_epoch_asked) tx (λ epoch. refl) phase
 
 -- a phase that is undecided is not decided
 pub undecided_not : (phase : Phase) → is_undecided phase ≡ true → is_decided phase ≡ false
@@ -163,7 +149,8 @@ module _ (node : ℕ) (layout : Layout) (tx : TxId) (t : Transaction) (body : Bo
 
   -- whatever it sends on its way, where it stays as it is
   rests : (turn : Turn) → turn.over ≡ false → turn.step.state ≡ t
-      → ((p : Body → Bool) → Spares p tx → SparesIn p tx t.phase → AreSpared p turn.step.effects.sends)
+      → ((p : Body → Bool) → Spares (Passes p) tx → SparesIn (Passes p) tx t.phase → AreSpared p
+      turn.step.effects.sends)
       → (phase : Phase) → t.phase ≡ phase → Does turn
   rests turn on same sends = by
     where
@@ -176,7 +163,7 @@ module _ (node : ℕ) (layout : Layout) (tx : TxId) (t : Transaction) (body : Bo
       asked : AreSpared is_epoch_asked turn.step.effects.sends
       asked = sends is_epoch_asked (spares_asks tx) (asks_in tx t.phase)
 
-      committed : SparesIn is_commit_told tx t.phase → AreSpared is_commit_told turn.step.effects.sends
+      committed : SparesIn (Passes is_commit_told) tx t.phase → AreSpared is_commit_told turn.step.effects.sends
       committed told = sends is_commit_told (spares_commits tx) told
 
       goes_forth : (epoch : ℕ) → IsDecidedAs t.phase epoch → Does turn
@@ -193,14 +180,14 @@ module _ (node : ℕ) (layout : Layout) (tx : TxId) (t : Transaction) (body : Bo
       by Open at =
           opens at on (left ∙ at) (inl (ap (λ (u : Transaction). u.ops) same))
           (record {
-            commits = committed (subst (SparesIn is_commit_told tx) (sym at) tt);
+            commits = committed (subst (SparesIn (Passes is_commit_told) tx) (sym at) tt);
             aborts = aborts;
             asks = asked;
           })
       by Verifying at =
           waits at on same
           (record {
-            commits = committed (subst (SparesIn is_commit_told tx) (sym at) tt);
+            commits = committed (subst (SparesIn (Passes is_commit_told) tx) (sym at) tt);
             aborts = aborts;
             asks = asked;
           })
@@ -210,7 +197,7 @@ module _ (node : ℕ) (layout : Layout) (tx : TxId) (t : Transaction) (body : Bo
         on = λ o. ap is_aborting left ∙ ap is_aborting at;
         ends = λ o. absurd (true≢false (sym o ∙ on));
         ops = ap (λ (u : Transaction). u.ops) same;
-        commits = committed (subst (SparesIn is_commit_told tx) (sym at) tt);
+        commits = committed (subst (SparesIn (Passes is_commit_told) tx) (sym at) tt);
         asks = asked;
       })
 
@@ -223,8 +210,8 @@ module _ (node : ℕ) (layout : Layout) (tx : TxId) (t : Transaction) (body : Bo
     ends = λ o. absurd (true≢false (sym o));
     ops = ops;
     asked = asked;
-    aborts = enters_spared is_abort_told node layout tx (spares_aborts tx) u phase (aborts_in tx phase);
-    asks = enters_spared is_epoch_asked node layout tx (spares_asks tx) u phase (asks_in tx phase);
+    aborts = enters_spared (Passes is_abort_told) node layout tx (spares_aborts tx) u phase (aborts_in tx phase);
+    asks = enters_spared (Passes is_epoch_asked) node layout tx (spares_asks tx) u phase (asks_in tx phase);
   }
 
   committed_forth : (epoch : ℕ) → CommittedForms node layout tx t epoch (λ turn. Forth tx t epoch turn)
@@ -255,8 +242,8 @@ module _ (node : ℕ) (layout : Layout) (tx : TxId) (t : Transaction) (body : Bo
     ends = λ o. absurd (true≢false (sym o));
     ops = ops;
     commits =
-        enters_spared is_commit_told node layout tx (spares_commits tx) u (Aborting why verifying awaited) tt;
-    asks = enters_spared is_epoch_asked node layout tx (spares_asks tx) u (Aborting why verifying awaited) tt;
+        enters_spared (Passes is_commit_told) node layout tx (spares_commits tx) u (Aborting why verifying awaited) tt;
+    asks = enters_spared (Passes is_epoch_asked) node layout tx (spares_asks tx) u (Aborting why verifying awaited) tt;
   }
 
   back_ends : (u : Transaction) (why : AbortCause) (verifying : Bool) → u.ops ≡ t.ops
@@ -289,8 +276,8 @@ module _ (node : ℕ) (layout : Layout) (tx : TxId) (t : Transaction) (body : Bo
     on = λ o. ap is_aborting at;
     ends = λ o. absurd (true≢false (sym o));
     ops = refl;
-    commits = late_spared is_commit_told node layout tx (spares_commits tx) key (chain_of layout key);
-    asks = late_spared is_epoch_asked node layout tx (spares_asks tx) key (chain_of layout key);
+    commits = late_spared (Passes is_commit_told) node layout tx (spares_commits tx) key (chain_of layout key);
+    asks = late_spared (Passes is_epoch_asked) node layout tx (spares_asks tx) key (chain_of layout key);
   })
 
   still : IsStill []
@@ -303,7 +290,7 @@ module _ (node : ℕ) (layout : Layout) (tx : TxId) (t : Transaction) (body : Bo
     stops = λ at is high. rests (going (stay t)) refl refl (λ p spares told. tt) t.phase refl;
     goes_on = λ at is low.
         rests (going (go_on_if node layout tx t at true)) refl refl
-        (λ p spares told. on_spared p node layout tx spares t at told) t.phase refl;
+        (λ p spares told. on_spared (Passes p) node layout tx spares t at told) t.phase refl;
     operates = λ op is can.
         let open_is : t.phase ≡ Open = (ready_is t.phase t.asked (and_parts (is_ready t.phase t.asked) _ can).0).0 in
         opens open_is refl open_is (inl refl) (record { commits = (refl, tt); aborts = (refl, tt); asks = (refl, tt) });
@@ -313,7 +300,7 @@ module _ (node : ℕ) (layout : Layout) (tx : TxId) (t : Transaction) (body : Bo
     late = λ key asked why verifying awaited is on at. late_back key why verifying awaited at;
     waits = λ asked is on.
         rests (going (wait_by tx t (Some asked))) refl refl
-        (λ p spares told. waits_spared p node layout tx spares (key_of asked.op) asked.chain) t.phase refl;
+        (λ p spares told. waits_spared (Passes p) node layout tx spares (key_of asked.op) asked.chain) t.phase refl;
     decides = λ is ready. asks (ready_is t.phase t.asked ready).0 (ready_is t.phase t.asked ready).1 is refl;
     commits = λ epoch is at some. decides epoch at is (forth_enters t epoch _ refl refl refl);
     commits_none = λ epoch is at none. committed_changes epoch (λ turn goes. decides epoch at is goes);

@@ -28,7 +28,7 @@ use Rattle.tc_views.specs.State.{CoordinatorState, go_on_if}
 use Rattle.outcome_laws.specs.Counts.{coordinator_member}
 use Rattle.request_laws.specs.Drives.{is_commit, is_request}
 use Rattle.request_laws.specs.Ways.{is_sent}
-use Rattle.request_laws.proofs.phases.TurnSends.{AreSpared, Spares, resume_spared, turn_spared}
+use Rattle.outcome_laws.proofs.coordinators.TurnSends.{AreSpared, Passes, SparesAll, resume_spared, turn_spared}
 
 -- a request or a commit of another transaction
 abbrev pub is_of_others : TxId → Body → Bool
@@ -46,26 +46,30 @@ same_of true is = refl
 same_of false is = absurd (true≢false is)
 
 module _ (node : ℕ) (layout : Layout) (tx : TxId) where
-  own_spared : Spares (is_of_others tx) tx
+  own_spared : SparesAll (Passes (is_of_others tx)) tx
   own_spared = record {
+    on_way = record {
+      commits = λ key epoch chain at. ap not (same_tx-self tx);
+      completes = λ key chain at. refl;
+      aborts = λ key. refl;
+      ends = refl;
+      waits = λ key. refl;
+      goes_on = λ at. refl;
+    };
     answers = λ answer. refl;
     requests = λ work chain at. ap not (same_tx-self tx);
-    commits = λ key epoch chain at. ap not (same_tx-self tx);
-    completes = λ key chain at. refl;
-    aborts = λ key. refl;
-    ends = refl;
-    waits = λ key. refl;
-    goes_on = λ at. refl;
+    tells = λ epoch. refl;
+    gives_up = λ cause. refl;
+    asks = λ ops. refl;
   }
 
   pub turns_own : (t : Transaction) (body : Body) → RowsAre node layout tx t body (IsOwnTurn tx)
   turns_own t body =
       rows_of node layout tx t body (IsOwnTurn tx)
-      (turn_spared (is_of_others tx) node layout tx own_spared (λ epoch. refl) (λ cause. refl) (λ ops. refl) t body)
+      (turn_spared (Passes (is_of_others tx)) node layout tx own_spared t body)
 
   pub resumes_own : (t : Transaction) → ResumeForms node layout tx t (IsOwnTurn tx)
-  resumes_own t =
-      resume_spared (is_of_others tx) node layout tx own_spared (λ epoch. refl) (λ cause. refl) (λ ops. refl) t
+  resumes_own t = resume_spared (Passes (is_of_others tx)) node layout tx own_spared t
 
 -- neither a request of the transaction is sent, nor a commit
 pub record IsUnsent (tx : TxId) (sends : List Outgoing) : Type 0 where

@@ -53,7 +53,7 @@ use Rattle.request_laws.proofs.phases.AlongLogs.{coordinator_first, coordinator_
 use Rattle.request_laws.proofs.phases.GoneWays.{spared_unsent}
 use Rattle.request_laws.proofs.phases.HostSteps.{Goes, IsEntered, leaves, takes, tc_goes}
 use Rattle.request_laws.proofs.phases.Moves.{IsLike, epochs_still, like, still_untold, word_still}
-use Rattle.request_laws.proofs.phases.TurnSends.{IsSpared}
+use Rattle.outcome_laws.proofs.coordinators.TurnSends.{IsSpared}
 use Rattle.request_laws.proofs.phases.TakeoverWords.{takeover_wordless}
 use Rattle.request_laws.proofs.routes.BesideRows.{epochs_aside}
 use Rattle.request_laws.proofs.routes.Unsent.{sent_behind}

@@ -37,7 +37,7 @@ use Rattle.tc_block.proofs.EachResume as walk
 use Rattle.request_laws.specs.Drives.{is_request}
 use Rattle.request_laws.specs.Tokens.{has_asked}
 use Rattle.request_laws.specs.Ways.{entry_of, is_at, is_sent, tells_abort}
-use Rattle.request_laws.proofs.phases.TurnSends.{AreSpared}
+use Rattle.outcome_laws.proofs.coordinators.TurnSends.{AreSpared}
 use Rattle.request_laws.proofs.phases.Turns.{Changes, back, decides, forth, is_abort_told, opens, resume_changes}
 use Rattle.request_laws.proofs.phases.Turns.{turn_changes, waits}
 use Rattle.request_laws.proofs.phases.Turns as changes
