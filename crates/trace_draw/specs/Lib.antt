@@ -1,0 +1,5 @@
+pub mod Chosen
+pub mod Ends
+pub mod Places
+pub mod Escaped
+pub mod Ways
