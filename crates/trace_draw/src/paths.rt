@@ -68,43 +68,43 @@ fn row_of(plan: &Plan, step: usize) -> (u64, u64) {
 fn draw_near(svg: &mut Svg, class: &str, ends: Ends) -> Result<(), NoMemory> {
     let Ends { from, leaves, to } = ends;
     let end = to.y.saturating_sub(TIP);
-    let bend = end.saturating_sub(leaves) * 3 / 5;
-    let leaving = svg.point(from.x, leaves);
-    let first = svg.point(from.x, leaves.saturating_add(bend));
-    let second = svg.point(to.x, end.saturating_sub(bend));
+    let bend = end.saturating_sub(leaves).saturating_mul(3) / 5;
+    let way = Curve {
+        from: svg.point(from.x, from.y),
+        leaves: svg.point(from.x, leaves),
+        first: svg.point(from.x, leaves.saturating_add(bend)),
+        second: svg.point(to.x, end.saturating_sub(bend)),
+        to: svg.point(to.x, end),
+    };
+    svg.curve(class, way)?;
     let tip = svg.point(to.x, end);
-    let to = tip;
-    let leaves = leaving;
-    svg.curve(class, Curve { from, leaves, first, second, to })?;
     svg.head_down(class, tip)
 }
 
 // Down from the sender, across to the way left of the taker, down that, and to the taker from the left.
 fn draw_far(svg: &mut Svg, class: &str, ends: Ends, lane: u64) -> Result<(), NoMemory> {
     let Ends { from, leaves, to } = ends;
-    let x = to.x.saturating_sub(10 + 5 * lane);
+    let x = to.x.saturating_sub(lane.saturating_mul(5).saturating_add(10));
     let last = to.y.saturating_sub(8);
     let across = leaves.saturating_add(8).min(last);
-    let leaving = svg.point(from.x, leaves);
-    let first = svg.point(from.x, across);
-    let second = svg.point(x, across);
-    let joins = svg.point(x, leaves.saturating_add(16).min(last));
+    let joins = leaves.saturating_add(16).min(last);
     let way = Curve {
         from: svg.point(from.x, from.y),
-        leaves: leaving,
-        first,
-        second,
-        to: joins,
+        leaves: svg.point(from.x, leaves),
+        first: svg.point(from.x, across),
+        second: svg.point(x, across),
+        to: svg.point(x, joins),
     };
     svg.curve(class, way)?;
-    let tip = svg.point(to.x.saturating_sub(TIP), to.y);
+    let end = to.x.saturating_sub(TIP);
     let way = Hook {
-        from: svg.point(joins.x, joins.y),
+        from: svg.point(x, joins),
         turns: svg.point(x, last),
         corner: svg.point(x, to.y),
-        to: tip,
+        to: svg.point(end, to.y),
     };
     svg.hook(class, way)?;
+    let tip = svg.point(end, to.y);
     svg.head_right(class, tip)
 }
 
@@ -139,5 +139,6 @@ fn draw_stub(svg: &mut Svg, plan: &Plan, step: &Chosen, y: u64) -> Result<(), No
     let from = svg.point(x.saturating_sub(26), y);
     let tip = svg.point(x.saturating_sub(TIP), y);
     svg.dashed(class, from, tip)?;
+    let tip = svg.point(x.saturating_sub(TIP), y);
     svg.head_right(class, tip)
 }
