@@ -59,7 +59,7 @@ fn row_of(plan: &Plan, step: usize) -> (u64, u64) {
         return (0, 0);
     };
     match plan.rows.get(*number) {
-        Some(row) => (row.y, row.end().saturating_add(5)),
+        Some(row) => (row.y, row.end().saturating_add(7)),
         None => (0, 0),
     }
 }
