@@ -1,0 +1,7 @@
+pub mod Ends
+pub mod Joined
+pub mod Pairs
+pub mod Peer
+pub mod State
+pub mod Step
+pub mod Turn
