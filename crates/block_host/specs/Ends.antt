@@ -5,7 +5,7 @@ use Rattle.sig_core.specs.declared.signal.Body.{Body}
 use Rattle.sig_core.specs.declared.signal.Body.TheVariants.{Host}
 use Rattle.sig_core.specs.declared.signal.Signal.{Signal}
 use Rattle.sig_core.specs.declared.signal.host.HostSignal.TheVariants.{Closed}
-use Rattle.peer_lists.specs.Peers.{PeerState, put_on}
+use Rattle.peer_lists.specs.Peers.{PeerState}
 use Rattle.peer_lists.specs.Waiting.{Waiting, behind, nothing_waits}
 
 -- whose links they are, of which other host, and which: the one to it and the one from it
@@ -46,10 +46,12 @@ closed_if false closing p = record p { waiting = behind closing nothing_waits }
 abbrev pub closed : Signal → PeerState → PeerState
 closed closing p = closed_if p.shut closing p
 
--- Some of what waits has gone into the link: what is on it and what waits are together what they were.
+-- The oldest of the signals that wait have gone into the link.
 pub record IsPut (p q : PeerState) : Type 0 where
+  pub gone : List Signal
+  pub sent : q.sent ≡ p.sent ++ gone
+  pub waits : p.waiting.signals ≡ gone ++ q.waiting.signals
   pub host : q.host ≡ p.host
-  pub put : put_on q ≡ put_on p
   pub taken : q.taken ≡ p.taken
   pub numbered : q.waiting.numbered ≡ p.waiting.numbered
   pub shut : q.shut ≡ p.shut
