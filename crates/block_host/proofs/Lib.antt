@@ -1,7 +1,8 @@
+pub mod FlushLemmas
+pub mod HandleLemmas
 pub mod PeerLemmas
 pub mod RightLemmas
-pub mod TakeLemmas
 pub mod StepLemmas
 pub mod StopLemmas
-pub mod FlushLemmas
+pub mod TakeLemmas
 pub mod TurnLemmas

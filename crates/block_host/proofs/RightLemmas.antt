@@ -70,7 +70,7 @@ right_keeps start had t right =
                 (put_past start t.id (steps_of t) p (run.sent j p apart found)));
             taking = (right.got j p apart found).past;
           };
-      own = inl (record { newer = arrived t.id t.own.signals; is = sym right.own.holds });
+      own = inl right.own_past;
       none = right.none;
     }
 

@@ -1,13 +1,13 @@
 -- A step keeps a host right.
 use Rattle.std.proofs.Common.{◌≡◌, ◌≢◌, inl, ℕ, Bool, true, false, List, [], ◌∷◌, ◌++◌, refl, sym, ap, ◌∙◌, subst, arith}
 use Rattle.std.proofs.Common.{append_assoc}
-use Rattle.std.specs.Prelude.{max, map, reverse, None, Option, Some}
+use Rattle.std.specs.Prelude.{if◌then◌else◌, ◌==◌, max, map, reverse, None, Option, Some}
 use Rattle.std.specs.Prelude.{option_map}
 use Rattle.std.proofs.lemmas.List.{reverse-append}
 use Rattle.run_theory.specs.Links.{sent, taken}
 use Rattle.run_theory.specs.Lists.{Each, IsPast}
 use Rattle.run_theory.specs.Logs.{IsLog, IsStep}
-use Rattle.run_theory.proofs.Pasts.{past_trans}
+use Rattle.run_theory.proofs.Pasts.{each_append, past_trans}
 use Rattle.run_theory.proofs.Links.{sent_more}
 use Rattle.sig_core.specs.declared.member.Member.{Member}
 use Rattle.sig_core.specs.declared.reply.ApiReply.{ApiReply}
@@ -22,7 +22,8 @@ use Rattle.world_core.specs.World.{of_host}
 use Rattle.world_views.specs.Machine.{after, comes_rightly, has_cut, has_stopped, machine, replies_at, sender, step_by}
 use Rattle.world_views.specs.Machine.{stops_by, told}
 use Rattle.world_views.specs.Right.{replies_in}
-use Rattle.world_views.specs.Sending.{is_asked, routed_all}
+use Rattle.world_views.specs.declared.sender.Sender.{Sender}
+use Rattle.world_views.specs.Sending.{Routed, headed, is_asked, routed_all}
 use Rattle.world_views.specs.Stamps.{HaveNextStamps}
 use Rattle.world_views.proofs.CutFacts.{uncut_before}
 use Rattle.world_views.proofs.MoveRight.{running}
@@ -31,6 +32,7 @@ use Rattle.world_views.proofs.SentFacts.{last_is}
 use Rattle.peer_lists.specs.declared.sending.Sending.{Sending}
 use Rattle.peer_lists.specs.Machine.{HasOwnSent, HaveAllSent, sending, sendings_of}
 use Rattle.peer_lists.specs.Peers.{PeerState, delivered, hosts_of, own_of, peer_to, with_signals}
+use Rattle.peer_lists.specs.Waiting.{Waiting, all_sent, sent_if}
 use Rattle.peer_lists.proofs.Deliveries.{peers_get}
 use Rattle.peer_lists.proofs.Places.{delivered_links}
 use Rattle.peer_lists.proofs.Steps.{own_kept, peers_kept}
@@ -79,6 +81,20 @@ none_delivered h xs ps j apart none = go (peer_to ps j) refl (sym (peers_get h x
     go : (o : Option PeerState) → peer_to ps j ≡ o → option_map (with_signals j xs) o ≡ None → peer_to ps j ≡ None
     go None at same = at
     go (Some p) at same = absurd cc
+
+-- of what a host sends itself each signal is from it
+all_from : (by : Sender) (j : ℕ) (rs : List Routed) (w : Waiting) → Each (λ (y : Signal). y.from.0 ≡ by.host) w.signals
+    → Each (λ (y : Signal). y.from.0 ≡ by.host) (all_sent false j (map (sending by) rs) w).signals
+all_from by j [] w each = each
+all_from by j (r ∷ rs) w each =
+    all_from by j rs (if r.to == j then sent_if false (headed by 0 r.sent) w else w) (go (r.to == j))
+  where
+    go : (b : Bool)
+        → Each (λ (y : Signal). y.from.0 ≡ by.host) (if b then sent_if false (headed by 0 r.sent) w else w).signals
+    go true =
+        each_append (λ (y : Signal). y.from.0 ≡ by.host) w.signals
+        (record (headed by 0 r.sent) { seq = w.numbered } ∷ []) each (refl, tt)
+    go false = each
 
 module _ (start : Start) (x : Signal) (s : Step HostBody) (t : HostState) (run : IsRunning start t)
     (step : IsStepOf t.id (step_by t.id (after start t.id (steps_of t)) x) s)
@@ -169,12 +185,29 @@ module _ (start : Start) (had : List ApiReply) (x : Signal) (s : Step HostBody) 
   abbrev Own : List HostStep → Type 0
   Own l = HasOwnSent start t.id l (taken (machine start) t.id l) (stepped t x s).own
 
-  own_then : Own (steps_of (stepped t x s))
-  own_then =
+  own_then : has_cut start t.id (steps_of (stepped t x s)) t.id ≡ false → Own (steps_of (stepped t x s))
+  own_then uncut =
+      let still : has_cut start t.id (made_step ∷ past_log) t.id ≡ false =
+      subst (λ (l : List HostStep). has_cut start t.id l t.id ≡ false) grown uncut in
       subst Own (sym grown)
       (subst (λ (xs : List Sending). HasOwnSent start t.id (made_step ∷ past_log) (given_by start t x s t.id)
       (own_of t.id xs t.own)) (sym sends_are)
-      (own_kept start t.id past_log made_step going_on (given_by start t x s t.id) t.own ready.right.own))
+      (own_kept start t.id past_log made_step going_on (given_by start t x s t.id) t.own
+      (ready.right.own (uncut_before start t.id past_log made_step t.id still))))
+
+  -- what it sends is from it
+  own_from_then : Each (λ (y : Signal). y.from.0 ≡ t.id) (stepped t x s).own.signals
+  own_from_then =
+      all_from (sender t.made t.id made_step.step.stamp (told t.id s).standing.view) t.id
+      (routed_all t.made t.id (told t.id s).standing s.effects.sends) t.own ready.right.own_from
+
+  abbrev OwnPast : List HostStep → Type 0
+  OwnPast l = IsPast (taken (machine start) t.id l) (sent (machine start) t.id t.id l)
+
+  own_past_then : OwnPast (steps_of (stepped t x s))
+  own_past_then =
+      subst OwnPast (sym grown)
+      (past_trans ready.right.own_past (sent_more (machine start) t.id t.id past_log made_step))
 
   got_then : EachPeer (HasGot start (stepped t x s) (λ i. taken (machine start) i (steps_of (stepped t x s))))
       (stepped t x s)
@@ -204,6 +237,8 @@ module _ (start : Start) (had : List ApiReply) (x : Signal) (s : Step HostBody) 
     };
     body = ap (told t.id) same ∙ ap (after start t.id) (sym grown);
     own = own_then;
+    own_from = own_from_then;
+    own_past = own_past_then;
     got = got_then;
     none = λ i apart nobody.
         ap (taken (machine start) i) grown
@@ -219,7 +254,7 @@ pub ready_ends : (start : Start) (had : List ApiReply) (x : Signal) (s : Step Ho
     → IsReady start had x s t → IsEnding start x s t
 ready_ends start had x s t ready = record {
   running = ready.right.running;
-  own = record { newer = map (arriving t.id) (reverse t.own.signals); is = sym ready.right.own.holds };
+  own = ready.right.own_past;
   got = λ j p apart found. (ready.right.got j p apart found).past;
   none = ready.right.none;
   step = ready.step;

@@ -89,60 +89,92 @@ module _ (start : Start) (had : List ApiReply) (t : HostState) (right : IsRight 
 
   -- a signal that waited for itself
   module _ (x : Signal) (rest : List Signal) (first : t.own.signals ≡ x ∷ rest) where
-    abbrev before : List Addressed
-    before = arrived t.id rest ++ (arriving t.id x ∷ given t.id)
-
-    holds : before ≡ sent (machine start) t.id t.id log
-    holds =
-        sym (ap (λ (xs : List Signal). arrived t.id xs ++ given t.id) first
-        ∙ ap (λ (xs : List Addressed). xs ++ given t.id) (arrived_behind t.id (x ∷ []) rest)
-        ∙ assoc (arrived t.id rest) (given t.id))
-        ∙ right.own.holds
-      where
-        assoc : (xs ys : List Addressed) → (xs ++ arriving t.id x ∷ []) ++ ys ≡ xs ++ (arriving t.id x ∷ ys)
-        assoc [] ys = refl
-        assoc (y ∷ xs) ys = ap (λ (zs : List Addressed). y ∷ zs) (assoc xs ys)
-
-    pub own_between : IsBetween t.id t.id (last_stamp log) (arriving t.id x)
-    own_between =
-        each_in (IsBetween t.id t.id (last_stamp log)) (arriving t.id x) before
-        (subst (Each (IsBetween t.id t.id (last_stamp log))) (sym holds)
-        (sent_between start right.running.placed.nobody t.id t.id log right.running.local))
-        (in_append (arriving t.id x) (arrived t.id rest) (arriving t.id x ∷ given t.id) (inl refl))
-
     -- the host without it
     abbrev pub without_it : HostState
     without_it = record t { own = record { signals = rest; numbered = t.own.numbered } }
 
-    pub own_next : IsRightWith start had (with_next start t x) without_it
-    own_next =
-        let mine : (x.from.0 == t.id) ≡ true = eq-eqb x.from.0 t.id own_between.from in
-        record {
-          running = record {
-            placed = placed_by refl refl refl right.running.placed;
-            members = right.running.members;
-            local = right.running.local;
-            next = right.running.next;
-            stamp = right.running.stamp;
-            goes_on = right.running.goes_on;
-            sent = right.running.sent;
-          };
-          body = right.body;
-          own = record {
-            holds = ap (λ (xs : List Addressed). arrived t.id rest ++ xs) (next_own x t.id mine) ∙ holds;
-            numbered = right.own.numbered;
-          };
-          got = λ j p apart found.
-              let other : (x.from.0 == j) ≡ false = ne_eqb x.from.0 j (λ same. apart (sym same ∙ own_between.from)) in
-              let was = right.got j p apart found in
-              record {
-                past = subst (λ (xs : List Addressed). IsPast xs (got_from t.id p)) (sym (next_other x j other)) was.past;
-                all = λ uncut. next_other x j other ∙ was.all uncut;
-              };
-          none = λ i apart nobody.
-              next_other x i (ne_eqb x.from.0 i (λ same. apart (sym same ∙ own_between.from))) ∙ right.none i apart nobody;
-          replies = right.replies;
-        }
+    all_mine : Each (λ (y : Signal). y.from.0 ≡ t.id) (x ∷ rest)
+    all_mine = subst (Each (λ (y : Signal). y.from.0 ≡ t.id)) first right.own_from
+
+    pub from_itself : x.from.0 ≡ t.id
+    from_itself = all_mine.0
+
+    running_without : IsRunning start without_it
+    running_without = record {
+      placed = placed_by refl refl refl right.running.placed;
+      members = right.running.members;
+      local = right.running.local;
+      next = right.running.next;
+      stamp = right.running.stamp;
+      goes_on = right.running.goes_on;
+      sent = right.running.sent;
+    }
+
+    other_than : (j : ℕ) → j ≢ t.id → (x.from.0 == j) ≡ false
+    other_than j apart = ne_eqb x.from.0 j (λ same. apart (sym same ∙ from_itself))
+
+    -- where it hasn't cut itself off
+    module _ (uncut : has_cut start t.id log t.id ≡ false) where
+      abbrev before : List Addressed
+      before = arrived t.id rest ++ (arriving t.id x ∷ given t.id)
+
+      holds : before ≡ sent (machine start) t.id t.id log
+      holds =
+          sym (ap (λ (xs : List Signal). arrived t.id xs ++ given t.id) first
+          ∙ ap (λ (xs : List Addressed). xs ++ given t.id) (arrived_behind t.id (x ∷ []) rest)
+          ∙ assoc (arrived t.id rest) (given t.id))
+          ∙ (right.own uncut).holds
+        where
+          assoc : (xs ys : List Addressed) → (xs ++ arriving t.id x ∷ []) ++ ys ≡ xs ++ (arriving t.id x ∷ ys)
+          assoc [] ys = refl
+          assoc (y ∷ xs) ys = ap (λ (zs : List Addressed). y ∷ zs) (assoc xs ys)
+
+      pub own_between : IsBetween t.id t.id (last_stamp log) (arriving t.id x)
+      own_between =
+          each_in (IsBetween t.id t.id (last_stamp log)) (arriving t.id x) before
+          (subst (Each (IsBetween t.id t.id (last_stamp log))) (sym holds)
+          (sent_between start right.running.placed.nobody t.id t.id log right.running.local))
+          (in_append (arriving t.id x) (arrived t.id rest) (arriving t.id x ∷ given t.id) (inl refl))
+
+      mine : with_next start t x t.id ≡ arriving t.id x ∷ given t.id
+      mine = next_own x t.id (eq-eqb x.from.0 t.id from_itself)
+
+      pub own_next : IsRightWith start had (with_next start t x) without_it
+      own_next = record {
+        running = running_without;
+        body = right.body;
+        own = λ still. record {
+          holds = ap (λ (xs : List Addressed). arrived t.id rest ++ xs) mine ∙ holds;
+          numbered = (right.own uncut).numbered;
+        };
+        own_from = all_mine.1;
+        own_past = record {
+          newer = arrived t.id rest;
+          is = sym holds ∙ ap (λ (xs : List Addressed). arrived t.id rest ++ xs) (sym mine);
+        };
+        got = λ j p apart found.
+            let was = right.got j p apart found in
+            let same = next_other x j (other_than j apart) in
+            record {
+              past = subst (λ (xs : List Addressed). IsPast xs (got_from t.id p)) (sym same) was.past;
+              all = λ still. same ∙ was.all still;
+            };
+        none = λ i apart nobody. next_other x i (other_than i apart) ∙ right.none i apart nobody;
+        replies = right.replies;
+      }
+
+    -- and where it has, it drops the signal
+    pub own_drop : has_cut start t.id log t.id ≡ true → IsRight start had without_it
+    own_drop cut = record {
+      running = running_without;
+      body = right.body;
+      own = λ still. absurd (true≢false (sym cut ∙ still));
+      own_from = all_mine.1;
+      own_past = right.own_past;
+      got = right.got;
+      none = right.none;
+      replies = right.replies;
+    }
 
   -- a signal that the link from a peer gave
   module _ (x : Signal) (at : ℕ) (there : at < length t.peers) (from : x.from.0 ≡ (peer_at t.peers at).host) where
@@ -224,15 +256,20 @@ module _ (start : Start) (had : List ApiReply) (t : HostState) (right : IsRight 
             all = λ still. same ∙ old.all still;
           }
 
+      not_mine : with_next start t x t.id ≡ given t.id
+      not_mine = next_other x t.id (apart_from t.id away)
+
       pub link_next : IsRightWith start had (with_next start t x) with_it
       link_next = record {
         running = running_then;
         body = right.body;
-        own = record {
-          holds = ap (λ (xs : List Addressed). arrived t.id t.own.signals ++ xs)
-              (next_other x t.id (apart_from t.id away)) ∙ right.own.holds;
-          numbered = right.own.numbered;
+        own = λ still. record {
+          holds = ap (λ (xs : List Addressed). arrived t.id t.own.signals ++ xs) not_mine ∙ (right.own still).holds;
+          numbered = (right.own still).numbered;
         };
+        own_from = right.own_from;
+        own_past = subst (λ (xs : List Addressed). IsPast xs (sent (machine start) t.id t.id log)) (sym not_mine)
+            right.own_past;
         got = λ j q apart is. got_next j q apart (found_then j q is);
         none = λ i apart nobody.
             let before = none_then i nobody in
@@ -261,6 +298,8 @@ module _ (start : Start) (had : List ApiReply) (t : HostState) (right : IsRight 
         running = running_then;
         body = right.body;
         own = right.own;
+        own_from = right.own_from;
+        own_past = right.own_past;
         got = λ j q apart is. got_still j q apart (found_then j q is);
         none = λ i apart nobody. right.none i apart (none_then i nobody).1;
         replies = right.replies;

@@ -77,7 +77,10 @@ pub record IsRightWith (start : Start) (had : List ApiReply) (given : ℕ → Li
   where
     pub running : IsRunning start t
     pub body : t.body ≡ after start t.id (steps_of t)
-    pub own : HasOwnSent start t.id (steps_of t) (given t.id) t.own
+    -- what it sent itself waits for it, but for what its steps took, unless it has cut itself off
+    pub own : has_cut start t.id (steps_of t) t.id ≡ false → HasOwnSent start t.id (steps_of t) (given t.id) t.own
+    pub own_from : Each (λ (x : Signal). x.from.0 ≡ t.id) t.own.signals
+    pub own_past : IsPast (given t.id) (sent (machine start) t.id t.id (steps_of t))
     pub got : EachPeer (HasGot start t given) t
     pub none : (i : ℕ) → i ≢ t.id → peer_to t.peers i ≡ None → given i ≡ []
     pub replies : replies_in start t.id (steps_of t) ≡ had ++ t.replies
