@@ -1,4 +1,5 @@
 pub mod FlushLemmas
+pub mod GoesLemmas
 pub mod HandleLemmas
 pub mod PeerLemmas
 pub mod RightLemmas

@@ -63,6 +63,14 @@ left_put P false true last p plain closed =
 left_put P false false last p plain closed =
     subst P (sym (arrived_behind p.host p.sent (record last { seq = 0 } ∷ []))) closed
 
+-- a peer keeps its number where its link is closed
+pub ended_host : (members : List Member) (h stamp : ℕ) (standing : Standing) (view : View) (cause : StopCause)
+    (p : PeerState) → (ended members h stamp standing view cause p).host ≡ p.host
+ended_host members h stamp standing view cause p =
+    let cut = is_cut standing (record { 0 = p.host }) in
+    let last = closing_to members h stamp view cause p.host in
+    ap (λ (q : PeerState). q.host) (left_is cut last p) ∙ left_host cut p.shut last p
+
 module _ (start : Start) (x : Signal) (s : Step HostBody) (t : HostState) (ending : IsEnding start x s t)
     (stops : stops_by s.effects.marks ≡ true) where
   abbrev log : List HostStep
@@ -100,9 +108,7 @@ module _ (start : Start) (x : Signal) (s : Step HostBody) (t : HostState) (endin
   is_off p = is_cut (told t.id s).standing (record { 0 = p.host })
 
   end_host : (p : PeerState) → (end p).host ≡ p.host
-  end_host p =
-      ap (λ (q : PeerState). q.host) (left_is (is_off p) (last_to p.host) p)
-      ∙ left_host (is_off p) p.shut (last_to p.host) p
+  end_host p = ended_host t.made t.id e.step.stamp (told t.id s).standing view (cause_in s.effects.marks) p
 
   end_taken : (p : PeerState) → (end p).taken ≡ p.taken
   end_taken p =

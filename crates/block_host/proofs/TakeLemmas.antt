@@ -26,7 +26,7 @@ use Rattle.block_host.proofs.PeerLemmas.{each_at, found_at, found_set, hosts_set
 use Rattle.block_host.proofs.RightLemmas.{arrived, arrived_behind, sent_past}
 
 -- what a peer is once its link gave a signal
-taken_host : (x : Signal) (p : PeerState) → (with_taken x p).host ≡ p.host
+pub taken_host : (x : Signal) (p : PeerState) → (with_taken x p).host ≡ p.host
 taken_host x p = go (is_closing x.body)
   where
     go : (b : Bool) → (shut_if b (record p { taken = p.taken ++ x ∷ [] })).host ≡ p.host

@@ -1,4 +1,5 @@
 pub mod Ends
+pub mod Goes
 pub mod Joined
 pub mod Pairs
 pub mod Peer

@@ -4,6 +4,7 @@ use Rattle.sig_core.specs.declared.log.LogStep.{LogStep}
 use Rattle.sig_core.specs.declared.member.Member.{Member}
 use Rattle.sig_core.specs.declared.outcome.StopCause.{StopCause}
 use Rattle.sig_core.specs.declared.outcome.StopCause.TheVariants.{Clock, Memory}
+use Rattle.sig_core.specs.declared.outs.Outgoing.{Outgoing}
 use Rattle.sig_core.specs.declared.signal.Body.{Body}
 use Rattle.sig_core.specs.declared.signal.Body.TheVariants as body
 use Rattle.sig_core.specs.declared.signal.Signal.{Signal}
@@ -27,23 +28,34 @@ use Rattle.block_host.specs.State.{HostState}
 abbrev pub step_made : HostState → Signal → Step HostBody → LogStep
 step_made t x s = record { stamp = max t.stamp x.stamp + 1; taken = x; marks = s.effects.marks }
 
--- what it sends, with its headers
-abbrev pub sendings_made : HostState → ℕ → Step HostBody → List Sending
-sendings_made t stamp s =
-    map (sending (sender t.made t.id stamp (told t.id s).standing.view))
-    (routed_all t.made t.id (told t.id s).standing s.effects.sends)
+-- its body is what the step leads to, and its replies are told
+abbrev pub telling : HostState → Step HostBody → HostState
+telling t s = record t { body = told t.id s; replies = t.replies ++ replies_at t.id s }
+
+-- what it sends in a step of this stamp, with its headers
+abbrev pub sendings_at : HostState → ℕ → List Outgoing → List Sending
+sendings_at t stamp sends =
+    map (sending (sender t.made t.id stamp t.body.standing.view)) (routed_all t.made t.id t.body.standing sends)
+
+-- that waits for its links
+abbrev pub sending_at : HostState → ℕ → List Outgoing → HostState
+sending_at t stamp sends =
+    record t {
+      own = own_of t.id (sendings_at t stamp sends) t.own;
+      peers = delivered t.id (sendings_at t stamp sends) t.peers;
+    }
+
+-- the step stands in the log
+abbrev pub logged : HostState → LogStep → HostState
+logged t step = record t { stamp = step.stamp; log = record t.log { steps = t.log.steps ++ step ∷ [] } }
 
 -- The step is made: its replies are told, what it sends waits for its links, and it stands in the log.
 abbrev pub stepped : HostState → Signal → Step HostBody → HostState
-stepped t x s =
-    record t {
-      body = told t.id s;
-      stamp = (step_made t x s).stamp;
-      log = record t.log { steps = t.log.steps ++ step_made t x s ∷ [] };
-      own = own_of t.id (sendings_made t (step_made t x s).stamp s) t.own;
-      peers = delivered t.id (sendings_made t (step_made t x s).stamp s) t.peers;
-      replies = t.replies ++ replies_at t.id s;
-    }
+stepped t x s = logged (sending_at (telling t s) (step_made t x s).stamp s.effects.sends) (step_made t x s)
+
+-- what it sends, with its headers
+abbrev pub sendings_made : HostState → ℕ → Step HostBody → List Sending
+sendings_made t stamp s = sendings_at (telling t s) stamp s.effects.sends
 
 -- the last signal to host j of host h, which has stopped in this view for this cause
 abbrev pub closing_to : List Member → ℕ → ℕ → View → StopCause → ℕ → Signal
@@ -59,14 +71,18 @@ abbrev pub ended : List Member → ℕ → ℕ → Standing → View → StopCau
 ended made h stamp standing view cause p =
     ended_if (is_cut standing (record { 0 = p.host })) (closing_to made h stamp view cause p.host) p
 
--- It has stopped, by a step that took a signal of this view: it closes its links, and takes nothing more.
-abbrev pub halted_by : HostState → View → StopCause → HostState
-halted_by t view cause =
+-- It has stopped, by a step of this stamp that took a signal of this view: it closes its links, and takes nothing more.
+abbrev pub halted_at : HostState → ℕ → View → StopCause → HostState
+halted_at t stamp view cause =
     record t {
       runs = false;
       own = emptied t.own;
-      peers = map (ended t.made t.id t.stamp t.body.standing (greater_view t.body.standing.view view) cause) t.peers;
+      peers = map (ended t.made t.id stamp t.body.standing (greater_view t.body.standing.view view) cause) t.peers;
     }
+
+-- by its last step
+abbrev pub halted_by : HostState → View → StopCause → HostState
+halted_by t view cause = halted_at t t.stamp view cause
 
 abbrev pub halted_if : Bool → HostState → View → StopCause → HostState
 halted_if true t view cause = halted_by t view cause

@@ -3,7 +3,7 @@ ghost use Rattle.std.specs.Prelude.{◌≡◌};
 ghost use Rattle.block_host.specs.Pairs.{AreConnected, AreFronts};
 ghost use Rattle.block_host.specs.Peer.{ends_of, peer_state};
 ghost use Rattle.block_host.specs.State.{state_of};
-ghost use Rattle.std.specs.Prelude.{◌×◌, IsPrefix};
+ghost use mathlib.Core.List.{IsPrefix};
 
 use crate::host::Host;
 use crate::peer::LinkPeer;

@@ -1,7 +1,7 @@
 //! What waits goes into links, as far as they have room, and what they give is taken.
-ghost use Rattle.std.specs.Prelude.{◌≡◌, [], IfSome, MatchOption};
-ghost use Rattle.link_queue.specs.End.{IsSentBy};
-ghost use Rattle.sig_core.specs.declared.signal.Signal.{Signal};
+ghost use Rattle.std.specs.Prelude.{◌≡◌, ◌++◌, ◌∷◌, [], IfNone, IfSome, MatchOption, None, OnErr, OnOk, false, map, true};
+ghost use Rattle.peer_lists.specs.Peers.{put_on};
+ghost use Rattle.peer_lists.specs.Waiting.{nothing_waits};
 ghost use Rattle.block_host.specs.Ends.{ArePut, IsPut, closed, hushed, is_closing, with_taken};
 ghost use Rattle.block_host.specs.Peer.{ends_of, peer_state};
 

@@ -1,5 +1,5 @@
 //! Hosts, as they are made and connected, and what they tell.
-ghost use Rattle.std.specs.Prelude.{◌≡◌, ◌++◌, [], IfOk, None, OnErr, OnOk, length, option_to_list};
+ghost use Rattle.std.specs.Prelude.{◌≡◌, ◌++◌, ◌&&◌, [], IfOk, None, OnErr, OnOk, length, option_to_list};
 
 use crate::made::Made;
 use crate::peer::LinkPeer;
@@ -32,6 +32,7 @@ pub struct Host {
 }
 
 impl Host {
+    ghost use Rattle.node_views.specs.Replies.{is_down, is_left_open};
     ghost use Rattle.peer_lists.specs.Peers.{held_for, sent_to, taken_from};
     ghost use Rattle.block_host.specs.State.{new_host, state_of};
 
@@ -128,6 +129,20 @@ impl Host {
         ensures { result ≡ length (held_for (state_of self.now).peers host.0) }
     {
         held_for(self.peers.as_slice(), host)
+    }
+
+    /// Whether it runs, and the last command left something of its own unanswered.
+    pub fn is_left_open(&self) -> bool
+        ensures { result ≡ ((state_of self.now).runs && is_left_open (state_of self.now).body) }
+    {
+        self.runs && self.body.is_left_open()
+    }
+
+    /// Whether it runs, and knows that the cluster is down.
+    pub fn is_down(&self) -> bool
+        ensures { result ≡ ((state_of self.now).runs && is_down (state_of self.now).body) }
+    {
+        self.runs && self.body.is_down()
     }
 
     /// The next reply for the shell, in order, each once.

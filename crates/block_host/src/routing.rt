@@ -1,5 +1,5 @@
 //! Which of what a step sends goes where, and with which header.
-ghost use Rattle.std.specs.Prelude.{◌≡◌, ◌++◌, ◌∷◌, [], ◌==◌, ◌&&◌, ◌||◌, IfOk, OnOk, map};
+ghost use Rattle.std.specs.Prelude.{◌≡◌, ◌<◌, ◌++◌, ◌∷◌, [], ◌==◌, ◌&&◌, ◌||◌, IfOk, OnOk, length, map};
 ghost use Rattle.node_views.specs.Row.{is_cut};
 ghost use Rattle.world_views.specs.Hosts.{front_of};
 ghost use Rattle.world_views.specs.Machine.{sender};
@@ -9,9 +9,7 @@ ghost use Rattle.peer_lists.specs.Machine.{sending};
 use crate::made::Made;
 use node_views::HostBody;
 use peer_lists::Sending;
-use sig_core::{
-    Body, Boxed, Held, HostId, HostSignal, NoMemory, Outgoing, Outs, Signal, View, Work,
-};
+use sig_core::{Body, Held, HostId, HostSignal, NoMemory, Outgoing, Outs, Signal, View, Work};
 use std::alloc::Global;
 use std::collections::VecDeque;
 

@@ -1,5 +1,5 @@
 //! A host makes a step.
-ghost use Rattle.std.specs.Prelude.{◌≡◌, ◌≤◌, ◌+◌, [], IfOk, MatchOption, None, OnErr, OnOk, Some, max, nat_lt};
+ghost use Rattle.std.specs.Prelude.{◌≡◌, ◌≤◌, ◌+◌, [], IfOk, MatchOption, OnErr, OnOk, max};
 ghost use Rattle.node_views.specs.Stop.{stop_in};
 
 use crate::closing::{Ending, close_all, last_view};
@@ -18,10 +18,8 @@ use std::alloc::Global;
 const STAMPS_END: u64 = 1 << 48;
 
 impl Host {
-    ghost use Rattle.sig_core.specs.Step.{Step};
-    ghost use Rattle.node_views.specs.Row.{host_row};
-    ghost use Rattle.block_host.specs.State.{HostState, state_of};
-    ghost use Rattle.block_host.specs.Step.{HasHandled, IsUnmade, entered, stopped};
+    ghost use Rattle.block_host.specs.State.{state_of};
+    ghost use Rattle.block_host.specs.Step.{HasHandled, IsUnmade, entered, halted_at, logged, sending_at, stopped};
 
     /// Handles a signal, as its next step. One that has no memory for it, or no stamp, stops; the
     /// shell's host doesn't.
@@ -98,7 +96,8 @@ impl Host {
     }
 
     // The step is made: its replies are told, what it sends waits for the links, and it stands in the
-    // log. One that stops the host for a cause closes its links.
+    // log. One that stops the host for a cause closes its links. All that wants memory comes before the
+    // log, so that nothing of a step goes into a link which doesn't stand there.
     fn enter(
         &mut self,
         alloc: Global,
@@ -111,21 +110,42 @@ impl Host {
         ensures ok { OnOk result (state_of self.new ≡ entered (state_of self.old) taken (record { state = self.old.body; effects = self.old.outs })) }
         ensures err { OnErr result (IsUnmade (state_of self.old) (state_of self.new)) }
     {
-        let host = self.log.host.0;
-        tell(host, &mut self.body, &mut self.replies)?;
+        tell(self.log.host.0, &mut self.body, &mut self.replies)?;
         let marks = take_marks(alloc, &mut self.outs)?;
-        let sends = sendings(alloc, &self.made, &self.body, host, stamp, &mut self.outs)?;
-        deliver(alloc, self.log.host, &mut self.own, self.peers.as_mut_slice(), sends)?;
-        if let Some(cause) = cause {
-            self.close(alloc, stamp, &taken, cause)?;
-        }
-        self.log.steps.push(LogStep {
+        self.send(alloc, stamp)?;
+        self.close_for(alloc, stamp, &taken, cause)?;
+        self.keep(LogStep {
             stamp,
             taken,
             marks,
-        })?;
-        self.stamp = stamp;
-        Ok(())
+        })
+    }
+
+    // What a step of this stamp sends waits for the links.
+    fn send(&mut self, alloc: Global, stamp: u64) -> Result<(), NoMemory>
+        ensures ok { OnOk result (state_of self.new ≡ sending_at (state_of self.old) stamp self.old.outs.sends) }
+        ensures err { OnErr result (IsUnmade (state_of self.old) (state_of self.new)) }
+    {
+        let host = self.log.host;
+        let sends = sendings(alloc, &self.made, &self.body, host.0, stamp, &mut self.outs)?;
+        deliver(alloc, host, &mut self.own, self.peers.as_mut_slice(), sends)
+    }
+
+    // A host whose step took this signal closes its links, if it has stopped by it.
+    fn close_for(
+        &mut self,
+        alloc: Global,
+        stamp: u64,
+        taken: &Boxed<Signal>,
+        cause: Option<StopCause>,
+    ) -> Result<(), NoMemory>
+        ensures ok { OnOk result (MatchOption cause (state_of self.new ≡ state_of self.old) (λ cause. state_of self.new ≡ halted_at (state_of self.old) stamp taken.now.view cause)) }
+        ensures err { OnErr result (IsUnmade (state_of self.old) (state_of self.new)) }
+    {
+        match cause {
+            Some(cause) => self.close(alloc, stamp, taken, cause),
+            None => Ok(()),
+        }
     }
 
     // It has stopped for this cause by a step of this stamp, which took this signal: it closes its links,
@@ -138,6 +158,8 @@ impl Host {
         taken: &Boxed<Signal>,
         cause: StopCause,
     ) -> Result<(), NoMemory>
+        ensures ok { OnOk result (state_of self.new ≡ halted_at (state_of self.old) stamp taken.now.view cause) }
+        ensures err { OnErr result (IsUnmade (state_of self.old) (state_of self.new)) }
     {
         let view = last_view(&self.body.standing.view, &taken.get().view)?;
         let by = Ending {
@@ -149,6 +171,17 @@ impl Host {
         close_all(alloc, &self.made, &self.body, &by, self.peers.as_mut_slice())?;
         self.own.clear();
         self.runs = false;
+        Ok(())
+    }
+
+    // A step stands in the log.
+    fn keep(&mut self, step: LogStep) -> Result<(), NoMemory>
+        ensures ok { OnOk result (state_of self.new ≡ logged (state_of self.old) step) }
+        ensures err { OnErr result (state_of self.new ≡ state_of self.old) }
+    {
+        let stamp = step.stamp;
+        self.log.steps.push(step)?;
+        self.stamp = stamp;
         Ok(())
     }
 }

@@ -1,5 +1,5 @@
 //! A host takes the next signal that there is for it.
-ghost use Rattle.std.specs.Prelude.{◌≡◌, ◌+◌, MatchOption};
+ghost use Rattle.std.specs.Prelude.{◌≡◌, MatchOption};
 
 use crate::flushing::hush_all;
 use crate::host::Host;

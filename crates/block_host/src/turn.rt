@@ -10,6 +10,7 @@ pub const TURN_SIGNALS: usize = 4096;
 
 impl Host {
     ghost use Rattle.std.specs.Prelude.{◌≡◌, ◌≤◌, MatchBool};
+    ghost use Rattle.block_host.specs.Goes.{HostGoesOn};
     ghost use Rattle.block_host.specs.State.{state_of};
     ghost use Rattle.block_host.specs.Turn.{HasFlushed, HasGone, TurnOf};
 
@@ -18,6 +19,7 @@ impl Host {
     /// in order; what waited before is put into them first.
     pub fn turn<W: Wait>(&mut self, rt: &W, alloc: Global) -> usize
         ensures turn { TurnOf result (state_of self.old) (state_of self.new) }
+        ensures goes { HostGoesOn (state_of self.old) (state_of self.new) }
         ensures few { result ≤ TURN_SIGNALS }
     {
         self.flush(rt);

@@ -13,6 +13,13 @@ use std::sync::Wait;
 /// More rounds than any test takes.
 const ROUNDS: usize = 2000;
 
+/// A cluster of two nodes, which are replicas of each other.
+pub const TWO: Shape = Shape {
+    nodes: 2,
+    replicas: 2,
+    fragments: 4,
+};
+
 /// A cluster of one node.
 pub const ONE: Shape = Shape {
     nodes: 1,
@@ -20,8 +27,8 @@ pub const ONE: Shape = Shape {
     fragments: 1,
 };
 
-// What each host begins as, the shell's first.
-fn bodies(alloc: Global, shape: Shape, members: &[Member]) -> Result<Vec<HostBody>, NoMemory>
+/// What each host begins as, the shell's first.
+pub fn bodies(alloc: Global, shape: Shape, members: &[Member]) -> Result<Vec<HostBody>, NoMemory>
     requires { IsShape shape }
 {
     let layout = Layout::first(shape);

@@ -6,3 +6,5 @@
 mod block_host_turns;
 #[cfg(test)]
 mod building;
+#[cfg(test)]
+mod cluster_run_lives;
