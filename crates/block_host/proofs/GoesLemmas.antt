@@ -32,10 +32,10 @@ use Rattle.block_host.proofs.TurnLemmas.{turn_host}
 same_steps : (t : HostState) → t.log.steps ≡ t.log.steps ++ []
 same_steps t = sym (append-nil t.log.steps)
 
-still : (t : HostState) → IsStill t t
+pub still : (t : HostState) → IsStill t t
 still t = record { id = refl; ends = refl; hosts = refl; more = []; steps = same_steps t }
 
-still_then : {t u v : HostState} → IsStill t u → IsStill u v → IsStill t v
+pub still_then : {t u v : HostState} → IsStill t u → IsStill u v → IsStill t v
 still_then {t} {u} {v} first later = record {
   id = later.id ∙ first.id;
   ends = later.ends ∙ first.ends;

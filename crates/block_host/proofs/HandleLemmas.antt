@@ -31,7 +31,7 @@ use Rattle.world_views.proofs.OwnReady.{asked_of_itself, own_is_asked, stop_step
 use Rattle.world_views.proofs.Ready.{IsStepOf}
 use Rattle.world_views.proofs.TakeRight.{row_step}
 use Rattle.peer_lists.specs.Peers.{peer_to}
-use Rattle.block_host.specs.Right.{IsHost, IsRight, IsRightWith, KeepsLog, got_from}
+use Rattle.block_host.specs.Right.{IsHost, IsRightWith, IsRunning}
 use Rattle.block_host.specs.State.{HostState, steps_of}
 use Rattle.block_host.specs.Step.{HasHandled, HasStopped, entered, halted_by, halted_if, handled_by, moved, stepped}
 use Rattle.block_host.specs.Step.{stopped, wish}
@@ -69,6 +69,20 @@ nothing_past xs ys past none = go past.newer (sym none ∙ past.is)
     go : (zs : List A) → [] ≡ zs ++ xs → xs ≡ []
     go [] is = sym is
     go (z ∷ zs) is = absurd cc
+
+-- what it asks of itself, it asks rightly
+pub wish_own : (start : Start) (w : HostState) → IsRunning start w → w.body ≡ after start w.id (steps_of w)
+    → (work : Body) → IsOwnWork start w.id work
+    → IsOwn start w.id (steps_of w) (wish w w.body.standing.view work)
+wish_own start w run is work own =
+    let log = steps_of w in
+    record {
+      is = ap (λ ms. own_signal ms w.id w.stamp w.body.standing.view work) run.members
+          ∙ ap (λ n. own_signal (made start) w.id n w.body.standing.view work)
+          (run.stamp ∙ sym (last_first start run.placed.nobody w.id log))
+          ∙ ap (λ (s : HostBody). own_signal (made start) w.id (last_of start w.id log) s.standing.view work) is;
+      work = own;
+    }
 
 module _ (start : Start) (had : List ApiReply) (x : Signal) (w : HostState)
     (right : IsRightWith start had (given_by start w x (host_row w.body x)) w) where
@@ -113,14 +127,7 @@ module _ (start : Start) (had : List ApiReply) (x : Signal) (w : HostState)
         (earlier start w x (host_row w.body x) i)
 
     comes_own : IsOwn start w.id log last
-    comes_own = record {
-      is = ap (λ ms. own_signal ms w.id w.stamp w.body.standing.view (body.Host (Closed cause))) right.running.members
-          ∙ ap (λ n. own_signal (made start) w.id n w.body.standing.view (body.Host (Closed cause)))
-          (right.running.stamp ∙ sym (last_first start right.running.placed.nobody w.id log))
-          ∙ ap (λ (s : HostBody). own_signal (made start) w.id (last_of start w.id log) s.standing.view (body.Host (Closed cause)))
-          right.body;
-      work = (stop.some, own);
-    }
+    comes_own = wish_own start w right.running right.body (body.Host (Closed cause)) (stop.some, own)
 
     ending : IsEnding start last halt left
     ending = record {

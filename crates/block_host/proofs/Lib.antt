@@ -1,6 +1,9 @@
+pub mod AskLemmas
+pub mod FlatLemmas
 pub mod FlushLemmas
 pub mod GoesLemmas
 pub mod HandleLemmas
+pub mod JoinLemmas
 pub mod PeerLemmas
 pub mod RightLemmas
 pub mod StepLemmas

@@ -37,7 +37,7 @@ use Rattle.block_host.proofs.TakeLemmas.{away, from_itself, link_drop, link_next
 use Rattle.block_host.proofs.TakeLemmas.{placed_by, with_it, without_it}
 
 -- what its steps took may be told in another way
-told_otherwise : (start : Start) (had : List ApiReply) (f g : ℕ → List Addressed) (t : HostState)
+pub told_otherwise : (start : Start) (had : List ApiReply) (f g : ℕ → List Addressed) (t : HostState)
     → ((i : ℕ) → f i ≡ g i) → IsRightWith start had f t → IsRightWith start had g t
 told_otherwise start had f g t same was = record {
   running = was.running;

@@ -45,6 +45,10 @@ pub record HasGivenUp (t u : HostState) : Type 0 where
   pub own : u.own.signals ≡ []
   pub silent : Each IsSilent u.peers
 
+-- It doesn't run, and has done nothing, or it has given up.
+abbrev pub IsRefused : HostState → HostState → Type 0
+IsRefused t u = ((t.runs ≡ false) × (u ≡ t)) ⊎ HasGivenUp t u
+
 -- a signal of a host that it has cut off is dropped, and another one handled
 abbrev pub used_by : Bool → HostState → Signal → HostState → Type 0
 used_by true t x u = u ≡ t

@@ -65,7 +65,7 @@ impl Host {
     }
 
     // It gives up: it takes nothing more, and sends nothing more.
-    fn give_up(&mut self)
+    pub(crate) fn give_up(&mut self)
         ensures { (t : HostState) → IsUnmade t (state_of self.old) → HasGivenUp t (state_of self.new) }
     {
         self.runs = false;

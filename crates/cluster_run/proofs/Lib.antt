@@ -1,1 +1,3 @@
+pub mod GoneLemmas
 pub mod LogLemmas
+pub mod MeshLemmas

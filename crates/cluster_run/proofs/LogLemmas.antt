@@ -14,6 +14,7 @@ use Rattle.run_theory.proofs.Links.{given_less}
 use Rattle.run_theory.proofs.Pairs.{logs_of_pairs}
 use Rattle.run_theory.proofs.Pasts.{past_nil, past_trans}
 use Rattle.sig_core.specs.declared.log.HostLog.{HostLog}
+use Rattle.sig_core.specs.declared.reply.ApiReply.{ApiReply}
 use Rattle.world_core.specs.Right.{arriving}
 use Rattle.world_core.specs.Start.{Start}
 use Rattle.world_core.specs.Steps.{Addressed, HostStep}
@@ -28,7 +29,7 @@ use Rattle.block_host.specs.Right.{KeepsLog}
 use Rattle.block_host.specs.State.{HostState, steps_of}
 use Rattle.block_host.proofs.PeerLemmas.{peer_is}
 use Rattle.block_host.proofs.RightLemmas.{arrived, arrived_past}
-use Rattle.cluster_run.specs.Cluster.{EachPair, IsMesh, KeepLogs, logs_in}
+use Rattle.cluster_run.specs.Cluster.{AreHosts, EachPair, IsMesh, logs_in}
 
 reverse-map : {A B : Type 0} (f : A → B) (xs : List A) → reverse (map f xs) ≡ map f (reverse xs)
 reverse-map f [] = refl
@@ -121,7 +122,7 @@ module _ (start : Start) (t : HostState) (keeps : KeepsLog start t) where
       go None none = subst (λ (xs : List Addressed). IsPast xs []) (sym (keeps.none i apart none)) (past_nil [])
       go (Some p) found = (keeps.peers i p apart found).taking
 
-module _ (start : Start) (ts : List HostState) (mesh : IsMesh ts) (keep : KeepLogs start ts)
+module _ (start : Start) (ts : List HostState) (mesh : IsMesh ts) (had : List ApiReply) (are : AreHosts start had ts)
     (fronts : EachPair AreFronts ts) where
   abbrev logs : ℕ → List HostStep
   logs = logs_at (logs_in ts)
@@ -129,7 +130,7 @@ module _ (start : Start) (ts : List HostState) (mesh : IsMesh ts) (keep : KeepLo
   keeps_by_pairs : (h : ℕ) (t : HostState) → slice_get ts h ≡ Some t
       → pairs.KeepsLog (machine start) (length ts) h (logs h) (puts ts h) (λ i. gets ts i h)
   keeps_by_pairs h t found =
-      let keeps = keep.each h t found in
+      let keeps = (are.each h t found).keeps in
       let number : t.id ≡ h = mesh.numbers h t found in
       let of_own : pairs.KeepsLog (machine start) (length ts) t.id (steps_of t)
           (λ j. map (arriving j) (sent_to t.peers j)) (λ i. map (arriving t.id) (taken_from t.peers i)) =
@@ -141,7 +142,7 @@ module _ (start : Start) (ts : List HostState) (mesh : IsMesh ts) (keep : KeepLo
         none = λ i past.
             keeps.none i
             (λ same. absurd (omega (arith, past, same, number, low h t found)))
-            (stranger (length ts) t.peers i (mesh.within h t found) past);
+            (stranger (length ts) t.peers i (mesh.within h t found).peers past);
       } in
       subst (λ (l : List HostStep). pairs.KeepsLog (machine start) (length ts) h l (puts ts h) (λ i. gets ts i h))
       (sym (log_is ts h t found number))
@@ -158,7 +159,7 @@ module _ (start : Start) (ts : List HostState) (mesh : IsMesh ts) (keep : KeepLo
     hosts = λ h low. let t = host_there ts h low in keeps_by_pairs h t.0 t.1;
     there = λ h low has.
         let t = host_there ts h low in
-        inl (made_at_first start (keep.each h t.0 t.1).placed.nobody h);
+        inl (made_at_first start (are.each h t.0 t.1).keeps.placed.nobody h);
     gives = λ i j i_low low apart. gives i j i_low low apart;
     within = λ h past. logs_at_past (logs_in ts) h (subst (λ n. n ≤ h) (sym (logs_length ts)) past);
   }

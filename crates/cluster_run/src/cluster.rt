@@ -1,7 +1,8 @@
 //! A cluster of hosts, driven in rounds.
-ghost use Rattle.std.specs.Prelude.{◌≡◌, ◌<◌, IfOk, OnErr, OnOk, length};
+ghost use Rattle.std.specs.Prelude.{◌≡◌, IfOk, OnOk, length};
 
-use crate::making::{are_connected, compare_all, logs_of};
+use crate::ending::{compare_all, logs_of};
+use crate::making::connected;
 use crate::quiet::is_quiet;
 use block_host::Host;
 use node_views::HostBody;
@@ -16,7 +17,14 @@ pub struct Cluster {
 }
 
 impl Cluster {
-    ghost use Rattle.cluster_run.specs.Cluster.{AreHosts, HaveGone, IsMesh, states_of};
+    ghost use Rattle.std.specs.Prelude.{List, []};
+    ghost use Rattle.run_theory.specs.Runs.{AreLogs};
+    ghost use Rattle.sig_core.specs.declared.reply.ApiReply.{ApiReply};
+    ghost use Rattle.world_core.specs.Hosts.{hosts};
+    ghost use Rattle.world_core.specs.Start.{Start};
+    ghost use Rattle.world_core.specs.World.{logs_at};
+    ghost use Rattle.world_views.specs.Machine.{machine};
+    ghost use Rattle.cluster_run.specs.Cluster.{AreBegun, AreHosts, HaveGone, IsMesh, logs_in, states_of};
     ghost use Rattle.cluster_run.specs.Quiet.{AreQuiet};
 
     /// A cluster of hosts that are made of these, in their order; these members were made.
@@ -28,8 +36,10 @@ impl Cluster {
         members: &[Member],
         bodies: Vec<HostBody>,
     ) -> Result<Cluster, NoMemory>
+        ensures mesh { IfOk result (λ cluster. IsMesh (states_of cluster.hosts.items)) }
+        ensures right { (start : Start) → AreBegun start 0 members.now bodies.items → length bodies.items ≡ hosts start → IfOk result (λ cluster. AreHosts start [] (states_of cluster.hosts.items)) }
     {
-        let hosts = are_connected(alloc, members, bodies)?;
+        let hosts = connected(alloc, members, bodies)?;
         Ok(Cluster { hosts })
     }
 
@@ -44,7 +54,11 @@ impl Cluster {
     ///
     /// # Errors
     /// `NoMemory`, also where that has stopped or there is none, and then no step was made.
-    pub fn ask(&mut self, alloc: Global, request: ApiReq) -> Result<(), NoMemory> {
+    pub fn ask(&mut self, alloc: Global, request: ApiReq) -> Result<(), NoMemory>
+        requires { IsMesh (states_of self.old.hosts.items) }
+        ensures mesh { IsMesh (states_of self.new.hosts.items) }
+        ensures right { (start : Start) (had : List ApiReply) → AreHosts start had (states_of self.old.hosts.items) → AreHosts start had (states_of self.new.hosts.items) }
+    {
         if self.hosts.is_empty() {
             return Err(NoMemory);
         }
@@ -59,6 +73,7 @@ impl Cluster {
         requires { IsMesh (states_of self.old.hosts.items) }
         ensures mesh { IsMesh (states_of self.new.hosts.items) }
         ensures gone { HaveGone (states_of self.old.hosts.items) (states_of self.new.hosts.items) }
+        ensures right { (start : Start) (had : List ApiReply) → AreHosts start had (states_of self.old.hosts.items) → AreHosts start had (states_of self.new.hosts.items) }
         ensures quiet { OnOk result (AreQuiet (states_of self.new.hosts.items)) }
     {
         for _ in rt.forever() {
@@ -98,6 +113,8 @@ impl Cluster {
     /// `NoMemory`.
     pub fn end_life(self, alloc: Global) -> Result<Seq<HostLog>, NoMemory>
         requires { IsMesh (states_of self.hosts.items) }
+        ensures logs { IfOk result (λ logs. logs ≡ logs_in (states_of self.hosts.items)) }
+        ensures right { (start : Start) (had : List ApiReply) → AreHosts start had (states_of self.hosts.items) → AreLogs (machine start) (logs_at (logs_in (states_of self.hosts.items))) }
     {
         let Cluster { mut hosts } = self;
         compare_all(hosts.as_mut_slice());

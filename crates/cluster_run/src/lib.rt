@@ -3,6 +3,7 @@
 #![tactic(auto)]
 
 mod cluster;
+mod ending;
 mod making;
 mod quiet;
 

@@ -1,9 +1,14 @@
-//! How a cluster begins, and how its life ends.
+//! How a cluster begins.
+ghost use Rattle.std.specs.Prelude.{◌≡◌, ◌+◌, ◌<◌, [], IfOk, OnOk, length, map};
+ghost use Rattle.world_core.specs.Start.{Start};
+ghost use Rattle.block_host.specs.State.{state_of};
+ghost use Rattle.cluster_run.specs.Cluster.{AreBegun, EachHost, HasBegun, IsJoining, IsMesh, IsNext, states_of};
 
-use block_host::{Host, compare, connect};
+use block_host::{Host, connect};
 use node_views::HostBody;
-use sig_core::{HostId, HostLog, Member, NoMemory};
+use sig_core::{HostId, Member, NoMemory};
 use std::alloc::Global;
+use std::collections::VecDeque;
 
 /// The most hosts that a cluster has.
 const MOST_HOSTS: usize = 1 << 31;
@@ -12,14 +17,18 @@ const MOST_HOSTS: usize = 1 << 31;
 ///
 /// # Errors
 /// `NoMemory`.
-pub fn are_connected(
+pub fn connected(
     alloc: Global,
     members: &[Member],
     bodies: Vec<HostBody>,
 ) -> Result<Vec<Host>, NoMemory>
+    ensures mesh { IfOk result (λ hosts. IsMesh (states_of hosts.items)) }
+    ensures begun { (start : Start) → AreBegun start 0 members.now bodies.items → IfOk result (λ hosts. EachHost (λ k t. HasBegun start t) (states_of hosts.items)) }
+    ensures all { IfOk result (λ hosts. length hosts.items ≡ length bodies.items) }
 {
+    let mut rest = VecDeque::from_vec(bodies);
     let mut hosts: Vec<Host> = Vec::new(alloc);
-    for body in bodies {
+    while let Some(body) = rest.pop_front() {
         add(alloc, members, body, &mut hosts)?;
     }
     Ok(hosts)
@@ -32,46 +41,30 @@ fn add(
     body: HostBody,
     hosts: &mut Vec<Host>,
 ) -> Result<(), NoMemory>
+    requires { IsMesh (states_of hosts.old.items) }
+    ensures mesh { OnOk result (IsMesh (states_of hosts.new.items)) }
+    ensures begun { (start : Start) → EachHost (λ k t. HasBegun start t) (states_of hosts.old.items) → IsNext start members.now body (length hosts.old.items) → OnOk result (EachHost (λ k t. HasBegun start t) (states_of hosts.new.items)) }
+    ensures more { OnOk result (length hosts.new.items ≡ length hosts.old.items + 1) }
 {
     if hosts.len() >= MOST_HOSTS {
         return Err(NoMemory);
     }
     let id = HostId(hosts.len() as u32);
     let mut host = Host::new(alloc, id, members, body)?;
-    for at in 0..hosts.len() {
-        connect(alloc, &mut hosts[at], &mut host)?;
-    }
+    connect_all(alloc, hosts.as_mut_slice(), &mut host)?;
     hosts.push(host)?;
     Ok(())
 }
 
-/// Each two hosts compare their ends of the links between them.
-pub fn compare_all(hosts: &mut [Host])
+// A host is connected with each of these.
+fn connect_all(alloc: Global, hosts: &mut [Host], host: &mut Host) -> Result<(), NoMemory>
+    requires { IsJoining 0 (states_of hosts.old) (state_of host.old) }
+    ensures joined { OnOk result (IsJoining (length hosts.old) (states_of hosts.new) (state_of host.new)) }
+    ensures begun { (start : Start) → EachHost (λ k t. HasBegun start t) (states_of hosts.old) → HasBegun start (state_of host.old) → OnOk result (EachHost (λ k t. HasBegun start t) (states_of hosts.new)) }
+    ensures begins { (start : Start) → HasBegun start (state_of host.old) → OnOk result (HasBegun start (state_of host.new)) }
 {
-    for high in 0..hosts.len() {
-        compare_below(hosts, high);
+    for at in 0..hosts.len() {
+        connect(alloc, &mut hosts[at], host)?;
     }
-}
-
-// A host compares its links with those of each host before it.
-fn compare_below(hosts: &mut [Host], high: usize)
-    requires { high < length hosts.old }
-{
-    let (front, rest) = hosts.split_at_mut(high);
-    for low in 0..front.len() {
-        compare(&mut front[low], &mut rest[0]);
-    }
-}
-
-/// The logs of these hosts, in their order.
-///
-/// # Errors
-/// `NoMemory`.
-pub fn logs_of(alloc: Global, hosts: Vec<Host>) -> Result<Vec<HostLog>, NoMemory>
-{
-    let mut logs = Vec::with_capacity(alloc, hosts.len())?;
-    for host in hosts {
-        logs.push(host.into_log())?;
-    }
-    Ok(logs)
+    Ok(())
 }

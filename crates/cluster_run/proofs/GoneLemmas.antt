@@ -1,0 +1,95 @@
+-- The hosts of a cluster go on, and keep what they are.
+use Rattle.std.proofs.Common.{◌≡◌, ◌≢◌, ℕ, zero, suc, ◌<◌, List, [], ◌∷◌, ◌++◌, append-nil, append_assoc, length, refl, sym, ap}
+use Rattle.std.proofs.Common.{◌∙◌, subst, arith}
+use Rattle.std.specs.Prelude.{slice_get, Some}
+use Rattle.run_theory.specs.Lists.{Each}
+use Rattle.sig_core.specs.declared.log.LogStep.{LogStep}
+use Rattle.sig_core.specs.declared.reply.ApiReply.{ApiReply}
+use Rattle.world_core.specs.Hosts.{hosts}
+use Rattle.world_core.specs.Start.{Start}
+use Rattle.peer_lists.specs.Peers.{hosts_of}
+use Rattle.block_host.specs.Ends.{Ends}
+use Rattle.block_host.specs.Goes.{HostGoesOn, IsStill}
+use Rattle.block_host.specs.Pairs.{AreConnected, HasEnds, ends_to}
+use Rattle.block_host.specs.State.{HostState}
+use Rattle.block_host.proofs.GoesLemmas.{still, still_then}
+use Rattle.cluster_run.specs.Cluster.{AreHosts, EachHost, HaveGone, IsBelow, IsMesh}
+
+there_of : (ts us : List HostState) (k : ℕ) (u : HostState) → length us ≡ length ts → slice_get us k ≡ Some u
+    → (t : HostState) × (slice_get ts k ≡ Some t)
+there_of ts [] k u same found = absurd cc
+there_of [] (v ∷ us) k u same found = absurd (omega (arith, same))
+there_of (t ∷ ts) (v ∷ us) zero u same found = (t, refl)
+there_of (t ∷ ts) (v ∷ us) (suc k) u same found = there_of ts us k u (omega (arith, same)) found
+
+has_still : (t u : HostState) (j : ℕ) (e : Ends) → IsStill t u → HasEnds t j e → HasEnds u j e
+has_still t u j e is has = record {
+  found = ap (λ es. ends_to es j) is.ends ∙ has.found;
+  own = has.own ∙ sym is.id;
+  host = has.host;
+}
+
+connected_still : (a b a' b' : HostState) → IsStill a a' → IsStill b b' → AreConnected a b → AreConnected a' b'
+connected_still a b a' b' one two c = record {
+  here = c.here;
+  there = c.there;
+  of_one = subst (λ j. HasEnds a' j c.here) (sym two.id) (has_still a a' b.id c.here one c.of_one);
+  of_other = subst (λ j. HasEnds b' j c.there) (sym one.id) (has_still b b' a.id c.there two c.of_other);
+  out = c.out;
+  back = c.back;
+}
+
+-- hosts that go on are a mesh still
+pub mesh_stays : (ts us : List HostState) → HaveGone ts us → IsMesh ts → IsMesh us
+mesh_stays ts us gone mesh = record {
+  numbers = λ k u found.
+      let was = there_of ts us k u gone.length found in
+      (gone.each k was.0 u was.1 found).still.id ∙ mesh.numbers k was.0 was.1;
+  connected = λ i j a b apart a_found b_found.
+      let a_was = there_of ts us i a gone.length a_found in
+      let b_was = there_of ts us j b gone.length b_found in
+      connected_still a_was.0 b_was.0 a b (gone.each i a_was.0 a a_was.1 a_found).still
+      (gone.each j b_was.0 b b_was.1 b_found).still (mesh.connected i j a_was.0 b_was.0 apart a_was.1 b_was.1);
+  within = λ k u found.
+      let was = there_of ts us k u gone.length found in
+      let is = (gone.each k was.0 u was.1 found).still in
+      subst (λ n. IsBelow n u) (sym gone.length)
+      (record {
+        peers = subst (Each (λ j. j < length ts)) (sym is.hosts) (mesh.within k was.0 was.1).peers;
+        ends = subst (Each (λ (e : Ends). e.host < length ts)) (sym is.ends) (mesh.within k was.0 was.1).ends;
+      });
+}
+
+-- and hosts of the machine
+pub hosts_stay : (start : Start) (had : List ApiReply) (ts us : List HostState) → HaveGone ts us → AreHosts start had ts
+    → AreHosts start had us
+hosts_stay start had ts us gone are = record {
+  all = gone.length ∙ are.all;
+  each = λ k u found.
+      let was = there_of ts us k u gone.length found in
+      (gone.each k was.0 u was.1 found).right start _ (are.each k was.0 was.1);
+}
+
+goes_none : (t : HostState) → HostGoesOn t t
+goes_none t = record { still = still t; right = λ start had is. is }
+
+pub gone_none : (ts : List HostState) → HaveGone ts ts
+gone_none ts = record { length = refl; each = λ k t u one two. same k t u one two }
+  where
+    same : (k : ℕ) (t u : HostState) → slice_get ts k ≡ Some t → slice_get ts k ≡ Some u → HostGoesOn t u
+    same k t u one two =
+        let is : t ≡ u = cc in
+        subst (HostGoesOn t) is (goes_none t)
+
+pub gone_then : (ts us vs : List HostState) → HaveGone ts us → HaveGone us vs → HaveGone ts vs
+gone_then ts us vs one two = record {
+  length = two.length ∙ one.length;
+  each = λ k t v t_found v_found.
+      let u = there_of us vs k v two.length v_found in
+      let first = one.each k t u.0 t_found u.1 in
+      let later = two.each k u.0 v u.1 v_found in
+      record {
+        still = still_then first.still later.still;
+        right = λ start had is. later.right start had (first.right start had is);
+      };
+}
