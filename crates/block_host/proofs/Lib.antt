@@ -1,9 +1,12 @@
 pub mod AskLemmas
+pub mod EnterLemmas
 pub mod FlatLemmas
 pub mod FlushLemmas
 pub mod GoesLemmas
 pub mod HandleLemmas
 pub mod JoinLemmas
+pub mod LinkLemmas
+pub mod PairLemmas
 pub mod PeerLemmas
 pub mod RightLemmas
 pub mod StepLemmas

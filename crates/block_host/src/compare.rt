@@ -17,16 +17,18 @@ pub fn compare(one: &mut Host, other: &mut Host)
     ensures other { state_of other.new ≡ state_of other.old }
     ensures fronts { AreFronts (state_of one.old) (state_of other.old) }
 {
-    let here = find(one.peers.as_slice(), other.log.host);
-    let there = find(other.peers.as_slice(), one.log.host);
-    if let (Some(at), Some(back)) = (here, there) {
-        compare_peers(&mut one.peers[at], &mut other.peers[back]);
-    }
+    let Some(at) = find(one.peers.as_slice(), other.log.host) else {
+        return;
+    };
+    let Some(back) = find(other.peers.as_slice(), one.log.host) else {
+        return;
+    };
+    compare_peers(&mut one.peers[at], &mut other.peers[back]);
 }
 
 // Compares the ends of the links between two hosts.
 fn compare_peers(one: &mut LinkPeer, other: &mut LinkPeer)
-    requires hosts { (one.old.own ≡ other.old.host) × (one.old.host ≡ other.old.own) }
+    requires hosts { (one.old.own.0 ≡ other.old.host.0) × (one.old.host.0 ≡ other.old.own.0) }
     requires links { (one.old.tx.link ≡ other.old.rx.link) × (other.old.tx.link ≡ one.old.rx.link) }
     ensures one { peer_state one.new ≡ peer_state one.old }
     ensures other { peer_state other.new ≡ peer_state other.old }

@@ -43,17 +43,17 @@ connected_still a b a' b' one two c = record {
 pub mesh_stays : (ts us : List HostState) → HaveGone ts us → IsMesh ts → IsMesh us
 mesh_stays ts us gone mesh = record {
   numbers = λ k u found.
-      let was = there_of ts us k u gone.length found in
+      let was = there_of ts us k u gone.all found in
       (gone.each k was.0 u was.1 found).still.id ∙ mesh.numbers k was.0 was.1;
   connected = λ i j a b apart a_found b_found.
-      let a_was = there_of ts us i a gone.length a_found in
-      let b_was = there_of ts us j b gone.length b_found in
+      let a_was = there_of ts us i a gone.all a_found in
+      let b_was = there_of ts us j b gone.all b_found in
       connected_still a_was.0 b_was.0 a b (gone.each i a_was.0 a a_was.1 a_found).still
       (gone.each j b_was.0 b b_was.1 b_found).still (mesh.connected i j a_was.0 b_was.0 apart a_was.1 b_was.1);
   within = λ k u found.
-      let was = there_of ts us k u gone.length found in
+      let was = there_of ts us k u gone.all found in
       let is = (gone.each k was.0 u was.1 found).still in
-      subst (λ n. IsBelow n u) (sym gone.length)
+      subst (λ n. IsBelow n u) (sym gone.all)
       (record {
         peers = subst (Each (λ j. j < length ts)) (sym is.hosts) (mesh.within k was.0 was.1).peers;
         ends = subst (Each (λ (e : Ends). e.host < length ts)) (sym is.ends) (mesh.within k was.0 was.1).ends;
@@ -64,9 +64,9 @@ mesh_stays ts us gone mesh = record {
 pub hosts_stay : (start : Start) (had : List ApiReply) (ts us : List HostState) → HaveGone ts us → AreHosts start had ts
     → AreHosts start had us
 hosts_stay start had ts us gone are = record {
-  all = gone.length ∙ are.all;
+  all = gone.all ∙ are.all;
   each = λ k u found.
-      let was = there_of ts us k u gone.length found in
+      let was = there_of ts us k u gone.all found in
       (gone.each k was.0 u was.1 found).right start _ (are.each k was.0 was.1);
 }
 
@@ -74,7 +74,7 @@ goes_none : (t : HostState) → HostGoesOn t t
 goes_none t = record { still = still t; right = λ start had is. is }
 
 pub gone_none : (ts : List HostState) → HaveGone ts ts
-gone_none ts = record { length = refl; each = λ k t u one two. same k t u one two }
+gone_none ts = record { all = refl; each = λ k t u one two. same k t u one two }
   where
     same : (k : ℕ) (t u : HostState) → slice_get ts k ≡ Some t → slice_get ts k ≡ Some u → HostGoesOn t u
     same k t u one two =
@@ -83,9 +83,9 @@ gone_none ts = record { length = refl; each = λ k t u one two. same k t u one t
 
 pub gone_then : (ts us vs : List HostState) → HaveGone ts us → HaveGone us vs → HaveGone ts vs
 gone_then ts us vs one two = record {
-  length = two.length ∙ one.length;
+  all = two.all ∙ one.all;
   each = λ k t v t_found v_found.
-      let u = there_of us vs k v two.length v_found in
+      let u = there_of us vs k v two.all v_found in
       let first = one.each k t u.0 t_found u.1 in
       let later = two.each k u.0 v u.1 v_found in
       record {

@@ -68,7 +68,7 @@ AreBegun start id members (body ∷ bodies) = IsNext start members body id × Ar
 
 -- Each host has gone on.
 pub record HaveGone (ts us : List HostState) : Type 0 where
-  pub length : length us ≡ length ts
+  pub all : length us ≡ length ts
   pub each : (k : ℕ) (t u : HostState) → slice_get ts k ≡ Some t → slice_get us k ≡ Some u → HostGoesOn t u
 
 -- The hosts are those of a life that began so, and each is a host of the machine; the shell has had these replies.
