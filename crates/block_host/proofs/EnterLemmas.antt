@@ -54,49 +54,48 @@ cause_told (Stopped cause ∷ marks) = refl
 cause_told (mark ∷ marks) = cause_told marks
 
 -- so the step is made
-pub has_entered : (t t1 t2 t3 u : HostState) (x : Signal) (s : Step HostBody) (stamp : ℕ) (marks : List Mark)
-    (cause : Option StopCause) → stamp ≡ max t.stamp x.stamp + 1 → stop_in s.effects.marks ≡ cause
-    → t1 ≡ telling t s → marks ≡ s.effects.marks → t2 ≡ sending_at t1 stamp s.effects.sends
-    → MatchOption cause (t3 ≡ t2) (λ c. t3 ≡ halted_at t2 stamp x.view c)
-    → u ≡ logged t3 (record { stamp = stamp; taken = x; marks = marks }) → u ≡ entered t x s
-has_entered t t1 t2 t3 u x s stamp marks cause at told_of telling_is marks_are sent closed kept =
-    by cause told_of closed
-  where
-    abbrev step : ℕ → List Mark → LogStep
-    step n ms = record { stamp = n; taken = x; marks = ms }
+module _ (t t1 t2 t3 u : HostState) (x : Signal) (s : Step HostBody) (stamp : ℕ) (marks : List Mark)
+    (at : stamp ≡ max t.stamp x.stamp + 1) (telling_is : t1 ≡ telling t s) (marks_are : marks ≡ s.effects.marks)
+    (sent : t2 ≡ sending_at t1 stamp s.effects.sends)
+    (kept : u ≡ logged t3 (record { stamp = stamp; taken = x; marks = marks })) where
+  abbrev step : ℕ → List Mark → LogStep
+  step n ms = record { stamp = n; taken = x; marks = ms }
 
-    abbrev sent_by : HostState
-    sent_by = sending_at (telling t s) (step_made t x s).stamp s.effects.sends
+  abbrev all_sent : HostState
+  all_sent = sending_at (telling t s) (step_made t x s).stamp s.effects.sends
 
-    sent_is : t2 ≡ sent_by
-    sent_is =
-        sent
-        ∙ ap (λ (v : HostState). sending_at v stamp s.effects.sends) telling_is
-        ∙ ap (λ (n : ℕ). sending_at (telling t s) n s.effects.sends) at
+  sent_is : t2 ≡ all_sent
+  sent_is =
+      sent
+      ∙ ap (λ (v : HostState). sending_at v stamp s.effects.sends) telling_is
+      ∙ ap (λ (n : ℕ). sending_at (telling t s) n s.effects.sends) at
 
-    step_is : step stamp marks ≡ step_made t x s
-    step_is = ap (λ (n : ℕ). step n marks) at ∙ ap (step (max t.stamp x.stamp + 1)) marks_are
+  kept_is : u ≡ logged t3 (step_made t x s)
+  kept_is =
+      kept ∙ ap (λ (n : ℕ). logged t3 (step n marks)) at
+      ∙ ap (λ (ms : List Mark). logged t3 (step (max t.stamp x.stamp + 1) ms)) marks_are
 
-    kept_is : u ≡ logged t3 (step_made t x s)
-    kept_is = kept ∙ ap (logged t3) step_is
+  by_cause : (o : Option StopCause) → stop_in s.effects.marks ≡ o
+      → MatchOption o (t3 ≡ t2) (λ c. t3 ≡ halted_at t2 stamp x.view c) → u ≡ entered t x s
+  by_cause None is same =
+      let goes : stops_by s.effects.marks ≡ false = stops_by_cause s.effects.marks ∙ ap is_some is in
+      kept_is ∙ ap (λ (v : HostState). logged v (step_made t x s)) (same ∙ sent_is)
+      ∙ sym (ap (λ b. halted_if b (stepped t x s) x.view (cause_in s.effects.marks)) goes)
+  by_cause (Some c) is same =
+      let stops : stops_by s.effects.marks ≡ true = stops_by_cause s.effects.marks ∙ ap is_some is in
+      let cause_is : c ≡ cause_in s.effects.marks =
+      subst (λ o. IfSome o (λ d. d ≡ cause_in s.effects.marks)) is (cause_told s.effects.marks) in
+      kept_is
+      ∙ ap (λ (v : HostState). logged v (step_made t x s))
+      (same
+      ∙ ap (λ (v : HostState). halted_at v stamp x.view c) sent_is
+      ∙ ap (λ (n : ℕ). halted_at all_sent n x.view c) at
+      ∙ ap (λ (d : StopCause). halted_at all_sent (max t.stamp x.stamp + 1) x.view d) cause_is)
+      ∙ sym (ap (λ b. halted_if b (stepped t x s) x.view (cause_in s.effects.marks)) stops)
 
-    by : (o : Option StopCause) → stop_in s.effects.marks ≡ o
-        → MatchOption o (t3 ≡ t2) (λ c. t3 ≡ halted_at t2 stamp x.view c) → u ≡ entered t x s
-    by None is same =
-        let goes : stops_by s.effects.marks ≡ false = stops_by_cause s.effects.marks ∙ ap is_some is in
-        kept_is ∙ ap (λ (v : HostState). logged v (step_made t x s)) (same ∙ sent_is)
-        ∙ sym (ap (λ b. halted_if b (stepped t x s) x.view (cause_in s.effects.marks)) goes)
-    by (Some c) is same =
-        let stops : stops_by s.effects.marks ≡ true = stops_by_cause s.effects.marks ∙ ap is_some is in
-        let cause_is : c ≡ cause_in s.effects.marks =
-        subst (λ o. IfSome o (λ d. d ≡ cause_in s.effects.marks)) is (cause_told s.effects.marks) in
-        kept_is
-        ∙ ap (λ (v : HostState). logged v (step_made t x s))
-        (same
-        ∙ ap (λ (v : HostState). halted_at v stamp x.view c) sent_is
-        ∙ ap (λ (n : ℕ). halted_at sent_by n x.view c) at
-        ∙ ap (halted_at sent_by (max t.stamp x.stamp + 1) x.view) cause_is)
-        ∙ sym (ap (λ b. halted_if b (stepped t x s) x.view (cause_in s.effects.marks)) stops)
+  pub has_entered : (cause : Option StopCause) → stop_in s.effects.marks ≡ cause
+      → MatchOption cause (t3 ≡ t2) (λ c. t3 ≡ halted_at t2 stamp x.view c) → u ≡ entered t x s
+  has_entered cause is closed = by_cause cause is closed
 
 -- nothing of a step was made
 pub unmade_then : (t u v : HostState) → IsUnmade t u → IsUnmade u v → IsUnmade t v
@@ -129,18 +128,15 @@ unmade_sent t stamp sends = record {
 ended_same : (members : List Member) (h stamp : ℕ) (standing : Standing) (view : View) (cause : StopCause)
     (p : PeerState) → HasSameLinks p (ended members h stamp standing view cause p)
 ended_same members h stamp standing view cause p =
-    go (is_cut standing (record { 0 = p.host })) p.shut refl
+    go (is_cut standing (record { 0 = p.host })) (closing_to members h stamp view cause p.host)
   where
-    last : Signal
-    last = closing_to members h stamp view cause p.host
+    shut : (d : Bool) (last : Signal) → HasSameLinks p (closed_if d last p)
+    shut true last = record { host = refl; sent = refl; taken = refl }
+    shut false last = record { host = refl; sent = refl; taken = refl }
 
-    go : (b c : Bool) → p.shut ≡ c → HasSameLinks p (ended_if b last p)
-    go true c e = record { host = refl; sent = refl; taken = refl }
-    go false c e = subst (λ d. HasSameLinks p (closed_if d last p)) (sym e) (shut c)
-      where
-        shut : (d : Bool) → HasSameLinks p (closed_if d last p)
-        shut true = record { host = refl; sent = refl; taken = refl }
-        shut false = record { host = refl; sent = refl; taken = refl }
+    go : (b : Bool) (last : Signal) → HasSameLinks p (ended_if b last p)
+    go true last = record { host = refl; sent = refl; taken = refl }
+    go false last = shut p.shut last
 
 pub unmade_halted : (t : HostState) (stamp : ℕ) (view : View) (cause : StopCause)
     → IsUnmade t (halted_at t stamp view cause)

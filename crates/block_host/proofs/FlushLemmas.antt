@@ -61,7 +61,7 @@ module _ (start : Start) (t : HostState) (qs : List PeerState) (all : ArePut t.p
   flush_right : (had : List ApiReply) → IsRight start had t → IsRight start had flushed
   flush_right had right = record {
     running = record {
-      placed = placed_by refl refl (hosts_put t.peers qs all) right.running.placed;
+      placed = placed_by start t flushed refl refl (hosts_put t.peers qs all) right.running.placed;
       members = right.running.members;
       local = right.running.local;
       next = right.running.next;
@@ -89,7 +89,7 @@ module _ (start : Start) (t : HostState) (qs : List PeerState) (all : ArePut t.p
 
   flush_keeps : KeepsLog start t → KeepsLog start flushed
   flush_keeps keeps = record {
-    placed = placed_by refl refl (hosts_put t.peers qs all) keeps.placed;
+    placed = placed_by start t flushed refl refl (hosts_put t.peers qs all) keeps.placed;
     local = keeps.local;
     next = keeps.next;
     peers = λ j q apart found.

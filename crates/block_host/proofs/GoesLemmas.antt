@@ -5,6 +5,9 @@ use Rattle.std.specs.Prelude.{max}
 use Rattle.sig_core.specs.declared.log.HostLog.{HostLog}
 use Rattle.sig_core.specs.declared.log.LogStep.{LogStep}
 use Rattle.sig_core.specs.declared.outcome.StopCause.{StopCause}
+use Rattle.sig_core.specs.declared.outcome.StopCause.TheVariants.{Clock, Memory}
+use Rattle.sig_core.specs.declared.signal.Body.TheVariants as body
+use Rattle.sig_core.specs.declared.signal.host.HostSignal.TheVariants.{Closed}
 use Rattle.sig_core.specs.declared.signal.Signal.{Signal}
 use Rattle.sig_core.specs.declared.view.View.{View}
 use Rattle.sig_core.specs.Step.{Step}
@@ -20,7 +23,7 @@ use Rattle.block_host.specs.Ends.{with_taken}
 use Rattle.block_host.specs.Goes.{HostGoesOn, IsStill}
 use Rattle.block_host.specs.State.{HostState}
 use Rattle.block_host.specs.Step.{HasHandled, HasStopped, ended, entered, halted_by, halted_if, handled_by, moved, sendings_made}
-use Rattle.block_host.specs.Step.{step_made, stepped}
+use Rattle.block_host.specs.Step.{step_made, stepped, wish}
 use Rattle.block_host.specs.Turn.{HasFlushed, HasGivenUp, HasGone, HasTaken, HasTakenFrom, HasTakenOwn, HasUsed, TurnOf}
 use Rattle.block_host.specs.Turn.{peer_at, used_by}
 use Rattle.block_host.proofs.PeerLemmas.{hosts_map, hosts_put, hosts_set}
@@ -91,7 +94,9 @@ entered_still t x s = go (stops_by s.effects.marks)
 
 stopped_still : (t u : HostState) (cause : StopCause) → HasStopped t cause u → IsStill t u
 stopped_still t u cause stop =
-    let was = entered_still (record t { body = stop.left }) _ (stopping stop.left cause) in
+    let left : HostState = record t { body = stop.left } in
+    let was =
+    entered_still left (wish left t.body.standing.view (body.Host (Closed cause))) (stopping stop.left cause) in
     subst (IsStill t) (sym stop.is)
     (record { id = was.id; ends = was.ends; hosts = was.hosts; more = was.more; steps = was.steps })
 
@@ -100,8 +105,8 @@ handled_still t u x = by (is_stamp (max t.stamp x.stamp + 1))
   where
     by : (b : Bool) → handled_by b t x u → IsStill t u
     by true (inl same) = subst (IsStill t) (sym same) (entered_still t x (host_row t.body x))
-    by true (inr stop) = stopped_still t u _ stop
-    by false stop = stopped_still t u _ stop
+    by true (inr stop) = stopped_still t u Memory stop
+    by false stop = stopped_still t u Clock stop
 
 used_still : (t u : HostState) (x : Signal) → HasUsed t x u → IsStill t u
 used_still t u x = by (is_cut t.body.standing x.from)

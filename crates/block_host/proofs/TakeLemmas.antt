@@ -62,9 +62,9 @@ got_more : (h : ℕ) (x : Signal) (p : PeerState) → got_from h (with_taken x p
 got_more h x p = ap (arrived h) (taken_is x p) ∙ arrived_behind h p.taken (x ∷ [])
 
 -- a host stands where it stood, where its number, its log and the numbers of its peers are as they were
-pub placed_by : {start : Start} {t u : HostState} → u.id ≡ t.id → u.log ≡ t.log → hosts_of u.peers ≡ hosts_of t.peers
+pub placed_by : (start : Start) (t u : HostState) → u.id ≡ t.id → u.log ≡ t.log → hosts_of u.peers ≡ hosts_of t.peers
     → IsPlaced start t → IsPlaced start u
-placed_by {start} {t} {u} id log hosts_same was =
+placed_by start t u id log hosts_same was =
     record {
       there = subst (λ h. h < hosts start) (sym id) was.there;
       nobody = was.nobody;
@@ -101,7 +101,7 @@ module _ (start : Start) (had : List ApiReply) (t : HostState) (right : IsRight 
 
     running_without : IsRunning start without_it
     running_without = record {
-      placed = placed_by refl refl refl right.running.placed;
+      placed = placed_by start t without_it refl refl refl right.running.placed;
       members = right.running.members;
       local = right.running.local;
       next = right.running.next;
@@ -220,7 +220,8 @@ module _ (start : Start) (had : List ApiReply) (t : HostState) (right : IsRight 
 
     running_then : IsRunning start with_it
     running_then = record {
-      placed = placed_by refl refl (hosts_set t.peers at (with_taken x peer) (taken_host x peer)) right.running.placed;
+      placed = placed_by start t with_it refl refl (hosts_set t.peers at (with_taken x peer) (taken_host x peer))
+          right.running.placed;
       members = right.running.members;
       local = right.running.local;
       next = right.running.next;

@@ -152,7 +152,7 @@ module _ (start : Start) (had : List ApiReply) (w u : HostState) (x : Signal)
   pub given_up_host : IsHost start had u
   given_up_host = record {
     keeps = record {
-      placed = placed_by gives.unmade.id gives.unmade.log gives.unmade.links.hosts right.running.placed;
+      placed = placed_by start w u gives.unmade.id gives.unmade.log gives.unmade.links.hosts right.running.placed;
       local = same (λ h l. IsLog (machine start) h l) right.running.local;
       next = same (λ h l. HaveNextStamps l) right.running.next;
       peers = λ j q apart found.

@@ -16,11 +16,11 @@ returns-clause-ok c =
     on_ok_weaker c.keep.result
     (λ kept.
     has_entered t told (state_of c.send.new.self) (state_of c.close_for.new.self) (state_of c.keep.new.self) c.args.taken s
-    c.args.stamp c.in_ok-marks.marks c.args.cause c.requires.stamp c.requires.told
+    c.args.stamp c.in_ok-marks.marks c.requires.stamp
     (has_told t s c.tell.new.body c.tell.new.replies.items c.in_ok-tell.ensures.host c.in_ok-tell.ensures.told)
     c.in_ok-marks.ensures.taken
-    (c.in_ok-send.ensures.ok ∙ ap (λ os. sending_at told c.args.stamp os) c.in_ok-marks.ensures.sends)
-    c.in_ok-close_for.ensures.ok kept)
+    (c.in_ok-send.ensures.ok ∙ ap (λ os. sending_at told c.args.stamp os) c.in_ok-marks.ensures.sends) kept
+    c.args.cause c.requires.told c.in_ok-close_for.ensures.ok)
     c.keep.ensures.ok
 
 pub returns-in_err-tell-clause-err : goal.returns-in_err-tell-clause-err
