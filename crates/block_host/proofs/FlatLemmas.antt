@@ -4,7 +4,7 @@ use Rattle.std.proofs.Common.{refl, sym, ap, ◌∙◌, subst, arith}
 use Rattle.std.specs.Prelude.{map, slice_index_or, slice_set}
 use Rattle.sig_core.specs.declared.signal.Signal.{Signal}
 use Rattle.peer_lists.specs.Peers.{PeerState}
-use Rattle.block_host.specs.Ends.{ArePut, IsPut}
+use Rattle.block_host.specs.Ends.{ArePut, IsPut, in_front, went}
 
 -- the first so many of a list, changed
 pub upto : {A : Type 0} → (A → A) → ℕ → List A → List A
@@ -77,7 +77,7 @@ module _ {P A : Type 0} (state : P → A) where
       ∙ ap (λ n. upto f n (map state first)) same
 
 -- nothing has gone into a link
-put_none : (p : PeerState) → IsPut p p
+pub put_none : (p : PeerState) → IsPut p p
 put_none p = record {
   gone = [];
   sent = sym (append-nil p.sent);
@@ -121,3 +121,25 @@ put_at state [] at d p is = tt
 put_at state (q ∷ ps) zero d p is = (is, put_all_none (map state ps))
 put_at state (q ∷ ps) (suc at) d p is = (put_none (state q), put_at state ps at d p is)
 
+
+-- the oldest of what waits went into the link
+pub put_went : (p m q : PeerState) (x : Signal) → p ≡ in_front x m → q ≡ went x m → IsPut p q
+put_went p m q x front is =
+    subst (λ (r : PeerState). IsPut r q) (sym front)
+    (subst (λ (r : PeerState). IsPut (in_front x m) r) (sym is)
+    (record {
+      gone = x ∷ [];
+      sent = refl;
+      waits = refl;
+      host = refl;
+      taken = refl;
+      numbered = refl;
+      shut = refl;
+    }))
+
+-- or is in front again
+pub put_back : (p m q : PeerState) (x : Signal) → p ≡ in_front x m → q ≡ in_front x m → IsPut p q
+put_back p m q x front is = subst (IsPut p) (front ∙ sym is) (put_none p)
+
+pub put_same : (p q : PeerState) → q ≡ p → IsPut p q
+put_same p q same = subst (IsPut p) (sym same) (put_none p)

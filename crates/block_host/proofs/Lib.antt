@@ -9,6 +9,7 @@ pub mod LinkLemmas
 pub mod PairLemmas
 pub mod PeerLemmas
 pub mod RightLemmas
+pub mod StateLemmas
 pub mod StepLemmas
 pub mod StopLemmas
 pub mod TakeLemmas

@@ -33,6 +33,13 @@ shut_if false p = p
 abbrev pub with_taken : Signal → PeerState → PeerState
 with_taken x p = shut_if (is_closing x.body) (record p { taken = p.taken ++ x ∷ [] })
 
+-- a signal went into the link, or waits in front of all else
+abbrev pub went : Signal → PeerState → PeerState
+went x p = record p { sent = p.sent ++ x ∷ [] }
+
+abbrev pub in_front : Signal → PeerState → PeerState
+in_front x p = record p { waiting = record { signals = x ∷ p.waiting.signals; numbered = p.waiting.numbered } }
+
 -- what waits is dropped
 abbrev pub hushed : PeerState → PeerState
 hushed p = record p { waiting = emptied p.waiting }

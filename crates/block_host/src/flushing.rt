@@ -1,13 +1,13 @@
 //! What waits goes into links, as far as they have room, and what they give is taken.
-ghost use Rattle.std.specs.Prelude.{◌≡◌, ◌++◌, ◌∷◌, [], IfNone, IfSome, MatchOption, None, OnErr, OnOk, false, map, true};
-ghost use Rattle.peer_lists.specs.Peers.{put_on};
+ghost use Rattle.std.specs.Prelude.{◌≡◌, IfSome, MatchBool, MatchOption};
+ghost use Rattle.std.specs.Prelude.{None, OnErr, OnOk, false, map};
 ghost use Rattle.peer_lists.specs.Waiting.{nothing_waits};
-ghost use Rattle.block_host.specs.Ends.{ArePut, IsPut, closed, hushed, is_closing, with_taken};
+ghost use Rattle.block_host.specs.Ends.{ArePut, IsPut, closed, hushed, in_front, is_closing, went, with_taken};
 ghost use Rattle.block_host.specs.Peer.{ends_of, peer_state};
 
 use crate::peer::LinkPeer;
 use link_queue::{LINK_SIGNALS, LinkRx, LinkTx};
-use peer_lists::{Backlog, Peer};
+use peer_lists::Backlog;
 use sig_core::{Body, Boxed, HostId, HostSignal, NoMemory, Signal};
 use std::alloc::Global;
 use std::sync::Wait;
@@ -98,11 +98,8 @@ impl LinkPeer {
 
     // Takes the signal that has waited for longest.
     fn next_waiting(&mut self) -> Option<Boxed<Signal>>
-        ensures taken { MatchOption result ((peer_state self.old).waiting.signals ≡ []) (λ x. (peer_state self.old).waiting.signals ≡ x ∷ (peer_state self.new).waiting.signals) }
+        ensures taken { MatchOption result (peer_state self.new ≡ peer_state self.old) (λ x. peer_state self.old ≡ in_front x (peer_state self.new)) }
         ensures none { IfSome result (λ x. self.new.first ≡ None) }
-        ensures same { peer_state self.new ≡ record (peer_state self.old) { waiting = (peer_state self.new).waiting } }
-        ensures numbered { (peer_state self.new).waiting.numbered ≡ (peer_state self.old).waiting.numbered }
-        ensures unchanged { IfNone result (peer_state self.new ≡ peer_state self.old) }
         ensures ends { ends_of self.new ≡ ends_of self.old }
     {
         match self.first.take() {
@@ -114,10 +111,7 @@ impl LinkPeer {
     // Puts a signal into the link, or in front of what waits. Whether it went into the link.
     fn put<W: Wait>(&mut self, rt: &W, signal: Boxed<Signal>) -> bool
         requires { self.old.first ≡ None }
-        ensures put { put_on (peer_state self.new) ≡ (peer_state self.old).sent ++ signal ∷ (peer_state self.old).waiting.signals }
-        ensures same { peer_state self.new ≡ record (peer_state self.old) { sent = (peer_state self.new).sent; waiting = (peer_state self.new).waiting } }
-        ensures numbered { (peer_state self.new).waiting.numbered ≡ (peer_state self.old).waiting.numbered }
-        ensures none { result ≡ true → self.new.first ≡ None }
+        ensures put { MatchBool result (peer_state self.new ≡ went signal (peer_state self.old)) (peer_state self.new ≡ in_front signal (peer_state self.old)) }
         ensures ends { ends_of self.new ≡ ends_of self.old }
     {
         if self.tx.sent() >= SENT_END || signal.get().from.0 != self.own.0 {

@@ -1,19 +1,20 @@
 -- The hosts of a cluster go on, and keep what they are.
-use Rattle.std.proofs.Common.{◌≡◌, ◌≢◌, ℕ, zero, suc, ◌<◌, List, [], ◌∷◌, ◌++◌, append-nil, append_assoc, length, refl, sym, ap}
-use Rattle.std.proofs.Common.{◌∙◌, subst, arith}
-use Rattle.std.specs.Prelude.{slice_get, Some}
+use Rattle.std.proofs.Common.{◌≡◌, ◌≢◌, ◌⊎◌, inl, inr, ℕ, zero, suc, ◌<◌, List, [], ◌∷◌, length, refl, sym, ap, ◌∙◌, subst}
+use Rattle.std.proofs.Common.{arith}
+use Rattle.std.specs.Prelude.{map, slice_get, slice_index_or, slice_set, Some}
+use Rattle.std.proofs.lemmas.List.{length-set}
 use Rattle.run_theory.specs.Lists.{Each}
-use Rattle.sig_core.specs.declared.log.LogStep.{LogStep}
 use Rattle.sig_core.specs.declared.reply.ApiReply.{ApiReply}
-use Rattle.world_core.specs.Hosts.{hosts}
 use Rattle.world_core.specs.Start.{Start}
-use Rattle.peer_lists.specs.Peers.{hosts_of}
 use Rattle.block_host.specs.Ends.{Ends}
 use Rattle.block_host.specs.Goes.{HostGoesOn, IsStill}
 use Rattle.block_host.specs.Pairs.{AreConnected, HasEnds, ends_to}
-use Rattle.block_host.specs.State.{HostState}
+use Rattle.block_host.specs.State.{HostState, state_of}
+use Rattle.block_host.specs.declared.host.Host.{Host}
+use Rattle.block_host.proofs.FlatLemmas.{seen_set}
 use Rattle.block_host.proofs.GoesLemmas.{still, still_then}
-use Rattle.cluster_run.specs.Cluster.{AreHosts, EachHost, HaveGone, IsBelow, IsMesh}
+use Rattle.cluster_run.specs.Cluster.{AreHosts, HaveGone, IsBelow, IsMesh, states_of}
+use Rattle.cluster_run.proofs.MeshLemmas.{get_set}
 
 there_of : (ts us : List HostState) (k : ℕ) (u : HostState) → length us ≡ length ts → slice_get us k ≡ Some u
     → (t : HostState) × (slice_get ts k ≡ Some t)
@@ -93,3 +94,40 @@ gone_then ts us vs one two = record {
         right = λ start had is. later.right start had (first.right start had is);
       };
 }
+
+-- what stands at a place of what is seen of a list
+pub seen_get : {P A : Type 0} (state : P → A) (ps : List P) (at : ℕ) (d : P) (a : A)
+    → slice_get (map state ps) at ≡ Some a → a ≡ state (slice_index_or ps at d)
+seen_get state [] at d a found = absurd cc
+seen_get state (p ∷ ps) zero d a found = cc
+seen_get state (p ∷ ps) (suc at) d a found = seen_get state ps at d a found
+
+pub seen_there : {P A : Type 0} (state : P → A) (ps : List P) (at : ℕ) (d : P) → at < length ps
+    → slice_get (map state ps) at ≡ Some (state (slice_index_or ps at d))
+seen_there state [] at d there = absurd (omega (arith, there))
+seen_there state (p ∷ ps) zero d there = refl
+seen_there state (p ∷ ps) (suc at) d there = seen_there state ps at d (omega (arith, there))
+
+-- one of the hosts has gone on
+pub gone_at : (ps : List Host) (at : ℕ) (old now : Host) → old ≡ slice_index_or ps at old
+    → HostGoesOn (state_of old) (state_of now) → HaveGone (states_of ps) (states_of (slice_set ps at now))
+gone_at ps at old now is goes =
+    subst (HaveGone (states_of ps)) (sym (seen_set state_of ps at now))
+    (record {
+      all = length-set (states_of ps) at (state_of now);
+      each = λ k t u t_found u_found. each k t u t_found (get_set (states_of ps) at (state_of now) k u u_found);
+    })
+  where
+    each : (k : ℕ) (t u : HostState) → slice_get (states_of ps) k ≡ Some t
+        → ((k ≡ at) × (u ≡ state_of now)) ⊎ ((k ≢ at) × (slice_get (states_of ps) k ≡ Some u)) → HostGoesOn t u
+    each k t u found (inl same) =
+        let t_is : t ≡ state_of old =
+        seen_get state_of ps at old t (subst (λ n. slice_get (states_of ps) n ≡ Some t) same.0 found)
+        ∙ ap state_of (sym is) in
+        subst (HostGoesOn t) (sym same.1) (subst (λ v. HostGoesOn v (state_of now)) (sym t_is) goes)
+    each k t u found (inr other) =
+        let is_same : t ≡ u = some_same t u (sym found ∙ other.1) in
+        subst (HostGoesOn t) is_same (goes_none t)
+      where
+        some_same : (a b : HostState) → Some a ≡ Some b → a ≡ b
+        some_same a b e = cc

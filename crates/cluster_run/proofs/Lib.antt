@@ -1,3 +1,4 @@
+pub mod EndLemmas
 pub mod GoneLemmas
 pub mod LogLemmas
 pub mod MeshLemmas

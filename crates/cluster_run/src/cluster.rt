@@ -1,7 +1,7 @@
 //! A cluster of hosts, driven in rounds.
 ghost use Rattle.std.specs.Prelude.{◌≡◌, IfOk, OnOk, length};
 
-use crate::ending::{compare_all, logs_of};
+use crate::ending::end_all;
 use crate::making::connected;
 use crate::quiet::is_quiet;
 use block_host::Host;
@@ -114,11 +114,10 @@ impl Cluster {
     pub fn end_life(self, alloc: Global) -> Result<Seq<HostLog>, NoMemory>
         requires { IsMesh (states_of self.hosts.items) }
         ensures logs { IfOk result (λ logs. logs ≡ logs_in (states_of self.hosts.items)) }
-        ensures right { (start : Start) (had : List ApiReply) → AreHosts start had (states_of self.hosts.items) → AreLogs (machine start) (logs_at (logs_in (states_of self.hosts.items))) }
+        ensures right { (start : Start) (had : List ApiReply) → AreHosts start had (states_of self.hosts.items) → OnOk result (AreLogs (machine start) (logs_at (logs_in (states_of self.hosts.items)))) }
     {
-        let Cluster { mut hosts } = self;
-        compare_all(hosts.as_mut_slice());
-        Ok(Seq::from_vec(logs_of(alloc, hosts)?))
+        let Cluster { hosts } = self;
+        Ok(Seq::from_vec(end_all(alloc, hosts)?))
     }
 }
 
