@@ -4,11 +4,13 @@ pub mod FlatLemmas
 pub mod FlushLemmas
 pub mod GoesLemmas
 pub mod HandleLemmas
+pub mod HandledLemmas
 pub mod JoinLemmas
 pub mod LinkLemmas
 pub mod PairLemmas
 pub mod PeerLemmas
 pub mod RightLemmas
+pub mod SendLemmas
 pub mod StateLemmas
 pub mod StepLemmas
 pub mod StopLemmas
