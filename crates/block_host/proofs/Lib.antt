@@ -10,6 +10,7 @@ pub mod LinkLemmas
 pub mod PairLemmas
 pub mod PeerLemmas
 pub mod RightLemmas
+pub mod RouteLemmas
 pub mod SendLemmas
 pub mod StateLemmas
 pub mod StepLemmas

@@ -26,7 +26,7 @@ pub fn sendings(
     stamp: u64,
     outs: &mut Outs,
 ) -> Result<VecDeque<Sending>, NoMemory>
-    ensures sends { IfOk result (λ sends. sends.items ≡ map (sending (sender made.now host stamp body.now.standing.view)) (routed_all made.now host body.now.standing outs.old.sends)) }
+    ensures { IfOk result (λ sends. sends.items ≡ map (sending (sender made.now host stamp body.now.standing.view)) (routed_all made.now host body.now.standing outs.old.sends)) }
 {
     let mut sends = VecDeque::new(alloc);
     // Most steps send nothing, or one signal.
