@@ -1,7 +1,9 @@
 -- Lists of peers that are changed one after the other.
-use Rattle.std.proofs.Common.{◌≡◌, ℕ, zero, suc, ◌+◌, ◌<◌, ◌≤◌, List, [], ◌∷◌, ◌++◌, append_assoc, append-nil, length}
+use Rattle.std.proofs.Common.{◌≡◌, Bool, true, false, ℕ, zero, suc, ◌+◌, ◌<◌, ◌≤◌, List, [], ◌∷◌, ◌++◌, append_assoc}
+use Rattle.std.proofs.Common.{append-nil, length}
 use Rattle.std.proofs.Common.{refl, sym, ap, ◌∙◌, subst, arith}
-use Rattle.std.specs.Prelude.{map, slice_index_or, slice_set}
+use Rattle.std.specs.Prelude.{MatchBool, map, not, slice_index_or, slice_set}
+use Rattle.std.proofs.lemmas.Bool.{true≢false}
 use Rattle.sig_core.specs.declared.signal.Signal.{Signal}
 use Rattle.peer_lists.specs.Peers.{PeerState}
 use Rattle.block_host.specs.Ends.{ArePut, IsPut, in_front, went}
@@ -143,3 +145,11 @@ put_back p m q x front is = subst (IsPut p) (front ∙ sym is) (put_none p)
 
 pub put_same : (p q : PeerState) → q ≡ p → IsPut p q
 put_same p q same = subst (IsPut p) (sym same) (put_none p)
+
+pub match_true : {P Q : Type 0} (b : Bool) → not b ≡ false → MatchBool b P Q → P
+match_true true e p = p
+match_true false e p = absurd (true≢false e)
+
+pub match_false : {P Q : Type 0} (b : Bool) → not b ≡ true → MatchBool b P Q → Q
+match_false true e q = absurd (true≢false (sym e))
+match_false false e q = q
