@@ -47,7 +47,8 @@ module _ {P A : Type 0} (state : P → A) where
   seen_set (q ∷ ps) zero p = refl
   seen_set (q ∷ ps) (suc at) p = ap (λ xs. state q ∷ xs) (seen_set ps at p)
 
-  pub seen_at : (ps : List P) (at : ℕ) (d : P) → slice_index_or (map state ps) at (state d) ≡ state (slice_index_or ps at d)
+  pub seen_at : (ps : List P) (at : ℕ) (d : P)
+      → slice_index_or (map state ps) at (state d) ≡ state (slice_index_or ps at d)
   seen_at [] at d = refl
   seen_at (q ∷ ps) zero d = refl
   seen_at (q ∷ ps) (suc at) d = seen_at ps at d
@@ -123,7 +124,6 @@ put_at state [] at d p is = tt
 put_at state (q ∷ ps) zero d p is = (is, put_all_none (map state ps))
 put_at state (q ∷ ps) (suc at) d p is = (put_none (state q), put_at state ps at d p is)
 
-
 -- the oldest of what waits went into the link
 pub put_went : (p m q : PeerState) (x : Signal) → p ≡ in_front x m → q ≡ went x m → IsPut p q
 put_went p m q x front is =
@@ -153,3 +153,7 @@ match_true false e p = absurd (true≢false e)
 pub match_false : {P Q : Type 0} (b : Bool) → not b ≡ true → MatchBool b P Q → Q
 match_false true e q = absurd (true≢false (sym e))
 match_false false e q = q
+
+pub not_false : (b : Bool) → not b ≡ false → b ≡ true
+not_false true e = refl
+not_false false e = absurd (true≢false e)

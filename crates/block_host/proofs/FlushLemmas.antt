@@ -96,10 +96,12 @@ module _ (start : Start) (t : HostState) (qs : List PeerState) (all : ArePut t.p
         let was = found_put t.peers qs j q all found in
         let old = keeps.peers j was.0 apart was.1 in
         let same : put_to was.0 ≡ put_to q =
-        ap (λ (h : ℕ). arrived h (put_on was.0)) (sym was.2.host) ∙ ap (arrived q.host) (sym (put_same was.0 q was.2)) in
+        ap (λ (h : ℕ). arrived h (put_on was.0)) (sym was.2.host)
+        ∙ ap (arrived q.host) (sym (put_same was.0 q was.2)) in
         record {
           sending = subst (IsGiven (machine start) t.id j (steps_of t)) same old.sending;
-          taking = subst (IsPast (taken (machine start) j (steps_of t))) (ap (arrived t.id) (sym was.2.taken)) old.taking;
+          taking =
+              subst (IsPast (taken (machine start) j (steps_of t))) (ap (arrived t.id) (sym was.2.taken)) old.taking;
         };
     own = keeps.own;
     none = λ i apart nobody. keeps.none i apart (none_put t.peers qs i all nobody);

@@ -81,12 +81,14 @@ entered_still t x s = go (stops_by s.effects.marks)
     go false = record { id = refl; ends = refl; hosts = made_hosts; more = step_made t x s ∷ []; steps = refl }
     go true =
         let v = stepped t x s in
-        let end = ended t.made t.id v.stamp v.body.standing (greater_view v.body.standing.view x.view) (cause_in s.effects.marks) in
+        let end = ended t.made t.id v.stamp v.body.standing (greater_view v.body.standing.view x.view)
+        (cause_in s.effects.marks) in
         record {
           id = refl;
           ends = refl;
           hosts = hosts_map end
-              (λ p. ended_host t.made t.id v.stamp v.body.standing (greater_view v.body.standing.view x.view) (cause_in s.effects.marks) p)
+              (λ p. ended_host t.made t.id v.stamp v.body.standing (greater_view v.body.standing.view x.view)
+              (cause_in s.effects.marks) p)
               (delivered t.id sends t.peers) ∙ made_hosts;
           more = step_made t x s ∷ [];
           steps = refl;

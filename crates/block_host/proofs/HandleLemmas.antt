@@ -64,7 +64,7 @@ earlier start t x s i = go (not (is_asked t.id x) && (x.from.0 == i))
     go false = past_self (taken (machine start) i (steps_of t))
 
 pub nothing_past : {A : Type 0} (xs ys : List A) → IsPast xs ys → ys ≡ [] → xs ≡ []
-nothing_past xs ys past none = go past.newer (sym none ∙ past.is)
+nothing_past {A} xs ys past none = go past.newer (sym none ∙ past.is)
   where
     go : (zs : List A) → [] ≡ zs ++ xs → xs ≡ []
     go [] is = sym is
@@ -132,7 +132,13 @@ module _ (start : Start) (had : List ApiReply) (x : Signal) (w : HostState)
     ending : IsEnding start last halt left
     ending = record {
       running = record {
-        placed = record { there = right.running.placed.there; nobody = right.running.placed.nobody; label = right.running.placed.label; distinct = right.running.placed.distinct; others = right.running.placed.others };
+        placed = record {
+          there = right.running.placed.there;
+          nobody = right.running.placed.nobody;
+          label = right.running.placed.label;
+          distinct = right.running.placed.distinct;
+          others = right.running.placed.others;
+        };
         members = right.running.members;
         local = right.running.local;
         next = right.running.next;

@@ -34,7 +34,7 @@ begins_right start id members body is = record {
       distinct = tt;
       others = tt;
     };
-    members = is.members;
+    members = is.all;
     local = tt;
     next = tt;
     stamp = refl;
@@ -58,14 +58,15 @@ found_behind : (ps : List PeerState) (p : PeerState) (j : ℕ) (q : PeerState) �
     → (peer_to ps j ≡ Some q) ⊎ ((q ≡ p) × (p.host ≡ j) × (peer_to ps j ≡ None))
 found_behind [] p j q found = go (p.host == j) refl found
   where
-    go : (b : Bool) → (p.host == j) ≡ b → (if b then Some p else None) ≡ Some q
-        → (None ≡ Some q) ⊎ ((q ≡ p) × (p.host ≡ j) × (None ≡ None))
+    go : (b : Bool) → (p.host == j) ≡ b → (if b then Some p else peer_to [] j) ≡ Some q
+        → (peer_to [] j ≡ Some q) ⊎ ((q ≡ p) × (p.host ≡ j) × (peer_to [] j ≡ None))
     go true e is = inr (cc, eqb-true p.host j e, refl)
     go false e is = inl is
 found_behind (r ∷ ps) p j q found = go (r.host == j) refl found (λ is. found_behind ps p j q is)
   where
     go : (b : Bool) → (r.host == j) ≡ b → (if b then Some r else peer_to (ps ++ p ∷ []) j) ≡ Some q
-        → (peer_to (ps ++ p ∷ []) j ≡ Some q → (peer_to ps j ≡ Some q) ⊎ ((q ≡ p) × (p.host ≡ j) × (peer_to ps j ≡ None)))
+        → (peer_to (ps ++ p ∷ []) j ≡ Some q → (peer_to ps j ≡ Some q) ⊎
+        ((q ≡ p) × (p.host ≡ j) × (peer_to ps j ≡ None)))
         → ((if r.host == j then Some r else peer_to ps j) ≡ Some q)
         ⊎ ((q ≡ p) × (p.host ≡ j) × ((if r.host == j then Some r else peer_to ps j) ≡ None))
     go true e is rest = inl (rw e is)

@@ -31,7 +31,8 @@ ends_found peers j at d found =
     ends_at j peers at d is.0 is.1 is.2
 
 -- where there are links there is a peer
-no_ends : (peers : List LinkPeer) (j : ℕ) → peer_to (map peer_state peers) j ≡ None → ends_to (map ends_of peers) j ≡ None
+no_ends : (peers : List LinkPeer) (j : ℕ) → peer_to (map peer_state peers) j ≡ None
+    → ends_to (map ends_of peers) j ≡ None
 no_ends [] j none = refl
 no_ends (p ∷ peers) j none = go (p.host.0 == j) refl none (λ is. no_ends peers j is)
   where
@@ -90,7 +91,8 @@ module _ (one other : Host) (c : AreConnected (state_of one) (state_of other)) w
         peer_found peer_state other.peers.items one.log.host.0 back q found_back
         ∙ ap (λ (r : LinkPeer). Some (peer_state r)) (sym q_is)
 
-    pub fronts_are : IsPrefix (peer_state q).taken (peer_state p).sent → IsPrefix (peer_state p).taken (peer_state q).sent
+    pub fronts_are : IsPrefix (peer_state q).taken (peer_state p).sent
+        → IsPrefix (peer_state p).taken (peer_state q).sent
         → AreFronts (state_of one) (state_of other)
     fronts_are there back' = record {
       there = subst (λ o. IsPrefix (taken_by o) (sent_to (state_of one).peers other.log.host.0)) (sym q_found)

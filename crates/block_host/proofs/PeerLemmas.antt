@@ -98,7 +98,8 @@ none_set ps at p j there distinct same none = go (p.host == j) refl
 module _ (f : PeerState → PeerState) (same : (p : PeerState) → (f p).host ≡ p.host) where
   pub hosts_map : (ps : List PeerState) → hosts_of (map f ps) ≡ hosts_of ps
   hosts_map [] = refl
-  hosts_map (p ∷ ps) = ap (λ (h : ℕ). h ∷ hosts_of (map f ps)) (same p) ∙ ap (λ (hs : List ℕ). p.host ∷ hs) (hosts_map ps)
+  hosts_map (p ∷ ps) =
+      ap (λ (h : ℕ). h ∷ hosts_of (map f ps)) (same p) ∙ ap (λ (hs : List ℕ). p.host ∷ hs) (hosts_map ps)
 
   pub found_map : (ps : List PeerState) (j : ℕ) (q : PeerState) → peer_to (map f ps) j ≡ Some q
       → (p : PeerState) × (peer_to ps j ≡ Some p) × (q ≡ f p)
@@ -151,8 +152,7 @@ found_put (p ∷ ps) (r ∷ qs) j q all found = go (r.host == j) refl found (λ 
         let same : r ≡ q = cc in
         (p, rw (eq-eqb p.host j (sym all.0.host ∙ eqb-true r.host j e)) refl, subst (IsPut p) same all.0)
     go false e is rest =
-        let later = rest is in
-        (
+        let later = rest is in (
           later.0,
           rw (ne_eqb p.host j (λ p_is. true≢false (sym (eq-eqb r.host j (all.0.host ∙ p_is)) ∙ e))) later.1,
           later.2,

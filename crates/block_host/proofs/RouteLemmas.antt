@@ -48,7 +48,8 @@ sent_if : (f : Routed → Sending) (b : Bool) (r : Routed) (xs ys : List Sending
 sent_if f b r xs ys goes is = is ∙ sym (ap (λ c. xs ++ map f (routed_if c r [])) goes)
 
 -- what is kept back goes nowhere
-pub none_routed : (made : List Member) (h stamp : ℕ) (standing : Standing) (sent : Outgoing) (xs : List Sending) (b : Bool)
+pub none_routed : (made : List Member) (h stamp : ℕ) (standing : Standing) (sent : Outgoing) (xs : List Sending)
+    (b : Bool)
     → b ≡ is_kept_back h standing (reached made h standing.view sent.to) sent → b ≡ true
     → xs ≡ xs ++ all_of made h stamp standing (sent ∷ [])
 none_routed made h stamp standing sent xs b is kept =

@@ -27,7 +27,8 @@ pub has_sent : (r : Result (Unit {0}) NoMemory) (t : HostState) (stamp : ℕ) (o
 has_sent (Err e) t stamp outs sends own ps is own_is peers_are ends_are = tt
 has_sent (Ok x) t stamp outs sends own ps is own_is peers_are ends_are =
     ap (λ (w : Waiting). record t { own = w; peers = map peer_state ps; ends = map ends_of ps }) own_is
-    ∙ ap (λ (qs : List PeerState). record t { own = own_of t.id sends t.own; peers = qs; ends = map ends_of ps }) peers_are
+    ∙ ap (λ (qs : List PeerState). record t { own = own_of t.id sends t.own; peers = qs; ends = map ends_of ps })
+    peers_are
     ∙ ap (λ (es : List Ends). record t {
       own = own_of t.id sends t.own;
       peers = delivered t.id sends t.peers;

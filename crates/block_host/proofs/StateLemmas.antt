@@ -82,7 +82,8 @@ flushed_is t ps put same = record {
 }
 
 -- a signal of a host that it has cut off is dropped
-pub used_dropped : (t : HostState) (x : Signal) (b : Bool) → b ≡ is_cut t.body.standing x.from → b ≡ true → HasUsed t x t
+pub used_dropped : (t : HostState) (x : Signal) (b : Bool) → b ≡ is_cut t.body.standing x.from → b ≡ true
+    → HasUsed t x t
 used_dropped t x b is cut = subst (λ c. used_by c t x t) (sym cut ∙ is) refl
 
 -- and another one handled
@@ -101,7 +102,13 @@ on_ok_is (Err y) e p = absurd (true≢false e)
 -- it has given up, with no step made
 pub gave_up : (t v : HostState) (ps : List LinkPeer) (own : Waiting) → IsUnmade t v → own.signals ≡ []
     → map peer_state ps ≡ map hushed v.peers → map ends_of ps ≡ v.ends
-    → HasGivenUp t (record v { runs = false; failed = true; own = own; peers = map peer_state ps; ends = map ends_of ps })
+    → HasGivenUp t (record v {
+      runs = false;
+      failed = true;
+      own = own;
+      peers = map peer_state ps;
+      ends = map ends_of ps;
+    })
 gave_up t v ps own unmade none quiet same = record {
   unmade = record {
     id = unmade.id;

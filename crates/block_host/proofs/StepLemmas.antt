@@ -1,4 +1,5 @@
 -- A step keeps a host right.
+use Rattle.std.proofs.Common.{◌+◌}
 use Rattle.std.proofs.Common.{◌≡◌, ◌≢◌, inl, ℕ, Bool, true, false, List, [], ◌∷◌, ◌++◌, refl, sym, ap, ◌∙◌, subst, arith}
 use Rattle.std.proofs.Common.{append_assoc}
 use Rattle.std.specs.Prelude.{if◌then◌else◌, ◌==◌, max, map, reverse, None, Option, Some}

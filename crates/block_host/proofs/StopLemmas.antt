@@ -94,7 +94,8 @@ module _ (start : Start) (x : Signal) (s : Step HostBody) (t : HostState) (endin
   last_is j =
       ap (λ (ms : List Member). arriving j (closing_to ms t.id e.step.stamp view (cause_in s.effects.marks) j))
       ending.running.members
-      ∙ ap (λ (v : View). arriving j (closing_to (made start) t.id e.step.stamp (greater_view v x.view) (cause_in s.effects.marks) j))
+      ∙ ap (λ (v : View). arriving j (closing_to (made start) t.id e.step.stamp (greater_view v x.view)
+      (cause_in s.effects.marks) j))
       ending.step.view
 
   abbrev halted : HostState
@@ -129,7 +130,8 @@ module _ (start : Start) (x : Signal) (s : Step HostBody) (t : HostState) (endin
       let past : IsPast (arrived p.host p.sent) (sent (machine start) t.id p.host (e ∷ log)) =
       past_trans (sent_past start t.id log p (ending.running.sent j p apart two.1))
       (sent_more (machine start) t.id p.host log e) in
-      let closes : IsGiven (machine start) t.id p.host (e ∷ log) (arriving p.host (last_to p.host) ∷ arrived p.host p.sent) =
+      let closes : IsGiven (machine start) t.id p.host (e ∷ log)
+      (arriving p.host (last_to p.host) ∷ arrived p.host p.sent) =
       inr (record {
         stops = stops;
         rest = arrived p.host p.sent;
@@ -139,7 +141,8 @@ module _ (start : Start) (x : Signal) (s : Step HostBody) (t : HostState) (endin
       let given : IsGiven (machine start) t.id p.host (e ∷ log) (put_to (end p')) =
       subst (λ (r : PeerState). IsGiven (machine start) t.id p.host (e ∷ log) (put_to r))
       (sym (left_is (is_off p') (last_to p.host) p'))
-      (left_put (IsGiven (machine start) t.id p.host (e ∷ log)) (is_off p') p'.shut (last_to p.host) p' (inl past) closes) in
+      (left_put (IsGiven (machine start) t.id p.host (e ∷ log)) (is_off p') p'.shut (last_to p.host) p' (inl past)
+      closes) in
       subst (KeepsPeer start halted j) (sym one.2)
       (subst (λ (r : PeerState). KeepsPeer start halted j (end r)) (sym two.2)
       (record {

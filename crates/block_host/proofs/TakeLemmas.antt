@@ -45,7 +45,12 @@ taken_sent : (start : Start) (h : ℕ) (log : List HostStep) (x : Signal) (p : P
     → HasAllSent start h log (with_taken x p)
 taken_sent start h log x p has = go (is_closing x.body)
   where
-    shuts : HasAllSent start h log (record p { taken = p.taken ++ x ∷ []; waiting = record { signals = []; numbered = p.waiting.numbered }; shut = true })
+    shuts : HasAllSent start h log (record p {
+      taken = p.taken ++ x ∷ [];
+      waiting = record
+          { signals = []; numbered = p.waiting.numbered };
+      shut = true;
+    })
     shuts = record {
       put = λ open_still. absurd (true≢false open_still);
       rest = λ closed. sent_past start h log p has;
@@ -171,7 +176,9 @@ module _ (start : Start) (had : List ApiReply) (t : HostState) (right : IsRight 
       own = λ still. absurd (true≢false (sym cut ∙ still));
       own_from = all_mine.1;
       own_past = right.own_past;
-      got = right.got;
+      got = λ j p apart found.
+          let was = right.got j p apart found in
+          record { past = was.past; all = was.all };
       none = right.none;
       replies = right.replies;
     }

@@ -131,8 +131,7 @@ module _ (start : Start) (had : List ApiReply) (w u : HostState) (x : Signal)
       subst (λ k. IsPast (arrived k p.sent) (sent (machine start) w.id k (steps_of w))) (peer_is w.peers j p was.1)
       (sent_past start w.id (steps_of w) p (right.running.sent j p apart was.1)) in
       let all : put_to q ≡ arrived j p.sent =
-      ap (λ (h : ℕ). arrived h (put_on q)) (peer_is u.peers j q found) ∙ ap (arrived j) put in
-      (
+      ap (λ (h : ℕ). arrived h (put_on q)) (peer_is u.peers j q found) ∙ ap (arrived j) put in (
         inl (subst (λ (xs : List Addressed). IsPast xs (sent (machine start) w.id j (steps_of w))) (sym all) past),
         subst (λ (xs : List Signal). IsPast (taken (machine start) j (steps_of w)) (arrived w.id xs)) (sym taken_same)
             (past_trans (before j) (right.got j p apart was.1).past),

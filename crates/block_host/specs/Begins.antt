@@ -10,5 +10,5 @@ use Rattle.world_views.specs.Hosts.{started}
 pub record IsBegun (start : Start) (id : ℕ) (members : List Member) (body : HostBody) : Type 0 where
   pub there : id < hosts start
   pub nobody : NobodyStarts start
-  pub members : members ≡ made start
+  pub all : members ≡ made start
   pub body : body ≡ started start id

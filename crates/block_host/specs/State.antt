@@ -14,8 +14,8 @@ use Rattle.block_host.specs.Ends.{Ends}
 use Rattle.block_host.specs.Peer.{ends_of, peer_state}
 
 -- Its number, the members that were made, what it is made of, whether it takes signals, and whether it has given up for
--- want of memory; the stamp of its last step, its log, what waits for itself, the other hosts and its links to them, and
--- the replies that the shell hasn't had.
+-- want of memory; the stamp of its last step, its log, what waits for itself, the other hosts and its links to them,
+-- and the replies that the shell hasn't had.
 pub record HostState : Type 0 where
   pub id : ℕ
   pub made : List Member

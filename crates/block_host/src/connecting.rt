@@ -23,7 +23,10 @@ pub fn connect(alloc: Global, one: &mut Host, other: &mut Host) -> Result<(), No
     let (back, rx) = make(alloc, there.0, here.0)?;
     one.peers.reserve(1)?;
     other.peers.reserve(1)?;
-    one.peers.push_reserved(LinkPeer::new(alloc, here, there, tx, rx));
-    other.peers.push_reserved(LinkPeer::new(alloc, there, here, back, arriving));
+    one.peers
+        .push_reserved(LinkPeer::new(alloc, here, there, tx, rx));
+    other
+        .peers
+        .push_reserved(LinkPeer::new(alloc, there, here, back, arriving));
     Ok(())
 }

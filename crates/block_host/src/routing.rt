@@ -111,14 +111,7 @@ pub fn headed(made: &Made, host: u32, stamp: u64, view: Held<View>, sent: Outgoi
 }
 
 /// A signal with this body to the block of a host that closings, and its own signals, are for.
-pub fn to_front(
-    made: &Made,
-    host: u32,
-    stamp: u64,
-    view: Held<View>,
-    to: u32,
-    body: Body,
-) -> Signal
+pub fn to_front(made: &Made, host: u32, stamp: u64, view: Held<View>, to: u32, body: Body) -> Signal
     ensures { result ≡ headed (sender made.now host stamp view) 0 (record { to = front_of made.now to; body = body }) }
 {
     let to = made.front_of(to);

@@ -26,11 +26,7 @@ impl Host {
     ///
     /// # Errors
     /// `NoMemory`, and then no step was made.
-    pub(crate) fn handle(
-        &mut self,
-        alloc: Global,
-        signal: Boxed<Signal>,
-    ) -> Result<(), NoMemory>
+    pub(crate) fn handle(&mut self, alloc: Global, signal: Boxed<Signal>) -> Result<(), NoMemory>
         ensures ok { OnOk result (HasHandled (state_of self.old) signal (state_of self.new)) }
         ensures err { OnErr result (IsUnmade (state_of self.old) (state_of self.new)) }
     {
@@ -59,7 +55,10 @@ impl Host {
         }
         self.outs.clear();
         let mut stops = None;
-        match self.body.step(alloc, signal.get(), &mut self.outs, &mut stops) {
+        match self
+            .body
+            .step(alloc, signal.get(), &mut self.outs, &mut stops)
+        {
             Ok(()) => self.enter(alloc, before + 1, signal, stops),
             Err(_) => {
                 put_back(&mut self.body, view);
@@ -168,7 +167,13 @@ impl Host {
             view,
             cause,
         };
-        close_all(alloc, &self.made, &self.body, &by, self.peers.as_mut_slice())?;
+        close_all(
+            alloc,
+            &self.made,
+            &self.body,
+            &by,
+            self.peers.as_mut_slice(),
+        )?;
         self.own.clear();
         self.runs = false;
         Ok(())

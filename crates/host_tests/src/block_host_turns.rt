@@ -129,7 +129,16 @@ fn a_stop_closes_links(rt: HostRuntime) -> Result<(), Fail> {
     settle(&rt, alloc, hosts.as_mut_slice());
     let shell = hosts.get_mut(0).ok_or("no shell")?;
     assert_eq!(rt; shell.runs(), true);
-    assert_eq!(rt; matches!(shell.next_reply(), Some(ApiReply::Stopped { node: 1, cause: StopCause::Killed })), true);
+    assert_eq!(rt;
+        matches!(
+            shell.next_reply(),
+            Some(ApiReply::Stopped {
+                node: 1,
+                cause: StopCause::Killed
+            })
+        ),
+        true
+    );
     for at in 1..hosts.len() {
         assert_eq!(rt; hosts[at].runs(), false);
         assert_eq!(rt; hosts[at].has_failed(), false);

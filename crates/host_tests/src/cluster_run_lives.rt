@@ -21,12 +21,7 @@ fn cluster(alloc: Global, shape: Shape) -> Result<Cluster, NoMemory>
 }
 
 // Stores a row with this key, in a transaction of its own, and tells whether that was done.
-fn puts<W: Wait>(
-    rt: &W,
-    alloc: Global,
-    cluster: &mut Cluster,
-    key: &[u8],
-) -> Result<bool, Fail> {
+fn puts<W: Wait>(rt: &W, alloc: Global, cluster: &mut Cluster, key: &[u8]) -> Result<bool, Fail> {
     let op = Op::Put(Key::new(key)?, Value::new(b"7")?);
     let op = HeldOp::new(alloc, op)?;
     cluster.ask(alloc, ApiReq::Operate { name: None, op })?;
@@ -34,10 +29,12 @@ fn puts<W: Wait>(
     let mut done = false;
     for _ in 0..100 {
         match cluster.next_reply() {
-            Some(ApiReply::Answered {
-                name: None,
-                answer: Answer::Done,
-            }) => done = true,
+            Some(
+                ApiReply::Answered {
+                    name: None,
+                    answer: Answer::Done,
+                },
+            ) => done = true,
             Some(_) => {}
             None => break,
         }

@@ -13,7 +13,8 @@ loop-at-preserved c =
     let old = c.index-peers-at.result in
     let now = c.hush.new.self in
     record {
-      state = seen_next peer_state hushed c.args.peers.now c.loop-at.peers c.loop-at.at old now ? c.loop-at.invariant.state
+      state =
+          seen_next peer_state hushed c.args.peers.now c.loop-at.peers c.loop-at.at old now ? c.loop-at.invariant.state
           (c.hush.ensures.state ∙ ap (λ (p : LinkPeer). hushed (peer_state p)) c.index-peers-at.is);
       ends = seen_same ends_of c.loop-at.peers c.loop-at.at old now
           (c.hush.ensures.ends ∙ ap ends_of c.index-peers-at.is) ∙ c.loop-at.invariant.ends;

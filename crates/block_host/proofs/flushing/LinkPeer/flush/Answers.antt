@@ -8,7 +8,8 @@ loop-init g c = record { put = put_none (peer_state c.args.self.now); ends = ref
 
 pub returns-in_default-clause-put : goal.returns-in_default-clause-put
 returns-in_default-clause-put g c =
-    put_more (peer_state c.args.self.now) (peer_state c.loop.self) (peer_state c.next_waiting.new.self) c.loop.invariant.put
+    put_more (peer_state c.args.self.now) (peer_state c.loop.self) (peer_state c.next_waiting.new.self)
+    c.loop.invariant.put
     (put_same (peer_state c.loop.self) (peer_state c.next_waiting.new.self) c.in_default.ensures.taken)
 
 pub returns-then-not-put-clause-put : goal.returns-then-not-put-clause-put
@@ -20,7 +21,8 @@ returns-then-not-put-clause-put g c =
 pub loop-preserved : goal.loop-preserved
 loop-preserved g c = record {
   put = put_more (peer_state c.args.self.now) (peer_state c.loop.self) (peer_state c.put.new.self) c.loop.invariant.put
-      (put_went (peer_state c.loop.self) (peer_state c.next_waiting.new.self) (peer_state c.put.new.self) c.in-Some.signal
+      (put_went (peer_state c.loop.self) (peer_state c.next_waiting.new.self) (peer_state c.put.new.self)
+      c.in-Some.signal
       c.in-Some.ensures.taken (match_true c.put.result c.if-not-put.false c.put.ensures.put));
   ends = c.put.ensures.ends ∙ c.in-Some.ensures.ends ∙ c.loop.invariant.ends;
 }

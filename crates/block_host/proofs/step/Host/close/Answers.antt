@@ -9,7 +9,8 @@ use Rattle.block_host.proofs.step.Host.close.Goals as goal
 pub returns-clause-ok : goal.returns-clause-ok
 returns-clause-ok c =
     let t : HostState = state_of c.args.self.now in
-    has_closed t c.args.stamp c.args.taken.now.view c.in_ok-view.view c.args.cause c.clear.new.self c.close_all.new.peers
+    has_closed t c.args.stamp c.args.taken.now.view c.in_ok-view.view c.args.cause c.clear.new.self
+    c.close_all.new.peers
     (c.in_ok-view.ensures ∙ ap (λ (x : Signal). greater_view t.body.standing.view x.view) c.get.ensures)
     c.clear.ensures.signals c.clear.ensures.numbered c.in_ok-close_all.ensures.ok c.in_ok-close_all.ensures.ends
 

@@ -15,7 +15,8 @@ returns-clause-ok c =
     let told : HostState = record t { body = c.tell.new.body; replies = c.tell.new.replies.items } in
     on_ok_weaker c.keep.result
     (λ kept.
-    has_entered t told (state_of c.send.new.self) (state_of c.close_for.new.self) (state_of c.keep.new.self) c.args.taken s
+    has_entered t told (state_of c.send.new.self) (state_of c.close_for.new.self) (state_of c.keep.new.self)
+    c.args.taken s
     c.args.stamp c.in_ok-marks.marks c.requires.stamp
     (has_told t s c.tell.new.body c.tell.new.replies.items c.in_ok-tell.ensures.host c.in_ok-tell.ensures.told)
     c.in_ok-marks.ensures.taken
@@ -25,11 +26,13 @@ returns-clause-ok c =
 
 pub returns-in_err-tell-clause-err : goal.returns-in_err-tell-clause-err
 returns-in_err-tell-clause-err c =
-    on_err_always c.from_residual.result (unmade_told (state_of c.args.self.now) c.tell.new.body c.tell.new.replies.items)
+    on_err_always c.from_residual.result (unmade_told (state_of c.args.self.now) c.tell.new.body
+    c.tell.new.replies.items)
 
 pub returns-in_err-marks-clause-err : goal.returns-in_err-marks-clause-err
 returns-in_err-marks-clause-err c =
-    on_err_always c.from_residual.result (unmade_told (state_of c.args.self.now) c.tell.new.body c.tell.new.replies.items)
+    on_err_always c.from_residual.result (unmade_told (state_of c.args.self.now) c.tell.new.body
+    c.tell.new.replies.items)
 
 pub returns-in_err-send-clause-err : goal.returns-in_err-send-clause-err
 returns-in_err-send-clause-err c =

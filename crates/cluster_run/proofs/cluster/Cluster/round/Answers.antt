@@ -7,7 +7,8 @@ loop-at-init g c = record { gone = gone_none (states_of c.args.self.now.hosts.it
 
 pub loop-at-preserved : goal.loop-at-preserved
 loop-at-preserved g c = record {
-  gone = gone_then (states_of c.args.self.now.hosts.items) (states_of c.loop-at.self.hosts.items) _ c.loop-at.invariant.gone
+  gone = gone_then (states_of c.args.self.now.hosts.items) (states_of c.loop-at.self.hosts.items) _
+      c.loop-at.invariant.gone
       (gone_at c.loop-at.self.hosts.items c.loop-at.at c.index_mut.result.now c.turn.new.self c.index_mut.ensures.value
       c.turn.ensures.goes);
 }
