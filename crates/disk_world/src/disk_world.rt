@@ -1,7 +1,6 @@
 //! A cluster whose nodes have disks, in one of its lives.
 ghost use Rattle.std.specs.Prelude.{◌≡◌, ◌≤◌, ◌<◌, ◌+◌, ◌-◌, ◌++◌, List, [], None, Some, false, true, Ok, Err};
 ghost use Rattle.std.specs.Prelude.{IfErr, IfOk, MatchResult, OnErr, OnOk, is_ok, length, map, option_to_list};
-ghost use Rattle.api_views.specs.Laws.{is_start};
 ghost use Rattle.frag_map.specs.Shape.{IsShape};
 ghost use Rattle.host_io.specs.Call.{Call};
 ghost use Rattle.life_start.specs.Begun.{AreSlotsOf, HasBegun, end_of_epochs};
@@ -13,7 +12,7 @@ ghost use Rattle.sys_restart.specs.ReadyDisks.{AreReady, AreToPrepare};
 ghost use Rattle.world_core.specs.Labels.{AreLabelled};
 ghost use Rattle.world_core.specs.Start.{Start};
 ghost use Rattle.world_core.specs.World.{logs_at};
-ghost use Rattle.world_views.specs.Driven.{HasAsked, HaveGrown, IsDriven, IsSound, IsStepped, IsWorld};
+ghost use Rattle.world_views.specs.Driven.{HaveGrown, IsAsked, IsDriven, IsSound, IsStepped, IsWorld};
 ghost use Rattle.world_views.specs.Unscheduled.{AreUnscheduled};
 ghost use Rattle.world_views.specs.World.{IsIdle, has_stopped_in, is_down, is_left_open, new_world};
 ghost use Rattle.world_views.specs.WorldOf.{whole_of};
@@ -149,15 +148,13 @@ impl<D: Disk> DiskWorld<D> {
         &self.disks
     }
 
-    /// Asks the shell's host for something but a start, in a step of it, of which no disk has anything to
-    /// keep.
+    /// Asks the shell's host for something, in a step of it, of which no disk has anything to keep.
     ///
     /// # Errors
     /// As of `World::ask`.
     pub fn ask(&mut self, alloc: Global, request: ApiReq) -> Result<(), NoMemory>
         requires world { IsWorld (whole_of self.old.world) }
-        requires plain { is_start request ≡ false }
-        ensures ok { (start : Start) → IsSound start (whole_of self.old.world) → OnOk result (HasAsked start request (whole_of self.old.world) (whole_of self.new.world)) }
+        ensures ok { (start : Start) → IsSound start (whole_of self.old.world) → OnOk result (IsAsked start request (whole_of self.old.world) (whole_of self.new.world)) }
         ensures err { OnErr result ((whole_of self.new.world).logs ≡ (whole_of self.old.world).logs) }
         ensures disks { (self.new.disks ≡ self.old.disks) × (self.new.slots ≡ self.old.slots) }
         ensures life { (self.new.generation ≡ self.old.generation) × (self.new.start ≡ self.old.start) × (self.new.rows ≡ self.old.rows) }

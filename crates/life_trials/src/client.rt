@@ -1,6 +1,5 @@
 //! The client of the table's lives.
-ghost use Rattle.std.specs.Prelude.{◌≡◌, IfOk, OnOk, false};
-ghost use Rattle.api_views.specs.Laws.{is_start};
+ghost use Rattle.std.specs.Prelude.{OnOk};
 ghost use Rattle.world_views.specs.Driven.{IsWorld};
 ghost use Rattle.world_views.specs.WorldOf.{whole_of};
 
@@ -125,9 +124,7 @@ impl Client {
 }
 
 // The request at this place.
-fn request_at(alloc: Global, at: usize) -> Result<ApiReq, RunFault>
-    ensures { IfOk result (λ request. is_start request ≡ false) }
-{
+fn request_at(alloc: Global, at: usize) -> Result<ApiReq, RunFault> {
     if at == 0 {
         return Ok(ApiReq::Begin {
             name: NAME,
@@ -144,15 +141,11 @@ fn request_at(alloc: Global, at: usize) -> Result<ApiReq, RunFault>
 ///
 /// # Errors
 /// `NoMemory`.
-pub fn put_alone(alloc: Global) -> Result<ApiReq, RunFault>
-    ensures { IfOk result (λ request. is_start request ≡ false) }
-{
+pub fn put_alone(alloc: Global) -> Result<ApiReq, RunFault> {
     put(alloc, None, KEYS[0], b'0')
 }
 
-fn put(alloc: Global, name: Option<u16>, key: u8, value: u8) -> Result<ApiReq, RunFault>
-    ensures { IfOk result (λ request. is_start request ≡ false) }
-{
+fn put(alloc: Global, name: Option<u16>, key: u8, value: u8) -> Result<ApiReq, RunFault> {
     let op = Op::Put(Key::new(&[key])?, Value::new(&[value])?);
     Ok(ApiReq::Operate {
         name,

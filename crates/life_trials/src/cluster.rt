@@ -1,6 +1,5 @@
 //! The cluster of a life: what is asked of it, and what happens to it.
-ghost use Rattle.std.specs.Prelude.{◌≡◌, OnOk, false};
-ghost use Rattle.api_views.specs.Laws.{is_start};
+ghost use Rattle.std.specs.Prelude.{◌≡◌, OnOk};
 ghost use Rattle.world_views.specs.Driven.{IsWorld};
 ghost use Rattle.world_views.specs.WorldOf.{whole_of};
 
@@ -15,13 +14,12 @@ use world_views::{Pick, ScheduleFault};
 /// A cluster whose nodes have disks in memory, in one of its lives.
 pub type Cluster = DiskWorld<MemDisk>;
 
-/// Asks the shell for something but a start.
+/// Asks the shell for something.
 ///
 /// # Errors
 /// `NoMemory`.
 pub fn ask(alloc: Global, cluster: &mut Cluster, request: ApiReq) -> Result<(), NoMemory>
-    requires world { IsWorld (whole_of cluster.old.world) }
-    requires plain { is_start request ≡ false }
+    requires { IsWorld (whole_of cluster.old.world) }
     ensures { OnOk result (IsWorld (whole_of cluster.new.world)) }
 {
     cluster.ask(alloc, request)

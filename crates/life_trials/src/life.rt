@@ -1,6 +1,5 @@
 //! What is asked of a cluster in a life.
-ghost use Rattle.std.specs.Prelude.{◌≡◌, ◌<◌, IfOk, OnOk, false};
-ghost use Rattle.api_views.specs.Laws.{is_start};
+ghost use Rattle.std.specs.Prelude.{◌<◌, OnOk};
 ghost use Rattle.frag_map.specs.Shape.{IsShape};
 ghost use Rattle.world_views.specs.Driven.{IsWorld};
 ghost use Rattle.world_views.specs.WorldOf.{whole_of};
@@ -83,7 +82,6 @@ fn draw(
     saves: bool,
 ) -> Result<ApiReq, RunFault>
     requires { IsShape shape.now }
-    ensures { IfOk result (λ request. is_start request ≡ false) }
 {
     if saves && dice.roll(8) == 0 {
         return Ok(ApiReq::Gcp);

@@ -1,6 +1,5 @@
 //! Steps of a trace, done on a world.
 ghost use Rattle.std.specs.Prelude.{◌≡◌, ◌≤◌, ℕ, false, IfNone, IfOk, IfSome, None, Some};
-ghost use Rattle.api_views.specs.Laws.{is_start};
 ghost use Rattle.sig_core.specs.declared.signal.Body.TheVariants as bodies;
 ghost use Rattle.sig_core.specs.declared.signal.host.HostSignal.TheVariants.{Closed, Continue, Cut};
 ghost use Rattle.sig_core.specs.declared.signal.host.Work.TheVariants.{Request};
@@ -18,7 +17,7 @@ use crate::request::copy_request;
 use sig_core::{ApiReq, Body, HostId, HostLog, HostSignal, LogStep, NoMemory, StopCause, Work};
 use std::alloc::Global;
 use trace_merge::RunStep;
-use world_views::{Pick, ScheduleFault, World};
+use world_views::{Pick, ScheduleFault, World, is_start};
 
 /// Has a world do what these steps of logs say, one after the other. Says why the first one can't be done that
 /// can't; the world has then done those before it.
@@ -163,7 +162,7 @@ fn is_own_work(body: &Body) -> bool
     }
 }
 
-// The shell's host asks for something. A world makes no start.
+// The shell's host asks for something. No start is played.
 fn ask(
     alloc: Global,
     world: &mut World,
@@ -182,16 +181,6 @@ fn ask(
     let copied = copy_request(alloc, request)?;
     world.ask(alloc, copied)?;
     Ok(None)
-}
-
-// Whether it is for a node to begin anew.
-fn is_start(request: &ApiReq) -> bool
-    ensures { result ≡ is_start request.now }
-{
-    match request {
-        ApiReq::Start { node: _, own: _ } => true,
-        _ => false,
-    }
 }
 
 // A host stops by itself.

@@ -1,7 +1,4 @@
 //! What a command asks the shell for.
-ghost use Rattle.std.specs.Prelude.{◌≡◌, IfOk, IfSome, false};
-ghost use Rattle.api_views.specs.Laws.{is_start};
-
 use script_lang::Command;
 use sig_core::{ApiReq, HeldOp, NoMemory};
 use std::alloc::Global;
@@ -14,13 +11,12 @@ pub fn requests(command: &Command) -> u8 {
     }
 }
 
-/// The request of a command at this place, from 0, if it is a command that is served; no start is.
+/// The request of a command at this place, from 0, if it is a command that is served. A node that is to begin
+/// anew has no rows of its own.
 ///
 /// # Errors
 /// `NoMemory`.
-pub fn request_of(alloc: Global, command: &Command, at: u8) -> Result<Option<ApiReq>, NoMemory>
-    ensures { IfOk result (λ found. IfSome found (λ request. is_start request ≡ false)) }
-{
+pub fn request_of(alloc: Global, command: &Command, at: u8) -> Result<Option<ApiReq>, NoMemory> {
     Ok(match command {
         Command::Begin { name, node } => Some(ApiReq::Begin {
             name: *name,
@@ -42,6 +38,10 @@ pub fn request_of(alloc: Global, command: &Command, at: u8) -> Result<Option<Api
         Command::Cut { one, other } => Some(ApiReq::Cut {
             one: *one,
             other: *other,
+        }),
+        Command::Start { node } => Some(ApiReq::Start {
+            node: *node,
+            own: None,
         }),
         Command::View => Some(ApiReq::View),
         Command::Micro => Some(ApiReq::Micro),

@@ -1,6 +1,5 @@
 //! Requests at random.
-ghost use Rattle.std.specs.Prelude.{◌≡◌, IfOk, false};
-ghost use Rattle.api_views.specs.Laws.{is_start};
+ghost use Rattle.std.specs.Prelude.{◌<◌};
 ghost use Rattle.frag_map.specs.Shape.{IsShape};
 
 use crate::fault::DrawFault;
@@ -36,8 +35,7 @@ fn op_of(dice: &mut Dice, count: u64) -> Result<Op, DrawFault> {
     })
 }
 
-/// A request of a run, of which `fails` of a hundred kill a node or cut two from each other, and none is a
-/// start.
+/// A request of a run, of which `fails` of a hundred kill a node or cut two from each other.
 ///
 /// # Errors
 /// `NoMemory`.
@@ -49,7 +47,6 @@ pub fn draw_request(
     fails: u64,
 ) -> Result<ApiReq, DrawFault>
     requires { IsShape shape.now }
-    ensures { IfOk result (λ request. is_start request ≡ false) }
 {
     let name = 1 + dice.roll(6) as u16;
     let node = 1 + dice.roll(u64::from(shape.nodes)) as u8;

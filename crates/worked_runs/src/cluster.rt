@@ -1,6 +1,5 @@
 //! The cluster of a life: what is asked of it, and what happens to it.
-ghost use Rattle.std.specs.Prelude.{◌≡◌, OnOk, false};
-ghost use Rattle.api_views.specs.Laws.{is_start};
+ghost use Rattle.std.specs.Prelude.{◌≡◌, OnOk};
 ghost use Rattle.world_views.specs.Driven.{IsWorld};
 ghost use Rattle.world_views.specs.WorldOf.{whole_of};
 
@@ -13,10 +12,9 @@ use std::sync::Wait;
 use trial_requests::{request_of, requests};
 use world_views::{Pick, ScheduleFault};
 
-// Asks the shell for something but a start.
+// Asks the shell for something.
 fn ask(alloc: Global, world: &mut DiskWorld<MemDisk>, request: ApiReq) -> Result<(), NoMemory>
-    requires world { IsWorld (whole_of world.old.world) }
-    requires plain { is_start request ≡ false }
+    requires { IsWorld (whole_of world.old.world) }
     ensures { OnOk result (IsWorld (whole_of world.new.world)) }
 {
     world.ask(alloc, request)

@@ -49,21 +49,30 @@ pub record IsReady (start : Start) (given : List ApiReply) (w : Whole) (x : Addr
   where
     pub shape : w.shape ≡ start.shape
     pub made : w.made ≡ made start
-    pub nobody : NobodyStarts start
+    pub since : w.since ≡ since_of start
     pub sizes : IsOf (hosts start) w
     pub there : x.to < hosts start
     pub runs : has_stopped (logs_at w.logs x.to) ≡ false
     pub step : IsStepOf x.to (step_by x.to (after start x.to (logs_at w.logs x.to)) x.signal) t
     pub comes : comes_rightly (is_asked x.to x.signal) start x.to (logs_at w.logs x.to) x.signal
     pub starts : StartsRightly start x.to (logs_at w.logs x.to) (host_step w x t)
-    pub all_there : (h : ℕ) → h < hosts start → IsThere (machine start) h (logs_at w.logs 0)
+    -- whoever isn't there before the step, is there behind it
+    pub all_there : (h : ℕ) → h < hosts start → IsThere (machine start) h (log_with w x t 0)
     pub local : (h : ℕ) → h < hosts start → IsLog (machine start) h (logs_at w.logs h)
     pub next : (h : ℕ) → HaveNextStamps start h (logs_at w.logs h)
-    pub stamps : (h : ℕ) → h < hosts start → slice_index_or w.stamps h 0 ≡ last_stamp (logs_at w.logs h)
+    pub stamps : (h : ℕ) → h < hosts start → (x.to == h) ≡ false
+        → slice_index_or w.stamps h 0 ≡ last_of start h (logs_at w.logs h)
+    pub stamped : max (last_of start x.to (logs_at w.logs x.to)) x.signal.stamp < (step_made w x t).stamp
+    pub skips :
+        next_unless (asks_start x.signal.body) (last_of start x.to (logs_at w.logs x.to)) (host_step w x t)
     pub labels : (h : ℕ) → h < hosts start → IsLabelled start h (slice_index_or w.logs h (no_steps 0))
     pub stopped : (h : ℕ) → h < hosts start → slice_index_or w.stopped h true ≡ has_stopped (logs_at w.logs h)
     pub bodies : (h : ℕ) → h < hosts start → (x.to == h) ≡ false → has_stopped (logs_at w.logs h) ≡ false
         → body_at w.bodies h ≡ after start h (logs_at w.logs h)
+    pub views : (h : ℕ) → h < hosts start → (x.to == h) ≡ false
+        → (body_at w.bodies h).standing.view ≡ (after start h (logs_at w.logs h)).standing.view
+    pub cuts : (h : ℕ) → h < hosts start → (x.to == h) ≡ false
+        → (body_at w.bodies h).standing.cut ≡ (after start h (logs_at w.logs h)).standing.cut
     pub counts : (i j : ℕ) → i < hosts start → j < hosts start
         → (link w.links i j).sent ≡ sent_count start i (logs_at w.logs i) j
     pub linked : (i j : ℕ) → i < hosts start → j < hosts start

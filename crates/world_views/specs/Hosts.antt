@@ -67,10 +67,13 @@ part_started start Ldm member =
 abbrev pub late_layout : Start → Late → Layout
 late_layout start late = record { shape = start.shape; view = late.view }
 
+abbrev pub late_part : Layout → Member → Part → node.HostBody
+late_part layout member Main = fresh_main member layout 0
+late_part layout member Tc = fresh_tc member layout 0 0
+late_part layout member Ldm = fresh_ldm member layout no_rows 0
+
 abbrev pub late_started : Start → Late → Part → node.HostBody
-late_started start late Main = fresh_main late.member (late_layout start late) 0
-late_started start late Tc = fresh_tc late.member (late_layout start late) 0 0
-late_started start late Ldm = fresh_ldm late.member (late_layout start late) no_rows 0
+late_started start late part = late_part (late_layout start late) late.member part
 
 abbrev pub begun : Start → Part → Member → Option Late → node.HostBody
 begun start part member None = part_started start part member

@@ -1,4 +1,5 @@
 pub mod At
+pub mod Begun
 pub mod Disks
 pub mod Driven
 pub mod Hosts

@@ -7,14 +7,14 @@ use Rattle.sig_core.specs.declared.reply.ApiReply.{ApiReply}
 use Rattle.sig_core.specs.declared.signal.Signal.{Signal}
 use Rattle.world_core.specs.Hosts.{hosts}
 use Rattle.world_core.specs.Right.{IsLabelled, arriving}
-use Rattle.world_core.specs.Start.{NobodyStarts, Start, made}
+use Rattle.world_core.specs.Made.{last_of}
+use Rattle.world_core.specs.Start.{Start, made}
 use Rattle.world_core.specs.Steps.{Addressed, HostStep}
 use Rattle.world_core.specs.World.{logs_at, no_steps}
-use Rattle.world_core.specs.Machine.{last_stamp}
 use Rattle.world_views.specs.Links.{LinkState, link}
 use Rattle.world_views.specs.Stamps.{HaveNextStamps}
 use Rattle.world_views.specs.Machine.{after, has_cut, has_stopped, machine, replies_at, sent_count, step_after}
-use Rattle.world_views.specs.World.{IsOf, Whole, body_at}
+use Rattle.world_views.specs.World.{IsOf, Whole, body_at, since_of}
 
 -- the replies that the steps of a log of the shell's host made, in the order of time
 abbrev pub replies_in : Start → ℕ → List HostStep → List ApiReply
@@ -55,18 +55,23 @@ pub record IsLinked (start : Start) (i j : ℕ) (sender taker : List HostStep) (
 pub record IsRight (start : Start) (given : List ApiReply) (w : Whole) : Type 0 where
   pub shape : w.shape ≡ start.shape
   pub made : w.made ≡ made start
-  pub nobody : NobodyStarts start
+  pub since : w.since ≡ since_of start
   pub sizes : IsOf (hosts start) w
   -- it begins the life, or the shell's host has made it
   pub there : (h : ℕ) → h < hosts start → IsThere (machine start) h (logs_at w.logs 0)
   pub local : (h : ℕ) → h < hosts start → IsLog (machine start) h (logs_at w.logs h)
   pub next : (h : ℕ) → HaveNextStamps start h (logs_at w.logs h)
-  pub stamps : (h : ℕ) → h < hosts start → slice_index_or w.stamps h 0 ≡ last_stamp (logs_at w.logs h)
+  pub stamps : (h : ℕ) → h < hosts start → slice_index_or w.stamps h 0 ≡ last_of start h (logs_at w.logs h)
   pub labels : (h : ℕ) → h < hosts start → IsLabelled start h (slice_index_or w.logs h (no_steps 0))
   pub stopped : (h : ℕ) → h < hosts start → slice_index_or w.stopped h true ≡ has_stopped (logs_at w.logs h)
   -- a host that runs is what its log leads to
   pub bodies : (h : ℕ) → h < hosts start → has_stopped (logs_at w.logs h) ≡ false
       → body_at w.bodies h ≡ after start h (logs_at w.logs h)
+  -- of one that has stopped its view is known, and whom it had cut off
+  pub views : (h : ℕ) → h < hosts start
+      → (body_at w.bodies h).standing.view ≡ (after start h (logs_at w.logs h)).standing.view
+  pub cuts : (h : ℕ) → h < hosts start
+      → (body_at w.bodies h).standing.cut ≡ (after start h (logs_at w.logs h)).standing.cut
   pub counts : (i j : ℕ) → i < hosts start → j < hosts start
       → (link w.links i j).sent ≡ sent_count start i (logs_at w.logs i) j
   pub linked : (i j : ℕ) → i < hosts start → j < hosts start

@@ -9,7 +9,7 @@ use Rattle.sig_core.specs.declared.signal.Body.TheVariants.{Host}
 use Rattle.sig_core.specs.declared.signal.Signal.{Signal}
 use Rattle.sig_core.specs.declared.signal.host.HostSignal.TheVariants.{Closed, Continue}
 use Rattle.sig_core.specs.declared.signal.host.Work.TheVariants.{Request}
-use Rattle.world_core.specs.Machine.{last_stamp}
+use Rattle.world_core.specs.Made.{last_of}
 use Rattle.world_core.specs.Right.{arriving}
 use Rattle.world_core.specs.Start.{Start}
 use Rattle.world_core.specs.Steps.{HostStep}
@@ -18,13 +18,14 @@ use Rattle.world_views.specs.Sending.{is_asked}
 use Rattle.world_views.specs.World.{is_stamp}
 
 -- After this log host h has no stamp left for a signal that one of its links gives it next: the step that takes it
--- would have one more than the greater of the stamps of the last step and of the signal, and no step may have that.
+-- would have one more than the greater of the stamps of the last step, or of its making, and of the signal, and no
+-- step may have that.
 pub record HasNoStamp (start : Start) (logs : ℕ → List HostStep) (h : ℕ) (log : List HostStep) : Type 0 where
   pub from : ℕ
   pub signal : Signal
   pub given : IsGiven (machine start) from h (logs from) (arriving h signal ∷ taken (machine start) from log)
   pub takes : has_cut start h log from ≡ false
-  pub none : is_stamp (max (last_stamp log) signal.stamp + 1) ≡ false
+  pub none : is_stamp (max (last_of start h log) signal.stamp + 1) ≡ false
 
 -- after this log a host may stop for this cause without a schedule, in a cluster with disks or without
 abbrev pub IsWant : Bool → Start → (ℕ → List HostStep) → ℕ → List HostStep → StopCause → Type 0

@@ -1,8 +1,8 @@
 -- A world: the hosts, the links between them, and what each host has done.
 use Rattle.std.specs.Prelude.{◌≡◌, ◌<◌, ◌≤◌, ◌⊎◌, ℕ, ◌+◌, ◌*◌, ◌^◌, ◌==◌, ◌&&◌, ◌||◌, nat_lt, Bool, true, false, not}
-use Rattle.std.specs.Prelude.{List, [], ◌++◌, length}
+use Rattle.std.specs.Prelude.{List, [], ◌++◌, if◌then◌else◌, length, map}
 use Rattle.std.specs.Prelude.{replicate, slice_index_or, slice_set}
-use Rattle.frag_map.specs.Layout.{first_layout}
+use Rattle.frag_map.specs.Layout.{first_layout, members}
 use Rattle.sig_core.specs.declared.log.HostLog.{HostLog}
 use Rattle.sig_core.specs.declared.log.LogStep.{LogStep}
 use Rattle.sig_core.specs.declared.member.Member.{Member}
@@ -16,6 +16,7 @@ use Rattle.sig_core.specs.declared.signal.Body.TheVariants as body
 use Rattle.sig_core.specs.declared.signal.host.HostSignal.TheVariants.{Closed, Cut}
 use Rattle.sig_core.specs.declared.view.Shape.{Shape}
 use Rattle.sig_core.specs.declared.view.View.{View}
+use Rattle.sig_core.specs.Members.{nobody}
 use Rattle.sig_core.specs.Step.{Step}
 use Rattle.api_views.specs.Members.{greater_view}
 use Rattle.node_views.specs.declared.host_body.HostBody.{HostBody}
@@ -24,20 +25,38 @@ use Rattle.node_views.specs.Fresh.{fresh_shell}
 use Rattle.node_views.specs.Replies as host
 use Rattle.node_views.specs.Row.{is_cut, stopping}
 use Rattle.world_core.specs.Hosts.{hosts}
+use Rattle.world_core.specs.Late.{Late}
 use Rattle.world_core.specs.Start.{Start, made}
 use Rattle.world_core.specs.Steps.{Addressed}
 use Rattle.world_core.specs.World.{for_each, next_stamp, no_steps, with_step}
+use Rattle.world_views.specs.declared.since.MadeSince.{MadeSince}
 use Rattle.world_views.specs.Hosts.{started}
 use Rattle.world_views.specs.Links.{AreIdle, AreLinks, Links, close_below, lose, new_link, put_all}
 use Rattle.world_views.specs.Machine.{cause_in, first_of, own_signal, replies_at, request_body, sender, step_by}
 use Rattle.world_views.specs.Machine.{stops_by, to_front, told}
 use Rattle.world_views.specs.Sending.{headed, routed_all}
 
--- the shape of the cluster, the members that were made, the hosts, which of them have stopped, the links to each, the
--- stamp of each host's last step, the log of each, and the replies that the shell hasn't had
+-- the member, where it is made before this stamp; the place of one that isn't is nobody's
+abbrev pub unless_since : ℕ → MadeSince → Member
+unless_since stamp one = if nat_lt one.stamp stamp then one.member else nobody
+
+-- the members of a life, each with the stamp of the step that makes it, or 0 where it begins the life
+abbrev pub from_beginning : Member → MadeSince
+from_beginning member = record { member = member; stamp = 0 }
+
+abbrev pub from_start : Late → MadeSince
+from_start late = record { member = late.member; stamp = late.stamp }
+
+abbrev pub since_of : Start → List MadeSince
+since_of start = map from_beginning (members start.shape.nodes) ++ map from_start start.late
+
+-- the shape of the cluster, the members that were made, and since when, the hosts, which of them have stopped, the
+-- links to each, the stamp of each host's last step, or of its making, the log of each, and the replies that the shell
+-- hasn't had
 pub record Whole : Type 0 where
   pub shape : Shape
   pub made : List Member
+  pub since : List MadeSince
   pub bodies : List HostBody
   pub stopped : List Bool
   pub links : Links
@@ -61,12 +80,16 @@ is_stamp stamp = nat_lt stamp (2 ^ 48)
 abbrev pub is_unclosed : ℕ → Standing → ℕ → Bool
 is_unclosed h standing to = (to == h) || is_cut standing (record { 0 = to })
 
--- what a step of host h sends goes on its way
+-- the members that are made before this stamp, each at its place among all
+abbrev pub made_in : Whole → ℕ → List Member
+made_in w stamp = map (unless_since stamp) w.since
+
+-- what a step of host h sends goes on its way, to the members that are made before it
 abbrev pub sending : Whole → ℕ → ℕ → List Outgoing → Whole
 sending w h stamp sends =
     record w {
       links = put_all w.links (sender w.made h stamp (body_at w.bodies h).standing.view)
-          (routed_all w.made h (body_at w.bodies h).standing sends);
+          (routed_all (made_in w stamp) h (body_at w.bodies h).standing sends);
     }
 
 -- the greater one of the view in which a host stands and this one
@@ -195,6 +218,7 @@ new_world start =
     record {
       shape = start.shape;
       made = made start;
+      since = since_of start;
       bodies = for_each (hosts start) (started start);
       stopped = replicate (hosts start) false;
       links = replicate (hosts start) (replicate (hosts start) new_link);

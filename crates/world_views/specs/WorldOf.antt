@@ -5,8 +5,9 @@ use Rattle.world_views.specs.World.{Whole}
 abbrev pub whole_of : World → Whole
 whole_of w =
     record {
-      shape = w.shape;
+      shape = w.layout.shape;
       made = w.made;
+      since = w.since.items;
       bodies = w.bodies.items;
       stopped = w.stopped.items;
       links = w.network;

@@ -1,5 +1,6 @@
 //! Hosts: which one runs what.
-ghost use Rattle.std.specs.Prelude.{◌≡◌, ◌==◌, ◌≤◌, ◌+◌, ◌-◌, ◌*◌, ◌%◌, ◌^◌, ◌<◌, IfOk, IfSome, None, filter, length};
+ghost use Rattle.std.specs.Prelude.{◌≡◌, ◌==◌, ◌≤◌, ◌+◌, ◌-◌, ◌*◌, ◌%◌, ◌^◌, ◌<◌, ◌∷◌, ◌++◌, [], IfOk, IfSome, None, OnErr, OnOk, filter};
+ghost use Rattle.std.specs.Prelude.{length, map};
 ghost use Rattle.std.specs.Prelude.{position, slice_get};
 ghost use Rattle.sig_core.specs.declared.member.Member.{Member};
 ghost use Rattle.frag_map.specs.Layout.{members};
@@ -7,6 +8,7 @@ ghost use Rattle.frag_map.specs.Replicas.{is_member};
 ghost use Rattle.world_core.specs.Hosts.{host_by, host_of, member_of, number_of, part_by};
 ghost use Rattle.world_views.specs.Hosts.{front_in};
 
+use crate::since::{MadeSince, unless_since};
 use frag_map::first_view;
 use sig_core::{BlockId, CLIENT, Member, NoMemory, Part, Place, View, part_of};
 use std::alloc::Global;
@@ -14,6 +16,12 @@ use std::marker::Model;
 
 /// How many hosts each member has: one for each part.
 pub const PARTS: u32 = 3;
+
+/// How many members a life has at most, so that each host has a number of 32 bits.
+const MOST: usize = 1 << 30;
+
+/// And how many hosts.
+pub const MOST_HOSTS: usize = (1 << 32) - 2;
 
 /// The members that were made, in their order. Each host has a number of 32 bits.
 #[derive(Drop)]
@@ -36,6 +44,7 @@ impl Made {
     ghost use Rattle.world_core.specs.Hosts.{member_at};
     ghost use Rattle.world_views.specs.Hosts.{front_of, known, latest, or_itself, reached};
     ghost use Rattle.world_views.specs.Machine.{first_of};
+    ghost use Rattle.world_views.specs.World.{unless_since};
 
     /// As a life of so many nodes begins.
     ///
@@ -48,6 +57,36 @@ impl Made {
         let view = first_view(nodes);
         let members = Vec::from_slice(alloc, view.full.as_slice())?;
         Ok(Made { members })
+    }
+
+    /// Those that are made before this stamp, each at its place among all, and nobody at the others.
+    ///
+    /// # Errors
+    /// `NoMemory`.
+    pub fn before(alloc: Global, since: &[MadeSince], stamp: u64) -> Result<Made, NoMemory>
+        requires { length since.now * 3 + 1 < 2 ^ 32 }
+        ensures { IfOk result (λ made. made ≡ map (unless_since stamp) since.now) }
+    {
+        let mut members = Vec::with_capacity(alloc, since.len())?;
+        for one in since {
+            members.push_reserved(unless_since(stamp, one));
+        }
+        Ok(Made { members })
+    }
+
+    /// One more member is made.
+    ///
+    /// # Errors
+    /// `NoMemory`, also where there are no numbers for its hosts, and then none is.
+    pub fn add(&mut self, member: Member) -> Result<(), NoMemory>
+        ensures ok { OnOk result (self.new ≡ self.old ++ member ∷ []) }
+        ensures err { OnErr result (self.new ≡ self.old) }
+    {
+        if self.members.len() >= MOST {
+            return Err(NoMemory);
+        }
+        self.members.push(member)?;
+        Ok(())
     }
 
     /// How many hosts there are, with the shell's.

@@ -4,6 +4,7 @@ ghost use Rattle.std.specs.Prelude.{◌<◌, ◌^◌, nat_lt, count_by, length, 
 ghost use Rattle.world_views.specs.Links.{behind, closed_by, is_busy, link_from, new_link, rest_on, with_link, without};
 ghost use Rattle.world_views.specs.Sending.{routed};
 
+use crate::hosts::MOST_HOSTS;
 use crate::sender::Sender;
 use sig_core::{Boxed, HostId, NoMemory, Outgoing, Signal};
 use std::alloc::Global;
@@ -107,7 +108,8 @@ impl Model for Inbox {
 }
 
 impl Inbox {
-    ghost use Rattle.std.specs.Prelude.{◌<◌, length, nat_lt, replicate};
+    ghost use Rattle.std.specs.Prelude.{◌<◌, ◌∷◌, ◌++◌, [], length, nat_lt, replicate};
+    ghost use Rattle.world_views.specs.Begun.{begun_link, three_links};
     ghost use Rattle.world_views.specs.Links.{has_signal};
 
     /// A link from each of so many hosts, with nothing on it.
@@ -122,6 +124,43 @@ impl Inbox {
             links.push_reserved(Link::new(alloc));
         }
         Ok(Inbox { links, busy: 0 })
+    }
+
+    /// A link from one host more, with nothing on it but its closing, if it has stopped.
+    ///
+    /// # Errors
+    /// `NoMemory`, also where there are no numbers for more hosts.
+    pub fn add(&mut self, alloc: Global, closing: Option<Boxed<Signal>>) -> Result<(), NoMemory>
+        ensures { OnOk result (self.new ≡ self.old ++ begun_link closing ∷ []) }
+    {
+        if self.links.len() >= MOST_HOSTS {
+            return Err(NoMemory);
+        }
+        let mut link = Link::new(alloc);
+        match closing {
+            Some(signal) => {
+                link.close(signal)?;
+                self.links.push(link)?;
+                self.busy += 1;
+                Ok(())
+            }
+            None => {
+                self.links.push(link)?;
+                Ok(())
+            }
+        }
+    }
+
+    /// Links from three hosts more, with nothing on them.
+    ///
+    /// # Errors
+    /// `NoMemory`, also where there are no numbers for more hosts.
+    pub fn widen(&mut self, alloc: Global) -> Result<(), NoMemory>
+        ensures { OnOk result (self.new ≡ self.old ++ three_links) }
+    {
+        self.add(alloc, None)?;
+        self.add(alloc, None)?;
+        self.add(alloc, None)
     }
 
     /// Whether a link has a signal.

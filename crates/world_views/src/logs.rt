@@ -23,6 +23,9 @@ impl Model for Logs {
 }
 
 impl Logs {
+    ghost use Rattle.std.specs.Prelude.{◌∷◌, ◌++◌, [], take};
+    ghost use Rattle.world_views.specs.Begun.{newest, no_steps_since};
+
     /// Logs of so many hosts, without steps.
     ///
     /// # Errors
@@ -60,6 +63,37 @@ impl Logs {
             Some(step) => Some(step.taken.get()),
             None => None,
         }
+    }
+
+    /// The last step of a host, if it has made one.
+    pub fn newest(&self, host: u32) -> Option<&LogStep>
+        requires { host < length self.now }
+        ensures { newest (logs_at self.now host) ≡ result.now }
+    {
+        self.hosts[host as usize].steps.as_slice().last()
+    }
+
+    /// The log of one host more, which the step of this stamp makes.
+    ///
+    /// # Errors
+    /// `NoMemory`, and then the logs are as they were.
+    pub fn make(&mut self, alloc: Global, host: u32, stamp: u64) -> Result<(), NoMemory>
+        ensures ok { OnOk result (self.new ≡ self.old ++ no_steps_since stamp host ∷ []) }
+        ensures err { OnErr result (self.new ≡ self.old) }
+    {
+        self.hosts.push(HostLog {
+            host: HostId(host),
+            made: stamp,
+            steps: Seq::new(alloc),
+        })?;
+        Ok(())
+    }
+
+    /// The logs of so many hosts stay, and those behind them don't.
+    pub fn keep(&mut self, hosts: u32)
+        ensures { self.new ≡ take hosts self.old }
+    {
+        self.hosts.truncate(hosts as usize);
     }
 
     /// How many steps a host has made.

@@ -3,6 +3,7 @@ ghost use Rattle.std.specs.Prelude.{◌≡◌, None, Some, IfNone, IfSome, OnOk,
 ghost use Rattle.world_views.specs.Links.{arrival, has_signal, new_link};
 ghost use Rattle.world_views.specs.Sending.{routed};
 
+use crate::hosts::MOST_HOSTS;
 use crate::inbox::Inbox;
 use crate::sender::Sender;
 use sig_core::{Boxed, NoMemory, Outgoing, Signal};
@@ -37,7 +38,9 @@ impl Model for Network {
 }
 
 impl Network {
-    ghost use Rattle.std.specs.Prelude.{replicate, true};
+    ghost use Rattle.std.specs.Prelude.{◌∷◌, ◌++◌, [], map, replicate, true};
+    ghost use Rattle.world_views.specs.Begun.{three_links};
+    ghost use Rattle.world_views.specs.Links as Links;
     ghost use Rattle.world_views.specs.Links.{changed, closed_by, has_link, lose, put, take_between, take_first};
 
     /// A link from each of so many hosts to each, with nothing on it.
@@ -52,6 +55,34 @@ impl Network {
             inboxes.push_reserved(Inbox::new(alloc, hosts)?);
         }
         Ok(Network { inboxes, idle: 0 })
+    }
+
+    /// Links from three hosts more to each, with nothing on them.
+    ///
+    /// # Errors
+    /// `NoMemory`, and then the network is of no use.
+    pub fn widen(&mut self, alloc: Global) -> Result<(), NoMemory>
+        ensures { OnOk result (self.new ≡ map (λ (inbox : Links.Inbox). inbox ++ three_links) self.old) }
+    {
+        self.idle = 0;
+        for inbox in self.inboxes.iter_mut() {
+            inbox.widen(alloc)?;
+        }
+        Ok(())
+    }
+
+    /// The links to one host more.
+    ///
+    /// # Errors
+    /// `NoMemory`, also where there are no numbers for more hosts, and then the network is of no use.
+    pub fn add(&mut self, inbox: Inbox) -> Result<(), NoMemory>
+        ensures { OnOk result (self.new ≡ self.old ++ inbox ∷ []) }
+    {
+        if self.inboxes.len() >= MOST_HOSTS {
+            return Err(NoMemory);
+        }
+        self.inboxes.push(inbox)?;
+        Ok(())
     }
 
     /// Whether there is a link from one host to another: both are there.

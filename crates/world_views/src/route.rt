@@ -12,8 +12,8 @@ use node_views::HostBody;
 use sig_core::{Body, HostId, HostSignal, NoMemory, Outgoing, Outs, Work};
 use std::alloc::Global;
 
-/// Puts what a host's step of this stamp sends on its way, but for what is for a host that it has cut
-/// off, and what it asks of itself alone.
+/// Puts what a host's step of this stamp sends on its way, among these members of those that are made, but
+/// for what is for a host that it has cut off, and what it asks of itself alone.
 ///
 /// # Errors
 /// `NoMemory`, and then the network is of no use.
@@ -22,16 +22,17 @@ pub fn dispatch(
     alloc: Global,
     network: &mut Network,
     made: &Made,
+    among: &Made,
     host: &HostBody,
     from: u32,
     stamp: u64,
     outs: &mut Outs,
 ) -> Result<(), NoMemory>
-    ensures { OnOk result (network.new ≡ put_all network.old (sender made.now from stamp host.now.standing.view) (routed_all made.now from host.now.standing outs.old.sends)) }
+    ensures { OnOk result (network.new ≡ put_all network.old (sender made.now from stamp host.now.standing.view) (routed_all among.now from host.now.standing outs.old.sends)) }
 {
     // Most steps send nothing, or one signal.
     while outs.has_sends() {
-        pass_next(alloc, network, made, host, from, stamp, outs)?;
+        pass_next(alloc, network, made, among, host, from, stamp, outs)?;
     }
     Ok(())
 }
@@ -43,16 +44,17 @@ fn pass_next(
     alloc: Global,
     network: &mut Network,
     made: &Made,
+    among: &Made,
     host: &HostBody,
     from: u32,
     stamp: u64,
     outs: &mut Outs,
 ) -> Result<(), NoMemory>
-    ensures passed { OnOk result (put_all network.new (sender made.now from stamp host.now.standing.view) (routed_all made.now from host.now.standing outs.new.sends) ≡ put_all network.old (sender made.now from stamp host.now.standing.view) (routed_all made.now from host.now.standing outs.old.sends)) }
+    ensures passed { OnOk result (put_all network.new (sender made.now from stamp host.now.standing.view) (routed_all among.now from host.now.standing outs.new.sends) ≡ put_all network.old (sender made.now from stamp host.now.standing.view) (routed_all among.now from host.now.standing outs.old.sends)) }
     ensures fewer { OnOk result (0 < length outs.old.sends → length outs.new.sends < length outs.old.sends) }
 {
     match outs.take_send() {
-        Some(sent) => pass_on(alloc, network, made, host, from, stamp, sent),
+        Some(sent) => pass_on(alloc, network, made, among, host, from, stamp, sent),
         None => Ok(()),
     }
 }
@@ -64,15 +66,16 @@ fn pass_on(
     alloc: Global,
     network: &mut Network,
     made: &Made,
+    among: &Made,
     host: &HostBody,
     from: u32,
     stamp: u64,
     sent: Outgoing,
 ) -> Result<(), NoMemory>
-    ensures { OnOk result (network.new ≡ put_all network.old (sender made.now from stamp host.now.standing.view) (routed_all made.now from host.now.standing (sent ∷ []))) }
+    ensures { OnOk result (network.new ≡ put_all network.old (sender made.now from stamp host.now.standing.view) (routed_all among.now from host.now.standing (sent ∷ []))) }
 {
     let view = &host.standing.view;
-    let to = made.reached(from, view.get(), &sent.to);
+    let to = among.reached(from, view.get(), &sent.to);
     if !network.has_link(from, to) || is_kept_back(host, from, to, &sent.body) {
         refuse(sent);
         return Ok(());

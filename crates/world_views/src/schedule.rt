@@ -112,6 +112,6 @@ impl World {
     fn is_other(&self, host: HostId, node: u8) -> bool
         ensures { result ≡ is_other (whole_of self.now) host.0 node }
     {
-        1 <= node && node <= self.shape.nodes && self.made.member_at(host.0).node != node
+        1 <= node && node <= self.layout.shape().nodes && self.made.member_at(host.0).node != node
     }
 }

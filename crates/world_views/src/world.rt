@@ -1,7 +1,6 @@
 //! The world: all hosts of a cluster that may fail, driven by one thread.
 ghost use Rattle.std.specs.Prelude.{◌≡◌, ◌≤◌, ◌||◌, ◌++◌, [], IfOk, IfSome, MatchOption, None, OnErr, OnOk, false};
 ghost use Rattle.std.specs.Prelude.{is_some, nat_lt, not, slice_index_or};
-ghost use Rattle.api_views.specs.Laws.{is_start};
 ghost use Rattle.frag_map.specs.Shape.{IsShape};
 ghost use Rattle.node_views.specs.Row.{is_cut};
 ghost use Rattle.node_views.specs.Stop.{stop_in};
@@ -16,7 +15,10 @@ use crate::logs::Logs;
 use crate::network::Network;
 use crate::route::dispatch;
 use crate::sender::Sender;
+use crate::since::{MadeSince, are_before, since_beginning};
+use crate::starting::is_start;
 use crate::telling::tell;
+use frag_map::Layout;
 use node_views::HostBody;
 use sig_core::{
     ApiReply, ApiReq, Body, Boxed, Held, HostId, HostSignal, Key, Life, LogStep, Mark, Marks,
@@ -27,7 +29,7 @@ use std::collections::VecDeque;
 use std::sync::Wait;
 
 /// A step whose stamp would be this, or more, stops its host.
-const STAMPS_END: u64 = 1 << 48;
+pub(crate) const STAMPS_END: u64 = 1 << 48;
 
 /// A signal that was taken from a link: the host that it was for, and whether that handled it. One that has
 /// stopped or has cut off its sender discards it, and makes no step.
@@ -40,16 +42,19 @@ pub struct Taken {
 /// All hosts, the links between them, and the log of each.
 #[derive(Drop)]
 pub struct World {
-    pub(crate) shape: Shape,
+    /// The shape of the cluster, with its first view.
+    pub(crate) layout: Layout,
     pub(crate) made: Made,
+    /// The same, with the stamps of the steps that made them.
+    pub(crate) since: Vec<MadeSince>,
     /// Host 0, the shell's, and behind it three of each member, in their order.
     pub(crate) bodies: Vec<HostBody>,
     /// Which hosts have stopped.
     pub(crate) stopped: Vec<bool>,
     pub(crate) network: Network,
-    outs: Outs,
-    /// The stamp of each host's last step.
-    stamps: Vec<u64>,
+    pub(crate) outs: Outs,
+    /// The stamp of each host's last step, or of the one that made it.
+    pub(crate) stamps: Vec<u64>,
     pub(crate) logs: Logs,
     /// The replies that the shell hasn't had.
     replies: VecDeque<ApiReply>,
@@ -62,7 +67,7 @@ impl World {
     ghost use Rattle.world_core.specs.Start.{Start};
     ghost use Rattle.world_core.specs.World.{logs_at, next_stamp};
     ghost use Rattle.world_views.specs.Disks.{GoesAlone, HasMoreIf};
-    ghost use Rattle.world_views.specs.Driven.{HasAsked, HaveGrown, IsDriven, IsSound, IsStepped, IsWorld};
+    ghost use Rattle.world_views.specs.Driven.{HaveGrown, IsAsked, IsDriven, IsSound, IsStepped, IsWorld};
     ghost use Rattle.world_views.specs.Machine.{own_signal};
     ghost use Rattle.world_views.specs.Schedule.{HasTaken, is_discarded};
     ghost use Rattle.world_views.specs.Unscheduled.{AreUnscheduled};
@@ -71,8 +76,8 @@ impl World {
     ghost use Rattle.world_views.specs.WorldOf.{whole_of};
 
     /// A world in which nothing has happened: a cluster of this shape begins a life in this epoch, from
-    /// the epoch `start`, which is below it, with these rows, whose keys are distinct. Nobody starts later
-    /// in it.
+    /// the epoch `start`, which is below it, with these rows, whose keys are distinct. Nobody has started
+    /// later in it.
     ///
     /// # Errors
     /// `NoMemory`.
@@ -87,6 +92,7 @@ impl World {
         ensures { IfOk result (λ w. whole_of w ≡ new_world (record { shape = shape; epoch = epoch; start_epoch = start; rows = rows.now; late = [] })) }
     {
         let made = Made::first(alloc, shape.nodes)?;
+        let since = since_beginning(alloc, shape.nodes)?;
         let hosts = made.hosts();
         let bodies = fresh_bodies(alloc, shape, &made, epoch, start, rows)?;
         let network = Network::new(alloc, hosts)?;
@@ -95,8 +101,9 @@ impl World {
         let stopped = Vec::from_elem(alloc, false, hosts as usize)?;
         let logs = Logs::new(alloc, hosts)?;
         Ok(World {
-            shape,
+            layout: Layout::first(shape),
             made,
+            since,
             bodies,
             stopped,
             network,
@@ -107,27 +114,31 @@ impl World {
         })
     }
 
-    /// Asks the shell's host for something but a start, in a step of it. It has no host stop, or cut off a
-    /// node, as a schedule does.
+    /// Asks the shell's host for something, in a step of it. It has no host stop, or cut off a node, as a
+    /// schedule does. A step that asks for a start has a stamp above all that there are; where the node
+    /// begins anew, the hosts of its start are made, which is a later start of the life from then on.
     ///
     /// # Errors
-    /// `NoMemory`, also where the shell's host has stopped, and then nothing is asked, and the world is of
-    /// use for its logs alone.
+    /// `NoMemory`, also where the shell's host has stopped or has no such stamp left, and then nothing is
+    /// asked, and the world is of use for its logs alone.
     pub fn ask(&mut self, alloc: Global, request: ApiReq) -> Result<(), NoMemory>
         requires world { IsWorld (whole_of self.old) }
-        requires plain { is_start request ≡ false }
-        ensures ok { (start : Start) → IsSound start (whole_of self.old) → OnOk result (HasAsked start request (whole_of self.old) (whole_of self.new)) }
+        ensures ok { (start : Start) → IsSound start (whole_of self.old) → OnOk result (IsAsked start request (whole_of self.old) (whole_of self.new)) }
         ensures err { OnErr result (self.new.logs ≡ self.old.logs) }
     {
         if !self.runs(HostId(0)) {
             return Err(NoMemory);
         }
+        let starts = is_start(&request);
         let body = Body::Host(HostSignal::Continue {
             work: Work::Request(request),
             at: 0,
         });
         let view = self.bodies[0].standing.view.share()?;
         let signal = self.own_signal(alloc, 0, view, body)?;
+        if starts {
+            return self.handle_start(alloc, signal);
+        }
         self.handle(alloc, 0, signal)
     }
 
@@ -404,7 +415,7 @@ impl World {
 
     // The step of a host is made, as `enter` says. Seldom is it its last, by a cause.
     #[inline(always)]
-    fn enter_step(
+    pub(crate) fn enter_step(
         &mut self,
         alloc: Global,
         host: u32,
@@ -487,11 +498,37 @@ impl World {
         ensures ok { OnOk result (whole_of self.new ≡ sending (whole_of self.old) host stamp self.old.outs.sends) }
         ensures err { OnErr result (self.new.logs ≡ self.old.logs) }
     {
+        // Nearly always each member was made before.
+        if are_before(&self.since, stamp) {
+            let at = host as usize;
+            return dispatch(
+                alloc,
+                &mut self.network,
+                &self.made,
+                &self.made,
+                &self.bodies[at],
+                host,
+                stamp,
+                &mut self.outs,
+            );
+        }
+        self.send_early(alloc, host, stamp)
+    }
+
+    // The same of a step that is to be known to members alone that are made before it.
+    #[inline(never)]
+    fn send_early(&mut self, alloc: Global, host: u32, stamp: u64) -> Result<(), NoMemory>
+        requires { IsThere (whole_of self.old) host }
+        ensures ok { OnOk result (whole_of self.new ≡ sending (whole_of self.old) host stamp self.old.outs.sends) }
+        ensures err { OnErr result (self.new.logs ≡ self.old.logs) }
+    {
+        let among = Made::before(alloc, &self.since, stamp)?;
         let at = host as usize;
         dispatch(
             alloc,
             &mut self.network,
             &self.made,
+            &among,
             &self.bodies[at],
             host,
             stamp,

@@ -1,6 +1,5 @@
 //! Lives of a world, as traces.
-ghost use Rattle.std.specs.Prelude.{◌≡◌, IfOk, OnOk, false};
-ghost use Rattle.api_views.specs.Laws.{is_start};
+ghost use Rattle.std.specs.Prelude.{IfOk, OnOk};
 ghost use Rattle.frag_map.specs.Shape.{IsShape};
 ghost use Rattle.world_views.specs.Driven.{IsWorld};
 ghost use Rattle.world_views.specs.WorldOf.{whole_of};
@@ -52,8 +51,7 @@ fn fresh(alloc: Global, shape: Shape) -> Result<World, NoMemory>
 }
 
 fn begin(alloc: Global, world: &mut World, request: ApiReq) -> Result<(), NoMemory>
-    requires world { IsWorld (whole_of world.old) }
-    requires plain { is_start request ≡ false }
+    requires { IsWorld (whole_of world.old) }
     ensures { OnOk result (IsWorld (whole_of world.new)) }
 {
     world.ask(alloc, request)
@@ -67,8 +65,7 @@ fn drive<W: Wait>(rt: &W, alloc: Global, world: &mut World) -> Result<(), NoMemo
 }
 
 fn ask<W: Wait>(rt: &W, alloc: Global, world: &mut World, request: ApiReq) -> Result<(), NoMemory>
-    requires world { IsWorld (whole_of world.old) }
-    requires plain { is_start request ≡ false }
+    requires { IsWorld (whole_of world.old) }
     ensures { OnOk result (IsWorld (whole_of world.new)) }
 {
     begin(alloc, world, request)?;
@@ -125,9 +122,7 @@ fn fail(alloc: Global, world: &mut World, failing: Failing) -> Result<(), NoMemo
     }
 }
 
-fn put(alloc: Global, name: Option<u16>, key: &[u8]) -> Result<ApiReq, Fail>
-    ensures { IfOk result (λ request. is_start request ≡ false) }
-{
+fn put(alloc: Global, name: Option<u16>, key: &[u8]) -> Result<ApiReq, Fail> {
     let op = HeldOp::new(alloc, Op::Put(Key::new(key)?, Value::new(b"1")?))?;
     Ok(ApiReq::Operate { name, op })
 }
