@@ -1,4 +1,5 @@
 pub mod AskLemmas
+pub mod ConnectLemmas
 pub mod EnterLemmas
 pub mod FlatLemmas
 pub mod FlushLemmas

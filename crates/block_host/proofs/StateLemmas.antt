@@ -1,6 +1,6 @@
 -- What is seen of a host where its peers and its queue have changed.
 use Rattle.std.proofs.Common.{◌≡◌, inl, inr, ◌⊎◌, ℕ, ◌<◌, Bool, true, false, List, [], ◌∷◌, ◌++◌, length, refl, sym, ap, ◌∙◌, subst}
-use Rattle.std.specs.Prelude.{map, slice_index_or, slice_set, Err, is_err, MatchOption, None, Ok, OnErr, OnOk, Option}
+use Rattle.std.specs.Prelude.{map, slice_index_or, slice_set, Err, is_ok, MatchOption, None, Ok, OnErr, OnOk, Option}
 use Rattle.std.specs.Prelude.{Result, Some}
 use Rattle.std.proofs.lemmas.Bool.{true≢false}
 use Rattle.std.proofs.lemmas.List.{get_or-map}
@@ -91,13 +91,13 @@ pub used_handled : (t u : HostState) (x : Signal) (b : Bool) → b ≡ is_cut t.
     → HasHandled t x u ⊎ HasGivenUp t u → HasUsed t x u
 used_handled t u x b is uncut used = subst (λ c. used_by c t x u) (sym uncut ∙ is) used
 
-pub on_err_is : {T E P : Type 0} (r : Result T E) → is_err r ≡ true → OnErr r P → P
-on_err_is (Ok x) e p = absurd (true≢false (sym e))
+pub on_err_is : {T E P : Type 0} (r : Result T E) → is_ok r ≡ false → OnErr r P → P
+on_err_is (Ok x) e p = absurd (true≢false e)
 on_err_is (Err y) e p = p
 
-pub on_ok_is : {T E P : Type 0} (r : Result T E) → is_err r ≡ false → OnOk r P → P
+pub on_ok_is : {T E P : Type 0} (r : Result T E) → is_ok r ≡ true → OnOk r P → P
 on_ok_is (Ok x) e p = p
-on_ok_is (Err y) e p = absurd (true≢false e)
+on_ok_is (Err y) e p = absurd (true≢false (sym e))
 
 -- it has given up, with no step made
 pub gave_up : (t v : HostState) (ps : List LinkPeer) (own : Waiting) → IsUnmade t v → own.signals ≡ []

@@ -30,11 +30,13 @@ impl Host {
         if !self.runs {
             return Err(NoMemory);
         }
-        let asked = self.handle_request(alloc, request);
-        if asked.is_err() {
-            self.give_up();
+        match self.handle_request(alloc, request) {
+            Ok(()) => Ok(()),
+            Err(_) => {
+                self.give_up();
+                Err(NoMemory)
+            }
         }
-        asked
     }
 
     // It handles a request of the shell.

@@ -59,9 +59,10 @@ impl Host {
         if self.body.is_cut(signal.get().from) {
             return;
         }
-        if self.handle(alloc, signal).is_err() {
-            self.give_up();
+        if self.handle(alloc, signal).is_ok() {
+            return;
         }
+        self.give_up();
     }
 
     // It gives up: it takes nothing more, and sends nothing more.

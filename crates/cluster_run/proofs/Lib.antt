@@ -1,3 +1,4 @@
+pub mod BeginLemmas
 pub mod EndLemmas
 pub mod GoneLemmas
 pub mod LogLemmas

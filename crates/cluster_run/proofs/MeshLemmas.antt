@@ -41,7 +41,7 @@ get_behind (z ∷ xs) y (suc k) x found = go (get_behind xs y k x found)
     go (inl is) = inl (ap suc is.0, is.1)
     go (inr is) = inr is
 
-place_low : {A : Type 0} (xs : List A) (k : ℕ) (x : A) → slice_get xs k ≡ Some x → k < length xs
+pub place_low : {A : Type 0} (xs : List A) (k : ℕ) (x : A) → slice_get xs k ≡ Some x → k < length xs
 place_low [] k x found = absurd cc
 place_low (y ∷ xs) zero x found = omega arith
 place_low (y ∷ xs) (suc k) x found = omega (arith, place_low xs k x found)
