@@ -4,7 +4,7 @@
 
 mod asking;
 mod closing;
-mod compare;
+mod comparing;
 mod connecting;
 mod flushing;
 mod host;
@@ -18,7 +18,7 @@ mod taking;
 mod telling;
 mod turn;
 
-pub use compare::compare;
+pub use comparing::compare;
 pub use connecting::connect;
 pub use host::Host;
 pub use turn::TURN_SIGNALS;
