@@ -2,7 +2,7 @@
 use Rattle.std.proofs.Common.{◌≡◌, Bool, true, false, ℕ, zero, suc, ◌+◌, ◌<◌, ◌≤◌, List, [], ◌∷◌, ◌++◌, append_assoc}
 use Rattle.std.proofs.Common.{append-nil, length}
 use Rattle.std.proofs.Common.{refl, sym, ap, ◌∙◌, subst, arith}
-use Rattle.std.specs.Prelude.{MatchBool, map, not, slice_index_or, slice_set}
+use Rattle.std.specs.Prelude.{MatchBool, map, slice_index_or, slice_set}
 use Rattle.std.proofs.lemmas.Bool.{true≢false}
 use Rattle.sig_core.specs.declared.signal.Signal.{Signal}
 use Rattle.peer_lists.specs.Peers.{PeerState}
@@ -146,14 +146,10 @@ put_back p m q x front is = subst (IsPut p) (front ∙ sym is) (put_none p)
 pub put_same : (p q : PeerState) → q ≡ p → IsPut p q
 put_same p q same = subst (IsPut p) (sym same) (put_none p)
 
-pub match_true : {P Q : Type 0} (b : Bool) → not b ≡ false → MatchBool b P Q → P
-match_true true e p = p
-match_true false e p = absurd (true≢false e)
+pub match_true : (P Q : Type 0) (b : Bool) → b ≡ true → MatchBool b P Q → P
+match_true P Q true e p = p
+match_true P Q false e p = absurd (true≢false (sym e))
 
-pub match_false : {P Q : Type 0} (b : Bool) → not b ≡ true → MatchBool b P Q → Q
-match_false true e q = absurd (true≢false (sym e))
-match_false false e q = q
-
-pub not_false : (b : Bool) → not b ≡ false → b ≡ true
-not_false true e = refl
-not_false false e = absurd (true≢false e)
+pub match_false : (P Q : Type 0) (b : Bool) → b ≡ false → MatchBool b P Q → Q
+match_false P Q true e q = absurd (true≢false e)
+match_false P Q false e q = q

@@ -8,7 +8,7 @@ use std::alloc::Global;
 use std::sync::Wait;
 
 impl Host {
-    ghost use Rattle.block_host.specs.State.{state_of};
+    ghost use Rattle.block_host.specs.State.{HostState, state_of};
     ghost use Rattle.block_host.specs.Turn.{HasGivenUp, HasTaken, HasTakenFrom, HasUsed};
     ghost use Rattle.block_host.specs.Step.{IsUnmade};
 

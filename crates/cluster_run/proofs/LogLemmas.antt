@@ -176,7 +176,7 @@ module _ (start : Start) (ts : List HostState) (mesh : IsMesh ts) (had : List Ap
           (subst (λ k. IsPrefix (taken_from b.0.peers k) (sent_to a.0.peers b.0.id)) a_is front) in
           subst (λ (o : Option HostState). IsPrefix (got_in i o) (puts ts i j)) (sym b.1)
           (subst (λ (o : Option HostState). IsPrefix (map (arriving b.0.id) (taken_from b.0.peers i)) (sent_in j o))
-              (sym a.1)
+          (sym a.1)
           (subst (λ k. IsPrefix (map (arriving k) (taken_from b.0.peers i)) (map (arriving j) (sent_to a.0.peers j)))
           (sym b_is)
           (prefix-map (arriving j) (taken_from b.0.peers i) (sent_to a.0.peers j) front')))

@@ -1,7 +1,5 @@
-use Rattle.std.proofs.Common.{ap, map, refl, subst, ◌∙◌}
-use Rattle.block_host.specs.Ends.{IsPut}
+use Rattle.std.proofs.Common.{map, refl, ◌∙◌}
 use Rattle.block_host.specs.Peer.{ends_of, peer_state}
-use Rattle.block_host.specs.declared.peer.LinkPeer.{LinkPeer}
 use Rattle.block_host.proofs.FlatLemmas.{put_all_more, put_all_none, put_at, seen_same}
 use Rattle.block_host.proofs.flushing.flush_all.Goals as goal
 
@@ -15,7 +13,7 @@ loop-at-preserved g c =
     record {
       put = put_all_more (map peer_state c.args.peers.now) (map peer_state c.loop-at.peers) _ c.loop-at.invariant.put
           (put_at peer_state c.loop-at.peers c.loop-at.at old now
-          (subst (λ (p : LinkPeer). IsPut (peer_state p) (peer_state now)) c.index-peers-at.is c.flush.ensures.put));
+          c.flush.ensures.put);
       ends = seen_same ends_of c.loop-at.peers c.loop-at.at old now
-          (c.flush.ensures.ends ∙ ap ends_of c.index-peers-at.is) ∙ c.loop-at.invariant.ends;
+          c.flush.ensures.ends ∙ c.loop-at.invariant.ends;
     }

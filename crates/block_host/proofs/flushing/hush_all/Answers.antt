@@ -1,7 +1,6 @@
-use Rattle.std.proofs.Common.{ap, map, refl, sym, ◌∙◌}
+use Rattle.std.proofs.Common.{map, refl, sym, ◌∙◌}
 use Rattle.block_host.specs.Ends.{hushed}
 use Rattle.block_host.specs.Peer.{ends_of, peer_state}
-use Rattle.block_host.specs.declared.peer.LinkPeer.{LinkPeer}
 use Rattle.block_host.proofs.FlatLemmas.{seen_next, seen_same, upto_none}
 use Rattle.block_host.proofs.flushing.hush_all.Goals as goal
 
@@ -14,8 +13,8 @@ loop-at-preserved c =
     let now = c.hush.new.self in
     record {
       state =
-          seen_next peer_state hushed c.args.peers.now c.loop-at.peers c.loop-at.at old now ? c.loop-at.invariant.state
-          (c.hush.ensures.state ∙ ap (λ (p : LinkPeer). hushed (peer_state p)) c.index-peers-at.is);
+          seen_next peer_state hushed c.args.peers.now c.loop-at.peers c.loop-at.at old now c.loop-at-test.true c.loop-at.invariant.state
+          c.hush.ensures.state;
       ends = seen_same ends_of c.loop-at.peers c.loop-at.at old now
-          (c.hush.ensures.ends ∙ ap ends_of c.index-peers-at.is) ∙ c.loop-at.invariant.ends;
+          c.hush.ensures.ends ∙ c.loop-at.invariant.ends;
     }

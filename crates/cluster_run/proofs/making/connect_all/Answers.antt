@@ -28,8 +28,7 @@ loop-at-preserved c =
           (joins_next at ts t (state_of old) (state_of now) t' c.loop-at.invariant.joined found is);
       same = length-set hosts at now ∙ c.loop-at.invariant.same;
       begun = λ start all begins.
-          let was = c.loop-at.invariant.begun start all begins in
-          (
+          let was = c.loop-at.invariant.begun start all begins in (
             subst (λ us. EachHost (λ k b. HasBegun start b) us) (sym seen)
                 (begun_set start at ts t (state_of old) (state_of now) t' c.loop-at.invariant.joined found is was.0),
             begun_second start at ts t (state_of old) (state_of now) t' c.loop-at.invariant.joined found is was.1,

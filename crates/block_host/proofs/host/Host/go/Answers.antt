@@ -1,10 +1,9 @@
 use Rattle.block_host.specs.State.{state_of}
-use Rattle.block_host.proofs.FlatLemmas.{not_false}
 use Rattle.block_host.proofs.host.Host.go.Goals as goal
 
 pub returns-in-Some : goal.returns-in-Some
 returns-in-Some g c = record {
-  runs = not_false c.args.self.now.runs c.if-not-runs.false;
+  runs = c.if-not-runs.false;
   signal = c.in-Some.signal;
   taken = state_of c.take_next.new.self;
   takes = c.in-Some.ensures;

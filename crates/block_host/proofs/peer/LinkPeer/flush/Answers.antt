@@ -16,13 +16,13 @@ pub returns-then-not-put-clause-put : goal.returns-then-not-put-clause-put
 returns-then-not-put-clause-put g c =
     put_more (peer_state c.args.self.now) (peer_state c.loop.self) (peer_state c.put.new.self) c.loop.invariant.put
     (put_back (peer_state c.loop.self) (peer_state c.next_waiting.new.self) (peer_state c.put.new.self) c.in-Some.signal
-    c.in-Some.ensures.taken (match_false c.put.result c.if-not-put.true c.put.ensures.put))
+    c.in-Some.ensures.taken (match_false _ _ c.put.result c.if-not-put.true c.put.ensures.put))
 
 pub loop-preserved : goal.loop-preserved
 loop-preserved g c = record {
   put = put_more (peer_state c.args.self.now) (peer_state c.loop.self) (peer_state c.put.new.self) c.loop.invariant.put
       (put_went (peer_state c.loop.self) (peer_state c.next_waiting.new.self) (peer_state c.put.new.self)
       c.in-Some.signal
-      c.in-Some.ensures.taken (match_true c.put.result c.if-not-put.false c.put.ensures.put));
+      c.in-Some.ensures.taken (match_true _ _ c.put.result c.if-not-put.false c.put.ensures.put));
   ends = c.put.ensures.ends ∙ c.in-Some.ensures.ends ∙ c.loop.invariant.ends;
 }
