@@ -69,11 +69,7 @@ fn is_own(body: &Body) -> bool {
 ///
 /// # Errors
 /// `NoMemory`.
-pub fn arrows_of(
-    alloc: Global,
-    logs: &[HostLog],
-    chosen: &[Chosen],
-) -> Result<Vec<Arrow>, NoMemory>
+pub fn arrows_of(alloc: Global, logs: &[HostLog], chosen: &[Chosen]) -> Result<Vec<Arrow>, NoMemory>
     ensures { IfOk result (λ all. All (HasEnds (length chosen.now)) all.items) }
 {
     let mut all = Vec::new(alloc);

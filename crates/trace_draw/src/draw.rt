@@ -44,7 +44,9 @@ fn draw_all(alloc: Global, svg: &mut Svg, logs: &[HostLog], plan: &Plan) -> Resu
 
 fn begin(alloc: Global, svg: &mut Svg) -> Result<(), NoMemory> {
     let (width, height) = (svg.canvas.width, svg.canvas.height);
-    let head = format!(in alloc; "<svg xmlns=\"http://www.w3.org/2000/svg\" width=\"{width}\" height=\"{height}\" viewBox=\"0 0 {width} {height}\">\n")?;
+    let head = format!(in alloc;
+        "<svg xmlns=\"http://www.w3.org/2000/svg\" width=\"{width}\" height=\"{height}\" viewBox=\"0 0 {width} {height}\">\n"
+    )?;
     svg.raw(head.as_str())?;
     svg.raw(STYLE)?;
     let (corner, other) = (svg.point(0, 0), svg.point(width, height));

@@ -12,11 +12,7 @@ pub enum DrawFault {
     /// The trace can't be read as a file or stream.
     Input,
     /// The steps that are asked for are more than a picture has. From the same stamp to the last here they aren't.
-    TooMany {
-        count: usize,
-        first: u64,
-        last: u64,
-    },
+    TooMany { count: usize, first: u64, last: u64 },
     /// No trace is told, or one that the machine doesn't allow.
     Trace(TraceFault),
     /// The picture can't be written.
@@ -43,7 +39,10 @@ impl DrawFault {
     /// Want of memory.
     pub fn line(&self, alloc: Global) -> Result<String, AllocError> {
         match self {
-            DrawFault::Word => String::from_str(alloc, "a word isn't one of those that --help tells"),
+            DrawFault::Word => String::from_str(
+                alloc,
+                "a word isn't one of those that --help tells",
+            ),
             DrawFault::Input => String::from_str(alloc, "the trace can't be read"),
             DrawFault::TooMany { count, first, last } => too_many(alloc, *count, *first, *last),
             DrawFault::Trace(fault) => trace_line(alloc, fault),
@@ -54,14 +53,19 @@ impl DrawFault {
 }
 
 fn too_many(alloc: Global, count: usize, first: u64, last: u64) -> Result<String, AllocError> {
-    format!(in alloc; "{count} steps are more than a picture has; choose fewer by --from and --to, as --from {first} --to {last}")
+    format!(in alloc;
+        "{count} steps are more than a picture has; choose fewer by --from and --to, as --from {first} --to {last}"
+    )
 }
 
 fn trace_line(alloc: Global, fault: &TraceFault) -> Result<String, AllocError> {
     match fault {
         TraceFault::NotTrace { at } => format!(in alloc; "no trace: byte {at} fits none"),
         TraceFault::NotHosts => {
-            String::from_str(alloc, "the machine doesn't allow it: its logs aren't those of its hosts")
+            String::from_str(
+                alloc,
+                "the machine doesn't allow it: its logs aren't those of its hosts",
+            )
         }
         TraceFault::NotStep { host, step, cause } => {
             let (host, cause) = (host.0, cause_text(cause));

@@ -38,7 +38,9 @@ pub fn draw_title(
         (Some(first), Some(last)) => (first.stamp, last.stamp),
         _ => (0, 0),
     };
-    let title = format!(in alloc; "{nodes} nodes, {replicas} replicas, {fragments} fragments; transactions: {what}; {steps} steps, stamps {first} to {last}")?;
+    let title = format!(in alloc;
+        "{nodes} nodes, {replicas} replicas, {fragments} fragments; transactions: {what}; {steps} steps, stamps {first} to {last}"
+    )?;
     let at = svg.point(20, 22);
     svg.text("ink bold", at, title.as_bytes())
 }

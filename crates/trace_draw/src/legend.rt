@@ -59,8 +59,18 @@ pub fn entries_of(
     add(alloc, &mut all, Form::Step, "step, with the signal taken")?;
     add(alloc, &mut all, Form::Asked, "asked by the shell")?;
     add(alloc, &mut all, Form::Signal, "signal")?;
-    add(alloc, &mut all, Form::Outside, "sent by a step that isn't drawn")?;
-    add(alloc, &mut all, Form::Sent, "signal that goes far, and its host")?;
+    add(
+        alloc,
+        &mut all,
+        Form::Outside,
+        "sent by a step that isn't drawn",
+    )?;
+    add(
+        alloc,
+        &mut all,
+        Form::Sent,
+        "signal that goes far, and its host",
+    )?;
     add(alloc, &mut all, Form::Mark, "mark")?;
     add_views(alloc, &mut all, bands)?;
     add_transactions(alloc, &mut all, transactions)?;

@@ -45,11 +45,15 @@ fn of_key(alloc: Global, word: &str, key: &Key) -> Result<Vec<u8>, AllocError> {
 
 fn of_epoch(alloc: Global, word: &str, epoch: u64) -> Result<Vec<u8>, AllocError> {
     let epoch = epoch_words(alloc, epoch)?;
-    format!(in alloc; "{word} {epoch}")?.as_bytes().to_vec(alloc)
+    format!(in alloc; "{word} {epoch}")?
+        .as_bytes()
+        .to_vec(alloc)
 }
 
 fn of_number(alloc: Global, word: &str, number: u64) -> Result<Vec<u8>, AllocError> {
-    format!(in alloc; "{word} {number}")?.as_bytes().to_vec(alloc)
+    format!(in alloc; "{word} {number}")?
+        .as_bytes()
+        .to_vec(alloc)
 }
 
 fn of_outcome(alloc: Global, outcome: &Outcome) -> Result<Vec<u8>, AllocError> {
@@ -57,7 +61,9 @@ fn of_outcome(alloc: Global, outcome: &Outcome) -> Result<Vec<u8>, AllocError> {
         Outcome::Committed(epoch) => of_epoch(alloc, "committed", *epoch),
         Outcome::Aborted(cause) => {
             let cause = cause_word(cause);
-            format!(in alloc; "aborted {cause}")?.as_bytes().to_vec(alloc)
+            format!(in alloc; "aborted {cause}")?
+                .as_bytes()
+                .to_vec(alloc)
         }
         Outcome::Unknown => b"unknown".to_vec(alloc),
     }

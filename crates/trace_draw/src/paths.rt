@@ -84,7 +84,9 @@ fn draw_near(svg: &mut Svg, class: &str, ends: Ends) -> Result<(), NoMemory> {
 // Down from the sender, across to the way left of the taker, down that, and to the taker from the left.
 fn draw_far(svg: &mut Svg, class: &str, ends: Ends, lane: u64) -> Result<(), NoMemory> {
     let Ends { from, leaves, to } = ends;
-    let x = to.x.saturating_sub(lane.saturating_mul(5).saturating_add(10));
+    let x = to
+        .x
+        .saturating_sub(lane.saturating_mul(5).saturating_add(10));
     let last = to.y.saturating_sub(8);
     let across = leaves.saturating_add(8).min(last);
     let joins = leaves.saturating_add(16).min(last);
@@ -129,8 +131,7 @@ fn is_from_outside(logs: &[HostLog], plan: &Plan, step: &Chosen) -> bool {
         return false;
     };
     let signal = found.taken.get();
-    !is_asked(step.host, signal)
-        && place_of(&plan.chosen, signal.stamp, signal.from.0).is_none()
+    !is_asked(step.host, signal) && place_of(&plan.chosen, signal.stamp, signal.from.0).is_none()
 }
 
 fn draw_stub(svg: &mut Svg, plan: &Plan, step: &Chosen, y: u64) -> Result<(), NoMemory> {

@@ -6,7 +6,11 @@ use std::alloc::{AllocError, Global};
 ///
 /// # Errors
 /// Want of memory.
-pub fn asked_words(alloc: Global, host: u32, signal: &Signal) -> Result<Option<Vec<u8>>, AllocError> {
+pub fn asked_words(
+    alloc: Global,
+    host: u32,
+    signal: &Signal,
+) -> Result<Option<Vec<u8>>, AllocError> {
     if signal.from.0 != host {
         return Ok(None);
     }

@@ -161,5 +161,7 @@ fn told_of(alloc: Global, chosen: &Chosen, step: &LogStep) -> Result<String, NoM
         Some(tx) => tx_name(alloc, tx)?,
         None => String::from_str(alloc, "none")?,
     };
-    Ok(format!(in alloc; "host {host}, node {node}, stamp {stamp}: {name} of host {from} at {at} in view {view}; transaction {of}")?)
+    Ok(format!(in alloc;
+        "host {host}, node {node}, stamp {stamp}: {name} of host {from} at {at} in view {view}; transaction {of}"
+    )?)
 }

@@ -76,7 +76,9 @@ impl Svg {
         ensures { self.new.canvas ≡ self.old.canvas }
     {
         let (x1, y1, x2, y2) = (from.x, from.y, to.x, to.y);
-        let text = format!(in self.alloc; "<path class=\"{class}\" d=\"M{x1} {y1}L{x2} {y2}\"/>\n")?;
+        let text = format!(in self.alloc;
+            "<path class=\"{class}\" d=\"M{x1} {y1}L{x2} {y2}\"/>\n"
+        )?;
         self.raw(text.as_str())
     }
 
@@ -88,7 +90,9 @@ impl Svg {
     {
         let (x, y) = (corner.x, corner.y);
         let (width, height) = (other.x.saturating_sub(x), other.y.saturating_sub(y));
-        let text = format!(in self.alloc; "<rect class=\"{class}\" x=\"{x}\" y=\"{y}\" width=\"{width}\" height=\"{height}\"/>\n")?;
+        let text = format!(in self.alloc;
+            "<rect class=\"{class}\" x=\"{x}\" y=\"{y}\" width=\"{width}\" height=\"{height}\"/>\n"
+        )?;
         self.raw(text.as_str())
     }
 
@@ -98,7 +102,9 @@ impl Svg {
         ensures { self.new.canvas ≡ self.old.canvas }
     {
         let (x, y) = (at.x, at.y);
-        let text = format!(in self.alloc; "<circle class=\"{class}\" cx=\"{x}\" cy=\"{y}\" r=\"{radius}\">")?;
+        let text = format!(in self.alloc;
+            "<circle class=\"{class}\" cx=\"{x}\" cy=\"{y}\" r=\"{radius}\">"
+        )?;
         self.raw(text.as_str())?;
         self.told(told)?;
         self.raw("</circle>\n")
@@ -110,7 +116,9 @@ impl Svg {
         ensures { self.new.canvas ≡ self.old.canvas }
     {
         let (x, y) = (at.x.saturating_sub(4), at.y.saturating_sub(4));
-        let text = format!(in self.alloc; "<rect class=\"asked {class}\" x=\"{x}\" y=\"{y}\" width=\"8\" height=\"8\">")?;
+        let text = format!(in self.alloc;
+            "<rect class=\"asked {class}\" x=\"{x}\" y=\"{y}\" width=\"8\" height=\"8\">"
+        )?;
         self.raw(text.as_str())?;
         self.told(told)?;
         self.raw("</rect>\n")
@@ -123,7 +131,9 @@ impl Svg {
         ensures { self.new.canvas ≡ self.old.canvas }
     {
         let (x1, y1, x2, y2) = (from.x, from.y, to.x, to.y);
-        let text = format!(in self.alloc; "<path class=\"dash {class}\" d=\"M{x1} {y1}L{x2} {y2}\"/>\n")?;
+        let text = format!(in self.alloc;
+            "<path class=\"dash {class}\" d=\"M{x1} {y1}L{x2} {y2}\"/>\n"
+        )?;
         self.raw(text.as_str())
     }
 
@@ -136,7 +146,9 @@ impl Svg {
         let first = words_of(self.alloc, way.first)?;
         let second = words_of(self.alloc, way.second)?;
         let to = words_of(self.alloc, way.to)?;
-        let text = format!(in self.alloc; "<path class=\"{class}\" d=\"M{x} {y}V{below}C{first} {second} {to}\"/>\n")?;
+        let text = format!(in self.alloc;
+            "<path class=\"{class}\" d=\"M{x} {y}V{below}C{first} {second} {to}\"/>\n"
+        )?;
         self.raw(text.as_str())
     }
 
@@ -148,7 +160,9 @@ impl Svg {
         let (x, y, below) = (way.from.x, way.from.y, way.turns.y);
         let corner = words_of(self.alloc, way.corner)?;
         let to = words_of(self.alloc, way.to)?;
-        let text = format!(in self.alloc; "<path class=\"{class}\" d=\"M{x} {y}V{below}Q{corner} {to}\"/>\n")?;
+        let text = format!(in self.alloc;
+            "<path class=\"{class}\" d=\"M{x} {y}V{below}Q{corner} {to}\"/>\n"
+        )?;
         self.raw(text.as_str())
     }
 
@@ -158,7 +172,9 @@ impl Svg {
         ensures { self.new.canvas ≡ self.old.canvas }
     {
         let (x, y) = (tip.x, tip.y);
-        let text = format!(in self.alloc; "<path class=\"head {class}\" d=\"M{x} {y}l-3 -6h6z\"/>\n")?;
+        let text = format!(in self.alloc;
+            "<path class=\"head {class}\" d=\"M{x} {y}l-3 -6h6z\"/>\n"
+        )?;
         self.raw(text.as_str())
     }
 
@@ -168,7 +184,9 @@ impl Svg {
         ensures { self.new.canvas ≡ self.old.canvas }
     {
         let (x, y) = (tip.x, tip.y);
-        let text = format!(in self.alloc; "<path class=\"head {class}\" d=\"M{x} {y}l-6 -3v6z\"/>\n")?;
+        let text = format!(in self.alloc;
+            "<path class=\"head {class}\" d=\"M{x} {y}l-6 -3v6z\"/>\n"
+        )?;
         self.raw(text.as_str())
     }
 

@@ -7,7 +7,8 @@ use clap::{Arg, ArgMatches, Command, Error, value_parser};
 use std::alloc::{AllocError, Global};
 
 /// What the help tells behind the words.
-const BEHIND: &str = "Without FILE the trace is read from standard input; the picture goes to standard output.
+const BEHIND: &str =
+    "Without FILE the trace is read from standard input; the picture goes to standard output.
 
 T is NODE.SEQ, as the legend has it, or NODE.START.SEQ. A picture has at most 2000 steps.
 

@@ -18,12 +18,7 @@ use world_views::World;
 ///
 /// # Errors
 /// `Line` where one isn't served, `Untold`, and `NoMemory`.
-pub fn trace_of<W: Wait>(
-    rt: &W,
-    alloc: Global,
-    shape: Shape,
-    text: &str,
-) -> Result<Seq<u8>, Fault>
+pub fn trace_of<W: Wait>(rt: &W, alloc: Global, shape: Shape, text: &str) -> Result<Seq<u8>, Fault>
     requires { IsShape shape }
 {
     let mut world = fresh(alloc, shape)?;
