@@ -1,6 +1,6 @@
 //! Texts as they stand in a picture.
-ghost use Rattle.std.specs.Prelude.{IfOk};
-ghost use Rattle.trace_draw.specs.Escaped.{IsEscaped, IsPlain};
+ghost use Rattle.std.specs.Prelude.{◌≡◌, true, IfOk};
+ghost use Rattle.trace_draw.specs.Escaped.{is_escaped, is_plain};
 
 use std::alloc::{AllocError, Global};
 
@@ -9,7 +9,7 @@ use std::alloc::{AllocError, Global};
 /// # Errors
 /// Want of memory.
 pub fn escaped(alloc: Global, text: &[u8]) -> Result<Vec<u8>, AllocError>
-    ensures { IfOk result (λ bytes. IsEscaped bytes.items) }
+    ensures { IfOk result (λ bytes. is_escaped bytes.items ≡ true) }
 {
     let mut bytes = Vec::new(alloc);
     for byte in text {
@@ -20,8 +20,8 @@ pub fn escaped(alloc: Global, text: &[u8]) -> Result<Vec<u8>, AllocError>
 
 // Adds a byte as it stands there.
 fn push_escaped(bytes: &mut Vec<u8>, byte: u8) -> Result<(), AllocError>
-    requires { IsEscaped bytes.old.items }
-    ensures { IsEscaped bytes.new.items }
+    requires { is_escaped bytes.old.items ≡ true }
+    ensures { is_escaped bytes.new.items ≡ true }
 {
     match byte {
         b'<' => push_all(bytes, b"&lt;"),
@@ -35,17 +35,17 @@ fn push_escaped(bytes: &mut Vec<u8>, byte: u8) -> Result<(), AllocError>
 
 // Adds bytes that end nothing.
 fn push_all(bytes: &mut Vec<u8>, more: &[u8]) -> Result<(), AllocError>
-    requires so_far { IsEscaped bytes.old.items }
-    requires more { IsEscaped more.now }
-    ensures { IsEscaped bytes.new.items }
+    requires so_far { is_escaped bytes.old.items ≡ true }
+    requires more { is_escaped more.now ≡ true }
+    ensures { is_escaped bytes.new.items ≡ true }
 {
     bytes.extend_from_slice(more)
 }
 
 fn push_plain(bytes: &mut Vec<u8>, byte: u8) -> Result<(), AllocError>
-    requires so_far { IsEscaped bytes.old.items }
-    requires plain { IsPlain byte }
-    ensures { IsEscaped bytes.new.items }
+    requires so_far { is_escaped bytes.old.items ≡ true }
+    requires plain { is_plain byte ≡ true }
+    ensures { is_escaped bytes.new.items ≡ true }
 {
     bytes.push(byte)?;
     Ok(())

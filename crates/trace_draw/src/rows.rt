@@ -90,16 +90,26 @@ pub fn rows_of(alloc: Global, chosen: &[Chosen], lines: &[u64]) -> Result<Vec<Ro
     let mut rows: Vec<Row> = Vec::new(alloc);
     for (step, below) in chosen.iter().zip(lines) {
         let lines = below.saturating_add(1);
-        match rows.last_mut() {
-            Some(row) if row.stamp == step.stamp => row.lines = row.lines.max(lines),
-            _ => rows.push(Row {
+        if !widen(&mut rows, step.stamp, lines) {
+            rows.push(Row {
                 stamp: step.stamp,
                 y: 0,
                 lines,
-            })?,
+            })?;
         }
     }
     Ok(rows)
+}
+
+// Gives the last row so many lines, if it is that of this stamp and has fewer. Says whether it is.
+fn widen(rows: &mut Vec<Row>, stamp: u64, lines: u64) -> bool {
+    match rows.last_mut() {
+        Some(row) if row.stamp == stamp => {
+            row.lines = row.lines.max(lines);
+            true
+        }
+        _ => false,
+    }
 }
 
 /// Puts the first row so far from the top, and each other one below the one before. Gives how far the end of the last
