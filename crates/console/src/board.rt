@@ -66,6 +66,10 @@ impl Board {
             return Ok(());
         }
         let Some((name, said)) = named(line) else {
+            // Of the transactions that were open the session tells nothing any more.
+            if line == b"crashed".as_slice() {
+                self.open.clear();
+            }
             self.note_pending(line);
             return Ok(());
         };

@@ -17,14 +17,22 @@ const YELLOW: &[u8] = b"\x1b[33m";
 const PLAIN: &[u8] = b"\x1b[0m";
 
 /// The first words of replies that tell of something done.
-const DONE: [&str; 4] = ["ok", "committed", "durable", "closed"];
+const DONE: [&str; 6] = [
+    "ok",
+    "committed",
+    "durable",
+    "closed",
+    "checkpoint",
+    "restarted",
+];
 
 /// Of one that waits.
 const WAITS: [&str; 1] = ["pending"];
 
 /// Of errors, aborts, faults, and commands that can't be done.
-const FAILED: [&str; 10] = [
-    "error", "aborted", "unknown", "down", "line", "is", "not", "no", "busy", "too",
+const FAILED: [&str; 15] = [
+    "error", "aborted", "unknown", "down", "line", "is", "not", "no", "busy", "too", "running",
+    "disk", "shape", "damaged", "numbers",
 ];
 
 /// A sink over another one, to which it hands what is printed and nothing else. Where it was given a

@@ -14,7 +14,7 @@ use crate::shapes::drawn;
 use crate::tally::Tally;
 use crate::told::Told;
 use disk_world::Ended;
-use life_judge::{NodeRows, judge};
+use life_judge::{Dice, NodeRows, judge};
 use sig_core::{ApiReq, Key, NoMemory, Shape};
 use std::alloc::Global;
 use std::sync::Wait;
@@ -40,15 +40,9 @@ pub fn run_one<W: Wait>(
     let (mut dice, shape) = drawn(seed);
     let disks = sound_disks(alloc, shape.nodes)?;
     let mut cluster = begin(alloc, disks, shape, 1, tally)?;
-    let pace = Pace {
-        requests: REQUESTS,
-        saves: false,
-        fails,
-    };
-    live(rt, alloc, &mut dice, &mut cluster, &shape, pace)?;
-    let rests = dice.roll(3) > 0;
-    let rows = end(rt, alloc, &mut cluster, &shape, rests)?;
+    let lived = live_on(rt, alloc, &mut dice, &mut cluster, &shape, fails);
     let Ended { life, .. } = cluster.end(alloc);
+    let Lived { rows, rests } = lived?;
     tally.add_life(&life);
     judge(
         alloc,
@@ -60,6 +54,35 @@ pub fn run_one<W: Wait>(
         rests,
     )?;
     Ok(Told::Alone)
+}
+
+// The rows that the nodes of a life tell, and whether it rests.
+#[derive(Drop)]
+struct Lived {
+    rows: Vec<NodeRows>,
+    rests: bool,
+}
+
+fn live_on<W: Wait>(
+    rt: &W,
+    alloc: Global,
+    dice: &mut Dice,
+    cluster: &mut Cluster,
+    shape: &Shape,
+    fails: u64,
+) -> Result<Lived, RunFault>
+    requires shape { IsShape shape.now }
+    requires cluster { IsWorld (whole_of cluster.old.world) }
+{
+    let pace = Pace {
+        requests: REQUESTS,
+        saves: false,
+        fails,
+    };
+    live(rt, alloc, dice, cluster, shape, pace)?;
+    let rests = dice.roll(3) > 0;
+    let rows = end(rt, alloc, cluster, shape, rests)?;
+    Ok(Lived { rows, rests })
 }
 
 // The rows of each node at the end: once it rests, after some rounds, or as it stands.

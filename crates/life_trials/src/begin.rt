@@ -71,12 +71,19 @@ pub fn begin_behind(
 {
     let cluster = begin(alloc, disks, trial.shape, trial.tries, tally)?;
     tally.add_restart();
-    judge_restart(
+    let judged = judge_restart(
         alloc,
         before,
         cluster.start_epoch(),
         cluster.start_rows(),
         trial.keys,
-    )?;
-    Ok(cluster)
+    );
+    match judged {
+        Ok(()) => Ok(cluster),
+        Err(fault) => {
+            // Ended, here and elsewhere: what a cluster is made of is then dropped in its own crate.
+            let _ended = cluster.end(alloc);
+            Err(RunFault::from(fault))
+        }
+    }
 }

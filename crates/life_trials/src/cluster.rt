@@ -56,13 +56,24 @@ pub fn settle<W: Wait>(rt: &W, alloc: Global, cluster: &mut Cluster) -> Result<(
     ensures { OnOk result (IsWorld (whole_of cluster.new.world)) }
 {
     drive(rt, alloc, cluster)?;
-    if cluster.is_left_open() {
-        ask(alloc, cluster, ApiReq::Waits)?;
-        drive(rt, alloc, cluster)?;
-        ask(alloc, cluster, ApiReq::Pending)?;
-        drive(rt, alloc, cluster)?;
+    ask_about(rt, alloc, cluster)
+}
+
+/// Asks what an unanswered command waits for, where there is one.
+///
+/// # Errors
+/// `NoMemory`.
+pub fn ask_about<W: Wait>(rt: &W, alloc: Global, cluster: &mut Cluster) -> Result<(), NoMemory>
+    requires { IsWorld (whole_of cluster.old.world) }
+    ensures { OnOk result (IsWorld (whole_of cluster.new.world)) }
+{
+    if !cluster.is_left_open() {
+        return Ok(());
     }
-    Ok(())
+    ask(alloc, cluster, ApiReq::Waits)?;
+    drive(rt, alloc, cluster)?;
+    ask(alloc, cluster, ApiReq::Pending)?;
+    drive(rt, alloc, cluster)
 }
 
 /// Gives the shell all replies, and tells how many of them are local checkpoints.

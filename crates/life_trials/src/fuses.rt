@@ -123,5 +123,6 @@ fn burn<W: Wait>(
     let next = next_life(rt, alloc, &mut dice, trial, first.ended, tally)?;
     let Ended { life, disks } = next.ended;
     let last = begin_behind(alloc, disks, trial, &life, tally)?;
-    Ok(has_failed(last.disks()))
+    let Ended { disks, .. } = last.end(alloc);
+    Ok(has_failed(disks.as_slice()))
 }

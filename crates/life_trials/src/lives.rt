@@ -126,6 +126,28 @@ pub fn live_in<W: Wait>(
     requires cluster { IsWorld (whole_of cluster.world) }
 {
     let mut cluster = cluster;
+    let lived = live_on(rt, alloc, dice, trial, &mut cluster);
+    let mut ended = cluster.end(alloc);
+    let checkpoints = lived?;
+    if dice.roll(4) > 0 {
+        cut_all(ended.disks.as_mut_slice());
+    }
+    tally.add_life(&ended.life);
+    judge_life(alloc, dice, trial, &ended.life)?;
+    Ok(Lived { ended, checkpoints })
+}
+
+// It is lived, and goes on without requests. Gives how many local checkpoints were reported.
+fn live_on<W: Wait>(
+    rt: &W,
+    alloc: Global,
+    dice: &mut Dice,
+    trial: &Trial,
+    cluster: &mut Cluster,
+) -> Result<u64, RunFault>
+    requires shape { IsShape trial.now.shape }
+    requires cluster { IsWorld (whole_of cluster.old.world) }
+{
     let more = if trial.brief {
         dice.roll(FEW)
     } else {
@@ -136,15 +158,9 @@ pub fn live_in<W: Wait>(
         saves: true,
         fails: trial.fails,
     };
-    let checkpoints = live(rt, alloc, dice, &mut cluster, &trial.shape, pace)?;
-    go_on(alloc, dice, &mut cluster, &trial.shape, 0)?;
-    let mut ended = cluster.end(alloc);
-    if dice.roll(4) > 0 {
-        cut_all(ended.disks.as_mut_slice());
-    }
-    tally.add_life(&ended.life);
-    judge_life(alloc, dice, trial, &ended.life)?;
-    Ok(Lived { ended, checkpoints })
+    let checkpoints = live(rt, alloc, dice, cluster, &trial.shape, pace)?;
+    go_on(alloc, dice, cluster, &trial.shape, 0)?;
+    Ok(checkpoints)
 }
 
 fn judge_life(alloc: Global, dice: &mut Dice, trial: &Trial, life: &Life) -> Result<(), RunFault>

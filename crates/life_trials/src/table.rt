@@ -37,8 +37,16 @@ const ROUNDS: u32 = 4;
 pub fn events<W: Wait>(rt: &W, alloc: Global) -> Result<u64, RunFault> {
     let mut tally = Tally::new();
     let mut cluster = fresh(rt, alloc, &mut tally)?;
-    let mut client = Client::begin(alloc, &mut cluster)?;
-    client.go_on(alloc, &mut cluster, u64::MAX)
+    let taken = take_all(alloc, &mut cluster);
+    let _ended = cluster.end(alloc);
+    taken
+}
+
+fn take_all(alloc: Global, cluster: &mut Cluster) -> Result<u64, RunFault>
+    requires { IsWorld (whole_of cluster.old.world) }
+{
+    let mut client = Client::begin(alloc, cluster)?;
+    client.go_on(alloc, cluster, u64::MAX)
 }
 
 /// Has a cluster do one transaction, amid which that fails which the run of this number has fail, if there is such a
@@ -60,18 +68,44 @@ pub fn run_one<W: Wait>(
         return Ok(Told::Alone);
     };
     let mut cluster = fresh(rt, alloc, tally)?;
-    let mut client = Client::begin(alloc, &mut cluster)?;
-    if !fail(alloc, &mut cluster, &mut client, failing)? {
-        return Ok(Told::Alone);
-    }
-    let rows = end(rt, alloc, &mut cluster, &mut client)?;
+    let lived = live(rt, alloc, &mut cluster, failing);
     let Ended { life, .. } = cluster.end(alloc);
+    let Some(lived) = lived? else {
+        return Ok(Told::Alone);
+    };
     tally.add_life(&life);
-    judge_life(alloc, number, &life, rows.as_slice(), keys)?;
-    if !client.is_told() && !may_wait(failing) {
+    judge_life(alloc, number, &life, lived.rows.as_slice(), keys)?;
+    if !lived.is_told && !may_wait(failing) {
         return Err(RunFault::Untold);
     }
     Ok(Told::Alone)
+}
+
+// What a life came to: the rows that its nodes tell, and whether the client was told how its transaction ended.
+#[derive(Drop)]
+struct Lived {
+    rows: Vec<NodeRows>,
+    is_told: bool,
+}
+
+// The transaction, and what fails at its moment, if there is such a moment.
+fn live<W: Wait>(
+    rt: &W,
+    alloc: Global,
+    cluster: &mut Cluster,
+    failing: Failing,
+) -> Result<Option<Lived>, RunFault>
+    requires { IsWorld (whole_of cluster.old.world) }
+{
+    let mut client = Client::begin(alloc, cluster)?;
+    if !fail(alloc, cluster, &mut client, failing)? {
+        return Ok(None);
+    }
+    let rows = end(rt, alloc, cluster, &mut client)?;
+    Ok(Some(Lived {
+        rows,
+        is_told: client.is_told(),
+    }))
 }
 
 // A cluster in which a row was written.
@@ -80,11 +114,24 @@ fn fresh<W: Wait>(rt: &W, alloc: Global, tally: &mut Tally) -> Result<Cluster, R
 {
     let disks = sound_disks(alloc, SHAPE.nodes)?;
     let mut cluster = begin(alloc, disks, SHAPE, 1, tally)?;
+    match write_row(rt, alloc, &mut cluster) {
+        Ok(()) => Ok(cluster),
+        Err(fault) => {
+            let _ended = cluster.end(alloc);
+            Err(fault)
+        }
+    }
+}
+
+fn write_row<W: Wait>(rt: &W, alloc: Global, cluster: &mut Cluster) -> Result<(), RunFault>
+    requires { IsWorld (whole_of cluster.old.world) }
+    ensures { OnOk result (IsWorld (whole_of cluster.new.world)) }
+{
     let request = put_alone(alloc)?;
-    ask(alloc, &mut cluster, request)?;
-    drive(rt, alloc, &mut cluster)?;
-    hear(&mut cluster);
-    Ok(cluster)
+    ask(alloc, cluster, request)?;
+    drive(rt, alloc, cluster)?;
+    hear(cluster);
+    Ok(())
 }
 
 // What is to fail fails at its moment. Says whether there is such a moment.

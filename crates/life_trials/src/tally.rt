@@ -1,8 +1,8 @@
 //! What runs did, in numbers.
 
+use crate::stopped::Stopped;
 use crate::words::Runs;
 use sig_core::{Life, Mark, Outcome};
-use std::test::Fail;
 
 /// What runs did, in numbers, each of which stays at 2^64 - 1.
 #[derive(Clone, Copy)]
@@ -84,7 +84,7 @@ impl Tally {
     ///
     /// # Errors
     /// As of a write, or want of memory.
-    pub fn tell(&self, rt: &HostRuntime, runs: &Runs) -> Result<(), Fail> {
+    pub fn tell(&self, rt: &HostRuntime, runs: &Runs) -> Result<(), Stopped> {
         let Tally {
             lives,
             restarts,

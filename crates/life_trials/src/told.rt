@@ -1,6 +1,6 @@
 //! What a run came to.
 
-use std::test::Fail;
+use crate::stopped::Stopped;
 
 /// How many lives a run on disks has.
 pub const LIVES: usize = 5;
@@ -32,7 +32,7 @@ impl Told {
     ///
     /// # Errors
     /// As of a write, or want of memory.
-    pub fn tell(&self, rt: &HostRuntime, seed: u64) -> Result<(), Fail> {
+    pub fn tell(&self, rt: &HostRuntime, seed: u64) -> Result<(), Stopped> {
         match self {
             Told::Alone => {}
             Told::Restored {

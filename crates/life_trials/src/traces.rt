@@ -5,6 +5,8 @@ mod checks;
 mod kinds;
 mod life;
 
+use crate::fault::RunFault;
+use crate::stopped::Stopped;
 use bearing::{bears_changes, bears_cuts, fault_of, is_written_again};
 use checks::try_checks;
 use kinds::bear_kinds;
@@ -12,27 +14,26 @@ use life::{SHAPE, STEP, STEP_END, TRACE, a_life, a_step, found_slots};
 use sig_core::{NoMemory, Own, Table};
 use std::alloc::Global;
 use std::sync::Wait;
-use std::test::Fail;
 use trace_write::{WriteFault, write_step, write_trace};
 
 // The life has its bytes, and they are read as it.
-fn is_told(alloc: Global) -> Result<bool, Fail> {
+fn is_told(alloc: Global) -> Result<bool, RunFault> {
     let life = a_life(alloc, found_slots())?;
-    match write_trace(alloc, SHAPE, &life) {
-        Ok(bytes) => Ok(bytes.as_slice() == TRACE.as_slice() && is_written_again(alloc, &TRACE)?),
-        Err(_) => Ok(false),
-    }
+    let Ok(bytes) = write_trace(alloc, SHAPE, &life) else {
+        return Ok(false);
+    };
+    Ok(bytes.as_slice() == TRACE.as_slice() && is_written_again(alloc, &TRACE)?)
 }
 
 // Its only step has the bytes that stand for it there.
-fn is_told_alone(alloc: Global) -> Result<bool, Fail> {
+fn is_told_alone(alloc: Global) -> Result<bool, RunFault> {
     let step = a_step(alloc)?;
     let bytes = write_step(alloc, &step)?;
     Ok(bytes.as_slice() == &TRACE[STEP..STEP_END])
 }
 
 // Rows of a node's own are told in no trace.
-fn refuses_own_rows(alloc: Global) -> Result<bool, Fail> {
+fn refuses_own_rows(alloc: Global) -> Result<bool, RunFault> {
     let mut slots = found_slots();
     slots.own = Some(Own {
         epoch: 1,
@@ -61,18 +62,26 @@ fn is_named(alloc: Global, place: usize, byte: u8, at: Option<usize>) -> Result<
     Ok(fault_of(alloc, &bytes)? == at)
 }
 
+// A place, another byte there, and where it makes the fault.
+const CHANGES: [(usize, u8, usize); 8] = [
+    (0, 9, 0),
+    (0, 3, 1),
+    (2, 33, 2),
+    (19, 0, 19),
+    (20, 0x7f, 20),
+    (69, 12, 69),
+    (101, 9, 101),
+    (120, 121, 120),
+];
+
 // The first byte that fits none is named.
 fn names_the_first(alloc: Global) -> Result<bool, NoMemory> {
-    Ok(
-        is_named(alloc, 0, 9, Some(0))?
-            && is_named(alloc, 0, 3, Some(1))?
-            && is_named(alloc, 2, 33, Some(2))?
-            && is_named(alloc, 19, 0, Some(19))?
-            && is_named(alloc, 20, 0x7f, Some(20))?
-            && is_named(alloc, 69, 12, Some(69))?
-            && is_named(alloc, 101, 9, Some(101))?
-            && is_named(alloc, 120, 121, Some(120))?,
-    )
+    for (place, byte, at) in &CHANGES {
+        if !is_named(alloc, *place, *byte, Some(*at))? {
+            return Ok(false);
+        }
+    }
+    Ok(true)
 }
 
 // A life begins before the last checkpoint number.
@@ -95,7 +104,7 @@ fn is_borne(alloc: Global) -> Result<bool, NoMemory> {
 }
 
 // Says how a trial came out.
-fn tell(rt: &HostRuntime, trial: &str, passed: bool, failed: &mut bool) -> Result<(), Fail> {
+fn tell(rt: &HostRuntime, trial: &str, passed: bool, failed: &mut bool) -> Result<(), Stopped> {
     if passed {
         println!(rt; "{trial}: so it is")?;
     } else {
@@ -105,66 +114,86 @@ fn tell(rt: &HostRuntime, trial: &str, passed: bool, failed: &mut bool) -> Resul
     Ok(())
 }
 
-// What is tried of the life that was worked out by hand.
-fn try_life(rt: &HostRuntime, failed: &mut bool) -> Result<(), Fail> {
-    let alloc = rt.alloc();
-    let passed = is_told(alloc)?;
-    tell(
-        rt,
-        "a life has its bytes, and they are read as it",
-        passed,
-        failed,
-    )?;
-    let passed = is_told_alone(alloc)?;
-    tell(rt, "a step has its bytes by itself", passed, failed)?;
-    let passed = refuses_own_rows(alloc)?;
-    tell(
-        rt,
-        "rows of a node's own are told in no trace",
-        passed,
-        failed,
-    )?;
-    let passed = ends_there(alloc)?;
-    tell(rt, "more bytes than a trace are none", passed, failed)?;
-    let passed = names_the_first(alloc)?;
-    tell(rt, "the first byte that fits none is named", passed, failed)?;
-    let passed = begins_in_time(alloc)?;
-    tell(
-        rt,
-        "a life begins before the last checkpoint number",
-        passed,
-        failed,
-    )?;
-    let passed = is_borne(alloc)?;
-    tell(
-        rt,
-        "each cut and change of its trace is borne",
-        passed,
-        failed,
-    )
+// Says how a trial came out, or why it didn't come to an end.
+fn tell_tried(
+    rt: &HostRuntime,
+    trial: &str,
+    tried: Result<bool, RunFault>,
+    failed: &mut bool,
+) -> Result<(), Stopped> {
+    match tried {
+        Ok(passed) => tell(rt, trial, passed, failed),
+        Err(fault) => {
+            *failed = true;
+            println!(rt; "{trial}: {}", fault.name())?;
+            Ok(())
+        }
+    }
 }
 
-// What is tried of a trace for each kind: of signals; of works in a signal that goes on, of requests in such a
-// work, and of lines in a request with one; and of marks of a step with one.
-fn try_kinds(rt: &HostRuntime, failed: &mut bool) -> Result<(), Fail> {
-    let alloc = rt.alloc();
-    let passed = bear_kinds(alloc, &[], 121)?;
-    tell(rt, "of each signal", passed, failed)?;
-    let passed = bear_kinds(alloc, &[4], 11)?;
-    tell(rt, "of each work", passed, failed)?;
-    let passed = bear_kinds(alloc, &[4, 0], 24)?;
-    tell(rt, "of each request", passed, failed)?;
-    let passed = bear_kinds(alloc, &[4, 0, 4, 0, 0, 0, 0, 0, 0, 0, 1], 7)?;
-    tell(rt, "of each line of a batch", passed, failed)?;
-    let passed = bear_kinds(alloc, &[0, 0, 0, 0, 0, 0, 0, 0, 1], 13)?;
-    tell(rt, "of each mark", passed, failed)
+// What is tried of the life that was worked out by hand.
+const OF_LIFE: [&str; 7] = [
+    "a life has its bytes, and they are read as it",
+    "a step has its bytes by itself",
+    "rows of a node's own are told in no trace",
+    "more bytes than a trace are none",
+    "the first byte that fits none is named",
+    "a life begins before the last checkpoint number",
+    "each cut and change of its trace is borne",
+];
+
+fn try_of_life(alloc: Global, number: usize) -> Result<bool, RunFault> {
+    match number {
+        0 => is_told(alloc),
+        1 => is_told_alone(alloc),
+        2 => refuses_own_rows(alloc),
+        3 => Ok(ends_there(alloc)?),
+        4 => Ok(names_the_first(alloc)?),
+        5 => Ok(begins_in_time(alloc)?),
+        _ => Ok(is_borne(alloc)?),
+    }
+}
+
+fn try_life(rt: &HostRuntime, failed: &mut bool) -> Result<(), Stopped> {
+    for (number, trial) in OF_LIFE.iter().enumerate() {
+        tell_tried(rt, trial, try_of_life(rt.alloc(), number), failed)?;
+    }
+    Ok(())
+}
+
+// What a trace is tried with: what stands before the number of a kind, and how many kinds there are.
+type Kinds = (&'static str, &'static [u8], u8);
+
+// Signals; works in a signal that goes on, requests in such a work, and lines in a request with one; and marks of a step
+// with one.
+const KINDS: [Kinds; 5] = [
+    ("of each signal", &[], 121),
+    ("of each work", &[4], 11),
+    ("of each request", &[4, 0], 24),
+    (
+        "of each line of a batch",
+        &[4, 0, 4, 0, 0, 0, 0, 0, 0, 0, 1],
+        7,
+    ),
+    ("of each mark", &[0, 0, 0, 0, 0, 0, 0, 0, 1], 13),
+];
+
+fn try_kind(alloc: Global, before: &[u8], count: u8) -> Result<bool, RunFault> {
+    Ok(bear_kinds(alloc, before, count)?)
+}
+
+fn try_kinds(rt: &HostRuntime, failed: &mut bool) -> Result<(), Stopped> {
+    for (trial, before, count) in &KINDS {
+        tell_tried(rt, trial, try_kind(rt.alloc(), before, *count), failed)?;
+    }
+    Ok(())
 }
 
 /// Tries all of it, and says whether it came out.
 ///
 /// # Errors
 /// Want of memory, and a line that isn't written.
-pub fn try_all<W: Wait>(rt: &HostRuntime, wait: &W) -> Result<bool, Fail> {
+pub fn try_all<W: Wait>(rt: &HostRuntime, wait: &W) -> Result<bool, Stopped> {
     let mut failed = false;
     try_life(rt, &mut failed)?;
     try_kinds(rt, &mut failed)?;

@@ -43,14 +43,11 @@ impl Runs {
     }
 }
 
-/// The runs that these words ask for, some; none where a word isn't such.
+/// The runs that these words ask for; none where a word isn't such.
 ///
 /// # Errors
 /// Want of memory.
 pub fn all_runs(alloc: Global, words: &[String]) -> Result<Option<Vec<Runs>>, AllocError> {
-    if words.is_empty() {
-        return Ok(None);
-    }
     let mut all = Vec::new(alloc);
     for four in words.chunks(4) {
         let Some(runs) = runs_of(four) else {

@@ -15,6 +15,7 @@
 //! | `forms`, `version1` | restarts on all forms of disks, and with flipped bits of a checkpoint of version 1 |
 //! | `bit0` to `bit7` | restarts with this bit of each byte flipped |
 //! | `folders`, `full` | lives in folders, and on a device that has to get full |
+//! | `texts` | consoles and loads, as a text on standard input has them |
 //!
 //! The status is 1 where a trial doesn't come out, and 2 where the words aren't such.
 #![tactic(auto)]
@@ -23,7 +24,9 @@ mod dice;
 mod keys;
 mod opening;
 mod restarts;
+mod stopped;
 mod stores;
+mod texts;
 mod walks;
 mod watch;
 
@@ -31,10 +34,11 @@ use opening::Size;
 use std::env;
 use std::process::ExitCode;
 use std::test::Fail;
+use stopped::Stopped;
 
 const USAGE: &str =
     "usage: part_trials [calls|walks SEED COUNT | rows|formats COUNT | lay|open|time ROWS REDO | stops | long | fails \
-| want | forms | version1 | bit0 | .. | bit7 | folders | full]..";
+| want | forms | version1 | bit0 | .. | bit7 | folders | full | texts]..";
 
 /// How many numbers stand behind a word.
 fn numbers_behind(word: &str) -> usize {
@@ -79,10 +83,17 @@ fn try_counted(rt: &HostRuntime, word: &str, count: u64) -> Result<Option<bool>,
     }
 }
 
+fn try_alone(rt: &HostRuntime, word: &str) -> Result<Option<bool>, Stopped> {
+    match word {
+        "texts" => Ok(Some(texts::try_all(rt)?)),
+        _ => restarts::try_one(rt, word),
+    }
+}
+
 // The same of a word with the numbers behind it.
 fn try_one(rt: &HostRuntime, word: &str, numbers: &[String]) -> Result<Option<bool>, Fail> {
     match numbers {
-        [] => restarts::try_one(rt, word),
+        [] => Ok(try_alone(rt, word)?),
         [count] => match count.as_str().parse::<u64>() {
             Ok(count) => try_counted(rt, word, count),
             Err(_) => Ok(None),

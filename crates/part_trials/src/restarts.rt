@@ -26,8 +26,8 @@ mod trouble;
 mod version1;
 mod versions;
 
+use crate::stopped::Stopped;
 use std::alloc::Global;
-use std::test::Fail;
 use trouble::Trouble;
 
 // What a word asks for, if it is one of these.
@@ -65,7 +65,7 @@ fn try_bit(alloc: Global, word: &str) -> Option<Result<u64, Trouble>> {
 ///
 /// # Errors
 /// A line that isn't written.
-pub fn try_one(rt: &HostRuntime, word: &str) -> Result<Option<bool>, Fail> {
+pub fn try_one(rt: &HostRuntime, word: &str) -> Result<Option<bool>, Stopped> {
     match asked_of(rt, word) {
         Some(Ok(count)) => {
             println!(rt; "{word}: {count}")?;

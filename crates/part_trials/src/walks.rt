@@ -6,14 +6,14 @@ mod node;
 mod plain;
 mod run;
 
+use crate::stopped::Stopped;
 use fault::RunFault;
-use std::test::Fail;
 
 /// Does so many runs, the first of this seed, and prints how many faults there were. Says whether there was none.
 ///
 /// # Errors
 /// A line that isn't written.
-pub fn try_all(rt: &HostRuntime, first: u64, count: u64) -> Result<bool, Fail> {
+pub fn try_all(rt: &HostRuntime, first: u64, count: u64) -> Result<bool, Stopped> {
     let mut faults = 0u64;
     for more in 0..count {
         let seed = first.wrapping_add(more);

@@ -1,4 +1,5 @@
 //! How long something takes.
+use crate::stopped::Stopped;
 use std::test::Fail;
 use std::time::Instant;
 
@@ -8,14 +9,22 @@ pub struct Watch(Instant);
 
 impl Watch {
     /// From now on.
-    pub fn start(rt: &HostRuntime) -> Result<Watch, Fail> {
+    ///
+    /// # Errors
+    /// A call of the system that failed, as of all that follow.
+    pub fn start(rt: &HostRuntime) -> Result<Watch, Stopped> {
         Ok(Watch(Instant::now(rt)?))
     }
 
     /// The nanoseconds since then, at least one.
-    pub fn nanoseconds(&self, rt: &HostRuntime) -> Result<u64, Fail> {
+    pub fn taken(&self, rt: &HostRuntime) -> Result<u64, Stopped> {
         let taken = self.0.elapsed(rt)?.as_nanos();
         Ok(u64::try_from(taken).unwrap_or(u64::MAX).max(1))
+    }
+
+    /// The same.
+    pub fn nanoseconds(&self, rt: &HostRuntime) -> Result<u64, Fail> {
+        Ok(self.taken(rt)?)
     }
 }
 

@@ -27,8 +27,14 @@ pub enum Line<'a> {
     NoCall { node: u8, at: u64 },
     /// What is written to a node's disk before the run.
     Lay(Laid<'a>),
+    /// Of what a run prints only the last lines are told, so many.
+    Tail(u32),
     /// The program is run again, on the disks that are left: what follows is its script.
     Again,
+    /// The program is run again, and reads what it has written.
+    Fed,
+    /// The byte at this place of what is read is this one.
+    Byte { at: usize, byte: u8 },
     /// The logs are told.
     Logs,
 }
@@ -65,6 +71,8 @@ pub fn parse<'a>(line: &'a str) -> Option<Line<'a>> {
         "crlf" => Some(Line::Returned(rest)),
         "last" => Some(Line::Last(rest)),
         "again" if rest.is_empty() => Some(Line::Again),
+        "fed" if rest.is_empty() => Some(Line::Fed),
+        "byte" => changed_byte(rest),
         "logs" if rest.is_empty() => Some(Line::Logs),
         "no" => failure(rest),
         "lay" => disk_write(rest),
@@ -105,11 +113,21 @@ fn disk_write<'a>(rest: &'a str) -> Option<Line<'a>> {
     }))
 }
 
+// The line of a byte that is changed.
+fn changed_byte<'a>(rest: &'a str) -> Option<Line<'a>> {
+    let (at, byte) = cut_word(rest);
+    Some(Line::Byte {
+        at: at.parse::<usize>().ok()?,
+        byte: byte.parse::<u8>().ok()?,
+    })
+}
+
 // A line with a number in it.
 fn number<'a>(first: &'a str, rest: &'a str) -> Option<Line<'a>> {
     match first {
         "spaces" => Some(Line::Spaces(rest.parse::<u32>().ok()?)),
         "read" => Some(Line::Read(rest.parse::<u32>().ok()?)),
+        "tail" => Some(Line::Tail(rest.parse::<u32>().ok()?)),
         _ => repeated(first.parse::<u32>().ok()?, rest),
     }
 }

@@ -15,8 +15,11 @@
 //! | `no call N C` | call C of the disk of node N, from 0, fails |
 //! | `lay N F P B ..` | before the program is run, these bytes are written to file F of the disk of node N, from place P on |
 //! | `again` | the program is run once more, with the words and the script that follow, on the disks that are left |
+//! | `fed` | the same, but it reads first what it wrote before, of which only the number of bytes is told |
+//! | `byte P B` | byte P of what is read, from 0, is B |
 //! | `logs` | at the end, the logs of each life are told: how many steps a host has, and which marks stand there |
 //! | `N times > LINE` | a line of the script, so many times |
+//! | `tail N` | of what each run prints only so many lines are told, the last |
 //!
 //! Printed are the title, what the session prints, and `status N`; where reads or writes failed, how
 //! many; and what is told of logs. Empty lines say nothing, nor do comments, which begin with `#` and a

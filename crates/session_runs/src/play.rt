@@ -2,10 +2,11 @@
 use crate::fault::Fault;
 use crate::logs::tell_lives;
 use crate::pieces::Pieces;
-use crate::session::{DiskWrite, Run, Session, Setting};
+use crate::session::{Change, DiskWrite, Run, Session, Setting};
 use host_io::{Disk, MemDisk, MemSink, MemSource, NoGate, Sink, Source};
 use shell_top::run_shell;
 use std::alloc::Global;
+use std::mem;
 use std::sync::Wait;
 use std::thread::Threads;
 
@@ -34,25 +35,44 @@ pub fn play<R: Threads + Wait + Sync>(
     }
     let mut runs = earlier;
     runs.push(run)?;
+    let mut fed = Vec::new(alloc);
     for run in runs {
-        disks = play_run(rt, alloc, run, &setting, disks, text)?;
+        let mut run = run;
+        fed.extend_from_slice(&run.script)?;
+        run.script = mem::replace(&mut fed, Vec::new(alloc));
+        change(&mut run.script, &run.changes)?;
+        disks = play_run(rt, alloc, run, &setting, disks, &mut fed, text)?;
     }
     Ok(())
 }
 
-// A run of the program on these disks, which come back.
+// Bytes of what is read are changed.
+fn change(bytes: &mut [u8], changes: &[Change]) -> Result<(), Fault> {
+    for change in changes {
+        match bytes.get_mut(change.at) {
+            Some(byte) => *byte = change.byte,
+            None => return Err(Fault::Line),
+        }
+    }
+    Ok(())
+}
+
+// A run of the program on these disks, which come back. What the next one reads is left in `fed`.
 fn play_run<R: Threads + Wait + Sync>(
     rt: &R,
     alloc: Global,
     run: Run,
     setting: &Setting,
     disks: Vec<Box<dyn Disk + Send>>,
+    fed: &mut Vec<u8>,
     text: &mut Vec<u8>,
 ) -> Result<Vec<Box<dyn Disk + Send>>, Fault> {
     let Run {
         words,
         script,
         writes,
+        changes: _,
+        feeds,
     } = run;
     let mut disks = disks;
     lay_all(disks.as_mut_slice(), &writes)?;
@@ -66,7 +86,13 @@ fn play_run<R: Threads + Wait + Sync>(
     };
     let mut sink = MemSink::new(alloc, copied(alloc, &setting.no_writes)?)?;
     let ended = run_shell(rt, alloc, &words, &mut source, &mut sink, disks, &NoGate);
-    tell(alloc, sink.written(), ended.status, text)?;
+    if feeds {
+        fed.extend_from_slice(sink.written())?;
+        tell_count(alloc, sink.written(), text)?;
+    } else {
+        tell_last(sink.written(), setting.tail, text)?;
+    }
+    add(text, &format!(in alloc; "status {}\n", ended.status)?)?;
     tell_faults(alloc, "reads", source.faults(), text)?;
     tell_faults(alloc, "writes", sink.faults(), text)?;
     if setting.tells_logs {
@@ -116,10 +142,25 @@ fn copied(alloc: Global, numbers: &[u64]) -> Result<Vec<u64>, Fault> {
     Ok(copy)
 }
 
-// What was printed, and the status.
-fn tell(alloc: Global, written: &[u8], status: u8, text: &mut Vec<u8>) -> Result<(), Fault> {
-    text.extend_from_slice(written)?;
-    add(text, &format!(in alloc; "status {status}\n")?)
+// How many bytes were written.
+fn tell_count(alloc: Global, written: &[u8], text: &mut Vec<u8>) -> Result<(), Fault> {
+    let count = written.len();
+    add(text, &format!(in alloc; "bytes {count}\n")?)
+}
+
+// The last lines of what was printed, so many.
+fn tell_last(written: &[u8], tail: usize, text: &mut Vec<u8>) -> Result<(), Fault> {
+    let lines = written.iter().filter(|byte| **byte == b'\n').count();
+    let left_out = lines.saturating_sub(tail);
+    let mut passed = 0usize;
+    for line in written.split_inclusive(|byte| *byte == b'\n') {
+        if passed < left_out {
+            passed = passed.saturating_add(1);
+        } else {
+            text.extend_from_slice(line)?;
+        }
+    }
+    Ok(())
 }
 
 /// Adds words to the text.

@@ -10,6 +10,17 @@ pub struct Run {
     pub words: Vec<String>,
     pub script: Vec<u8>,
     pub writes: Vec<DiskWrite>,
+    /// Bytes of what is read that are changed.
+    pub changes: Vec<Change>,
+    /// Whether the next run reads what this one writes.
+    pub feeds: bool,
+}
+
+/// A byte of what is read that is changed.
+#[derive(Clone, Copy)]
+pub struct Change {
+    pub at: usize,
+    pub byte: u8,
 }
 
 /// Bytes that are written to a node's disk.
@@ -38,6 +49,8 @@ pub struct Setting {
     pub no_writes: Vec<u64>,
     /// The calls of disks that fail.
     pub no_calls: Vec<DiskCall>,
+    /// How many of the lines that a run prints are told at most, the last ones.
+    pub tail: usize,
     /// Whether the logs are told at the end.
     pub tells_logs: bool,
 }
@@ -59,6 +72,8 @@ impl Run {
             words: Vec::new(alloc),
             script: Vec::new(alloc),
             writes: Vec::new(alloc),
+            changes: Vec::new(alloc),
+            feeds: false,
         }
     }
 }
@@ -75,6 +90,7 @@ impl Session {
                 no_reads: Vec::new(alloc),
                 no_writes: Vec::new(alloc),
                 no_calls: Vec::new(alloc),
+                tail: usize::MAX,
                 tells_logs: false,
             },
         })
@@ -89,12 +105,20 @@ impl Session {
             Line::Last(line) => Ok(self.run.script.extend_from_slice(line.as_bytes())?),
             Line::Spaces(count) => self.add_spaces(count),
             Line::Lay(laid) => self.add_write(alloc, laid),
-            Line::Again => {
-                let run = mem::replace(&mut self.run, Run::new(alloc));
-                Ok(self.earlier.push(run)?)
+            Line::Again => self.next_run(alloc),
+            Line::Fed => {
+                self.run.feeds = true;
+                self.next_run(alloc)
             }
+            Line::Byte { at, byte } => Ok(self.run.changes.push(Change { at, byte })?),
             line => self.setting.set(line),
         }
+    }
+
+    // Another run follows.
+    fn next_run(&mut self, alloc: Global) -> Result<(), Fault> {
+        let run = mem::replace(&mut self.run, Run::new(alloc));
+        Ok(self.earlier.push(run)?)
     }
 
     fn add_words(&mut self, alloc: Global, words: &str) -> Result<(), Fault> {
@@ -150,6 +174,7 @@ impl Setting {
             Line::NoRead(at) => self.no_reads.push(at)?,
             Line::NoWrite(at) => self.no_writes.push(at)?,
             Line::NoCall { node, at } => self.no_calls.push(DiskCall { node, at })?,
+            Line::Tail(lines) => self.tail = lines as usize,
             Line::Logs => self.tells_logs = true,
             _ => return Err(Fault::Line),
         }

@@ -39,8 +39,8 @@ begins_behind shape life = omega arith
 
 -- what a life says
 pub is_life : (shape : Shape) → IsShape shape → (e : Ending) (commands : List Command) (life : Life)
-    → AreLived (start_of shape life) e commands life.logs → IsLife shape e commands life
-is_life shape sound e commands life lived =
+    → life.slots ≡ [] → AreLived (start_of shape life) e commands life.logs → IsLife shape e commands life
+is_life shape sound e commands life no_slots lived =
     let start : Start = start_of shape life in
     record {
       lived = lived;
@@ -53,6 +53,7 @@ is_life shape sound e commands life lived =
           let peace = lived.in_peace peaceful wants in
           peacefully_served lives_plain closings_answered start refl sound none (begins_behind shape life) peace.0
           (logs_of life) peace.1 e lived.quiet;
+      no_slots = no_slots;
     }
 
 module _ (shape : Shape) (sound : IsShape shape) where
@@ -60,7 +61,7 @@ module _ (shape : Shape) (sound : IsShape shape) where
   pub going_life : (e : Ending) (own : List Command) (g : Going) → g.start ≡ start_of shape (life_of g)
       → AreLived g.start e own g.whole.logs → IsLife shape e own (life_of g)
   going_life e own g begins lived =
-      is_life shape sound e own (life_of g) (subst (λ start. AreLived start e own g.whole.logs) begins lived)
+      is_life shape sound e own (life_of g) refl (subst (λ start. AreLived start e own g.whole.logs) begins lived)
 
   -- the chapters before are these, of which these commands were asked, and the session was given these disks
   module _ (chapters : List Chapter) (are : Each (IsChapter shape) chapters) (given seen : Seen) where

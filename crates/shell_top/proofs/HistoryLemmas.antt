@@ -17,7 +17,7 @@ use Rattle.shell_top.specs.Chapters.{AreHandedBack, AreHandedOn, Chapter, Crash,
 use Rattle.shell_top.specs.Chapters.{Living, RestartsAs, Unopened}
 use Rattle.shell_top.specs.declared.ended.Ending.{Ending}
 use Rattle.shell_top.specs.Fit.{AreFit}
-use Rattle.shell_top.specs.OneHistory.{AreOneHistory, GoesOnFrom, GoesOnFromLast, HaveOneHistory, IsNext}
+use Rattle.shell_top.specs.OneHistory.{AreOneHistory, GoesOnFrom, HaveOneHistory, IsNext}
 use Rattle.shell_top.specs.Seen.{HasGrown, HasLost, HaveLost, Seen}
 use Rattle.sig_core.specs.declared.fault.RestartFault.{RestartFault}
 use Rattle.sig_core.specs.declared.log.Life.{Life}

@@ -12,7 +12,6 @@ use Rattle.life_start.specs.Refusals.{IsRefusedFor}
 use Rattle.script_lang.specs.declared.command.Command.{Command}
 use Rattle.script_lang.specs.declared.command.Command.TheVariants as command
 use Rattle.sig_core.specs.declared.fault.RestartFault.{RestartFault}
-use Rattle.sig_core.specs.declared.fault.RestartFault.TheVariants as fault
 use Rattle.sig_core.specs.declared.log.HostLog.{HostLog}
 use Rattle.sig_core.specs.declared.log.Life.{Life}
 use Rattle.sig_core.specs.declared.slots.Slots.{Slots}
@@ -21,7 +20,6 @@ use Rattle.sig_core.specs.declared.view.Shape.{Shape}
 use Rattle.shell_top.specs.Asked.{MayAsk}
 use Rattle.shell_top.specs.Chapters.{IsUnborn, ending_for}
 use Rattle.shell_top.specs.declared.ended.Ending.{Ending}
-use Rattle.shell_top.specs.declared.ended.Ending.TheVariants as ending
 use Rattle.shell_top.specs.declared.lives.Lives.{Lives}
 use Rattle.shell_top.specs.Lives.{AreKept, Going, HasBegun, HasRoom, IsGoing, IsLivedSince, disks_by, disks_of}
 use Rattle.shell_top.specs.Lives.{going_from, going_in, is_up, life_of, now_of, start_in}

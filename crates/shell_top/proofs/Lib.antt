@@ -11,6 +11,7 @@ pub mod LivedLemmas
 pub mod ArrangedLemmas
 pub mod BetweenLemmas
 pub mod ChapterLemmas
+pub mod CheckedLemmas
 pub mod CutLemmas
 pub mod FreshLemmas
 pub mod KeptLemmas
@@ -21,12 +22,15 @@ pub mod ObeyLemmas
 pub mod SettingLemmas
 pub mod PrintedLemmas
 pub mod RoundLemmas
+pub mod RunLemmas
 pub mod SafeLemmas
 pub mod ScriptLemmas
 pub mod ServedLemmas
 pub mod SessionLemmas
 pub mod TakenLemmas
+pub mod TellingLemmas
 pub mod ToldLemmas
+pub mod TracedLemmas
 pub mod UnbornLemmas
 pub mod WordsLemmas
 pub mod WriterLemmas

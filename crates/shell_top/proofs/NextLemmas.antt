@@ -1,5 +1,5 @@
 -- How the next life of a cluster begins, or doesn't, as what is kept of its lives tells it.
-use Rattle.std.proofs.Common.{◌≡◌, List, ℕ, false, true, refl, ap, sym, subst, ◌∙◌}
+use Rattle.std.proofs.Common.{◌≡◌, List, ℕ, false, true, refl, sym, subst, ◌∙◌}
 use Rattle.std.specs.Prelude.{IfSome, Option, None, Some, is_some}
 use Rattle.frag_map.specs.Shape.{IsShape}
 use Rattle.host_io.specs.Call.{Call}

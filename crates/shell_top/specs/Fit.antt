@@ -1,5 +1,5 @@
 -- Disks that are fit for a life.
-use Rattle.std.specs.Prelude.{◌≡◌, ◌<◌, ℕ, List, length, map, Some, Ok}
+use Rattle.std.specs.Prelude.{◌≡◌, ◌<◌, List, length, map, Some, Ok}
 use Rattle.host_io.specs.Call.{Call}
 use Rattle.life_start.specs.Begun.{end_of_epochs}
 use Rattle.restart_laws.specs.Lived.{AreFitFor}

@@ -3,7 +3,9 @@ pub mod Arranged
 pub mod Asked
 pub mod Peace
 pub mod Chapters
+pub mod Checked
 pub mod Fit
+pub mod Gathered
 pub mod Lived
 pub mod Parsed
 pub mod Lives
@@ -11,6 +13,7 @@ pub mod OnDisks
 pub mod OneHistory
 pub mod Printed
 pub mod Reader
+pub mod Run
 pub mod Safe
 pub mod Script
 pub mod Seen
@@ -19,6 +22,9 @@ pub mod Session
 pub mod Setting
 pub mod Stopped
 pub mod Subject
+pub mod Telling
 pub mod Text
 pub mod Told
+pub mod TraceText
+pub mod Traced
 pub mod Words

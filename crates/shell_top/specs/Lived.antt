@@ -58,9 +58,9 @@ pub record AreLived (start : Start) (ending : Ending) (commands : List Command) 
 -- number, are a run of the machine from there, in which hosts may stop and cut each other off; the requests in them are
 -- those of the commands; every closed cut of them is safe, whatever failed, and so are any two of them, one inside the
 -- other; the history of a cut is that of each larger one with some entries left out; what the client is told is what is
--- marked as reported, and what was answered, under the name of its transaction; and where it begins without rows, no
+-- marked as reported, and what was answered, under the name of its transaction; where it begins without rows, no
 -- command kills, cuts or restarts anything, and no host gave up, the cluster served as one does in which nothing can
--- fail, and each closing of an epoch was answered.
+-- fail, and each closing of an epoch was answered; and it tells of no slots that a host found, nor of rows of its own.
 pub record IsLife (shape : Shape) (ending : Ending) (commands : List Command) (life : Life) : Type 0 where
   pub lived : AreLived (start_of shape life) ending commands life.logs
   pub run : LogsRun (machine (start_of shape life)) (hosts (start_of shape life)) (logs_of life)
@@ -74,3 +74,4 @@ pub record IsLife (shape : Shape) (ending : Ending) (commands : List Command) (l
   pub reported : AreReported (start_of shape life) (logs_of life)
   pub peaceful : life.start_rows ≡ [] → are_peaceful commands ≡ true → NoneWants (logs_of life)
       → IsPeacefullyServed (start_of shape life) ending (logs_of life)
+  pub no_slots : life.slots ≡ []

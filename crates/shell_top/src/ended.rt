@@ -84,14 +84,15 @@ pub fn is_cut_short(ending: &Ending) -> bool
 /// What a session leaves.
 #[derive(Drop)]
 pub struct Ended {
-    /// The exit status: 0 where the source was read to its end or to `quit`; 1 where the words were
-    /// refused; 2 at a line outside the grammar; 3 where the source failed, 4 where the sink did; 5
-    /// for want of memory, also of a host where the status would be 0; where a life didn't begin 6 for
-    /// a disk that failed, 7 for disks of another shape, 8 for a damaged one, 10 where no numbers are
-    /// left; 9 at a line that is too long.
+    /// The exit status: 0 where the source was read to its end or to `quit`, or a trace is right; 1 where
+    /// the words were refused; 2 at a line outside the grammar; 3 where the source failed, 4 where the
+    /// sink did; 5 for want of memory, also of a host where the status would be 0; where a life didn't
+    /// begin 6 for a disk that failed, 7 for disks of another shape, 8 for a damaged one, 10 where no
+    /// numbers are left; 9 at a line that is too long, and at a trace that is; where a trace is checked 11
+    /// for bytes that are none or tell not one log a host, 12 for a step that the machine doesn't make.
     pub status: u8,
     /// What the hosts did, life by life: none where the words were refused, or the first life didn't
-    /// begin, and then nothing was read.
+    /// begin, and then nothing was read; and none where a trace was checked.
     pub lives: Vec<Life>,
     /// The disks that were handed in, in their order: of as many nodes as the cluster has, and those
     /// behind them as they were.

@@ -1,10 +1,12 @@
-//! The shell: reads a script, has the cluster serve it, and prints the replies.
+//! The shell: reads a script, has the cluster serve it, and prints the replies or writes the trace; and checks traces.
 #![tactic(auto)]
 
 mod arranged;
 mod asked;
+mod checked;
 mod disks;
 mod ended;
+mod gathered;
 mod lives;
 mod reader;
 mod run;
@@ -14,7 +16,11 @@ mod session;
 mod stopped;
 mod subject;
 mod taken;
+mod telling;
 mod text;
+mod trace_text;
+mod traced;
+mod unheard;
 mod words;
 mod writer;
 

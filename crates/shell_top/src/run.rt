@@ -1,4 +1,4 @@
-//! The top call: a whole session.
+//! The top call: a whole session, or the check of a trace.
 ghost use Rattle.std.specs.Prelude.{◌≡◌, ◌≤◌, ◌⊎◌, [], true, IfOk, None, Some, drop, length, map, string_bytes, take};
 ghost use Rattle.frag_map.specs.Shape.{IsShape};
 ghost use Rattle.host_io.specs.Fault.{Rose};
@@ -6,17 +6,24 @@ ghost use Rattle.shell_top.specs.declared.ended.Ending.TheVariants as ending;
 ghost use Rattle.shell_top.specs.Lives.{AreKept, HasBegun, IsGoing, disks_of, now_of};
 ghost use Rattle.shell_top.specs.Printed.{Prints, is_cut_short};
 ghost use Rattle.shell_top.specs.Seen.{HasGrown, Seen, seen_on};
-ghost use Rattle.shell_top.specs.Session.{HasSession, IsSession, nodes_of};
-ghost use Rattle.shell_top.specs.Text.{fault_line};
-ghost use Rattle.shell_top.specs.Words.{asked_shape};
+ghost use Rattle.shell_top.specs.Checked.{HasChecked};
+ghost use Rattle.shell_top.specs.Run.{HasRun};
+ghost use Rattle.shell_top.specs.Session.{IsSession, nodes_of};
+ghost use Rattle.shell_top.specs.Text.{fault_line, status_after};
+ghost use Rattle.shell_top.specs.Traced.{HasTraced};
+ghost use Rattle.shell_top.specs.Words.{IsAskable, asked_of, asked_shape, session_shape};
 
+use crate::checked::{find, telling_of};
 use crate::disks::{put_aside, put_back};
 use crate::ended::{Ended, Ending, is_cut_short};
 use crate::lives::{Lives, Parts};
 use crate::reader::Reader;
 use crate::session::Session;
+use crate::telling::tell;
 use crate::text::{fault_line, status_after};
-use crate::words::shape_asked;
+use crate::traced::traced;
+use crate::unheard::Unheard;
+use crate::words::{Asked, asked_of};
 use crate::writer::write_all;
 use host_io::{Disk, Gate, Sink, Source};
 use sig_core::{Life, NoMemory, Shape};
@@ -24,11 +31,13 @@ use std::alloc::Global;
 use std::sync::Wait;
 use std::thread::Threads;
 
-/// Runs a session of a cluster of the shape that the words ask for: reads a script from the source,
-/// has the cluster serve each command, and writes the replies to the sink. Its nodes have the first
-/// of the eight disks: a life begins from what these say, the first one here, and each later one, once
-/// their power was cut, at a `restart` of a cluster that is down. Where the words are refused, or the
-/// first life doesn't begin, nothing is read. The disks are handed back in their order.
+/// Does what the words ask for. A session of a cluster: it reads a script from the source, has the cluster
+/// serve each command, and writes the replies to the sink, or, with `--trace`, the trace of its last life
+/// in their place. Its nodes have the first of the eight disks: a life begins from what these say, the
+/// first one here, and each later one, once their power was cut, at a `restart` of a cluster that is down.
+/// Where the words are refused, or the first life doesn't begin, nothing is read. With `--check` it reads a
+/// trace, and tells its history, or why it isn't that of a right life; no cluster lives, and nothing is
+/// done to a disk. The disks are handed back in their order.
 pub fn run_shell<R: Threads + Wait + Sync, S: Source, K: Sink, G: Gate + Sync>(
     rt: &R,
     alloc: Global,
@@ -39,18 +48,118 @@ pub fn run_shell<R: Threads + Wait + Sync, S: Source, K: Sink, G: Gate + Sync>(
     _gate: &G,
 ) -> Ended
     requires { length disks.items ≡ 8 }
-    ensures session { HasSession (asked_shape (map string_bytes words.now)) (S.left source.old) (S.left source.new) (K.written sink.old) (K.written sink.new) (Rose (S.faults source.old) (S.faults source.new)) (Rose (K.faults sink.old) (K.faults sink.new)) (seen_on ⟦<Box<dyn Disk + Send> as Disk>⟧.told ⟦<Box<dyn Disk + Send> as Disk>⟧.faults (take (nodes_of (asked_shape (map string_bytes words.now))) disks.items)) (seen_on ⟦<Box<dyn Disk + Send> as Disk>⟧.told ⟦<Box<dyn Disk + Send> as Disk>⟧.faults (take (nodes_of (asked_shape (map string_bytes words.now))) result.disks.items)) result.status result.lives.items }
+    ensures run { HasRun (asked_of (map string_bytes words.now)) (S.left source.old) (S.left source.new) (K.written sink.old) (K.written sink.new) (Rose (S.faults source.old) (S.faults source.new)) (Rose (K.faults sink.old) (K.faults sink.new)) (seen_on ⟦<Box<dyn Disk + Send> as Disk>⟧.told ⟦<Box<dyn Disk + Send> as Disk>⟧.faults (take (nodes_of (asked_shape (map string_bytes words.now))) disks.items)) (seen_on ⟦<Box<dyn Disk + Send> as Disk>⟧.told ⟦<Box<dyn Disk + Send> as Disk>⟧.faults (take (nodes_of (asked_shape (map string_bytes words.now))) result.disks.items)) result.status result.lives.items }
     ensures read_fault { result.status ≡ 3 → Rose (S.faults source.old) (S.faults source.new) }
     ensures write_fault { result.status ≡ 4 → Rose (K.faults sink.old) (K.faults sink.new) }
     ensures disks { length result.disks.items ≡ 8 }
     ensures unused { drop (nodes_of (asked_shape (map string_bytes words.now))) result.disks.items ≡ drop (nodes_of (asked_shape (map string_bytes words.now))) disks.items }
 {
-    let outcome = run_session(rt, alloc, words, source, sink, disks);
+    let left = run_words(rt, alloc, words, source, sink, disks);
     Ended {
-        status: status_after(&outcome.ending, outcome.lives.as_slice()),
+        status: left.status,
+        lives: left.lives,
+        disks: left.disks,
+    }
+}
+
+/// The status with which the program ends, what the hosts did, and the disks.
+#[derive(Drop)]
+struct Left<D: Disk> {
+    status: u8,
+    lives: Vec<Life>,
+    disks: Vec<D>,
+}
+
+/// Does what the words ask for.
+fn run_words<R: Wait, S: Source, K: Sink, D: Disk>(
+    rt: &R,
+    alloc: Global,
+    words: &[String],
+    source: &mut S,
+    sink: &mut K,
+    disks: Vec<D>,
+) -> Left<D>
+    requires { length disks.items ≡ 8 }
+    ensures run { HasRun (asked_of (map string_bytes words.now)) (S.left source.old) (S.left source.new) (K.written sink.old) (K.written sink.new) (Rose (S.faults source.old) (S.faults source.new)) (Rose (K.faults sink.old) (K.faults sink.new)) (seen_on D.told D.faults (take (nodes_of (asked_shape (map string_bytes words.now))) disks.items)) (seen_on D.told D.faults (take (nodes_of (asked_shape (map string_bytes words.now))) result.disks.items)) result.status result.lives.items }
+    ensures read_fault { result.status ≡ 3 → Rose (S.faults source.old) (S.faults source.new) }
+    ensures write_fault { result.status ≡ 4 → Rose (K.faults sink.old) (K.faults sink.new) }
+    ensures disks { length result.disks.items ≡ 8 }
+    ensures unused { drop (nodes_of (asked_shape (map string_bytes words.now))) result.disks.items ≡ drop (nodes_of (asked_shape (map string_bytes words.now))) disks.items }
+{
+    match asked_of(alloc, words) {
+        Ok(Some(asked)) => run_asked(rt, alloc, asked, source, sink, disks),
+        Ok(None) => left_by(Outcome {
+            ending: finish(alloc, sink, Ending::Words),
+            lives: Vec::new(alloc),
+            disks,
+        }),
+        Err(NoMemory) => left_by(unstarted(alloc, disks)),
+    }
+}
+
+/// Does what is asked for.
+fn run_asked<R: Wait, S: Source, K: Sink, D: Disk>(
+    rt: &R,
+    alloc: Global,
+    asked: Asked,
+    source: &mut S,
+    sink: &mut K,
+    disks: Vec<D>,
+) -> Left<D>
+    requires askable { IsAskable asked }
+    requires eight { length disks.items ≡ 8 }
+    ensures run { HasRun (Some asked) (S.left source.old) (S.left source.new) (K.written sink.old) (K.written sink.new) (Rose (S.faults source.old) (S.faults source.new)) (Rose (K.faults sink.old) (K.faults sink.new)) (seen_on D.told D.faults (take (nodes_of (session_shape (Some asked))) disks.items)) (seen_on D.told D.faults (take (nodes_of (session_shape (Some asked))) result.disks.items)) result.status result.lives.items }
+    ensures read_fault { result.status ≡ 3 → Rose (S.faults source.old) (S.faults source.new) }
+    ensures write_fault { result.status ≡ 4 → Rose (K.faults sink.old) (K.faults sink.new) }
+    ensures disks { length result.disks.items ≡ 8 }
+    ensures unused { drop (nodes_of (session_shape (Some asked))) result.disks.items ≡ drop (nodes_of (session_shape (Some asked))) disks.items }
+{
+    match asked {
+        Asked::Replies(shape) => left_by(run_shape(rt, alloc, shape, source, sink, disks)),
+        Asked::Trace(shape) => run_traced(rt, alloc, shape, source, sink, disks),
+        Asked::Check => Left {
+            status: run_check(alloc, source, sink),
+            lives: Vec::new(alloc),
+            disks,
+        },
+    }
+}
+
+/// Runs a session of a cluster of this shape, and tells in place of its replies the trace of its last life.
+fn run_traced<R: Wait, S: Source, K: Sink, D: Disk>(
+    rt: &R,
+    alloc: Global,
+    shape: Shape,
+    source: &mut S,
+    sink: &mut K,
+    disks: Vec<D>,
+) -> Left<D>
+    requires shape { IsShape shape }
+    requires eight { length disks.items ≡ 8 }
+    ensures traced { HasTraced shape (S.left source.old) (S.left source.new) (K.written sink.old) (K.written sink.new) (Rose (S.faults source.old) (S.faults source.new)) (Rose (K.faults sink.old) (K.faults sink.new)) (seen_on D.told D.faults (take shape.nodes disks.items)) (seen_on D.told D.faults (take shape.nodes result.disks.items)) result.status result.lives.items }
+    ensures read_fault { result.status ≡ 3 → Rose (S.faults source.old) (S.faults source.new) }
+    ensures write_fault { result.status ≡ 4 → Rose (K.faults sink.old) (K.faults sink.new) }
+    ensures disks { length result.disks.items ≡ 8 }
+    ensures unused { drop shape.nodes result.disks.items ≡ drop shape.nodes disks.items }
+{
+    let mut unheard = Unheard;
+    let outcome = run_shape(rt, alloc, shape, source, &mut unheard, disks);
+    let telling = traced(alloc, shape, &outcome.ending, outcome.lives.as_slice());
+    Left {
+        status: tell(sink, telling),
         lives: outcome.lives,
         disks: outcome.disks,
     }
+}
+
+/// Reads a trace, checks it, and tells what is found. Gives the status with which the program ends.
+fn run_check<S: Source, K: Sink>(alloc: Global, source: &mut S, sink: &mut K) -> u8
+    ensures checked { HasChecked (S.left source.old) (S.left source.new) (K.written sink.old) (K.written sink.new) (Rose (S.faults source.old) (S.faults source.new)) (Rose (K.faults sink.old) (K.faults sink.new)) result [] }
+    ensures read_fault { result ≡ 3 → Rose (S.faults source.old) (S.faults source.new) }
+    ensures write_fault { result ≡ 4 → Rose (K.faults sink.old) (K.faults sink.new) }
+{
+    let found = find(alloc, source);
+    tell(sink, telling_of(alloc, &found))
 }
 
 /// How a session ended, what the hosts did in it, and the disks.
@@ -61,30 +170,16 @@ struct Outcome<D: Disk> {
     disks: Vec<D>,
 }
 
-/// Runs a session, and says how it ended.
-fn run_session<R: Wait, S: Source, K: Sink, D: Disk>(
-    rt: &R,
-    alloc: Global,
-    words: &[String],
-    source: &mut S,
-    sink: &mut K,
-    disks: Vec<D>,
-) -> Outcome<D>
-    requires { length disks.items ≡ 8 }
-    ensures session { IsSession (asked_shape (map string_bytes words.now)) (S.left source.old) (S.left source.new) (K.written sink.old) (K.written sink.new) (Rose (S.faults source.old) (S.faults source.new)) (Rose (K.faults sink.old) (K.faults sink.new)) (seen_on D.told D.faults (take (nodes_of (asked_shape (map string_bytes words.now))) disks.items)) (seen_on D.told D.faults (take (nodes_of (asked_shape (map string_bytes words.now))) result.disks.items)) result.ending result.lives.items }
-    ensures read_fault { result.ending ≡ ending.ReadFault → Rose (S.faults source.old) (S.faults source.new) }
-    ensures write_fault { result.ending ≡ ending.WriteFault → Rose (K.faults sink.old) (K.faults sink.new) }
-    ensures disks { length result.disks.items ≡ 8 }
-    ensures unused { drop (nodes_of (asked_shape (map string_bytes words.now))) result.disks.items ≡ drop (nodes_of (asked_shape (map string_bytes words.now))) disks.items }
+/// What is left of a session that ended so.
+fn left_by<D: Disk>(outcome: Outcome<D>) -> Left<D>
+    ensures status { result.status ≡ status_after outcome.ending outcome.lives.items }
+    ensures lives { result.lives ≡ outcome.lives }
+    ensures disks { result.disks ≡ outcome.disks }
 {
-    match shape_asked(alloc, words) {
-        Ok(Some(shape)) => run_shape(rt, alloc, shape, source, sink, disks),
-        Ok(None) => Outcome {
-            ending: finish(alloc, sink, Ending::Words),
-            lives: Vec::new(alloc),
-            disks,
-        },
-        Err(NoMemory) => unstarted(alloc, disks),
+    Left {
+        status: status_after(&outcome.ending, outcome.lives.as_slice()),
+        lives: outcome.lives,
+        disks: outcome.disks,
     }
 }
 

@@ -104,7 +104,7 @@ pub fn status_after(ending: &Ending, lives: &[Life]) -> u8
 }
 
 /// The exit status of an ending.
-fn status_of(ending: &Ending) -> u8
+pub fn status_of(ending: &Ending) -> u8
     ensures { result ≡ status_of ending.now }
 {
     match ending {

@@ -5,13 +5,14 @@ mod lives;
 mod places;
 mod trials;
 
-use crate::traces::tell;
+use crate::fault::RunFault;
+use crate::stopped::Stopped;
+use crate::traces::tell_tried;
 use lives::{Failing, trace_alone, trace_of_pair};
 use places::{StepPlace, places};
 use sig_core::{Life, NoMemory};
 use std::alloc::Global;
 use std::sync::Wait;
-use std::test::Fail;
 use trace_read::read_trace;
 use trials::{
     Verdict, bears_bytes, bears_doubles, bears_epochs, bears_losses, bears_marks, bears_moves,
@@ -32,19 +33,29 @@ fn some_of(alloc: Global, steps: &[StepPlace]) -> Result<Vec<StepPlace>, NoMemor
     Ok(some)
 }
 
-// The life of a trace, with its steps, bears what is done to them.
-fn bears_edits(alloc: Global, bytes: &[u8], life: &Life) -> Result<bool, NoMemory> {
-    let all = places(alloc, life)?;
-    let some = some_of(alloc, all.as_slice())?;
-    let steps = some.as_slice();
+// A life bears what is done to some of its steps, and to all.
+fn bears_all(
+    alloc: Global,
+    bytes: &[u8],
+    life: &Life,
+    steps: &[StepPlace],
+    all: &[StepPlace],
+) -> Result<bool, NoMemory> {
     Ok(
         bears_losses(alloc, bytes, life, steps)?
             && bears_doubles(alloc, bytes, steps)?
             && bears_moves(alloc, bytes, steps)?
             && bears_stamps(alloc, bytes, steps)?
             && bears_marks(alloc, bytes, steps)?
-            && bears_epochs(alloc, bytes, all.as_slice())?,
+            && bears_epochs(alloc, bytes, all)?,
     )
+}
+
+// The life of a trace, with its steps, bears what is done to them.
+fn bears_edits(alloc: Global, bytes: &[u8], life: &Life) -> Result<bool, NoMemory> {
+    let all = places(alloc, life)?;
+    let some = some_of(alloc, all.as_slice())?;
+    bears_all(alloc, bytes, life, some.as_slice(), all.as_slice())
 }
 
 // So does the trace of a life, if it is one.
@@ -73,15 +84,29 @@ fn is_judged(alloc: Global, bytes: &[u8]) -> Result<bool, NoMemory> {
     }
 }
 
-fn try_failing<W: Wait>(
-    rt: &HostRuntime,
-    wait: &W,
-    failing: Failing,
-    failed: &mut bool,
-) -> Result<(), Fail> {
-    let bytes = trace_of_pair(wait, rt.alloc(), failing)?;
-    let passed = is_judged(rt.alloc(), bytes.as_slice())?;
-    tell(rt, name_of(failing), passed, failed)
+// The lives of a pair that are tried.
+const LIVES: [Failing; 6] = [
+    Failing::Nothing,
+    Failing::Kill,
+    Failing::Cut,
+    Failing::Stop(0),
+    Failing::CutOff,
+    Failing::Disk,
+];
+
+fn try_pair<W: Wait>(wait: &W, alloc: Global, failing: Failing) -> Result<bool, RunFault> {
+    let bytes = trace_of_pair(wait, alloc, failing)?;
+    Ok(is_judged(alloc, bytes.as_slice())?)
+}
+
+fn try_loss<W: Wait>(wait: &W, alloc: Global) -> Result<bool, RunFault> {
+    let bytes = trace_of_pair(wait, alloc, Failing::Stop(1))?;
+    Ok(is_refused(alloc, bytes.as_slice())?)
+}
+
+fn try_bytes<W: Wait>(wait: &W, alloc: Global) -> Result<bool, RunFault> {
+    let bytes = trace_alone(wait, alloc)?;
+    Ok(is_fixed(alloc, bytes.as_slice())?)
 }
 
 // What a trial of such a life is called.
@@ -100,18 +125,13 @@ fn name_of(failing: Failing) -> &'static str {
 ///
 /// # Errors
 /// Want of memory, or of room to print.
-pub fn try_checks<W: Wait>(rt: &HostRuntime, wait: &W, failed: &mut bool) -> Result<(), Fail> {
-    try_failing(rt, wait, Failing::Nothing, failed)?;
-    try_failing(rt, wait, Failing::Kill, failed)?;
-    try_failing(rt, wait, Failing::Cut, failed)?;
-    try_failing(rt, wait, Failing::Stop(0), failed)?;
-    try_failing(rt, wait, Failing::CutOff, failed)?;
-    try_failing(rt, wait, Failing::Disk, failed)?;
-    let alloc = rt.alloc();
-    let bytes = trace_of_pair(wait, alloc, Failing::Stop(1))?;
-    let passed = is_refused(alloc, bytes.as_slice())?;
-    tell(rt, "what a stop loses is missed", passed, failed)?;
-    let bytes = trace_alone(wait, alloc)?;
-    let passed = is_fixed(alloc, bytes.as_slice())?;
-    tell(rt, "each byte of a step is checked", passed, failed)
+pub fn try_checks<W: Wait>(rt: &HostRuntime, wait: &W, failed: &mut bool) -> Result<(), Stopped> {
+    for failing in LIVES {
+        let tried = try_pair(wait, rt.alloc(), failing);
+        tell_tried(rt, name_of(failing), tried, failed)?;
+    }
+    let tried = try_loss(wait, rt.alloc());
+    tell_tried(rt, "what a stop loses is missed", tried, failed)?;
+    let tried = try_bytes(wait, rt.alloc());
+    tell_tried(rt, "each byte of a step is checked", tried, failed)
 }

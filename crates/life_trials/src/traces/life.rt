@@ -1,10 +1,10 @@
 //! A life worked out by hand, and its bytes.
+use crate::fault::RunFault;
 use sig_core::{
     BlockId, Body, Boxed, ClientSignal, Held, HeldOp, HostId, HostLog, Key, Life, LogStep, Mark,
     Member, Members, Op, Outcome, Place, Seq, Shape, Signal, Slots, SystemSlot, TxId, Value, View,
 };
 use std::alloc::Global;
-use std::test::Fail;
 
 /// The trace of `a_life`.
 pub const TRACE: [u8; 223] = [
@@ -55,7 +55,7 @@ fn a_view() -> View {
 }
 
 // The client asks the coordinator of node 1 to put a row.
-fn a_signal(alloc: Global) -> Result<Signal, Fail> {
+fn a_signal(alloc: Global) -> Result<Signal, RunFault> {
     let op = HeldOp::new(alloc, Op::Put(Key::new(b"a")?, Value::new(b"1")?))?;
     Ok(Signal {
         from: HostId(0),
@@ -75,7 +75,7 @@ fn a_signal(alloc: Global) -> Result<Signal, Fail> {
 ///
 /// # Errors
 /// Want of memory.
-pub fn a_step(alloc: Global) -> Result<LogStep, Fail> {
+pub fn a_step(alloc: Global) -> Result<LogStep, RunFault> {
     let mut marks = Seq::new(alloc);
     marks.push(Mark::Prepared {
         tx: the_put(),
@@ -93,7 +93,7 @@ pub fn a_step(alloc: Global) -> Result<LogStep, Fail> {
 }
 
 // The log of that coordinator.
-fn a_log(alloc: Global) -> Result<HostLog, Fail> {
+fn a_log(alloc: Global) -> Result<HostLog, RunFault> {
     let mut steps = Seq::new(alloc);
     steps.push(a_step(alloc)?)?;
     Ok(HostLog {
@@ -124,7 +124,7 @@ pub fn found_slots() -> Slots {
 ///
 /// # Errors
 /// Want of memory.
-pub fn a_life(alloc: Global, slots: Slots) -> Result<Life, Fail> {
+pub fn a_life(alloc: Global, slots: Slots) -> Result<Life, RunFault> {
     let mut start_rows = Seq::new(alloc);
     start_rows.push((Key::new(b"bc")?, Value::new(b"")?))?;
     let mut logs = Seq::new(alloc);

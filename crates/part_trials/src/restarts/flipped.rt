@@ -68,13 +68,25 @@ fn are_same_but(alloc: Global, rows: &RowMap, keys: &[u8; 2]) -> Result<bool, Tr
 // The rows without those of two keys.
 fn without(alloc: Global, rows: &RowMap, keys: &[u8; 2]) -> Result<RowMap, Trouble> {
     let mut left = RowMap::new(alloc);
+    put_all(alloc, &mut left, rows)?;
+    match take_two(&mut left, keys) {
+        Ok(()) => Ok(left),
+        Err(trouble) => Err(trouble),
+    }
+}
+
+fn put_all(alloc: Global, left: &mut RowMap, rows: &RowMap) -> Result<(), Trouble> {
     for (key, value) in &rows.to_rows(alloc)? {
         left.insert(*key, value.bytes())?;
     }
-    let [one, other] = keys;
-    left.remove(&key_of(*one)?);
-    left.remove(&key_of(*other)?);
-    Ok(left)
+    Ok(())
+}
+
+fn take_two(rows: &mut RowMap, keys: &[u8; 2]) -> Result<(), Trouble> {
+    for key in keys {
+        rows.remove(&key_of(*key)?);
+    }
+    Ok(())
 }
 
 // Whether rows are those that some of the redo makes of the checkpoint, up to an epoch.

@@ -21,15 +21,36 @@ const SIX: Shape = Shape {
 /// refused, or gives the same rows where they don't tell whose they are.
 pub fn three_groups(alloc: Global) -> Result<(), Trouble> {
     let mut disks = six_disks(alloc)?;
-    prepare_six(alloc, &mut disks, &letters(alloc, 1)?)?;
-    let found = restore_six(alloc, &mut disks)?;
-    is_as(alloc, &found, &letters(alloc, 2)?)?;
-    each_row_stands_twice(&mut disks)?;
-    exchanged_disks(alloc, &mut disks)?;
-    for disk in &mut disks {
+    try_six(alloc, &mut disks)
+}
+
+fn try_six(alloc: Global, disks: &mut [MemDisk]) -> Result<(), Trouble> {
+    prepare_letters(alloc, disks)?;
+    gives_letters(alloc, disks)?;
+    each_row_stands_twice(disks)?;
+    exchanged_disks(alloc, disks)?;
+    forget_owners(disks)?;
+    exchanged_without_owners(alloc, disks)
+}
+
+// The first life has all letters.
+fn prepare_letters(alloc: Global, disks: &mut [MemDisk]) -> Result<(), Trouble> {
+    let first = letters(alloc, 1)?;
+    prepare_six(alloc, disks, &first)
+}
+
+// A restart gives them back.
+fn gives_letters(alloc: Global, disks: &mut [MemDisk]) -> Result<(), Trouble> {
+    let found = restore_six(alloc, disks)?;
+    let wanted = letters(alloc, 2)?;
+    is_as(alloc, &found, &wanted)
+}
+
+fn forget_owners(disks: &mut [MemDisk]) -> Result<(), Trouble> {
+    for disk in disks {
         forget_owner(disk)?;
     }
-    exchanged_without_owners(alloc, &mut disks)
+    Ok(())
 }
 
 // Where disks have changed places a restart names the first node that has another's.
@@ -68,9 +89,8 @@ fn forget_owner(disk: &mut MemDisk) -> Result<(), Trouble> {
 // Where they don't tell whose they are a restart gives the same rows, or names the first node that has those of another
 // group.
 fn exchanged_without_owners(alloc: Global, disks: &mut [MemDisk]) -> Result<(), Trouble> {
-    let wanted = letters(alloc, 2)?;
     exchange(disks, 0, 1)?;
-    is_as(alloc, &restore_six(alloc, disks)?, &wanted)?;
+    gives_letters(alloc, disks)?;
     exchange(disks, 1, 3)?;
     is_refused(alloc, disks, 2)?;
     exchange(disks, 1, 3)?;

@@ -17,8 +17,13 @@ pub fn the_greatest_numbers(alloc: Global) -> Result<(), Trouble> {
     let none = Layout::new(alloc);
     let mut disks = disks_of(&none, &none)?;
     refuses_before_any_call(alloc, &mut disks)?;
-    prepare_pair(alloc, &mut disks, &life(alloc, u64::MAX - 1)?)?;
+    prepare_last(alloc, &mut disks)?;
     is_the_last(alloc, &mut disks)
+}
+
+fn prepare_last(alloc: Global, disks: &mut [MemDisk; 2]) -> Result<(), Trouble> {
+    let before = life(alloc, u64::MAX - 1)?;
+    prepare_pair(alloc, disks, &before)
 }
 
 fn refuses_before_any_call(alloc: Global, disks: &mut [MemDisk; 2]) -> Result<(), Trouble> {

@@ -1,5 +1,5 @@
 //! Restarts of the pair, held against what they have to give.
-use crate::restarts::layout::PAIR;
+use crate::restarts::layout::{Layout, PAIR, disks_of};
 use crate::restarts::rows::{group_of, have_rows, table_of};
 use crate::restarts::trouble::Trouble;
 use host_io::Disk;
@@ -55,6 +55,41 @@ pub fn expect_fault<D: Disk>(
     match restore_pair(alloc, disks) {
         Ok(_) => Err(Trouble::NotRefused),
         Err(Trouble::Fault(found)) if found == wanted => Ok(()),
+        Err(trouble) => Err(trouble),
+    }
+}
+
+/// A restart of disks that are laid out so gives one group of these rows, each of one letter, in a generation and an
+/// epoch.
+///
+/// # Errors
+/// `Other` where it gives something else; its fault.
+pub fn gives(
+    alloc: Global,
+    one: &Layout,
+    other: &Layout,
+    of: (u64, u64),
+    letters: &[(u8, u8)],
+) -> Result<(), Trouble> {
+    let mut disks = disks_of(one, other)?;
+    match wanted(alloc, of.0, of.1, letters) {
+        Ok(wanted) => expect(alloc, &mut disks, &wanted),
+        Err(trouble) => Err(trouble),
+    }
+}
+
+/// A restart of disks that are laid out so names this fault.
+///
+/// # Errors
+/// `NotRefused` where it names none, and another fault.
+pub fn refuses(
+    alloc: Global,
+    one: &Layout,
+    other: &Layout,
+    wanted: RestartFault,
+) -> Result<(), Trouble> {
+    match disks_of(one, other) {
+        Ok(mut disks) => expect_fault(alloc, &mut disks, wanted),
         Err(trouble) => Err(trouble),
     }
 }

@@ -1,8 +1,8 @@
 //! Redo that goes round the ring of its files.
-use crate::restarts::layout::{Layout, disks_of, slot_without_redo, system_of};
+use crate::restarts::layout::{Layout, slot_without_redo, system_of};
 use crate::restarts::pair::LOG;
 use crate::restarts::records::redo;
-use crate::restarts::restart::{expect, wanted};
+use crate::restarts::restart::gives;
 use crate::restarts::trouble::Trouble;
 use sig_core::{ControlSlot, LOG_FILE_BYTES, LOG_FILES};
 use std::alloc::Global;
@@ -17,8 +17,13 @@ const START: u64 = LOG_FILE_BYTES * LOG_FILES * 2 - FRONT as u64;
 pub fn redo_round_the_ring(alloc: Global) -> Result<(), Trouble> {
     let mut layout = Layout::new(alloc);
     lay(alloc, &mut layout)?;
-    let wanted = wanted(alloc, 1, 5, &[(b'a', b'9'), (b'd', b'4')])?;
-    expect(alloc, &mut disks_of(&layout, &layout)?, &wanted)
+    gives(
+        alloc,
+        &layout,
+        &layout,
+        (1, 5),
+        &[(b'a', b'9'), (b'd', b'4')],
+    )
 }
 
 fn lay(alloc: Global, layout: &mut Layout) -> Result<(), Trouble> {

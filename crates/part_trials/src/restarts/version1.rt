@@ -103,9 +103,19 @@ fn is_of_row(alloc: Global, found: &Restored, at: usize) -> Result<bool, Trouble
 fn may_give(alloc: Global, rows: &RowMap, at: usize) -> Result<bool, Trouble> {
     let count = rows.to_rows(alloc)?.len();
     let right = if at < FIRST {
-        rows.get(&key_of(b'd')?) == Some(value_of(b'4')?)
+        has_second(rows)?
     } else {
-        rows.get(&Key::new(b"abc")?) == Some(Value::new(&[b'v'; 96])?)
+        has_first(rows)?
     };
     Ok(right && count == 2 && !matches!(at, 4 | 101 | 103))
+}
+
+fn has_first(rows: &RowMap) -> Result<bool, Trouble> {
+    let value = Value::new(&[b'v'; 96])?;
+    Ok(rows.get(&Key::new(b"abc")?) == Some(value))
+}
+
+fn has_second(rows: &RowMap) -> Result<bool, Trouble> {
+    let value = value_of(b'4')?;
+    Ok(rows.get(&key_of(b'd')?) == Some(value))
 }

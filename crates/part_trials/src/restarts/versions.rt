@@ -30,9 +30,16 @@ pub fn a_first_version(alloc: Global) -> Result<(), Trouble> {
 }
 
 fn first_layout(alloc: Global) -> Result<Layout, Trouble> {
-    let mut layout = Layout::new(alloc);
     let rows = first_checkpoint(alloc, &ROWS)?;
-    layout.put(3, 0, &rows)?;
+    let mut layout = Layout::new(alloc);
+    match lay_first(&mut layout, &rows) {
+        Ok(()) => Ok(layout),
+        Err(trouble) => Err(trouble),
+    }
+}
+
+fn lay_first(layout: &mut Layout, rows: &[u8]) -> Result<(), Trouble> {
+    layout.put(3, 0, rows)?;
     let slot = ControlSlot {
         parity: 1,
         redo_start: 9,
@@ -40,8 +47,7 @@ fn first_layout(alloc: Global) -> Result<Layout, Trouble> {
         ..slot_without_redo(3, 7, 1, 2, rows.len() as u64)
     };
     layout.control(0, &slot)?;
-    layout.system(0, &system_of(7, 2, 3))?;
-    Ok(layout)
+    layout.system(0, &system_of(7, 2, 3))
 }
 
 fn prepare_behind(alloc: Global, disks: &mut [MemDisk; 2]) -> Result<(), Trouble> {
@@ -66,12 +72,21 @@ fn has_next(disk: &mut MemDisk) -> Result<(), Trouble> {
 /// Keys and values of version 1 may be as long as those of version 2; a value may be empty.
 pub fn the_longest_words(alloc: Global) -> Result<(), Trouble> {
     let mut rows = RowMap::new(alloc);
-    put_long_rows(&mut rows)?;
+    put_longest(&mut rows)?;
+    is_read_back(alloc, &rows)
+}
+
+fn put_longest(rows: &mut RowMap) -> Result<(), Trouble> {
+    put_long_rows(rows)?;
     let value = Value::new(b"")?;
-    rows.insert(Key::new(b"a")?, value.bytes())?;
-    let bytes = bytes_of(alloc, &rows)?;
+    Ok(rows.insert(Key::new(b"a")?, value.bytes())?)
+}
+
+// Rows that are written in version 1 are read as they are.
+fn is_read_back(alloc: Global, rows: &RowMap) -> Result<(), Trouble> {
+    let bytes = bytes_of(alloc, rows)?;
     let found = read_back(alloc, &bytes, bytes.len() as u64)?;
-    is_same(alloc, &found, &rows)
+    is_same(alloc, &found, rows)
 }
 
 // The bytes of a checkpoint of version 1.
@@ -101,12 +116,17 @@ fn is_same(alloc: Global, found: &RowMap, rows: &RowMap) -> Result<(), Trouble> 
 /// A checkpoint of a size that its file hasn't, or within a row, is damaged behind the last byte.
 pub fn sizes_at_the_limits(alloc: Global) -> Result<(), Trouble> {
     let bytes = first_checkpoint(alloc, &[(b'a', b'1')])?;
-    let found = read_back(alloc, &bytes, 4)?;
-    is_same(alloc, &found, &table_of(alloc, &[(b'a', b'1')])?)?;
+    is_row(alloc, &bytes)?;
     for size in [3, 5, u64::MAX] {
         is_cut(read_back(alloc, &bytes, size), size.min(4))?;
     }
     Ok(())
+}
+
+fn is_row(alloc: Global, bytes: &[u8]) -> Result<(), Trouble> {
+    let found = read_back(alloc, bytes, 4)?;
+    let row = table_of(alloc, &[(b'a', b'1')])?;
+    is_same(alloc, &found, &row)
 }
 
 fn is_cut(read: Result<RowMap, Trouble>, at: u64) -> Result<(), Trouble> {

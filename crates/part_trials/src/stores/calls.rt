@@ -1,5 +1,6 @@
 //! Random calls, on the row store and on rows as they are defined.
 use crate::dice::Dice;
+use crate::stopped::Stopped;
 use crate::stores::call::{Call, Outcome, RowAt, Told};
 use crate::stores::plain::Plain;
 use frag_store::Store;
@@ -7,7 +8,6 @@ use sig_core::{
     Answer, HashedKey, Key, NoMemory, Op, PLACES, PendingRecord, Rows, RowsFault, TxId, Value,
 };
 use std::alloc::Global;
-use std::test::Fail;
 
 /// How many keys and transactions there are.
 const KEYS: u64 = 300;
@@ -126,13 +126,13 @@ fn same_records(store: &Store, plain: &Plain) -> bool {
     store.records() == plain.records().len()
 }
 
-fn key_of(number: u64) -> Result<Key, Fail> {
+fn key_of(number: u64) -> Result<Key, Stopped> {
     let high = b'A' + (number / 30 % 30) as u8;
     let low = b'A' + (number % 30) as u8;
     Ok(Key::new(&[high, low])?)
 }
 
-fn value_of(dice: &mut Dice) -> Result<Value, Fail> {
+fn value_of(dice: &mut Dice) -> Result<Value, Stopped> {
     Ok(Value::new(&[b'0' + dice.roll(50) as u8])?)
 }
 
@@ -153,7 +153,12 @@ fn call_of(dice: &mut Dice) -> Call {
 }
 
 // One call on both, and whether they then tell the same.
-fn turn(dice: &mut Dice, store: &mut Store, plain: &mut Plain, epoch: u64) -> Result<bool, Fail> {
+fn turn(
+    dice: &mut Dice,
+    store: &mut Store,
+    plain: &mut Plain,
+    epoch: u64,
+) -> Result<bool, Stopped> {
     let tx = TxId {
         tc: 1,
         start: 0,
@@ -175,7 +180,7 @@ fn stretch(
     store: &mut Store,
     plain: &mut Plain,
     count: u64,
-) -> Result<bool, Fail> {
+) -> Result<bool, Stopped> {
     for epoch in 0..count {
         if !turn(dice, store, plain, epoch)? {
             return Ok(false);
@@ -190,7 +195,7 @@ fn first_wrong(
     store: &mut Store,
     plain: &mut Plain,
     count: u64,
-) -> Result<Option<u64>, Fail> {
+) -> Result<Option<u64>, Stopped> {
     for made in (0..count).step_by(STRETCH as usize) {
         let calls = STRETCH.min(count.saturating_sub(made));
         if !stretch(dice, store, plain, calls)? {
@@ -200,12 +205,22 @@ fn first_wrong(
     Ok(None)
 }
 
-fn compare(alloc: Global, seed: u64, store: &mut Store, count: u64) -> Result<Option<u64>, Fail> {
+fn compare(
+    alloc: Global,
+    seed: u64,
+    store: &mut Store,
+    count: u64,
+) -> Result<Option<u64>, Stopped> {
     let mut plain = Plain::new(alloc);
     first_wrong(&mut Dice::new(seed), store, &mut plain, count)
 }
 
-fn report(rt: &HostRuntime, count: u64, wrong: Option<u64>, records: usize) -> Result<bool, Fail> {
+fn report(
+    rt: &HostRuntime,
+    count: u64,
+    wrong: Option<u64>,
+    records: usize,
+) -> Result<bool, Stopped> {
     match wrong {
         Some(made) => {
             let end = made.saturating_add(STRETCH);
@@ -220,7 +235,7 @@ fn report(rt: &HostRuntime, count: u64, wrong: Option<u64>, records: usize) -> R
 }
 
 /// Makes so many calls on both, and tells whether they told the same.
-pub fn try_calls(rt: &HostRuntime, seed: u64, count: u64) -> Result<bool, Fail> {
+pub fn try_calls(rt: &HostRuntime, seed: u64, count: u64) -> Result<bool, Stopped> {
     let mut store = Store::new(rt.alloc())?;
     let wrong = compare(rt.alloc(), seed, &mut store, count)?;
     report(rt, count, wrong, store.records())

@@ -1,4 +1,5 @@
 //! How long the bytes of redo and of checkpoints take.
+use crate::stopped::Stopped;
 use crate::watch::{Watch, a_second};
 use lcp_store::{put_head, put_row2, rows_in};
 use redo_format::{decode, encode};
@@ -6,7 +7,6 @@ use redo_log::replay_bytes;
 use row_map::RowMap;
 use sig_core::{Key, Redo, TxId, Value};
 use std::alloc::Global;
-use std::test::Fail;
 
 /// More bytes than any of these tries has.
 const MANY: usize = 1 << 40;
@@ -18,7 +18,7 @@ struct Row {
     value: Value,
 }
 
-fn row_of(number: u64) -> Result<Row, Fail> {
+fn row_of(number: u64) -> Result<Row, Stopped> {
     let mut word = [b'k'; 9];
     let mut left = number;
     for at in 0..8 {
@@ -31,7 +31,7 @@ fn row_of(number: u64) -> Result<Row, Fail> {
     })
 }
 
-fn rows_of(alloc: Global, count: u64) -> Result<Vec<Row>, Fail> {
+fn rows_of(alloc: Global, count: u64) -> Result<Vec<Row>, Stopped> {
     let mut rows = Vec::new(alloc);
     for number in 0..count {
         rows.push(row_of(number)?)?;
@@ -40,7 +40,7 @@ fn rows_of(alloc: Global, count: u64) -> Result<Vec<Row>, Fail> {
 }
 
 // A row is prepared and committed.
-fn append(bytes: &mut Vec<u8>, row: &Row) -> Result<(), Fail> {
+fn append(bytes: &mut Vec<u8>, row: &Row) -> Result<(), Stopped> {
     let tx = TxId {
         tc: 1,
         start: 0,
@@ -80,13 +80,13 @@ fn count_records(bytes: &[u8]) -> u64 {
 }
 
 // Prints how many bytes of so many were dealt with in a second.
-fn tell(rt: &HostRuntime, what: &str, bytes: usize, watch: &Watch) -> Result<(), Fail> {
-    let speed = a_second(bytes as u64, watch.nanoseconds(rt)?);
+fn tell(rt: &HostRuntime, what: &str, bytes: usize, watch: &Watch) -> Result<(), Stopped> {
+    let speed = a_second(bytes as u64, watch.taken(rt)?);
     println!(rt; "{what} {bytes} {speed}")?;
     Ok(())
 }
 
-fn write_redo(rt: &HostRuntime, rows: &[Row], bytes: &mut Vec<u8>) -> Result<(), Fail> {
+fn write_redo(rt: &HostRuntime, rows: &[Row], bytes: &mut Vec<u8>) -> Result<(), Stopped> {
     let watch = Watch::start(rt)?;
     for row in rows {
         append(bytes, row)?;
@@ -95,14 +95,14 @@ fn write_redo(rt: &HostRuntime, rows: &[Row], bytes: &mut Vec<u8>) -> Result<(),
 }
 
 // How many records there are.
-fn decode_redo(rt: &HostRuntime, bytes: &[u8]) -> Result<u64, Fail> {
+fn decode_redo(rt: &HostRuntime, bytes: &[u8]) -> Result<u64, Stopped> {
     let watch = Watch::start(rt)?;
     let records = count_records(bytes);
     tell(rt, "decode", bytes.len(), &watch)?;
     Ok(records)
 }
 
-fn replay_redo(rt: &HostRuntime, bytes: &[u8]) -> Result<bool, Fail> {
+fn replay_redo(rt: &HostRuntime, bytes: &[u8]) -> Result<bool, Stopped> {
     if bytes.len() > MANY {
         return Ok(false);
     }
@@ -114,7 +114,7 @@ fn replay_redo(rt: &HostRuntime, bytes: &[u8]) -> Result<bool, Fail> {
 }
 
 // Redo, written, decoded and replayed; whether all of it was.
-fn time_redo(rt: &HostRuntime, rows: &[Row]) -> Result<bool, Fail> {
+fn time_redo(rt: &HostRuntime, rows: &[Row]) -> Result<bool, Stopped> {
     let mut bytes = Vec::new(rt.alloc());
     write_redo(rt, rows, &mut bytes)?;
     let records = decode_redo(rt, &bytes)?;
@@ -122,7 +122,7 @@ fn time_redo(rt: &HostRuntime, rows: &[Row]) -> Result<bool, Fail> {
     Ok(replayed && records / 2 == rows.len() as u64)
 }
 
-fn write_checkpoint(rt: &HostRuntime, rows: &[Row], bytes: &mut Vec<u8>) -> Result<(), Fail> {
+fn write_checkpoint(rt: &HostRuntime, rows: &[Row], bytes: &mut Vec<u8>) -> Result<(), Stopped> {
     let watch = Watch::start(rt)?;
     put_head(bytes)?;
     for row in rows {
@@ -131,7 +131,7 @@ fn write_checkpoint(rt: &HostRuntime, rows: &[Row], bytes: &mut Vec<u8>) -> Resu
     tell(rt, "checkpoint", bytes.len(), &watch)
 }
 
-fn read_checkpoint(rt: &HostRuntime, bytes: &[u8]) -> Result<bool, Fail> {
+fn read_checkpoint(rt: &HostRuntime, bytes: &[u8]) -> Result<bool, Stopped> {
     let watch = Watch::start(rt)?;
     let read = rows_in(rt.alloc(), 2, 1, bytes).is_ok();
     tell(rt, "checkpoint_read", bytes.len(), &watch)?;
@@ -139,14 +139,14 @@ fn read_checkpoint(rt: &HostRuntime, bytes: &[u8]) -> Result<bool, Fail> {
 }
 
 // A checkpoint, written and read; whether it could be.
-fn time_checkpoint(rt: &HostRuntime, rows: &[Row]) -> Result<bool, Fail> {
+fn time_checkpoint(rt: &HostRuntime, rows: &[Row]) -> Result<bool, Stopped> {
     let mut bytes = Vec::new(rt.alloc());
     write_checkpoint(rt, rows, &mut bytes)?;
     read_checkpoint(rt, &bytes)
 }
 
 /// Prints how many bytes there are of redo and of a checkpoint, and how many are dealt with in a second.
-pub fn time_formats(rt: &HostRuntime, count: u64) -> Result<bool, Fail> {
+pub fn time_formats(rt: &HostRuntime, count: u64) -> Result<bool, Stopped> {
     let rows = rows_of(rt.alloc(), count)?;
     let redo = time_redo(rt, &rows)?;
     let checkpoint = time_checkpoint(rt, &rows)?;

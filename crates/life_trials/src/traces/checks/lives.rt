@@ -4,11 +4,11 @@ ghost use Rattle.frag_map.specs.Shape.{IsShape};
 ghost use Rattle.world_views.specs.Driven.{IsWorld};
 ghost use Rattle.world_views.specs.WorldOf.{whole_of};
 
+use crate::fault::RunFault;
 use gcp_master::MICROS;
 use sig_core::{ApiReq, HeldOp, HostId, Key, Life, NoMemory, Op, Seq, Shape, Value};
 use std::alloc::Global;
 use std::sync::Wait;
-use std::test::Fail;
 use trace_write::{WriteFault, write_trace};
 use world_views::{Pick, ScheduleFault, World};
 
@@ -122,9 +122,27 @@ fn fail(alloc: Global, world: &mut World, failing: Failing) -> Result<(), NoMemo
     }
 }
 
-fn put(alloc: Global, name: Option<u16>, key: &[u8]) -> Result<ApiReq, Fail> {
+fn put(alloc: Global, name: Option<u16>, key: &[u8]) -> Result<ApiReq, RunFault> {
     let op = HeldOp::new(alloc, Op::Put(Key::new(key)?, Value::new(b"1")?))?;
     Ok(ApiReq::Operate { name, op })
+}
+
+// A transaction of one operation puts a row.
+fn put_alone<W: Wait>(rt: &W, alloc: Global, world: &mut World) -> Result<(), RunFault>
+    requires { IsWorld (whole_of world.old) }
+    ensures { OnOk result (IsWorld (whole_of world.new)) }
+{
+    let request = put(alloc, None, b"a")?;
+    Ok(ask(rt, alloc, world, request)?)
+}
+
+// The transaction that is open begins to put one.
+fn begin_put(alloc: Global, world: &mut World) -> Result<(), RunFault>
+    requires { IsWorld (whole_of world.old) }
+    ensures { OnOk result (IsWorld (whole_of world.new)) }
+{
+    let request = put(alloc, Some(1), b"b")?;
+    Ok(begin(alloc, world, request)?)
 }
 
 // A transaction puts a row, and another one has begun to put one as something fails.
@@ -133,20 +151,17 @@ fn begin_work<W: Wait>(
     alloc: Global,
     world: &mut World,
     failing: Failing,
-) -> Result<(), Fail>
+) -> Result<(), RunFault>
     requires { IsWorld (whole_of world.old) }
     ensures { OnOk result (IsWorld (whole_of world.new)) }
 {
-    let whole = put(alloc, None, b"a")?;
-    let open = put(alloc, Some(1), b"b")?;
     let node = Some(2);
-    ask(rt, alloc, world, whole)?;
+    put_alone(rt, alloc, world)?;
     ask(rt, alloc, world, ApiReq::Begin { name: 1, node })?;
-    begin(alloc, world, open)?;
+    begin_put(alloc, world)?;
     // The coordinator takes that, and asks for the row.
     take_first(alloc, world)?;
-    fail(alloc, world, failing)?;
-    Ok(())
+    Ok(fail(alloc, world, failing)?)
 }
 
 // It goes on, is to commit, and three rounds pass.
@@ -162,7 +177,7 @@ fn end_work<W: Wait>(rt: &W, alloc: Global, world: &mut World) -> Result<(), NoM
     ask(rt, alloc, world, ApiReq::Micro)
 }
 
-fn live<W: Wait>(rt: &W, alloc: Global, world: &mut World, failing: Failing) -> Result<(), Fail>
+fn live<W: Wait>(rt: &W, alloc: Global, world: &mut World, failing: Failing) -> Result<(), RunFault>
     requires { IsWorld (whole_of world.old) }
 {
     begin_work(rt, alloc, world, failing)?;
@@ -170,13 +185,11 @@ fn live<W: Wait>(rt: &W, alloc: Global, world: &mut World, failing: Failing) -> 
     Ok(())
 }
 
-fn live_alone<W: Wait>(rt: &W, alloc: Global, world: &mut World) -> Result<(), Fail>
+fn live_alone<W: Wait>(rt: &W, alloc: Global, world: &mut World) -> Result<(), RunFault>
     requires { IsWorld (whole_of world.old) }
 {
-    let request = put(alloc, None, b"a")?;
-    ask(rt, alloc, world, request)?;
-    ask(rt, alloc, world, ApiReq::Rows { node: 1 })?;
-    Ok(())
+    put_alone(rt, alloc, world)?;
+    Ok(ask(rt, alloc, world, ApiReq::Rows { node: 1 })?)
 }
 
 // The trace of a life; no bytes where it has none.
@@ -192,7 +205,11 @@ fn told(alloc: Global, shape: Shape, life: &Life) -> Result<Seq<u8>, NoMemory> {
 ///
 /// # Errors
 /// Want of memory.
-pub fn trace_of_pair<W: Wait>(rt: &W, alloc: Global, failing: Failing) -> Result<Seq<u8>, Fail> {
+pub fn trace_of_pair<W: Wait>(
+    rt: &W,
+    alloc: Global,
+    failing: Failing,
+) -> Result<Seq<u8>, RunFault> {
     let mut world = fresh(alloc, PAIR)?;
     let lived = live(rt, alloc, &mut world, failing);
     // Ended either way: what a world is made of is then dropped in its own crate.
@@ -205,7 +222,7 @@ pub fn trace_of_pair<W: Wait>(rt: &W, alloc: Global, failing: Failing) -> Result
 ///
 /// # Errors
 /// Want of memory.
-pub fn trace_alone<W: Wait>(rt: &W, alloc: Global) -> Result<Seq<u8>, Fail> {
+pub fn trace_alone<W: Wait>(rt: &W, alloc: Global) -> Result<Seq<u8>, RunFault> {
     let mut world = fresh(alloc, ALONE)?;
     let lived = live_alone(rt, alloc, &mut world);
     let life = world.end_life(alloc);

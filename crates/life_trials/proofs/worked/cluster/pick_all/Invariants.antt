@@ -1,0 +1,7 @@
+use Rattle.world_views.specs.Driven.{IsWorld}
+use Rattle.world_views.specs.WorldOf.{whole_of}
+use Rattle.life_trials.proofs.worked.cluster.pick_all.Given as goal
+
+-- the world is one
+abbrev pub invariant-loop : goal.invariant-loop
+invariant-loop l = IsWorld (whole_of l.world.world)

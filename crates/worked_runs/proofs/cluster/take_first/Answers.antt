@@ -1,8 +1,0 @@
-use Rattle.world_views.specs.WorldOf.{whole_of}
-use Rattle.worked_runs.proofs.Stays.{step_stays}
-use Rattle.worked_runs.proofs.cluster.take_first.Goals as goal
-
-pub returns : goal.returns
-returns c =
-    step_stays c.step.result (whole_of c.args.world.now.world) (whole_of c.step.new.self.world) c.requires
-    c.step.ensures.ok

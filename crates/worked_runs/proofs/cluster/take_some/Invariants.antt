@@ -1,7 +1,0 @@
-use Rattle.world_views.specs.Driven.{IsWorld}
-use Rattle.world_views.specs.WorldOf.{whole_of}
-use Rattle.worked_runs.proofs.cluster.take_some.Given as goal
-
--- the world is one
-abbrev pub invariant-loop : goal.invariant-loop
-invariant-loop l = IsWorld (whole_of l.world.world)
