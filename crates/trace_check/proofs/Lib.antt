@@ -3,6 +3,7 @@ pub mod AnswerLemmas
 pub mod CompareLemmas
 pub mod HistoryLemmas
 pub mod LabelLemmas
+pub mod PlacedLemmas
 pub mod RefusedLemmas
 pub mod SameLemmas
 pub mod StepLemmas

@@ -1,7 +1,7 @@
 -- Histories, as they are computed: step by step, the oldest first.
 use Rattle.std.specs.List.{list_any}
-use Rattle.std.specs.Prelude.{ℕ, suc, ◌||◌, if◌then◌else◌, Bool, true, false, List, [], ◌∷◌, map, reverse, take, Option}
-use Rattle.std.specs.Prelude.{None, Some}
+use Rattle.std.specs.Prelude.{◌≡◌, ◌==◌, ◌&&◌, nat_lt, ℕ, suc, ◌||◌, if◌then◌else◌, Bool, true, false, List, [], ◌∷◌}
+use Rattle.std.specs.Prelude.{map, reverse, take, Option, None, Some}
 use Rattle.sig_core.specs.declared.entry.Entry.{Entry}
 use Rattle.sig_core.specs.declared.log.LogStep.{LogStep}
 use Rattle.sig_core.specs.declared.mark.Mark.{Mark}
@@ -39,6 +39,15 @@ entered h stamp log (mark ∷ marks) into = entered h stamp log marks (entered_i
 abbrev pub place_of : Entry → List Entry → ℕ
 place_of a [] = 0
 place_of a (b ∷ rest) = if is_before a b then 0 else suc (place_of a rest)
+
+-- the order of views, stamps and hosts
+abbrev pub is_less : ℕ → ℕ → ℕ → ℕ → ℕ → ℕ → Bool
+is_less v s h w t k = nat_lt v w || ((v == w) && (nat_lt s t || ((s == t) && nat_lt h k)))
+
+-- an entry of this view, stamp and host stands before none of these
+abbrev pub IsBeforeNone : ℕ → ℕ → ℕ → List Entry → Type 0
+IsBeforeNone v s h [] = Unit {0}
+IsBeforeNone v s h (b ∷ rest) = (is_less v s h b.view b.stamp b.host.0 ≡ false) × IsBeforeNone v s h rest
 
 -- the sign by which a transaction, which writes or doesn't, took effect
 abbrev pub is_sign : Bool → TxId → Mark → Bool

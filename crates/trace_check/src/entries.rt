@@ -1,11 +1,12 @@
 //! The entries of a log: what each transaction that was decided in it asked and was answered.
-ghost use Rattle.std.specs.Prelude.{◌≡◌, ◌≤◌, ◌<◌, ◌+◌, List, ℕ, length, IfOk, IfNone, IfSome, None, OnOk, Some};
+ghost use Rattle.std.specs.Prelude.{◌≡◌, ◌<◌, ◌+◌, List, ℕ, length, IfOk, IfNone, IfSome, None, OnOk, Some};
 ghost use Rattle.sig_core.specs.Same.{same_tx};
 ghost use Rattle.sig_core.specs.declared.entry.Entry.{Entry};
-ghost use Rattle.world_core.specs.Entries.{entries_of, insert, insert_all, installed_in, is_before, ops_of};
+ghost use Rattle.world_core.specs.Entries.{entries_of, insert_all, installed_in, ops_of};
 ghost use Rattle.world_core.specs.Entries.{verified_by, view_at};
-ghost use Rattle.trace_check.specs.Histories.{decided, entered, first_of, log_of, place_of};
+ghost use Rattle.trace_check.specs.Histories.{decided, entered, first_of, log_of};
 
+use crate::placed::Placed;
 use sig_core::{
     Answer, Body, Entry, EpochSignal, HeldAnswer, HeldOp, HostId, LogStep, Mark, NoMemory, Op, Seq,
     TxId,
@@ -21,11 +22,11 @@ const FIRST_VIEW: u64 = 1;
 /// `NoMemory`.
 pub fn add_log(
     alloc: Global,
-    found: &mut Vec<Entry>,
+    found: &mut Placed,
     host: u32,
     steps: &[LogStep],
 ) -> Result<(), NoMemory>
-    ensures { OnOk result (found.new.items ≡ insert_all (entries_of host (log_of host steps.now)) found.old.items) }
+    ensures { OnOk result (found.new ≡ insert_all (entries_of host (log_of host steps.now)) found.old) }
 {
     let mut view = FIRST_VIEW;
     for at in 0..steps.len() {
@@ -38,7 +39,7 @@ pub fn add_log(
 // installed behind it.
 fn add_at(
     alloc: Global,
-    found: &mut Vec<Entry>,
+    found: &mut Placed,
     host: u32,
     steps: &[LogStep],
     at: usize,
@@ -47,7 +48,7 @@ fn add_at(
     requires inside { at < length steps.now }
     requires view { before ≡ view_at (first_of host steps.now at) }
     ensures view { IfOk result (λ view. view ≡ view_at (first_of host steps.now (at + 1))) }
-    ensures found { OnOk result ((into : List Entry) → found.old.items ≡ insert_all (entries_of host (first_of host steps.now at)) into → found.new.items ≡ insert_all (entries_of host (first_of host steps.now (at + 1))) into) }
+    ensures found { OnOk result ((into : List Entry) → found.old ≡ insert_all (entries_of host (first_of host steps.now at)) into → found.new ≡ insert_all (entries_of host (first_of host steps.now (at + 1))) into) }
 {
     let step = &steps[at];
     let view = installed_by(step.marks.as_slice(), before);
@@ -72,14 +73,14 @@ fn installed_by(marks: &[Mark], before: u64) -> u64
 // Adds the entries of a step, the last one of these of its host, behind which that has installed this view.
 fn add_step(
     alloc: Global,
-    found: &mut Vec<Entry>,
+    found: &mut Placed,
     host: u32,
     view: u64,
     step: &LogStep,
     past: &[LogStep],
 ) -> Result<(), NoMemory>
     requires { view ≡ view_at (log_of host past.now) }
-    ensures { OnOk result (found.new.items ≡ entered host step.now.stamp (log_of host past.now) step.now.marks found.old.items) }
+    ensures { OnOk result (found.new ≡ entered host step.now.stamp (log_of host past.now) step.now.marks found.old) }
 {
     let marks = step.marks.as_slice();
     for mark in marks {
@@ -93,7 +94,7 @@ fn add_step(
                 epoch,
                 ops,
             };
-            add(found, entry)?;
+            found.add(entry)?;
         }
     }
     Ok(())
@@ -155,36 +156,4 @@ fn copy_ops(alloc: Global, ops: &[(HeldOp, HeldAnswer)]) -> Result<Seq<(Op, Answ
         copied.push((*op.0.get(), op.1.get()))?;
     }
     Ok(copied)
-}
-
-// Adds an entry at its place.
-#[tactic(auto, using(crate::proofs::HistoryLemmas::placed))]
-fn add(found: &mut Vec<Entry>, entry: Entry) -> Result<(), NoMemory>
-    ensures { OnOk result (found.new.items ≡ insert entry found.old.items) }
-{
-    let at = place_of(&entry, found.as_slice());
-    found.insert(at, entry)?;
-    Ok(())
-}
-
-// The place of an entry among others: that of the first one that it stands before.
-fn place_of(entry: &Entry, others: &[Entry]) -> usize
-    ensures inside { result ≤ length others.now }
-    ensures place { result ≡ place_of entry.now others.now }
-{
-    for at in 0..others.len() {
-        if is_before(entry, &others[at]) {
-            return at;
-        }
-    }
-    others.len()
-}
-
-// Whether an entry stands before another one: by view, then by stamp, then by host.
-fn is_before(one: &Entry, other: &Entry) -> bool
-    ensures { result ≡ is_before one.now other.now }
-{
-    one.view < other.view
-        || (one.view == other.view
-            && (one.stamp < other.stamp || (one.stamp == other.stamp && one.host.0 < other.host.0)))
 }

@@ -7,6 +7,7 @@ ghost use Rattle.trace_check.specs.Histories.{log_of};
 
 use crate::effects::is_kept;
 use crate::entries::add_log;
+use crate::placed::Placed;
 use sig_core::{Entry, HostLog, LogStep, NoMemory, Seq, Shape};
 use std::alloc::Global;
 
@@ -31,11 +32,11 @@ pub fn history_of(alloc: Global, shape: Shape, logs: &[HostLog]) -> Result<Seq<E
 fn all_entries(alloc: Global, logs: &[HostLog], hosts: u32) -> Result<Vec<Entry>, NoMemory>
     ensures { IfOk result (λ found. found.items ≡ entries hosts (logs_at logs.now)) }
 {
-    let mut found = Vec::new(alloc);
+    let mut found = Placed::new(alloc);
     for host in 0..hosts {
         add_log(alloc, &mut found, host, steps_of(logs, host))?;
     }
-    Ok(found)
+    Ok(found.into_vec())
 }
 
 // Those that took effect are kept.

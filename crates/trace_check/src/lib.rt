@@ -8,6 +8,7 @@ mod entries;
 mod fault;
 mod history;
 mod labels;
+mod placed;
 mod play;
 mod request;
 

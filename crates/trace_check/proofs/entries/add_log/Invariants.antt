@@ -7,5 +7,5 @@ use Rattle.trace_check.proofs.entries.add_log.Given as goal
 abbrev pub invariant-loop-at : goal.invariant-loop-at
 invariant-loop-at l = record {
   view : l.view ≡ view_at (first_of l.host l.steps l.at);
-  found : l.found.items ≡ insert_all (entries_of l.host (first_of l.host l.steps l.at)) l.initial.found.items;
+  found : l.found ≡ insert_all (entries_of l.host (first_of l.host l.steps l.at)) l.initial.found;
 }

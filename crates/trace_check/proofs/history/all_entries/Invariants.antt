@@ -5,4 +5,4 @@ use Rattle.trace_check.proofs.history.all_entries.Given as goal
 
 -- those of the hosts so far
 abbrev pub invariant-loop-host : goal.invariant-loop-host
-invariant-loop-host l = l.found.items ≡ entries l.host (logs_at l.logs)
+invariant-loop-host l = l.found ≡ entries l.host (logs_at l.logs)
