@@ -83,7 +83,7 @@ take_words() {
                 words+=("$1")
                 [ $# -lt 2 ] || { shift; words+=("$1"); }
                 ;;
-            --nodes=* | --replicas=* | --fragments=*) words+=("$1") ;;
+            --nodes=* | --replicas=* | --fragments=* | --trace | --check) words+=("$1") ;;
             -*) refuse "there is no option \`$1\`" ;;
             *)
                 [ -z "$script" ] || refuse "one script is run at a time, and \`$1\` is a second one"
